@@ -1,0 +1,116 @@
+-- docs/RULES.md, "The evidence checker": its rule as a function that computes, and what its two kinds of evidence mean.
+use mathlib.Core.Path.{_≡_}
+use mathlib.Core.Bool.{Bool, true, false, cond, _&&_, not}
+use mathlib.Core.List.{List, [], _∷_, _++_}
+use mathlib.Core.Option.{Option, none, some}
+use Prim.Native.Nat.{ℕ, _+_, _<_}
+use lib.IntN.{ℤ, pos, _+ℤ_, _-ℤ_, _*ℤ_}
+use lib.ListN.{length}
+use lib.Signed.{leZ, _<ℤ_}
+use Rattle.whole.specs.Below.{allBelow}
+use Rattle.whole.specs.Numbers.{within, outside, eqZ, isPos}
+use Rattle.whole.specs.Sums.{sum}
+use Rattle.whole.specs.Values.{Values, whole, total, Le}
+use Rattle.rules.specs.Sizes.{mostRows, largestNumber, largestNumerator}
+use Rattle.rules.specs.Problem.{Problem, vars, problem, word}
+use Rattle.rules.specs.Refusal.{first, problemTests, tooShort}
+use Rattle.rules.specs.Step.{seated}
+
+-- ---- the answer's parts; word 1 is not judged
+
+abbrev pub verdictOf : List ℤ → ℤ
+verdictOf a = word a 0
+
+abbrev pub denominatorOf : List ℤ → ℤ
+denominatorOf a = word a 2
+
+-- numerators, or lower multipliers
+abbrev pub lowerPart : List ℤ → ℕ → ℤ
+lowerPart a v = word a (3 + v)
+
+-- zeros, or upper multipliers
+abbrev pub upperPart : ℕ → List ℤ → ℕ → ℤ
+upperPart N a v = word a (3 + N + v)
+
+-- ---- verdict 1
+
+-- row i, of any values x for the variables
+abbrev pub rowSum : {X Y : Type 0} → Values Y → Problem X → (ℕ → Y) → ℕ → Y
+rowSum 𝓥 P x i = total 𝓥 (P .n) (λ j. 𝓥 .scale (P .coefficient i j) (x j))
+
+unfoldable pub atLeast : Option ℤ → ℤ → ℤ → Bool
+atLeast none d x = true
+atLeast (some l) d x = leZ (d *ℤ l) x
+
+unfoldable pub atMost : Option ℤ → ℤ → ℤ → Bool
+atMost none d x = true
+atMost (some u) d x = leZ x (d *ℤ u)
+
+unfoldable pub showsCan : Problem ℤ → List ℤ → Bool
+showsCan P a =
+    let d : ℤ = denominatorOf a in
+    let x : ℕ → ℤ = lowerPart a in
+    not (outside 1 largestNumber d)
+    && allBelow (vars P) (λ v. within largestNumerator (x v))
+    && allBelow (P .m) (λ i. eqZ (x (P .n + i)) (rowSum whole P x i))
+    && allBelow (vars P) (λ v. atLeast (P .lower v) d (x v) && atMost (P .upper v) d (x v))
+    && allBelow (vars P) (λ v. eqZ (upperPart (vars P) a v) (pos 0))
+
+-- ---- verdict 2
+
+-- a multiplier of a limit that may be missing
+unfoldable pub fair : Option ℤ → ℤ → Bool
+fair none k = eqZ k (pos 0)
+fair (some l) k = not (outside 0 largestNumber k)
+
+-- column j of multipliers put through the rows
+unfoldable pub column : Problem ℤ → (ℕ → ℤ) → ℕ → ℤ
+column P y j = y j +ℤ sum (P .m) (λ i. P .coefficient i j *ℤ y (P .n + i))
+
+-- lower limits times multipliers less upper limits times multipliers; a missing limit has multiplier 0
+unfoldable pub surplus : Problem ℤ → (ℕ → ℤ) → (ℕ → ℤ) → ℤ
+surplus P lo up = sum (vars P) (λ v. seated whole (P .lower v) *ℤ lo v -ℤ seated whole (P .upper v) *ℤ up v)
+
+unfoldable pub showsCannot : Problem ℤ → List ℤ → Bool
+showsCannot P a =
+    let lo : ℕ → ℤ = lowerPart a in
+    let up : ℕ → ℤ = upperPart (vars P) a in
+    eqZ (denominatorOf a) (pos 0)
+    && allBelow (vars P) (λ v. fair (P .lower v) (lo v) && fair (P .upper v) (up v))
+    && allBelow (P .n) (λ j. eqZ (column P (λ v. lo v -ℤ up v) j) (pos 0))
+    && isPos (surplus P lo up)
+
+-- ---- the checker: 1 to 6 by the problem, 7 too short, 8 accepted, 9 not
+
+unfoldable pub accepted : Problem ℤ → List ℤ → Bool
+accepted P a =
+    cond (eqZ (verdictOf a) (pos 1)) (showsCan P a)
+    (cond (eqZ (verdictOf a) (pos 2)) (showsCannot P a) false)
+
+unfoldable pub checked : List ℤ → List ℤ → ℕ
+checked ws a = first (problemTests mostRows ws ++ ((tooShort ws (length a), 7) ∷ (accepted (problem ws) a, 8) ∷ (true, 9) ∷ []))
+
+-- ---- what it means: fractions over one positive denominator
+
+abbrev pub AtLeast : {X : Type 0} → Values X → Option X → ℤ → X → Type 0
+AtLeast 𝓥 none d x = Unit {0}
+AtLeast 𝓥 (some l) d x = Le 𝓥 (𝓥 .scale d l) x
+
+abbrev pub AtMost : {X : Type 0} → Values X → Option X → ℤ → X → Type 0
+AtMost 𝓥 none d x = Unit {0}
+AtMost 𝓥 (some u) d x = Le 𝓥 x (𝓥 .scale d u)
+
+-- x solves the rows
+abbrev pub Rows : {X Y : Type 0} → Values Y → Problem X → (ℕ → Y) → Type 0
+Rows 𝓥 P x = (i : ℕ) → i < P .m → x (P .n + i) ≡ rowSum 𝓥 P x i
+
+-- the fractions x v / d meet the rows and all limits
+pub record Meets {X : Type 0} (𝓥 : Values X) (P : Problem X) (d : ℤ) (x : ℕ → X) : Type 0 where
+  pub positive : pos 0 <ℤ d
+  pub rows : Rows 𝓥 P x
+  pub lowers : (v : ℕ) → v < vars P → AtLeast 𝓥 (P .lower v) d (x v)
+  pub uppers : (v : ℕ) → v < vars P → AtMost 𝓥 (P .upper v) d (x v)
+
+-- no fractions meet them
+abbrev pub Unmet : {X : Type 0} → Values X → Problem X → Type 0
+Unmet {X} 𝓥 P = (d : ℤ) (x : ℕ → X) → ¬ Meets 𝓥 P d x

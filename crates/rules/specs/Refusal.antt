@@ -1,0 +1,74 @@
+-- docs/RULES.md, "Refusal numbers and their order": a list of tests with their numbers, each over the whole input, the first that applies winning.
+use mathlib.Core.Path.{_≡_}
+use mathlib.Core.Bool.{Bool, true, false, _||_, not}
+use mathlib.Core.List.{List, [], _∷_, _++_}
+use Prim.Native.Nat.{ℕ, _+_, _*_, _≤_, _<_}
+use lib.IntN.{ℤ, pos}
+use lib.Dec.{ltb, eqb}
+use lib.ListN.{length}
+use lib.Signed.{_≤ℤ_}
+use Rattle.whole.specs.Below.{someBelow}
+use Rattle.whole.specs.Numbers.{Within, within, outside}
+use Rattle.rules.specs.Sizes.{mostColumns, mostRows, largestCoefficient, largestLimit}
+use Rattle.rules.specs.Limit.{hasLower, hasUpper, badLimitWord}
+use Rattle.rules.specs.Problem.{word, nOf, mOf, varsOf, kind, lowerWord, upperWord, answerLength}
+
+-- the number beside the first test that applies, or 0
+unfoldable pub first : List (Bool × ℕ) → ℕ
+first [] = 0
+first (t ∷ ts) = elim (t .0) [ true ↦ t .1 | false ↦ first ts ]
+
+unfoldable pub tooFew : List ℤ → Bool
+tooFew ws = ltb (length ws) 2
+
+-- the most rows are an argument
+unfoldable pub badSize : ℕ → List ℤ → Bool
+badSize rows ws = outside 1 mostColumns (word ws 0) || outside 0 rows (word ws 1)
+
+unfoldable pub badLength : List ℤ → Bool
+badLength ws = not (eqb (length ws) (2 + mOf ws * nOf ws + 3 * varsOf ws))
+
+unfoldable pub badCoefficient : List ℤ → Bool
+badCoefficient ws = someBelow (mOf ws * nOf ws) (λ i. not (within largestCoefficient (word ws (2 + i))))
+
+unfoldable pub badKind : List ℤ → Bool
+badKind ws = someBelow (varsOf ws) (λ v. outside 0 3 (kind ws v))
+
+unfoldable pub badLimit : List ℤ → Bool
+badLimit ws = someBelow (varsOf ws) (λ v.
+    badLimitWord (hasLower (kind ws v)) (lowerWord ws v) || badLimitWord (hasUpper (kind ws v)) (upperWord ws v))
+
+-- room is the length of the output, or of the checker's answer
+unfoldable pub tooShort : List ℤ → ℕ → Bool
+tooShort ws room = ltb room (answerLength ws)
+
+-- refusals 1 to 6: the problem alone
+unfoldable pub problemTests : ℕ → List ℤ → List (Bool × ℕ)
+problemTests rows ws =
+    (tooFew ws, 1) ∷ (badSize rows ws, 2) ∷ (badLength ws, 3) ∷ (badCoefficient ws, 4) ∷ (badKind ws, 5) ∷ (badLimit ws, 6) ∷ []
+
+unfoldable pub problemRefusal : List ℤ → ℕ
+problemRefusal ws = first (problemTests mostRows ws)
+
+unfoldable pub refusal : List ℤ → ℕ → ℕ
+refusal ws room = first (problemTests mostRows ws ++ ((tooShort ws room, 7) ∷ []))
+
+-- ---- all ranges together: what refusals 1 to 6 leave
+
+-- a limit's word that is fine: in range, and 0 where the limit is missing
+abbrev pub FineLimit : Bool → ℤ → Type 0
+FineLimit true z = Within z largestLimit
+FineLimit false z = z ≡ pos 0
+
+pub record Accepted (rows : ℕ) (ws : List ℤ) : Type 0 where
+  pub enough : 2 ≤ length ws
+  pub n-least : pos 1 ≤ℤ word ws 0
+  pub n-most : word ws 0 ≤ℤ pos mostColumns
+  pub m-least : pos 0 ≤ℤ word ws 1
+  pub m-most : word ws 1 ≤ℤ pos rows
+  pub exact : length ws ≡ 2 + mOf ws * nOf ws + 3 * varsOf ws
+  pub coefficients : (i : ℕ) → i < mOf ws * nOf ws → Within (word ws (2 + i)) largestCoefficient
+  pub kind-least : (v : ℕ) → v < varsOf ws → pos 0 ≤ℤ kind ws v
+  pub kind-most : (v : ℕ) → v < varsOf ws → kind ws v ≤ℤ pos 3
+  pub lowers : (v : ℕ) → v < varsOf ws → FineLimit (hasLower (kind ws v)) (lowerWord ws v)
+  pub uppers : (v : ℕ) → v < varsOf ws → FineLimit (hasUpper (kind ws v)) (upperWord ws v)

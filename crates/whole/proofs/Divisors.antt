@@ -1,0 +1,149 @@
+-- Greatest common divisors of natural numbers.
+--   gcd-dvd-l, gcd-dvd-r, gcd-greatest, gcd-only    it divides both, is greatest, and is the only such number
+--   gcd-zero, gcd-step, gcd-one                     Euclid's steps, and that 1 stays
+--   fold-dvd, fold-greatest                         over the numbers below k and a start
+--   fold-pos, fold-most                             above 0, and no more than the start
+--   fold-lowest                                     dividing all by it leaves divisor 1
+--   gcdList-dvd, gcdList-greatest, ..               the same over a list
+use mathlib.Core.Path.{_≡_, refl, sym, _∙_, ap, subst}
+use mathlib.Core.List.{List, [], _∷_}
+use Prim.Native.Nat.{ℕ, zero, suc, _+_, _*_, _/_, _%_, _≤_, _<_, _∣_}
+use native.Mathlib.Omega.{arith}
+use native.Mathlib.Decide.{ℕ-discrete}
+use native.Mathlib.Nat.{dvd-refl, dvd-zero, dvd-trans, dvd-mod-iff, dvd-antisymm, dvd-of-mul-dvd-mul-right, dvd-one, dvd-mul-left, mod-lt, mod-one, mod-eq-zero-of-dvd, mul-assoc, div-add-mod', le-of-dvd, pos-of-dvd-of-pos, zero-lt-suc, one-mul}
+use lib.IntN.{ℤ, pos, natAbs}
+use lib.ListN.{length, getD}
+use Rattle.whole.specs.Below.{foldBelow}
+use Rattle.whole.specs.Divisors.{gcd, gcdTurns, gcdList}
+
+-- ---- two numbers
+
+turns-dvd : (k a b : ℕ) → b < k → (gcdTurns k a b ∣ a) × (gcdTurns k a b ∣ b)
+unfolding gcdTurns
+turns-dvd zero a b h = let z : ⊥ = omega arith in absurd z
+turns-dvd (suc k) a zero h = (dvd-refl a, dvd-zero a)
+turns-dvd (suc k) a (suc b) h =
+    let m : a % suc b < suc b = mod-lt a (zero-lt-suc b) in
+    let r = turns-dvd k (suc b) (a % suc b) (omega arith) in
+    (dvd-mod-iff (gcdTurns k (suc b) (a % suc b)) {m = a} {n = suc b} (r .0) .0 (r .1), r .0)
+
+turns-greatest : (k a b d : ℕ) → d ∣ a → d ∣ b → d ∣ gcdTurns k a b
+unfolding gcdTurns
+turns-greatest zero a b d p q = p
+turns-greatest (suc k) a zero d p q = p
+turns-greatest (suc k) a (suc b) d p q = turns-greatest k (suc b) (a % suc b) d q (dvd-mod-iff d {m = a} {n = suc b} q .1 p)
+
+pub gcd-dvd-l : (a b : ℕ) → gcd a b ∣ a
+unfolding gcd
+gcd-dvd-l a b = turns-dvd (suc b) a b (omega arith) .0
+
+pub gcd-dvd-r : (a b : ℕ) → gcd a b ∣ b
+unfolding gcd
+gcd-dvd-r a b = turns-dvd (suc b) a b (omega arith) .1
+
+pub gcd-greatest : (a b d : ℕ) → d ∣ a → d ∣ b → d ∣ gcd a b
+unfolding gcd
+gcd-greatest a b d p q = turns-greatest (suc b) a b d p q
+
+pub gcd-only : (a b g : ℕ) → g ∣ a → g ∣ b → ((d : ℕ) → d ∣ a → d ∣ b → d ∣ g) → g ≡ gcd a b
+gcd-only a b g p q h = dvd-antisymm (gcd-greatest a b g p q) (h (gcd a b) (gcd-dvd-l a b) (gcd-dvd-r a b))
+
+fuel : (f f′ a b : ℕ) → b < f → b < f′ → gcdTurns f a b ≡ gcdTurns f′ a b
+unfolding gcdTurns
+fuel zero f′ a b h h′ = omega arith
+fuel (suc f) zero a b h h′ = omega arith
+fuel (suc f) (suc f′) a zero h h′ = refl
+fuel (suc f) (suc f′) a (suc b) h h′ =
+    let m : a % suc b < suc b = mod-lt a (zero-lt-suc b) in
+    fuel f f′ (suc b) (a % suc b) (omega arith) (omega arith)
+
+pub gcd-zero : (a : ℕ) → gcd a 0 ≡ a
+unfolding gcd gcdTurns
+gcd-zero a = refl
+
+pub gcd-step : (a b : ℕ) → 0 < b → gcd a b ≡ gcd b (a % b)
+unfolding gcd gcdTurns
+gcd-step a zero h = omega arith
+gcd-step a (suc b) h =
+    let m : a % suc b < suc b = mod-lt a (zero-lt-suc b) in
+    fuel (suc b) (suc (a % suc b)) (suc b) (a % suc b) m (omega arith)
+
+pub gcd-one : (a : ℕ) → gcd a 1 ≡ 1
+gcd-one a = gcd-step a 1 (omega arith) ∙ ap (gcd 1) (mod-one a) ∙ gcd-zero 1
+
+-- ---- the numbers x below k, and a start a
+
+pub fold-dvd : (k : ℕ) (x : ℕ → ℕ) (a : ℕ) →
+    (foldBelow k (λ u h. gcd (x u) h) a ∣ a) × ((u : ℕ) → u < k → foldBelow k (λ u h. gcd (x u) h) a ∣ x u)
+unfolding foldBelow
+fold-dvd zero x a = (dvd-refl a, λ u h. let z : ⊥ = omega arith in absurd z)
+fold-dvd (suc k) x a = both (foldBelow k (λ u h. gcd (x u) h) a) (fold-dvd k x a)
+  where
+    both : (F : ℕ) → (F ∣ a) × ((u : ℕ) → u < k → F ∣ x u) → (gcd (x k) F ∣ a) × ((u : ℕ) → u < suc k → gcd (x k) F ∣ x u)
+    both F r = (dvd-trans (gcd (x k) F) (gcd-dvd-r (x k) F) (r .0), λ u h. at u h (ℕ-discrete u k))
+      where
+        at : (u : ℕ) → u < suc k → Dec (u ≡ k) → gcd (x k) F ∣ x u
+        at u h (yes e) = rw e (gcd-dvd-l (x k) F)
+        at u h (no n) = dvd-trans (gcd (x k) F) (gcd-dvd-r (x k) F) (r .1 u (omega arith))
+
+pub fold-greatest : (k : ℕ) (x : ℕ → ℕ) (a d : ℕ) → d ∣ a → ((u : ℕ) → u < k → d ∣ x u) → d ∣ foldBelow k (λ u h. gcd (x u) h) a
+unfolding foldBelow
+fold-greatest zero x a d p q = p
+fold-greatest (suc k) x a d p q =
+    gcd-greatest (x k) _ d (q k (omega arith)) (fold-greatest k x a d p (λ u h. q u (omega arith)))
+
+pub fold-pos : (k : ℕ) (x : ℕ → ℕ) (a : ℕ) → 0 < a → 0 < foldBelow k (λ u h. gcd (x u) h) a
+fold-pos k x a h = pos-of-dvd-of-pos (fold-dvd k x a .0) h
+
+pub fold-most : (k : ℕ) (x : ℕ → ℕ) (a : ℕ) → 0 < a → foldBelow k (λ u h. gcd (x u) h) a ≤ a
+fold-most k x a h = le-of-dvd h (fold-dvd k x a .0)
+
+exact : (a g : ℕ) → g ∣ a → a / g * g ≡ a
+exact a g d = let z : a % g ≡ 0 = mod-eq-zero-of-dvd g d in omega (arith, div-add-mod' a g)
+
+-- d of a quotient by g is d g of the number
+lifted : (d g a : ℕ) → g ∣ a → d ∣ a / g → d * g ∣ a
+lifted d g a p q = subst (λ z. d * g ∣ z) (exact a g p) (times d (a / g) q)
+  where
+    times : (d b : ℕ) → d ∣ b → d * g ∣ b * g
+    times d b h = subst (λ z. d * g ∣ z * g) (exact b d h) (subst (λ z. d * g ∣ z) (regroup (b / d) d g) (dvd-mul-left (d * g) (b / d)))
+      where
+        regroup : (k d g : ℕ) → k * (d * g) ≡ k * d * g
+        regroup k d g = sym (mul-assoc k d g)
+
+pub fold-lowest : (k : ℕ) (x : ℕ → ℕ) (a g : ℕ) → 0 < a → g ≡ foldBelow k (λ u h. gcd (x u) h) a →
+    foldBelow k (λ u h. gcd (x u / g) h) (a / g) ≡ 1
+fold-lowest k x a g h e = dvd-one .0 (dvd-of-mul-dvd-mul-right D {n = 1} g-pos (subst (λ z. D * g ∣ z) (sym (one-mul g)) D-g))
+  where
+    D : ℕ
+    D = foldBelow k (λ u h. gcd (x u / g) h) (a / g)
+
+    g-pos : 0 < g
+    g-pos = rw e (fold-pos k x a h)
+
+    parts : (D ∣ a / g) × ((u : ℕ) → u < k → D ∣ x u / g)
+    parts = fold-dvd k (λ u. x u / g) (a / g)
+
+    D-g : D * g ∣ g
+    D-g = subst (λ z. D * g ∣ z) (sym e) (fold-greatest k x a (D * g)
+        (lifted D g a (rw e (fold-dvd k x a .0)) (parts .0))
+        (λ u l. lifted D g (x u) (rw e (fold-dvd k x a .1 u l)) (parts .1 u l)))
+
+-- ---- a list
+
+pub gcdList-start : (d : ℕ) (l : List ℤ) → gcdList d l ∣ d
+unfolding gcdList
+gcdList-start d [] = dvd-refl d
+gcdList-start d (z ∷ l) = dvd-trans (gcdList (gcd (natAbs z) d) l) (gcdList-start (gcd (natAbs z) d) l) (gcd-dvd-r (natAbs z) d)
+
+pub gcdList-dvd : (d : ℕ) (l : List ℤ) (k : ℕ) → k < length l → gcdList d l ∣ natAbs (getD l k (pos 0))
+unfolding gcdList
+gcdList-dvd d [] k h = let z : ⊥ = omega arith in absurd z
+gcdList-dvd d (z ∷ l) zero h = dvd-trans (gcdList (gcd (natAbs z) d) l) (gcdList-start (gcd (natAbs z) d) l) (gcd-dvd-l (natAbs z) d)
+gcdList-dvd d (z ∷ l) (suc k) h = gcdList-dvd (gcd (natAbs z) d) l k (omega arith)
+
+pub gcdList-greatest : (d : ℕ) (l : List ℤ) (e : ℕ) → e ∣ d → ((k : ℕ) → k < length l → e ∣ natAbs (getD l k (pos 0))) → e ∣ gcdList d l
+unfolding gcdList
+gcdList-greatest d [] e p q = p
+gcdList-greatest d (z ∷ l) e p q =
+    gcdList-greatest (gcd (natAbs z) d) l e (gcd-greatest (natAbs z) d e (q 0 (omega arith)) p) (λ k h. q (suc k) (omega arith))

@@ -1,0 +1,20 @@
+-- Laws of whole numbers, lists and values. Nothing is assumed. crates/whole/README.md lists the tools with a line of use each.
+pub mod Bools
+pub mod RingLaws
+pub mod Normal
+pub mod Reify
+pub mod Nonneg
+pub mod Tools
+pub mod Order
+pub mod Omega
+pub mod Tests
+pub mod Values
+pub mod Instances
+pub mod Sums
+pub mod Tables
+pub mod Below
+pub mod Prefix
+pub mod Divisors
+pub mod Division
+pub mod Sizes
+pub mod Uses

@@ -1,0 +1,121 @@
+-- ℤ goals through `omega`: each atom z is pos (pp z) - pos (nn z); an expression is a difference of two naturals.
+use mathlib.Core.Path.{_≡_, refl, sym, _∙_, ap, ap₂, subst}
+use mathlib.Core.List.{List, [], _∷_}
+use Prim.Native.Nat.{ℕ, zero, suc, _+_, _*_, _≤_, _<_}
+use native.Mathlib.Omega.{arith}
+use lib.Dec.{T}
+use lib.Signed.{_≤ℤ_, _<ℤ_, leZ-yes}
+use lib.Dec.{le→leb, leb→le}
+use lib.IntN.{ℤ, pos, negsuc, negℤ, _+ℤ_, _-ℤ_, _*ℤ_}
+use Rattle.whole.proofs.Normal.{Expr, var, con, _⊕_, _⊖_, _⊗_, ⊝, look, eval}
+use Rattle.whole.proofs.Reify.{Q, reify, reify·atoms, ring! }
+use Rattle.whole.proofs.Nonneg.{NN, of-le, to-le, of-lt, to-lt, of-eq}
+use Rattle.whole.proofs.Order.{≤ℤ-antisym}
+use Rattle.whole.proofs.Tools.{ring-at, le-at, lt-at}
+
+-- the two parts of an atom: shut, so that omega takes them for unknowns
+pub pp : ℤ → ℕ
+pp (pos n) = n
+pp (negsuc n) = 0
+
+pub mm : ℤ → ℕ
+mm (pos n) = 0
+mm (negsuc n) = suc n
+
+parts : (z : ℤ) → z ≡ pos (pp z) -ℤ pos (mm z)
+unfolding pp mm
+parts (pos n) = search-add n
+  where
+    search-add : (n : ℕ) → pos n ≡ pos n -ℤ pos 0
+    search-add n = ap pos (omega arith)
+parts (negsuc n) = zs n
+  where
+    zs : (n : ℕ) → negsuc n ≡ pos 0 -ℤ pos (suc n)
+    zs n = ring-at (pos (suc n) ∷ []) {x = negℤ (pos (suc n))} {y = pos 0 -ℤ pos (suc n)} (search reify·atoms depth 30) refl
+
+abbrev mutual
+  pub P : List ℤ → Expr → ℕ
+  P ρ (var i) = pp (look ρ i)
+  P ρ (con (pos n)) = n
+  P ρ (con (negsuc n)) = 0
+  P ρ (a ⊕ b) = P ρ a + P ρ b
+  P ρ (a ⊖ b) = P ρ a + M ρ b
+  P ρ (a ⊗ b) = P ρ a * P ρ b + M ρ a * M ρ b
+  P ρ (⊝ a) = M ρ a
+
+  pub M : List ℤ → Expr → ℕ
+  M ρ (var i) = mm (look ρ i)
+  M ρ (con (pos n)) = 0
+  M ρ (con (negsuc n)) = suc n
+  M ρ (a ⊕ b) = M ρ a + M ρ b
+  M ρ (a ⊖ b) = M ρ a + P ρ b
+  M ρ (a ⊗ b) = P ρ a * M ρ b + M ρ a * P ρ b
+  M ρ (⊝ a) = P ρ a
+
+r+ : (a b c d : ℤ) → (a -ℤ b) +ℤ (c -ℤ d) ≡ (a +ℤ c) -ℤ (b +ℤ d)
+r+ a b c d = ring-at (a ∷ b ∷ c ∷ d ∷ []) (search reify depth 30) refl
+
+r- : (a b c d : ℤ) → (a -ℤ b) -ℤ (c -ℤ d) ≡ (a +ℤ d) -ℤ (b +ℤ c)
+r- a b c d = ring-at (a ∷ b ∷ c ∷ d ∷ []) (search reify depth 30) refl
+
+r* : (a b c d : ℤ) → (a -ℤ b) *ℤ (c -ℤ d) ≡ (a *ℤ c +ℤ b *ℤ d) -ℤ (a *ℤ d +ℤ b *ℤ c)
+r* a b c d = ring-at (a ∷ b ∷ c ∷ d ∷ []) (search reify depth 30) refl
+
+r~ : (a b : ℤ) → negℤ (a -ℤ b) ≡ b -ℤ a
+r~ a b = ring-at (a ∷ b ∷ []) (search reify depth 30) refl
+
+n0 : (n : ℕ) → pos n ≡ pos n -ℤ pos 0
+n0 n = ap pos (omega arith)
+
+n1 : (n : ℕ) → negsuc n ≡ pos 0 -ℤ pos (suc n)
+n1 n = ring-at (pos (suc n) ∷ []) {x = negℤ (pos (suc n))} {y = pos 0 -ℤ pos (suc n)} (search reify·atoms depth 30) refl
+
+pub PM : (ρ : List ℤ) (e : Expr) → eval ρ e ≡ pos (P ρ e) -ℤ pos (M ρ e)
+PM ρ (var i) = parts (look ρ i)
+PM ρ (con (pos n)) = n0 n
+PM ρ (con (negsuc n)) = n1 n
+PM ρ (a ⊕ b) = ap₂ (λ x y. x +ℤ y) (PM ρ a) (PM ρ b) ∙ r+ (pos (P ρ a)) (pos (M ρ a)) (pos (P ρ b)) (pos (M ρ b))
+PM ρ (a ⊖ b) = ap₂ (λ x y. x -ℤ y) (PM ρ a) (PM ρ b) ∙ r- (pos (P ρ a)) (pos (M ρ a)) (pos (P ρ b)) (pos (M ρ b))
+PM ρ (a ⊗ b) = ap₂ (λ x y. x *ℤ y) (PM ρ a) (PM ρ b) ∙ r* (pos (P ρ a)) (pos (M ρ a)) (pos (P ρ b)) (pos (M ρ b))
+PM ρ (⊝ a) = ap negℤ (PM ρ a) ∙ r~ (pos (P ρ a)) (pos (M ρ a))
+
+le-nat : {m n : ℕ} → NN (pos n -ℤ pos m) → m ≤ n
+le-nat {m} {n} h = leb→le m n ((to-le {a = pos m} {b = pos n} h) .le)
+
+nat-le : {m n : ℕ} → m ≤ n → NN (pos n -ℤ pos m)
+nat-le {m} {n} h = of-le {a = pos m} {b = pos n} (record { le = le→leb m n h })
+
+-- a fact of ℤ as one of ℕ, and back
+pub le-out : (ρ : List ℤ) {a b : ℤ} → a ≤ℤ b → (p : Q ρ a) (q : Q ρ b) → P ρ (p .ex) + M ρ (q .ex) ≤ P ρ (q .ex) + M ρ (p .ex)
+le-out ρ {a} {b} h p q = le-nat (subst NN (ap₂ (λ x y. y -ℤ x) (sym (p .ex-ok) ∙ PM ρ (p .ex)) (sym (q .ex-ok) ∙ PM ρ (q .ex)) ∙ sh (pos (P ρ (q .ex))) (pos (M ρ (q .ex))) (pos (P ρ (p .ex))) (pos (M ρ (p .ex)))) (of-le h))
+  where
+    sh : (c d a b : ℤ) → (c -ℤ d) -ℤ (a -ℤ b) ≡ (c +ℤ b) -ℤ (a +ℤ d)
+    sh c d a b = ring-at (a ∷ b ∷ c ∷ d ∷ []) (search reify depth 30) refl
+
+pub le-in : (ρ : List ℤ) {a b : ℤ} (p : Q ρ a) (q : Q ρ b) → P ρ (p .ex) + M ρ (q .ex) ≤ P ρ (q .ex) + M ρ (p .ex) → a ≤ℤ b
+le-in ρ {a} {b} p q h = to-le (subst NN (sym (ap₂ (λ x y. y -ℤ x) (sym (p .ex-ok) ∙ PM ρ (p .ex)) (sym (q .ex-ok) ∙ PM ρ (q .ex)) ∙ sh (pos (P ρ (q .ex))) (pos (M ρ (q .ex))) (pos (P ρ (p .ex))) (pos (M ρ (p .ex))))) (nat-le h))
+  where
+    sh : (c d a b : ℤ) → (c -ℤ d) -ℤ (a -ℤ b) ≡ (c +ℤ b) -ℤ (a +ℤ d)
+    sh c d a b = ring-at (a ∷ b ∷ c ∷ d ∷ []) (search reify depth 30) refl
+
+-- ---- one search for each fact: `out ρ (of-le h) (search reify depth 30) : M .. ≤ P ..`
+pub out : (ρ : List ℤ) {z : ℤ} → NN z → (q : Q ρ z) → M ρ (q .ex) ≤ P ρ (q .ex)
+out ρ h q = le-nat (subst NN (sym (q .ex-ok) ∙ PM ρ (q .ex)) h)
+
+pub into : (ρ : List ℤ) {z : ℤ} (q : Q ρ z) → M ρ (q .ex) ≤ P ρ (q .ex) → NN z
+into ρ q h = subst NN (sym (sym (q .ex-ok) ∙ PM ρ (q .ex))) (nat-le h)
+
+pub le-ω : (ρ : List ℤ) {a b : ℤ} (q : Q ρ (b -ℤ a)) → M ρ (q .ex) ≤ P ρ (q .ex) → a ≤ℤ b
+le-ω ρ q h = to-le (into ρ q h)
+
+pub lt-ω : (ρ : List ℤ) {a b : ℤ} (q : Q ρ (b -ℤ (a +ℤ pos 1))) → M ρ (q .ex) ≤ P ρ (q .ex) → a <ℤ b
+lt-ω ρ q h = to-lt (into ρ q h)
+
+pub eq-ω : (ρ : List ℤ) {a b : ℤ} (q : Q ρ (b -ℤ a)) → M ρ (q .ex) ≡ P ρ (q .ex) → a ≡ b
+eq-ω ρ {a} {b} q h = ≤ℤ-antisym (to-le (into ρ q (omega arith))) (to-le (subst NN (swap a b) (nn-neg ρ q h)))
+  where
+    swap : (a b : ℤ) → negℤ (b -ℤ a) ≡ a -ℤ b
+    swap a b = ring-at (a ∷ b ∷ []) (search reify depth 30) refl
+
+    nn-neg : (ρ : List ℤ) {z : ℤ} (q : Q ρ z) → M ρ (q .ex) ≡ P ρ (q .ex) → NN (negℤ z)
+    nn-neg ρ q h = subst NN (ap negℤ (sym (PM ρ (q .ex)) ∙ q .ex-ok)) (subst NN (sym (r~ (pos (P ρ (q .ex))) (pos (M ρ (q .ex))))) (nat-le {m = P ρ (q .ex)} {n = M ρ (q .ex)} (omega arith)))

@@ -1,0 +1,72 @@
+-- A list that a loop writes from the front, and what it then holds.
+--   length-prefix, set-prefix, prefix-all      `take i s ++ drop i t`: s written over t
+--   front, front-next, front-set, front-all    a list mapped in place
+--   set-table                                  `table k f ++ drop k l`: a list filled by a function
+use Prim.Native.Nat.{ℕ, zero, suc, _+_, _≤_, _<_, min, suc-le-suc}
+use native.Mathlib.Nat.{le-of-suc-le-suc}
+use native.Mathlib.Numerals.{add-one}
+use native.Mathlib.Omega.{arith}
+use mathlib.Core.Path.{_≡_, refl, ap, sym, _∙_}
+use mathlib.Core.List.{List, [], _∷_, _++_, map}
+use mathlib.Core.List.{append-assoc}
+use lib.ListN.{length, take, drop, set, getD, length-append, length-take, length-drop}
+use lib.Seq.{drop-cons, set-at}
+use Rattle.whole.specs.Tables.{table}
+use Rattle.whole.proofs.Tables.{table-length, table-last}
+
+module _ {A : Type 0} where
+  pub length-prefix : (s t : List A) (i : ℕ) → i ≤ length s → length s ≤ length t → length (take i s ++ drop i t) ≡ length t
+  length-prefix s t i h k = simp (length-append, length-take, length-drop) (omega arith)
+
+  prefix-suc : (s t : List A) (i : ℕ) (d : A) → i < length s → length s ≤ length t → set (take i s ++ drop i t) i (getD s i d) ≡ take (suc i) s ++ drop (suc i) t
+  prefix-suc [] t i d h k = absurd (omega arith)
+  prefix-suc (a ∷ s) [] i d h k = absurd (omega arith)
+  prefix-suc (a ∷ s) (b ∷ t) zero d h k = refl
+  prefix-suc (a ∷ s) (b ∷ t) (suc i) d h k = ap (λ (l : List A). a ∷ l) (prefix-suc s t i d (le-of-suc-le-suc h) (le-of-suc-le-suc k))
+
+  -- one word more
+  pub set-prefix : (s t : List A) (i : ℕ) (d : A) → i < length s → length s ≤ length t → set (take i s ++ drop i t) i (getD s i d) ≡ take (i + 1) s ++ drop (i + 1) t
+  set-prefix s t i d h k = rw add-one (prefix-suc s t i d h k)
+
+  pub take-all : (s : List A) → take (length s) s ≡ s
+  take-all [] = refl
+  take-all (a ∷ s) = ap (λ (l : List A). a ∷ l) (take-all s)
+
+  -- all words
+  pub prefix-all : (s t : List A) (i : ℕ) → i ≡ length s → take i s ++ drop i t ≡ s ++ drop (length s) t
+  prefix-all s t i e = rw (e, take-all)
+
+  pub take-end : (s : List A) (i : ℕ) → i ≡ length s → take i s ≡ s
+  take-end s i e = rw (e, take-all)
+
+-- A list that a loop maps in place, from the front.
+module _ {A : Type 0} (f : A → A) where
+  abbrev pub front : ℕ → List A → List A
+  front k l = map f (take k l) ++ drop k l
+
+  pub front-next : (l : List A) (k : ℕ) (d : A) → getD (front k l) k d ≡ getD l k d
+  front-next [] zero d = refl
+  front-next [] (suc k) d = refl
+  front-next (a ∷ l) zero d = refl
+  front-next (a ∷ l) (suc k) d = front-next l k d
+
+  front-suc : (l : List A) (k : ℕ) (d : A) → k < length l → set (front k l) k (f (getD l k d)) ≡ front (suc k) l
+  front-suc [] k d h = absurd (omega arith)
+  front-suc (a ∷ l) zero d h = refl
+  front-suc (a ∷ l) (suc k) d h = ap (λ (m : List A). f a ∷ m) (front-suc l k d (le-of-suc-le-suc h))
+
+  pub front-set : (l : List A) (k : ℕ) (d : A) → k < length l → set (front k l) k (f (getD (front k l) k d)) ≡ front (k + 1) l
+  front-set l k d h = rw (add-one, front-next) (front-suc l k d h)
+
+  pub front-all : (l : List A) (k : ℕ) → length l ≤ k → front k l ≡ map f l
+  front-all [] zero h = refl
+  front-all [] (suc k) h = refl
+  front-all (a ∷ l) zero h = absurd (omega arith)
+  front-all (a ∷ l) (suc k) h = ap (λ (m : List A). f a ∷ m) (front-all l k (le-of-suc-le-suc h))
+
+-- A list that a loop fills by a function, from the front.
+module _ {A : Type 0} (f : ℕ → A) (d : A) (l : List A) where
+  pub set-table : (k : ℕ) → k < length l → set (table k f ++ drop k l) k (f k) ≡ table (k + 1) f ++ drop (k + 1) l
+  set-table k h = rw (add-one, drop-cons l k d h)
+      (set-at (table k f) (getD l k d) (drop (suc k) l) (f k) k (table-length k f)
+      ∙ sym (ap (λ t. t ++ drop (suc k) l) (table-last k f) ∙ append-assoc (table k f) (f k ∷ []) (drop (suc k) l)))

@@ -1,0 +1,186 @@
+-- Sums of whole numbers over the numbers below k: the laws of `total` at ℤ, and what only ℤ has.
+--   sum-none, sum-more, sum-head   no term; the last, the first term taken off
+--   sum-same, sum-plus, sum-times  equal terms; sum of sums; a factor
+--   sum-swap, sum-zero, sum-one    two sums swapped; all terms 0; all but one
+--   sum-split                      one index taken out
+--   sum-front                      the terms from n on are 0
+--   sum-nonneg, sum-zero-each      terms not below 0; .. whose sum is 0 are all 0
+--   sum-mono                       terms in order
+--   dot-sum, reduce-row            of lists; a row divided by a common factor
+use mathlib.Core.Path.{_≡_, refl, sym, _∙_, ap, ap₂, subst}
+use mathlib.Core.Logic.{_≢_}
+use mathlib.Core.Bool.{Bool, true, false}
+use mathlib.Core.List.{List, [], _∷_}
+use Prim.Native.Nat.{ℕ, zero, suc, _+_, _≤_, _<_}
+use native.Mathlib.Omega.{arith}
+use native.Mathlib.Nat.{le-refl, suc-inj, add-zero, add-suc}
+use lib.Dec.{T, eqb, eqb→eq, eqb-refl}
+use lib.ListN.{length, getD}
+use lib.Signed.{_≤ℤ_, _<ℤ_, ≤ℤ-refl}
+use lib.IntN.{ℤ, pos, _+ℤ_, _-ℤ_, _*ℤ_, +ℤ-idr, *ℤ-comm}
+use Rattle.whole.specs.Sums.{sum, sumBy, dot}
+use Rattle.whole.proofs.Reify.{reify}
+use Rattle.whole.proofs.Nonneg.{NN, _⊞_, nn-nat, slk}
+use Rattle.whole.proofs.Tools.{ring-at, le-at, eq-by, of-≡, _⊠₀_}
+use Rattle.whole.proofs.Order.{≤ℤ-antisym, ≤ℤ-+, *ℤ-cancel}
+use Rattle.whole.proofs.Values.{total-same, total-plus, scale-total, total-swap, total-zero, total-one}
+use Rattle.whole.proofs.Instances.{whole-laws}
+
+pub sum-none : (f : ℕ → ℤ) → sum 0 f ≡ pos 0
+unfolding sumBy
+sum-none f = refl
+
+pub sum-more : (n : ℕ) (f : ℕ → ℤ) → sum (suc n) f ≡ sum n f +ℤ f n
+unfolding sumBy
+sum-more n f = refl
+
+pub sum-same : (k : ℕ) (f g : ℕ → ℤ) → ((i : ℕ) → i < k → f i ≡ g i) → sum k f ≡ sum k g
+sum-same = total-same whole-laws
+
+pub sum-plus : (k : ℕ) (f g : ℕ → ℤ) → sum k (λ i. f i +ℤ g i) ≡ sum k f +ℤ sum k g
+sum-plus = total-plus whole-laws
+
+pub sum-times : (k : ℕ) (a : ℤ) (f : ℕ → ℤ) → sum k (λ i. a *ℤ f i) ≡ a *ℤ sum k f
+sum-times k a f = sym (scale-total whole-laws a k f)
+
+pub sum-swap : (k j : ℕ) (f : ℕ → ℕ → ℤ) → sum k (λ a. sum j (λ b. f a b)) ≡ sum j (λ b. sum k (λ a. f a b))
+sum-swap = total-swap whole-laws
+
+pub sum-zero : (k : ℕ) (f : ℕ → ℤ) → ((i : ℕ) → i < k → f i ≡ pos 0) → sum k f ≡ pos 0
+sum-zero = total-zero whole-laws
+
+-- one term is other than 0
+pub sum-one : (k r : ℕ) (f : ℕ → ℤ) → r < k → ((i : ℕ) → i < k → i ≢ r → f i ≡ pos 0) → sum k f ≡ f r
+sum-one = total-one whole-laws
+
+-- the terms from n on are 0
+pub sum-front : (n m : ℕ) (f : ℕ → ℤ) → ((u : ℕ) → n ≤ u → f u ≡ pos 0) → sum (n + m) f ≡ sum n f
+unfolding sumBy
+sum-front n zero f h = ap (λ k. sum k f) (add-zero n)
+sum-front n (suc m) f h =
+    ap (λ k. sum k f) (add-suc n m) ∙ (rw (h (n + m) (omega arith)) (+ℤ-idr (sum (n + m) f) ∙ sum-front n m f h))
+
+-- the terms but the one at j
+abbrev pub drop-if : Bool → ℤ → ℤ
+drop-if true z = pos 0
+drop-if false z = z
+
+abbrev pub but : ℕ → (ℕ → ℤ) → ℕ → ℤ
+but j f k = drop-if (eqb k j) (f k)
+
+pub but-at : (j : ℕ) (f : ℕ → ℤ) → but j f j ≡ pos 0
+but-at j f = go (eqb j j) (eqb-refl j)
+  where
+    go : (b : Bool) → T b → drop-if b (f j) ≡ pos 0
+    go true t = refl
+    go false t = absurd t
+
+pub but-off : (j : ℕ) (f : ℕ → ℤ) (k : ℕ) → (k ≡ j → ⊥) → but j f k ≡ f k
+but-off j f k n = go (eqb k j) (λ t. n (eqb→eq k j t))
+  where
+    go : (b : Bool) → (T b → ⊥) → drop-if b (f k) ≡ f k
+    go true t = absurd (t tt)
+    go false t = refl
+
+regroup-right : (a b c : ℤ) → (a +ℤ b) +ℤ c ≡ a +ℤ (b +ℤ c)
+regroup-right a b c = ring-at (a ∷ b ∷ c ∷ []) (search reify depth 30) refl
+
+last-first : (a b : ℤ) → a +ℤ b ≡ b +ℤ (a +ℤ pos 0)
+last-first a b = ring-at (a ∷ b ∷ []) (search reify depth 30) refl
+
+sum-off : (n j : ℕ) (f : ℕ → ℤ) → n ≤ j → sum n (but j f) ≡ sum n f
+sum-off n j f h = sum-same n (but j f) f (λ k l. but-off j f k (λ e. no′ k l e))
+  where
+    no′ : (k : ℕ) → k < n → k ≡ j → ⊥
+    no′ k l e = omega arith
+
+data Last (j n : ℕ) : Type 0 where
+  is-last : j ≡ n → Last j n
+  below : j < n → (n ≡ j → ⊥) → Last j n
+
+last? : (j n : ℕ) → j < suc n → Last j n
+last? j n h = go (eqb j n) (eqb→eq j n) (λ e. subst (λ k. T (eqb j k)) e (eqb-refl j))
+  where
+    go : (b : Bool) → (T b → j ≡ n) → (j ≡ n → T b) → Last j n
+    go true f g = is-last (f tt)
+    go false f g = let ne : j ≡ n → ⊥ = g in below (lt′ ne) (λ e. ne (sym e))
+      where
+        lt′ : (j ≡ n → ⊥) → j < n
+        lt′ ne = omega arith
+
+pub sum-split : (n j : ℕ) (f : ℕ → ℤ) → j < n → sum n f ≡ f j +ℤ sum n (but j f)
+unfolding sumBy
+sum-split zero j f h = absurd (no′ h)
+  where
+    no′ : j < zero → ⊥
+    no′ h = omega arith
+sum-split (suc n) j f h = step n j f (last? j n h) (sum-split n j f)
+  where
+    step : (n j : ℕ) (f : ℕ → ℤ) → Last j n → (j < n → sum n f ≡ f j +ℤ sum n (but j f)) → sum n f +ℤ f n ≡ f j +ℤ (sum n (but j f) +ℤ but j f n)
+    step n j f (is-last e) ih = subst (λ k. sum n f +ℤ f n ≡ f k +ℤ (sum n (but k f) +ℤ but k f n)) (sym e) (last-first (sum n f) (f n) ∙ ap₂ (λ x y. f n +ℤ (x +ℤ y)) (sym (sum-off n n f (le-refl n))) (sym (but-at n f)))
+    step n j f (below l ne) ih = ap (λ x. x +ℤ f n) (ih l) ∙ regroup-right (f j) (sum n (but j f)) (f n) ∙ ap (λ x. f j +ℤ (sum n (but j f) +ℤ x)) (sym (but-off j f n ne))
+
+-- the first term taken off
+to-back : (a : ℤ) → pos 0 +ℤ a ≡ a +ℤ pos 0
+to-back a = ring-at (a ∷ []) (search reify depth 30) refl
+
+pub sum-head : (n : ℕ) (f : ℕ → ℤ) → sum (suc n) f ≡ f zero +ℤ sum n (λ k. f (suc k))
+unfolding sumBy
+sum-head zero f = to-back (f zero)
+sum-head (suc n) f = ap (λ x. x +ℤ f (suc n)) (sum-head n f) ∙ regroup-right (f zero) (sum n (λ k. f (suc k))) (f (suc n))
+
+-- ---- terms not below 0, and terms in order
+
+pub sum-nonneg : (n : ℕ) {f : ℕ → ℤ} → ((k : ℕ) → k < n → NN (f k)) → NN (sum n f)
+unfolding sumBy
+sum-nonneg zero h = nn-nat 0
+sum-nonneg (suc n) h = sum-nonneg n (λ k l. h k (omega arith)) ⊞ h n (le-refl (suc n))
+
+zero-parts : {a b : ℤ} → NN a → NN b → a +ℤ b ≡ pos 0 → a ≡ pos 0
+zero-parts {a} {b} h k e = ≤ℤ-antisym {a = a} {b = pos 0}
+    (subst (λ z. a ≤ℤ z) e (le-at (a ∷ b ∷ []) k (search reify depth 30) slk))
+    (le-at (a ∷ b ∷ []) h (search reify depth 30) slk)
+
+pub sum-zero-each : (n : ℕ) {f : ℕ → ℤ} → ((k : ℕ) → k < n → NN (f k)) → sum n f ≡ pos 0 → (k : ℕ) → k < n → f k ≡ pos 0
+sum-zero-each n {f} h e k l = zero-parts (h k l) (sum-nonneg n (λ i m. but-nn i m)) (sym (sum-split n k f l) ∙ e)
+  where
+    but-nn : (i : ℕ) → i < n → NN (but k f i)
+    but-nn i m = go (eqb i k)
+      where
+        go : (b : Bool) → NN (drop-if b (f i))
+        go true = nn-nat 0
+        go false = h i m
+
+pub sum-mono : (n : ℕ) {f g : ℕ → ℤ} → ((k : ℕ) → k < n → f k ≤ℤ g k) → sum n f ≤ℤ sum n g
+unfolding sumBy
+sum-mono zero h = ≤ℤ-refl (pos 0)
+sum-mono (suc n) h = ≤ℤ-+ (sum-mono n (λ k l. h k (omega arith))) (h n (le-refl (suc n)))
+
+-- ---- lists
+
+pub dot-sum : (n : ℕ) (x y : List ℤ) → length x ≡ n → length y ≡ n → dot x y ≡ sum n (λ k. getD x k (pos 0) *ℤ getD y k (pos 0))
+unfolding dot sumBy
+dot-sum zero [] y p q = refl
+dot-sum zero (a ∷ x) y p q = absurd (no′ (length x) p)
+  where
+    no′ : (n : ℕ) → suc n ≡ zero → ⊥
+    no′ n e = omega arith
+dot-sum (suc n) [] y p q = absurd (no′ n p)
+  where
+    no′ : (n : ℕ) → zero ≡ suc n → ⊥
+    no′ n e = omega arith
+dot-sum (suc n) (a ∷ x) [] p q = absurd (no′ n q)
+  where
+    no′ : (n : ℕ) → zero ≡ suc n → ⊥
+    no′ n e = omega arith
+dot-sum (suc n) (a ∷ x) (b ∷ y) p q = ap (λ z. a *ℤ b +ℤ z) (dot-sum n x y (suc-inj p) (suc-inj q)) ∙ sym (sum-head n (λ k. getD (a ∷ x) k (pos 0) *ℤ getD (b ∷ y) k (pos 0)))
+
+-- a row divided by a common factor of its denominator and coefficients
+pub reduce-row : (n : ℕ) (g D D′ v : ℤ) (a a′ x : ℕ → ℤ) → pos 0 <ℤ g → D ≡ D′ *ℤ g → ((k : ℕ) → k < n → a k ≡ a′ k *ℤ g) → D *ℤ v ≡ sum n (λ k. a k *ℤ x k) → D′ *ℤ v ≡ sum n (λ k. a′ k *ℤ x k)
+reduce-row n g D D′ v a a′ x h e f r = *ℤ-cancel h (swap D′ v g ∙ ap (λ z. z *ℤ v) (sym e) ∙ r ∙ sum-same n (λ k. a k *ℤ x k) (λ k. g *ℤ (a′ k *ℤ x k)) (λ k l. point (a k) (a′ k) (x k) (f k l)) ∙ sum-times n g (λ k. a′ k *ℤ x k) ∙ *ℤ-comm g (sum n (λ k. a′ k *ℤ x k)))
+  where
+    swap : (D v g : ℤ) → (D *ℤ v) *ℤ g ≡ (D *ℤ g) *ℤ v
+    swap D v g = ring-at (D ∷ v ∷ g ∷ []) (search reify depth 30) refl
+
+    point : (a a′ x : ℤ) → a ≡ a′ *ℤ g → a *ℤ x ≡ g *ℤ (a′ *ℤ x)
+    point a a′ x e = eq-by (a ∷ a′ ∷ x ∷ g ∷ []) (x ⊠₀ of-≡ e) (search reify depth 30) refl

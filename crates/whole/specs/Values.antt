@@ -1,0 +1,33 @@
+-- What a variable's value is, what limits are compared with, and what lengths are added from: an ordered set of values
+-- on which whole numbers act. `whole` is ℤ itself; `turned 𝓥` is 𝓥 with its order turned round.
+use mathlib.Core.Path.{_≡_}
+use mathlib.Core.Bool.{Bool, true, false}
+use Prim.Native.Nat.{ℕ}
+use lib.IntN.{ℤ, pos, _+ℤ_, _*ℤ_}
+use lib.Signed.{ltZ}
+use Rattle.whole.specs.Sums.{sumBy}
+
+-- the operations: 0, addition, a whole number times a value, and the order
+pub record Values (X : Type 0) : Type 0 where
+  pub nil : X
+  pub plus : X → X → X
+  pub scale : ℤ → X → X
+  pub less : X → X → Bool
+
+abbrev pub whole : Values ℤ
+whole = record { nil = pos 0; plus = _+ℤ_; scale = _*ℤ_; less = ltZ }
+
+abbrev pub turned : {X : Type 0} → Values X → Values X
+turned 𝓥 = record { nil = 𝓥 .nil; plus = 𝓥 .plus; scale = 𝓥 .scale; less = λ x y. 𝓥 .less y x }
+
+-- f 0 + f 1 + .. + f (k - 1)
+abbrev pub total : {X : Type 0} → Values X → ℕ → (ℕ → X) → X
+total 𝓥 k f = sumBy (𝓥 .nil) (𝓥 .plus) k f
+
+-- x is less than y
+abbrev pub Lt : {X : Type 0} → Values X → X → X → Type 0
+Lt 𝓥 x y = 𝓥 .less x y ≡ true
+
+-- x is at most y: y is not less
+abbrev pub Le : {X : Type 0} → Values X → X → X → Type 0
+Le 𝓥 x y = 𝓥 .less y x ≡ false
