@@ -14,6 +14,7 @@ pub mod Sums
 pub mod Tables
 pub mod Below
 pub mod Prefix
+pub mod Pigeons
 pub mod Divisors
 pub mod Division
 pub mod Sizes

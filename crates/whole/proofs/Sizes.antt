@@ -5,6 +5,7 @@
 --   quot-fits, divisor-pos         a quotient by a positive number fits; that divisor's bits are not 0
 --   abs-neg, abs-*, abs-+          the size of a negation, a product, a sum
 use mathlib.Core.Path.{_≡_, refl, sym, _∙_, ap, ap₂, subst}
+use mathlib.Core.Logic.{_≢_}
 use mathlib.Core.Bool.{Bool, true, false, not, cond}
 use Prim.Native.Nat.{ℕ, zero, suc, _+_, _*_, _-_, _^_, _/_, _≤_, _<_}
 use native.Mathlib.Omega.{arith}
@@ -20,6 +21,12 @@ pub abs-neg : (a : ℤ) → natAbs (negℤ a) ≡ natAbs a
 abs-neg (pos zero) = refl
 abs-neg (pos (suc n)) = refl
 abs-neg (negsuc n) = refl
+
+-- a number other than 0 has a size above 0
+pub size-pos : (z : ℤ) → z ≢ pos 0 → 0 < natAbs z
+size-pos (pos zero) n = absurd (n refl)
+size-pos (pos (suc a)) n = omega arith
+size-pos (negsuc a) n = omega arith
 
 pub abs-* : (a b : ℤ) → natAbs (a *ℤ b) ≡ natAbs a * natAbs b
 abs-* (pos a) (pos b) = refl

@@ -1,0 +1,143 @@
+-- What the search for the entering variable says: it is nonbasic and may move the right way, and no lower one may; and what a move swaps.
+--   entered        of the variable that enters: `Entered`
+--   none-enters    every nonbasic variable is stuck: `Stuck`
+--   swap           the two seats that change, and that no other does: `Swap`
+use mathlib.Core.Bool.{Bool, cond, false, true}
+use mathlib.Core.List.{List}
+use mathlib.Core.Logic.{_≢_}
+use mathlib.Core.Option.{Option, Option·none-ne-some, none, some}
+use mathlib.Core.Path.{refl, sym, _∙_, _≡_}
+use Prim.Native.Nat.{suc, zero, ℕ, _<_}
+use native.Mathlib.Omega.{arith}
+use lib.Dec.{le→leb, lt→ltb}
+use lib.IntN.{negsuc, pos, ℤ}
+use lib.ListN.{length, length-set, set}
+use lib.Seq.{getD-set-other, getD-set-same}
+use lib.Signed.{<ℤ-irrefl, <ℤ-≤ℤ-trans, ltZ-yes, _<ℤ_}
+use Rattle.whole.proofs.Below.{Found, lowest-none, lowest-some}
+use Rattle.whole.proofs.Bools.{zero-one}
+use Rattle.whole.specs.Values.{Le, Lt, Values}
+use Rattle.rules.proofs.Leaves.{Left}
+use Rattle.rules.proofs.Swaps.{Swap}
+use Rattle.rules.specs.Problem.{Problem, vars}
+use Rattle.rules.specs.Step.{Leaving, State, entering, limitAt, mayFall, mayRise, moved, pull, seat, suits}
+use Rattle.rules.specs.Tableau.{entry}
+
+module _ {X : Type 0} (𝓥 : Values X) where
+  -- ---- the entering variable
+
+  -- w, seated at x, with the entry a (turned to rise), may move the right way
+  pub data Suits (P : Problem X) (w : ℕ) (a : ℤ) (x : X) : Type 0 where
+    may-go-up : pos 0 <ℤ a → ((u : X) → P .upper w ≡ some u → Lt 𝓥 x u) → Suits P w a x
+    may-go-down : a <ℤ pos 0 → ((l : X) → P .lower w ≡ some l → Lt 𝓥 l x) → Suits P w a x
+
+  pub record Stuck (P : Problem X) (w : ℕ) (a : ℤ) (x : X) : Type 0 where
+    pub no-rise : pos 0 <ℤ a → (u : X) × (P .upper w ≡ some u) × Le 𝓥 u x
+    pub no-fall : a <ℤ pos 0 → (l : X) × (P .lower w ≡ some l) × Le 𝓥 x l
+
+  pub record Entered (P : Problem X) (s : State X) (r : Leaving) (w : ℕ) : Type 0 where
+    pub variable : w < vars P
+    pub value : X
+    pub was-seated : seat s w ≡ some value
+    pub suits : Suits P w (pull (r .side) (entry (s .tableau) (r .variable) w)) value
+    pub stuck : (u : ℕ) (x : X) → u < w → seat s u ≡ some x → Stuck P u (pull (r .side) (entry (s .tableau) (r .variable) u)) x
+
+  may-rise-yes : (x : X) (o : Option X) → mayRise 𝓥 x o ≡ true → (u : X) → o ≡ some u → Lt 𝓥 x u
+  unfolding mayRise
+  may-rise-yes x none e u q = let z : _≡_ {A = ℕ} 0 1 = cc in zero-one z
+  may-rise-yes x (some k) e u q = let z : k ≡ u = cc in let h : Lt 𝓥 x k = e in rw z at h
+
+  may-rise-no : (x : X) (o : Option X) → mayRise 𝓥 x o ≡ false → (u : X) × (o ≡ some u) × Le 𝓥 u x
+  unfolding mayRise
+  may-rise-no x none e = let z : _≡_ {A = ℕ} 0 1 = cc in zero-one z
+  may-rise-no x (some u) e = (u, refl, e)
+
+  may-fall-yes : (x : X) (o : Option X) → mayFall 𝓥 x o ≡ true → (l : X) → o ≡ some l → Lt 𝓥 l x
+  unfolding mayFall
+  may-fall-yes x none e l q = let z : _≡_ {A = ℕ} 0 1 = cc in zero-one z
+  may-fall-yes x (some k) e l q = let z : k ≡ l = cc in let h : Lt 𝓥 k x = e in rw z at h
+
+  may-fall-no : (x : X) (o : Option X) → mayFall 𝓥 x o ≡ false → (l : X) × (o ≡ some l) × Le 𝓥 x l
+  unfolding mayFall
+  may-fall-no x none e = let z : _≡_ {A = ℕ} 0 1 = cc in zero-one z
+  may-fall-no x (some l) e = (l, refl, e)
+
+  suits-yes : (P : Problem X) (w : ℕ) (a : ℤ) (x : X) → suits 𝓥 a (some x) (P .lower w) (P .upper w) ≡ true → Suits P w a x
+  unfolding suits
+  suits-yes P w (pos zero) x e = let z : _≡_ {A = ℕ} 0 1 = cc in zero-one z
+  suits-yes P w (pos (suc k)) x e = may-go-up (ltZ-yes (lt→ltb 0 (suc k) (omega arith))) (may-rise-yes x (P .upper w) e)
+  suits-yes P w (negsuc k) x e = may-go-down (ltZ-yes tt) (may-fall-yes x (P .lower w) e)
+
+  suits-no : (P : Problem X) (w : ℕ) (a : ℤ) (x : X) → suits 𝓥 a (some x) (P .lower w) (P .upper w) ≡ false → Stuck P w a x
+  unfolding suits
+  suits-no P w (pos zero) x e = record { no-rise = λ h. absurd (<ℤ-irrefl h); no-fall = λ h. absurd (<ℤ-irrefl h) }
+  suits-no P w (pos (suc k)) x e = record { no-rise = λ h. may-rise-no x (P .upper w) e; no-fall = λ h. absurd (<ℤ-irrefl (<ℤ-≤ℤ-trans h (record { le = le→leb 0 (suc k) (omega arith) }))) }
+  suits-no P w (negsuc k) x e = record { no-rise = λ h. absurd (h .lt); no-fall = λ h. may-fall-no x (P .lower w) e }
+
+  chosen : (b : Bool) (v w : ℕ) → cond b (some v) none ≡ some w → (b ≡ true) × (v ≡ w)
+  chosen true v w e = (refl, cc)
+  chosen false v w e = let z : _≡_ {A = ℕ} 0 1 = cc in zero-one z
+
+  passed-over : (b : Bool) (v : ℕ) → _≡_ {A = Option ℕ} (cond b (some v) none) none → b ≡ false
+  passed-over true v e = let z : _≡_ {A = ℕ} 0 1 = cc in zero-one z
+  passed-over false v e = refl
+
+  seated-suits : (P : Problem X) (w : ℕ) (a : ℤ) (o : Option X) → suits 𝓥 a o (P .lower w) (P .upper w) ≡ true → (x : X) × (o ≡ some x) × Suits P w a x
+  unfolding suits
+  seated-suits P w a none e = let z : _≡_ {A = ℕ} 0 1 = cc in zero-one z
+  seated-suits P w a (some x) e = (x, refl, suits-yes P w a x e)
+
+  pub entered : (P : Problem X) (s : State X) (r : Leaving) (w : ℕ) → entering 𝓥 P s r ≡ some w → Entered P s r w
+  unfolding entering
+  entered P s r w e = rw v (record {
+    variable = f .in-range;
+    value = g .0;
+    was-seated = g .1;
+    suits = g .2;
+    stuck = λ u x h q. suits-no P u (a u) x (rw q at (passed-over (test u) u (f .first u h)));
+  })
+    where
+      a : ℕ → ℤ
+      a u = pull (r .side) (entry (s .tableau) (r .variable) u)
+
+      test : ℕ → Bool
+      test u = suits 𝓥 (a u) (seat s u) (P .lower u) (P .upper u)
+
+      f : Found (vars P) (λ u. cond (test u) (some u) none) w
+      f = lowest-some (vars P) (λ u. cond (test u) (some u) none) w e
+
+      v : w ≡ f .at
+      v = sym (chosen (test (f .at)) (f .at) w (f .is) .1)
+
+      g : (x : X) × (seat s (f .at) ≡ some x) × Suits P (f .at) (a (f .at)) x
+      g = seated-suits P (f .at) (a (f .at)) (seat s (f .at)) (chosen (test (f .at)) (f .at) w (f .is) .0)
+
+  -- ---- the swap
+
+  pub swap : (P : Problem X) (s : State X) (r : Leaving) (w : ℕ) → length (s .seats) ≡ vars P → Left 𝓥 P s r → Entered P s r w →
+      Swap (seat s) (seat (moved 𝓥 P s r w)) (r .variable) w (limitAt 𝓥 P r)
+  unfolding moved
+  swap P s r w n l e = record {
+    was-basic = l .was-basic;
+    set-to = getD-set-same one (r .variable) (some (limitAt 𝓥 P r)) none (rw length-set (rw n (l .variable)));
+    was-seated = (e .value, e .was-seated);
+    now-basic = getD-set-other one (r .variable) w (some (limitAt 𝓥 P r)) none apart ∙ getD-set-same (s .seats) w none none (rw n (e .variable));
+    others = λ v p q. getD-set-other one (r .variable) v (some (limitAt 𝓥 P r)) none p ∙ getD-set-other (s .seats) w v none none q;
+  }
+    where
+      one : List (Option X)
+      one = set (s .seats) w none
+
+      apart : w ≢ r .variable
+      apart z = Option·none-ne-some (e .value) (sym (l .was-basic) ∙ (rw z at (e .was-seated)))
+
+  pub none-enters : (P : Problem X) (s : State X) (r : Leaving) → entering 𝓥 P s r ≡ none → (u : ℕ) (x : X) → u < vars P → seat s u ≡ some x →
+      Stuck P u (pull (r .side) (entry (s .tableau) (r .variable) u)) x
+  unfolding entering
+  none-enters P s r e u x h q = suits-no P u (a u) x (rw q at (passed-over (test u) u (lowest-none (vars P) (λ u. cond (test u) (some u) none) e u h)))
+    where
+      a : ℕ → ℤ
+      a u = pull (r .side) (entry (s .tableau) (r .variable) u)
+
+      test : ℕ → Bool
+      test u = suits 𝓥 (a u) (seat s u) (P .lower u) (P .upper u)

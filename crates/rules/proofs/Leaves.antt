@@ -1,0 +1,101 @@
+-- What the search for the leaving variable says: it is basic and outside on its side, and no lower basic variable is outside.
+--   left           of the variable that leaves: `Left`
+--   none-leaves    no basic variable is outside: `Inside`
+use mathlib.Core.Bool.{Bool, false, true}
+use mathlib.Core.Option.{Option, none, some}
+use mathlib.Core.Path.{refl, subst, _≡_}
+use Prim.Native.Nat.{ℕ, _<_}
+use native.Mathlib.Omega.{arith}
+use lib.IntN.{ℤ}
+use Rattle.whole.proofs.Below.{lowest-none, lowest-some}
+use Rattle.whole.proofs.Bools.{zero-one}
+use Rattle.whole.specs.Values.{Le, Lt, Values}
+use Rattle.rules.specs.Problem.{Problem, vars}
+use Rattle.rules.specs.Step.{Leaving, Side, State, above, below, broken, common, leaves, leaving, limitAt, over, scaled, seat, seated, under}
+
+module _ {X : Type 0} (𝓥 : Values X) where
+  -- ---- the leaving variable
+
+  pub record Inside (P : Problem X) (s : State X) (v : ℕ) : Type 0 where
+    pub low : (l : X) → P .lower v ≡ some l → Le 𝓥 (𝓥 .scale (common s) l) (scaled 𝓥 P s v)
+    pub high : (u : X) → P .upper v ≡ some u → Le 𝓥 (scaled 𝓥 P s v) (𝓥 .scale (common s) u)
+
+  -- outside its limit on that side, which is x
+  pub data Outside (P : Problem X) (s : State X) (v : ℕ) : Side → X → Type 0 where
+    too-low : {l : X} → P .lower v ≡ some l → Lt 𝓥 (scaled 𝓥 P s v) (𝓥 .scale (common s) l) → Outside P s v below l
+    too-high : {u : X} → P .upper v ≡ some u → Lt 𝓥 (𝓥 .scale (common s) u) (scaled 𝓥 P s v) → Outside P s v above u
+
+  under-yes : (d : ℤ) (x : X) (o : Option X) → under 𝓥 d x o ≡ true → (l : X) × (o ≡ some l) × Lt 𝓥 x (𝓥 .scale d l)
+  unfolding under
+  under-yes d x none e = let z : _≡_ {A = ℕ} 0 1 = cc in zero-one z
+  under-yes d x (some l) e = (l, refl, e)
+
+  under-no : (d : ℤ) (x : X) (o : Option X) → under 𝓥 d x o ≡ false → (l : X) → o ≡ some l → Le 𝓥 (𝓥 .scale d l) x
+  unfolding under
+  under-no d x none e l q = let z : _≡_ {A = ℕ} 0 1 = cc in zero-one z
+  under-no d x (some k) e l q = let z : k ≡ l = cc in let h : Le 𝓥 (𝓥 .scale d k) x = e in rw z at h
+
+  over-yes : (d : ℤ) (x : X) (o : Option X) → over 𝓥 d x o ≡ true → (u : X) × (o ≡ some u) × Lt 𝓥 (𝓥 .scale d u) x
+  unfolding over
+  over-yes d x none e = let z : _≡_ {A = ℕ} 0 1 = cc in zero-one z
+  over-yes d x (some u) e = (u, refl, e)
+
+  over-no : (d : ℤ) (x : X) (o : Option X) → over 𝓥 d x o ≡ false → (u : X) → o ≡ some u → Le 𝓥 x (𝓥 .scale d u)
+  unfolding over
+  over-no d x none e u q = let z : _≡_ {A = ℕ} 0 1 = cc in zero-one z
+  over-no d x (some k) e u q = let z : k ≡ u = cc in let h : Le 𝓥 x (𝓥 .scale d k) = e in rw z at h
+
+  broken-none : (P : Problem X) (s : State X) (v : ℕ) → broken 𝓥 P s v none ≡ none → Inside P s v
+  unfolding broken
+  broken-none P s v e = go (under 𝓥 (common s) (scaled 𝓥 P s v) (P .lower v)) refl (over 𝓥 (common s) (scaled 𝓥 P s v) (P .upper v)) refl
+    where
+      go : (a : Bool) → under 𝓥 (common s) (scaled 𝓥 P s v) (P .lower v) ≡ a → (b : Bool) → over 𝓥 (common s) (scaled 𝓥 P s v) (P .upper v) ≡ b → Inside P s v
+      go true p b q = let z : _≡_ {A = ℕ} 0 1 = cc (rw (p, broken) at e) in zero-one z
+      go false p true q = let z : _≡_ {A = ℕ} 0 1 = cc (rw q at (rw (p, broken) at e)) in zero-one z
+      go false p false q = record { low = under-no (common s) (scaled 𝓥 P s v) (P .lower v) p; high = over-no (common s) (scaled 𝓥 P s v) (P .upper v) q }
+
+  pub record Left (P : Problem X) (s : State X) (r : Leaving) : Type 0 where
+    pub variable : r .variable < vars P
+    pub was-basic : seat s (r .variable) ≡ none
+    pub outside : Outside P s (r .variable) (r .side) (limitAt 𝓥 P r)
+    pub inside : (u : ℕ) → u < r .variable → seat s u ≡ none → Inside P s u
+
+  low-limit : (P : Problem X) (s : State X) (v : ℕ) → (l : X) × (P .lower v ≡ some l) × (Lt 𝓥 (scaled 𝓥 P s v) (𝓥 .scale (common s) l)) → Outside P s v below (limitAt 𝓥 P (leaves v below))
+  unfolding limitAt seated
+  low-limit P s v (l, e, h) = rw e (too-low e h)
+
+  high-limit : (P : Problem X) (s : State X) (v : ℕ) → (u : X) × (P .upper v ≡ some u) × (Lt 𝓥 (𝓥 .scale (common s) u) (scaled 𝓥 P s v)) → Outside P s v above (limitAt 𝓥 P (leaves v above))
+  unfolding limitAt seated
+  high-limit P s v (u, e, h) = rw e (too-high e h)
+
+  Blames : Problem X → State X → ℕ → Option X → Leaving → Type 0
+  Blames P s v o r = (o ≡ none) × (r .variable ≡ v) × Outside P s (r .variable) (r .side) (limitAt 𝓥 P r)
+
+  broken-some : (P : Problem X) (s : State X) (v : ℕ) (o : Option X) (r : Leaving) → broken 𝓥 P s v o ≡ some r → Blames P s v o r
+  unfolding broken Blames
+  broken-some P s v (some x) r e = let z : _≡_ {A = ℕ} 0 1 = cc in zero-one z
+  broken-some P s v none r e = go (under 𝓥 (common s) (scaled 𝓥 P s v) (P .lower v)) refl (over 𝓥 (common s) (scaled 𝓥 P s v) (P .upper v)) refl
+    where
+      go : (a : Bool) → under 𝓥 (common s) (scaled 𝓥 P s v) (P .lower v) ≡ a → (b : Bool) → over 𝓥 (common s) (scaled 𝓥 P s v) (P .upper v) ≡ b → Blames P s v none r
+      go true p b q = let z : _≡_ {A = Leaving} (leaves v below) r = cc (rw (p, broken) at e) in
+          subst (Blames P s v none) z (refl, refl, low-limit P s v (under-yes (common s) (scaled 𝓥 P s v) (P .lower v) p))
+      go false p true q = let z : _≡_ {A = Leaving} (leaves v above) r = cc (rw q at (rw (p, broken) at e)) in
+          subst (Blames P s v none) z (refl, refl, high-limit P s v (over-yes (common s) (scaled 𝓥 P s v) (P .upper v) q))
+      go false p false q = let z : _≡_ {A = ℕ} 0 1 = cc (rw q at (rw (p, broken) at e)) in zero-one z
+
+  pub left : (P : Problem X) (s : State X) (r : Leaving) → leaving 𝓥 P s ≡ some r → Left P s r
+  unfolding leaving Blames
+  left P s r e =
+      let f = lowest-some (vars P) (λ v. broken 𝓥 P s v (seat s v)) r e in
+      let b : Blames P s (f .at) (seat s (f .at)) r = broken-some P s (f .at) (seat s (f .at)) r (f .is) in
+      let w : r .variable ≡ f .at = b .1 in
+      record {
+        variable = omega arith;
+        was-basic = rw w (b .0);
+        outside = b .2;
+        inside = λ u h n. broken-none P s u (rw n at (f .first u (omega arith)));
+      }
+
+  pub none-leaves : (P : Problem X) (s : State X) → leaving 𝓥 P s ≡ none → (v : ℕ) → v < vars P → seat s v ≡ none → Inside P s v
+  unfolding leaving
+  none-leaves P s e v h n = broken-none P s v (rw n at (lowest-none (vars P) (λ v. broken 𝓥 P s v (seat s v)) e v h))

@@ -1,0 +1,20 @@
+-- The theory of the rules. Nothing is assumed.
+pub mod Relation
+pub mod Lowest
+pub mod Moves
+pub mod Leaves
+pub mod Swaps
+pub mod Enters
+pub mod Sides
+pub mod Clash
+pub mod Arrangements
+pub mod Units
+pub mod Sound
+pub mod Twice
+pub mod Pivoted
+pub mod Runs
+pub mod Moved
+pub mod Started
+pub mod Bounded
+pub mod Ends
+pub mod Fractions

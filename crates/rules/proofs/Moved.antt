@@ -1,0 +1,73 @@
+-- A step keeps what is known of a state, so every state of a run from a sound one is sound, and no arrangement comes twice in it.
+--   sound-moved, sound-goes, sound-after, rowed-after
+--   twice-never    demand 3, first half, from any sound state
+use mathlib.Core.Logic.{inl, inr, _≢_, _⊎_}
+use mathlib.Core.Option.{some}
+use mathlib.Core.Path.{refl, _≡_}
+use Prim.Native.Nat.{suc, zero, ℕ, _<_}
+use Rattle.whole.proofs.Values.{Laws, le-refl}
+use Rattle.whole.specs.Values.{Le, Values}
+use Rattle.rules.proofs.Enters.{Entered, entered}
+use Rattle.rules.proofs.Leaves.{Left, Outside, left, too-high, too-low}
+use Rattle.rules.proofs.Moves.{step-goes}
+use Rattle.rules.proofs.Pivoted.{rowed-moved, was-some}
+use Rattle.rules.proofs.Sound.{Apart, Sound}
+use Rattle.rules.proofs.Twice.{apart, no-arrangement-twice}
+use Rattle.rules.specs.Problem.{Problem, vars}
+use Rattle.rules.specs.Run.{Runs, after, next}
+use Rattle.rules.specs.Step.{Leaving, Outcome, Side, State, can, cannot, goes, limitAt, moved, range, seat, step}
+
+module _ {X : Type 0} (𝓥 : Values X) where
+  module _ (Law : Laws 𝓥) (P : Problem X) (s : State X) (S : Sound 𝓥 P s) (r : Leaving) (w : ℕ) (L : Left 𝓥 P s r) (E : Entered 𝓥 P s r w)
+      (apart : Apart 𝓥 P) where
+    abbrev N : ℕ
+    N = vars P
+
+    abbrev q : ℕ
+    q = r .variable
+
+    limit-low : {σ : Side} {x : X} → Outside 𝓥 P s q σ x → (l : X) → P .lower q ≡ some l → Le 𝓥 l x
+    limit-low {x} (too-low e h) l k = let z : l ≡ x = cc in rw z (le-refl Law x)
+    limit-low {x} (too-high e h) l k = apart q l x (L .variable) k e
+
+    limit-high : {σ : Side} {x : X} → Outside 𝓥 P s q σ x → (u : X) → P .upper q ≡ some u → Le 𝓥 x u
+    limit-high {x} (too-low e h) u k = apart q x u (L .variable) e k
+    limit-high {x} (too-high e h) u k = let z : u ≡ x = cc in rw z (le-refl Law x)
+
+    pub sound-moved : Sound 𝓥 P (moved 𝓥 P s r w)
+    sound-moved = record {
+      rowed = rowed-moved 𝓥 P s (S .rowed) r w L E;
+      lowers = λ v x l h e k. lows v x l h k (was-some 𝓥 P s (S .rowed) r w L E v x e);
+      uppers = λ v x u h e k. highs v x u h k (was-some 𝓥 P s (S .rowed) r w L E v x e);
+    }
+      where
+        lows : (v : ℕ) (x l : X) → v < N → P .lower v ≡ some l → ((v ≡ q) × (x ≡ limitAt 𝓥 P r)) ⊎ ((v ≢ q) × (v ≢ w) × (seat s v ≡ some x)) → Le 𝓥 l x
+        lows v x l h k (inl e) = rw (e .1) (limit-low (L .outside) l (rw (e .0) at k))
+        lows v x l h k (inr e) = S .lowers v x l h (e .2) k
+
+        highs : (v : ℕ) (x u : X) → v < N → P .upper v ≡ some u → ((v ≡ q) × (x ≡ limitAt 𝓥 P r)) ⊎ ((v ≢ q) × (v ≢ w) × (seat s v ≡ some x)) → Le 𝓥 x u
+        highs v x u h k (inl e) = rw (e .1) (limit-high (L .outside) u (rw (e .0) at k))
+        highs v x u h k (inr e) = S .uppers v x u h (e .2) k
+
+  -- ---- every state of a run
+
+  pub sound-goes : Laws 𝓥 → (P : Problem X) (s t : State X) → Apart 𝓥 P → Sound 𝓥 P s → step 𝓥 P s ≡ goes t → Sound 𝓥 P t
+  sound-goes law P s t A S e =
+      let g = step-goes 𝓥 P s t e in
+      rw (g .next-is) (sound-moved law P s S (g .out) (g .into) (left 𝓥 P s (g .out) (g .leaves)) (entered 𝓥 P s (g .out) (g .into) (g .enters)) A)
+
+  sound-next : Laws 𝓥 → (P : Problem X) (s : State X) (o : Outcome X) → Apart 𝓥 P → Sound 𝓥 P s → step 𝓥 P s ≡ o → Sound 𝓥 P (next s o)
+  unfolding next
+  sound-next law P s can A S e = S
+  sound-next law P s (cannot ls us) A S e = S
+  sound-next law P s range A S e = S
+  sound-next law P s (goes t) A S e = sound-goes law P s t A S e
+
+  pub sound-after : Laws 𝓥 → (P : Problem X) (s : State X) → Apart 𝓥 P → Sound 𝓥 P s → (k : ℕ) → Sound 𝓥 P (after 𝓥 P s k)
+  unfolding after
+  sound-after law P s A S zero = S
+  sound-after law P s A S (suc k) = sound-next law P (after 𝓥 P s k) (step 𝓥 P (after 𝓥 P s k)) A (sound-after law P s A S k) refl
+
+  -- demand 3, first half, from any sound start
+  pub twice-never : Laws 𝓥 → (P : Problem X) (s : State X) → Apart 𝓥 P → Sound 𝓥 P s → (i j : ℕ) → i < j → Runs 𝓥 P s j → after 𝓥 P s i .seats ≢ after 𝓥 P s j .seats
+  twice-never law P s A S = no-arrangement-twice 𝓥 law P s (sound-after law P s A S)
