@@ -18,3 +18,6 @@ pub mod Started
 pub mod Bounded
 pub mod Ends
 pub mod Fractions
+pub mod First
+pub mod Refused
+pub mod Ranges

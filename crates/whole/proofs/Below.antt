@@ -1,6 +1,6 @@
 -- What a search or a test over the numbers below k says of each of them.
 --   lowest-none, lowest-some (Found), lowest-is    nothing found; what is found is first; and back
---   all-each, all-of, all-not                      the test passes at each number, or fails at one
+--   all-each, all-of, all-not, all-fails           the test passes at each number, or fails at one
 --   some-none, some-at, some-of                    the test fails at each, or passes at one
 use mathlib.Core.Path.{_≡_, refl, _∙_}
 use mathlib.Core.Bool.{Bool, true, false}
@@ -82,6 +82,15 @@ all-not k v f h e = go (allBelow k f) refl
     go : (b : Bool) → allBelow k f ≡ b → b ≡ false
     go true q = true-false (all-each k f q v h) e
     go false q = refl
+
+pub all-fails : (k : ℕ) (f : ℕ → Bool) → allBelow k f ≡ false → (v : ℕ) × (v < k) × (f v ≡ false)
+unfolding allBelow
+all-fails zero f e = true-false refl e
+all-fails (suc k) f e = go (allBelow k f) refl (all-fails k f)
+  where
+    go : (b : Bool) → allBelow k f ≡ b → (allBelow k f ≡ false → (v : ℕ) × (v < k) × (f v ≡ false)) → (v : ℕ) × (v < suc k) × (f v ≡ false)
+    go true q rest = (k, omega arith, rw (q, allBelow) at e)
+    go false q rest = let w = rest q in (w .0, omega arith, w .2)
 
 -- ---- a test at some number
 

@@ -38,6 +38,10 @@ and-true false b e = true-false e refl
 pub and-of : {a b : Bool} → a ≡ true → b ≡ true → (a && b) ≡ true
 and-of p q = rw (p, q) refl
 
+pub and-false : (a b : Bool) → (a && b) ≡ false → (a ≡ false) ⊎ (b ≡ false)
+and-false true b e = inr e
+and-false false b e = inl refl
+
 pub or-false : (a b : Bool) → (a || b) ≡ false → (a ≡ false) × (b ≡ false)
 or-false true b e = true-false refl e
 or-false false b e = (refl, e)

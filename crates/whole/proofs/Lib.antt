@@ -19,3 +19,4 @@ pub mod Divisors
 pub mod Division
 pub mod Sizes
 pub mod Uses
+pub mod Tells

@@ -1,0 +1,64 @@
+-- What accepted words hold, as facts about their sizes and their problem.
+--   n-some, n-few, m-few, n-is, m-is        n is 1 to 8, m at most the rows; the two words are these numbers
+--   coefficient-within                      every coefficient is within its range
+--   lower-within, upper-within              every present limit is within its range
+--   problem-n, problem-m, problem-vars      the problem's sizes are the words'
+use mathlib.Core.Bool.{Bool, false, true}
+use mathlib.Core.List.{List}
+use mathlib.Core.Option.{Option·none-ne-some, some}
+use mathlib.Core.Path.{refl, _≡_}
+use Prim.Native.Nat.{ℕ, _*_, _+_, _<_, _≤_}
+use lib.Arith.{digits-lt}
+use lib.IntN.{pos, ℤ}
+use Rattle.whole.proofs.Tests.{above, own-size, under}
+use Rattle.whole.specs.Numbers.{Within}
+use Rattle.rules.specs.Limit.{hasLower, hasUpper, present}
+use Rattle.rules.specs.Problem.{kind, lowerWord, mOf, nOf, problem, upperWord, vars, varsOf, word}
+use Rattle.rules.specs.Refusal.{Accepted, FineLimit}
+use Rattle.rules.specs.Sizes.{largestCoefficient, largestLimit, mostColumns}
+
+module _ (ws : List ℤ) where
+  pub problem-n : problem ws .n ≡ nOf ws
+  unfolding problem
+  problem-n = refl
+
+  pub problem-m : problem ws .m ≡ mOf ws
+  unfolding problem
+  problem-m = refl
+
+  pub problem-vars : vars (problem ws) ≡ varsOf ws
+  unfolding problem
+  problem-vars = refl
+
+present-within : (b : Bool) (z l : ℤ) → FineLimit b z → present b z ≡ some l → Within l largestLimit
+unfolding present
+present-within true z l h e = let q : z ≡ l = cc in rw q at h
+present-within false z l h e = absurd (Option·none-ne-some l e)
+
+module _ {rows : ℕ} {ws : List ℤ} (A : Accepted rows ws) where
+  pub n-some : 1 ≤ nOf ws
+  n-some = above 1 (word ws 0) (A .n-least)
+
+  pub n-few : nOf ws ≤ mostColumns
+  n-few = under mostColumns 1 (word ws 0) (A .n-least) (A .n-most)
+
+  pub m-few : mOf ws ≤ rows
+  m-few = under rows 0 (word ws 1) (A .m-least) (A .m-most)
+
+  pub n-is : word ws 0 ≡ pos (nOf ws)
+  n-is = own-size 1 (word ws 0) (A .n-least)
+
+  pub m-is : word ws 1 ≡ pos (mOf ws)
+  m-is = own-size 0 (word ws 1) (A .m-least)
+
+  pub coefficient-within : (i j : ℕ) → i < mOf ws → j < nOf ws → Within (problem ws .coefficient i j) largestCoefficient
+  unfolding problem
+  coefficient-within i j h k = A .coefficients (i * nOf ws + j) (digits-lt h k)
+
+  pub lower-within : (v : ℕ) (l : ℤ) → v < varsOf ws → problem ws .lower v ≡ some l → Within l largestLimit
+  unfolding problem
+  lower-within v l h e = present-within (hasLower (kind ws v)) (lowerWord ws v) l (A .lowers v h) e
+
+  pub upper-within : (v : ℕ) (u : ℤ) → v < varsOf ws → problem ws .upper v ≡ some u → Within u largestLimit
+  unfolding problem
+  upper-within v u h e = present-within (hasUpper (kind ws v)) (upperWord ws v) u (A .uppers v h) e

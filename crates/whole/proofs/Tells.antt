@@ -1,0 +1,123 @@
+-- What a test tells: one fact where it is true, another where it is false, never both. Tests are put together as their facts are.
+--   Tells b Yes No                           the test b is true exactly where Yes holds, and false exactly where No does
+--   tells-true, tells-false, tells-not       back from a fact to the test; the test turned round
+--   tells-and, tells-or, tells-all, -some    two tests, and one for each number below k
+--   tells-lt, -eq, -ltZ, -eqZ, -within, -outside    the plain tests of numbers
+use mathlib.Core.Bool.{Bool, false, not, true, _&&_, _||_}
+use mathlib.Core.Logic.{inl, inr, _≢_, _⊎_}
+use mathlib.Core.Path.{ap, refl, sym, _≡_}
+use Prim.Native.Nat.{ℕ, _<_, _≤_}
+use native.Mathlib.Omega.{arith}
+use lib.Dec.{eqb, eqb-refl, eqb→eq, leb, leb→le, le→leb, ltb, ltb→lt, nltb→le}
+use lib.IntN.{natAbs, negsuc, pos, pos-ne-negsuc, ℤ}
+use lib.Signed.{<ℤ-irrefl, <ℤ-≤ℤ-trans, ltZ, _<ℤ_, _≤ℤ_}
+use Rattle.whole.proofs.Below.{all-each, all-fails, some-at, some-none}
+use Rattle.whole.proofs.Bools.{T→true, and-false, and-true, not-false, not-true, or-false, or-true, true-false}
+use Rattle.whole.proofs.Order.{false→le, true→lt}
+use Rattle.whole.specs.Below.{allBelow, someBelow}
+use Rattle.whole.specs.Numbers.{Within, eqZ, outside, within}
+
+pub record Tells (b : Bool) (Yes No : Type 0) : Type 0 where
+  pub if-true : b ≡ true → Yes
+  pub if-false : b ≡ false → No
+  pub not-both : Yes → No → ⊥
+
+module _ {b : Bool} {Yes No : Type 0} (t : Tells b Yes No) where
+  pub tells-true : Yes → b ≡ true
+  tells-true y = go b refl
+    where
+      go : (c : Bool) → b ≡ c → b ≡ true
+      go true e = e
+      go false e = absurd (t .not-both y (t .if-false e))
+
+  pub tells-false : No → b ≡ false
+  tells-false n = go b refl
+    where
+      go : (c : Bool) → b ≡ c → b ≡ false
+      go true e = absurd (t .not-both (t .if-true e) n)
+      go false e = e
+
+  pub tells-not : Tells (not b) No Yes
+  tells-not = record { if-true = λ e. t .if-false (not-true b e); if-false = λ e. t .if-true (not-false b e); not-both = λ n y. t .not-both y n }
+
+-- ---- tests put together
+
+module _ {a b : Bool} {A-yes A-no B-yes B-no : Type 0} (s : Tells a A-yes A-no) (t : Tells b B-yes B-no) where
+  pub tells-or : Tells (a || b) (A-yes ⊎ B-yes) (A-no × B-no)
+  tells-or = record { if-true = λ e. one (or-true a b e); if-false = λ e. (s .if-false (or-false a b e .0), t .if-false (or-false a b e .1)); not-both = clash }
+    where
+      one : (a ≡ true) ⊎ (b ≡ true) → A-yes ⊎ B-yes
+      one (inl e) = inl (s .if-true e)
+      one (inr e) = inr (t .if-true e)
+
+      clash : A-yes ⊎ B-yes → A-no × B-no → ⊥
+      clash (inl y) n = s .not-both y (n .0)
+      clash (inr y) n = t .not-both y (n .1)
+
+  pub tells-and : Tells (a && b) (A-yes × B-yes) (A-no ⊎ B-no)
+  tells-and = record { if-true = λ e. (s .if-true (and-true a b e .0), t .if-true (and-true a b e .1)); if-false = λ e. one (and-false a b e); not-both = clash }
+    where
+      one : (a ≡ false) ⊎ (b ≡ false) → A-no ⊎ B-no
+      one (inl e) = inl (s .if-false e)
+      one (inr e) = inr (t .if-false e)
+
+      clash : A-yes × B-yes → A-no ⊎ B-no → ⊥
+      clash y (inl n) = s .not-both (y .0) n
+      clash y (inr n) = t .not-both (y .1) n
+
+module _ (k : ℕ) (f : ℕ → Bool) {Yes No : ℕ → Type 0} (t : (v : ℕ) → v < k → Tells (f v) (Yes v) (No v)) where
+  pub tells-some : Tells (someBelow k f) ((v : ℕ) × (v < k) × Yes v) ((v : ℕ) → v < k → No v)
+  tells-some = record {
+    if-true = λ e. let w = some-at k f e in (w .0, w .1, t (w .0) (w .1) .if-true (w .2));
+    if-false = λ e v h. t v h .if-false (some-none k f e v h);
+    not-both = λ y n. t (y .0) (y .1) .not-both (y .2) (n (y .0) (y .1));
+  }
+
+  pub tells-all : Tells (allBelow k f) ((v : ℕ) → v < k → Yes v) ((v : ℕ) × (v < k) × No v)
+  tells-all = record {
+    if-true = λ e v h. t v h .if-true (all-each k f e v h);
+    if-false = λ e. let w = all-fails k f e in (w .0, w .1, t (w .0) (w .1) .if-false (w .2));
+    not-both = λ y n. t (n .0) (n .1) .not-both (y (n .0) (n .1)) (n .2);
+  }
+
+-- ---- numbers
+
+pub tells-lt : (a b : ℕ) → Tells (ltb a b) (a < b) (b ≤ a)
+tells-lt a b = record { if-true = λ e. ltb→lt a b (rw e tt); if-false = λ e. nltb→le a b (rw e tt); not-both = λ h k. let z : ⊥ = omega arith in z }
+
+pub tells-eq : (a b : ℕ) → Tells (eqb a b) (a ≡ b) (a ≢ b)
+tells-eq a b = record {
+  if-true = λ e. eqb→eq a b (rw e tt);
+  if-false = λ e q. true-false (T→true (eqb a b) (rw (← q) (eqb-refl a))) e;
+  not-both = λ e n. n e;
+}
+
+pub tells-ltZ : (a b : ℤ) → Tells (ltZ a b) (a <ℤ b) (b ≤ℤ a)
+tells-ltZ a b = record { if-true = λ e. true→lt e; if-false = λ e. false→le e; not-both = λ h k. <ℤ-irrefl (<ℤ-≤ℤ-trans h k) }
+
+pub tells-eqZ : (a b : ℤ) → Tells (eqZ a b) (a ≡ b) (a ≢ b)
+tells-eqZ a b = record { if-true = same a b; if-false = differ a b; not-both = λ e n. n e }
+  where
+    same : (a b : ℤ) → eqZ a b ≡ true → a ≡ b
+    same (pos a) (pos b) e = ap pos (tells-eq a b .if-true e)
+    same (pos a) (negsuc b) e = true-false e refl
+    same (negsuc a) (pos b) e = true-false e refl
+    same (negsuc a) (negsuc b) e = ap negsuc (tells-eq a b .if-true e)
+
+    differ : (a b : ℤ) → eqZ a b ≡ false → a ≢ b
+    differ (pos a) (pos b) e q = tells-eq a b .if-false e (ap natAbs q)
+    differ (pos a) (negsuc b) e q = pos-ne-negsuc a b q
+    differ (negsuc a) (pos b) e q = pos-ne-negsuc b a (sym q)
+    differ (negsuc a) (negsuc b) e q = let z : a ≡ b = cc in tells-eq a b .if-false e z
+
+pub tells-within : (n : ℕ) (z : ℤ) → Tells (within n z) (Within z n) (¬ Within z n)
+unfolding within
+tells-within n z = record {
+  if-true = λ e. record { within = leb→le (natAbs z) n (rw e tt) };
+  if-false = λ e h. true-false (T→true (leb (natAbs z) n) (le→leb (natAbs z) n (h .within))) e;
+  not-both = λ h k. k h;
+}
+
+pub tells-outside : (lo hi : ℕ) (z : ℤ) → Tells (outside lo hi z) ((z <ℤ pos lo) ⊎ (pos hi <ℤ z)) ((pos lo ≤ℤ z) × (z ≤ℤ pos hi))
+unfolding outside
+tells-outside lo hi z = tells-or (tells-ltZ z (pos lo)) (tells-ltZ (pos hi) z)
