@@ -1,5 +1,6 @@
 -- The count of pivots from a sound state with n seated is below 3^n times the ways to choose n: each arrangement of the run seats as many
 -- variables, each at one of three values (its first, its lower limit, its upper limit), and none comes twice.
+--   seated-moved   a move seats as many variables
 --   below-bound    demand 3, second half, from any sound state
 use mathlib.Core.List.{List, [], _∷_}
 use mathlib.Core.Logic.{inl, inr, _≢_}
@@ -20,7 +21,7 @@ use Rattle.rules.proofs.Enters.{Entered, entered, swap}
 use Rattle.rules.proofs.Leaves.{Left, Outside, left, too-high, too-low}
 use Rattle.rules.proofs.Moved.{sound-after, twice-never}
 use Rattle.rules.proofs.Moves.{step-goes}
-use Rattle.rules.proofs.Sound.{Apart, Sound, howManySeated}
+use Rattle.rules.proofs.Sound.{Apart, Rowed, Sound, howManySeated}
 use Rattle.rules.proofs.Swaps.{Swap}
 use Rattle.rules.specs.Problem.{Problem, vars}
 use Rattle.rules.specs.Run.{Runs, after, bound, next}
@@ -67,21 +68,24 @@ module _ {X : Type 0} (𝓥 : Values X) where
   limit-value P s t v (too-low e h) = inr (inl (rw e refl))
   limit-value P s t v (too-high e h) = inr (inr (rw e refl))
 
+  -- as many are seated after a move
+  pub seated-moved : (P : Problem X) (t : State X) → Rowed 𝓥 P t → (r : Leaving) (w : ℕ) → Left 𝓥 P t r → Entered 𝓥 P t r w →
+      howManySeated (moved 𝓥 P t r w .seats) ≡ howManySeated (t .seats)
+  unfolding moved
+  seated-moved P t S r w L E =
+      one-more (set (t .seats) w none) (r .variable) (limitAt 𝓥 P r) (rw (length-set, S .seats-many) (L .variable))
+      (getD-set-other (t .seats) w (r .variable) none none q-not-w ∙ L .was-basic)
+      ∙ sym (one-less (t .seats) w (E .value) (E .was-seated))
+    where
+      q-not-w : r .variable ≢ w
+      q-not-w e = Option·none-ne-some (E .value) (sym (L .was-basic) ∙ (rw (← e) at (E .was-seated)))
+
   module _ (P : Problem X) (s t : State X) (S : Sound 𝓥 P t) (A : Among P s t) (r : Leaving) (w : ℕ) (L : Left 𝓥 P t r) (E : Entered 𝓥 P t r w) where
     W : Swap (seat t) (seat (moved 𝓥 P t r w)) (r .variable) w (limitAt 𝓥 P r)
     W = swap 𝓥 P t r w (S .rowed .seats-many) L E
 
-    q-not-w : r .variable ≢ w
-    q-not-w e = Option·none-ne-some (E .value) (sym (L .was-basic) ∙ (rw (← e) at (E .was-seated)))
-
-    many : howManySeated (moved 𝓥 P t r w .seats) ≡ howManySeated (t .seats)
-    unfolding moved
-    many = one-more (set (t .seats) w none) (r .variable) (limitAt 𝓥 P r) (rw (length-set, S .rowed .seats-many) (L .variable))
-        (getD-set-other (t .seats) w (r .variable) none none q-not-w ∙ L .was-basic)
-        ∙ sym (one-less (t .seats) w (E .value) (E .was-seated))
-
     among-moved : Among P s (moved 𝓥 P t r w)
-    among-moved = record { as-many = many ∙ A .as-many; values = λ v x e. go v x e (ℕ-discrete v (r .variable)) (ℕ-discrete v w) }
+    among-moved = record { as-many = seated-moved P t (S .rowed) r w L E ∙ A .as-many; values = λ v x e. go v x e (ℕ-discrete v (r .variable)) (ℕ-discrete v w) }
       where
         go : (v : ℕ) (x : X) → seat (moved 𝓥 P t r w) v ≡ some x → Dec (v ≡ r .variable) → Dec (v ≡ w) → OneOf x (values-of P s v)
         go v x e (yes z) d =

@@ -21,3 +21,5 @@ pub mod Fractions
 pub mod First
 pub mod Refused
 pub mod Ranges
+pub mod Small
+pub mod Kept

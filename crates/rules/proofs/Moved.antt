@@ -1,5 +1,6 @@
 -- A step keeps what is known of a state, so every state of a run from a sound one is sound, and no arrangement comes twice in it.
---   sound-moved, sound-goes, sound-after, rowed-after
+--   kept-along     what each step that moves keeps, every state of the run has
+--   sound-moved, sound-goes, sound-after, rowed-goes, rowed-after
 --   twice-never    demand 3, first half, from any sound state
 use mathlib.Core.Logic.{inl, inr, _≢_, _⊎_}
 use mathlib.Core.Option.{some}
@@ -11,7 +12,7 @@ use Rattle.rules.proofs.Enters.{Entered, entered}
 use Rattle.rules.proofs.Leaves.{Left, Outside, left, too-high, too-low}
 use Rattle.rules.proofs.Moves.{step-goes}
 use Rattle.rules.proofs.Pivoted.{rowed-moved, was-some}
-use Rattle.rules.proofs.Sound.{Apart, Sound}
+use Rattle.rules.proofs.Sound.{Apart, Rowed, Sound}
 use Rattle.rules.proofs.Twice.{apart, no-arrangement-twice}
 use Rattle.rules.specs.Problem.{Problem, vars}
 use Rattle.rules.specs.Run.{Runs, after, next}
@@ -51,22 +52,34 @@ module _ {X : Type 0} (𝓥 : Values X) where
 
   -- ---- every state of a run
 
+  pub rowed-goes : (P : Problem X) (s t : State X) → Rowed 𝓥 P s → step 𝓥 P s ≡ goes t → Rowed 𝓥 P t
+  rowed-goes P s t S e =
+      let g = step-goes 𝓥 P s t e in
+      rw (g .next-is) (rowed-moved 𝓥 P s S (g .out) (g .into) (left 𝓥 P s (g .out) (g .leaves)) (entered 𝓥 P s (g .out) (g .into) (g .enters)))
+
   pub sound-goes : Laws 𝓥 → (P : Problem X) (s t : State X) → Apart 𝓥 P → Sound 𝓥 P s → step 𝓥 P s ≡ goes t → Sound 𝓥 P t
   sound-goes law P s t A S e =
       let g = step-goes 𝓥 P s t e in
       rw (g .next-is) (sound-moved law P s S (g .out) (g .into) (left 𝓥 P s (g .out) (g .leaves)) (entered 𝓥 P s (g .out) (g .into) (g .enters)) A)
 
-  sound-next : Laws 𝓥 → (P : Problem X) (s : State X) (o : Outcome X) → Apart 𝓥 P → Sound 𝓥 P s → step 𝓥 P s ≡ o → Sound 𝓥 P (next s o)
-  unfolding next
-  sound-next law P s can A S e = S
-  sound-next law P s (cannot ls us) A S e = S
-  sound-next law P s range A S e = S
-  sound-next law P s (goes t) A S e = sound-goes law P s t A S e
+  -- what a step that moves keeps, every state of a run has
+  pub kept-along : (P : Problem X) (Holds : State X → Type 0) → ((s t : State X) → Holds s → step 𝓥 P s ≡ goes t → Holds t) →
+      (s : State X) → Holds s → (k : ℕ) → Holds (after 𝓥 P s k)
+  unfolding after next
+  kept-along P Holds keep s S zero = S
+  kept-along P Holds keep s S (suc k) = on (after 𝓥 P s k) (step 𝓥 P (after 𝓥 P s k)) refl (kept-along P Holds keep s S k)
+    where
+      on : (t : State X) (o : Outcome X) → step 𝓥 P t ≡ o → Holds t → Holds (next t o)
+      on t can e H = H
+      on t (cannot ls us) e H = H
+      on t range e H = H
+      on t (goes u) e H = keep t u H e
+
+  pub rowed-after : (P : Problem X) (s : State X) → Rowed 𝓥 P s → (k : ℕ) → Rowed 𝓥 P (after 𝓥 P s k)
+  rowed-after P = kept-along P (Rowed 𝓥 P) (rowed-goes P)
 
   pub sound-after : Laws 𝓥 → (P : Problem X) (s : State X) → Apart 𝓥 P → Sound 𝓥 P s → (k : ℕ) → Sound 𝓥 P (after 𝓥 P s k)
-  unfolding after
-  sound-after law P s A S zero = S
-  sound-after law P s A S (suc k) = sound-next law P (after 𝓥 P s k) (step 𝓥 P (after 𝓥 P s k)) A (sound-after law P s A S k) refl
+  sound-after law P s A S = kept-along P (Sound 𝓥 P) (λ s t S e. sound-goes law P s t A S e) s S
 
   -- demand 3, first half, from any sound start
   pub twice-never : Laws 𝓥 → (P : Problem X) (s : State X) → Apart 𝓥 P → Sound 𝓥 P s → (i j : ℕ) → i < j → Runs 𝓥 P s j → after 𝓥 P s i .seats ≢ after 𝓥 P s j .seats

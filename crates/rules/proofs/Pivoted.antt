@@ -3,6 +3,7 @@
 --   pivot-nonzero          the pivot is not 0
 --   was-some, was-none     what is seated, and what is basic, afterwards
 --   rowed-moved            `Rowed` of the next state
+--   lowest-moved           its tableau is in lowest common form
 use mathlib.Core.List.{[], _∷_}
 use mathlib.Core.Logic.{inl, inr, _≢_, _⊎_}
 use mathlib.Core.Option.{Option·none-ne-some, none, some}
@@ -24,14 +25,14 @@ use Rattle.whole.specs.Sums.{sum}
 use Rattle.whole.specs.Values.{Values, whole}
 use Rattle.rules.proofs.Enters.{Entered, Suits, may-go-down, may-go-up, swap}
 use Rattle.rules.proofs.Leaves.{Left}
-use Rattle.rules.proofs.Lowest.{Factored, factored}
+use Rattle.rules.proofs.Lowest.{Factored, factored, reduced-one}
 use Rattle.rules.proofs.Relation.{relation-off, relation-own, solved-holds}
 use Rattle.rules.proofs.Sound.{Rowed}
 use Rattle.rules.proofs.Swaps.{Swap}
 use Rattle.rules.specs.Evidence.{Rows, rowSum}
 use Rattle.rules.specs.Problem.{Problem, vars}
 use Rattle.rules.specs.Step.{Leaving, Side, State, above, below, common, limitAt, moved, positive, pull, seat}
-use Rattle.rules.specs.Tableau.{Tableau, entry, pivot, reduced, relation, solved}
+use Rattle.rules.specs.Tableau.{Tableau, divisorSize, entry, pivot, reduced, relation, solved}
 
 pub pivot-nonzero : {X : Type 0} (𝓥 : Values X) (P : Problem X) (σ : Side) (w : ℕ) (a : ℤ) (x : X) → Suits 𝓥 P w (pull σ a) x → Nonzero a
 unfolding pull
@@ -211,3 +212,7 @@ module _ {X : Type 0} (𝓥 : Values X) where
         own-zeros : (v u : ℕ) (x : X) → v < N → u < N → u ≢ v → ((v ≡ q) × (x ≡ limitAt 𝓥 P r)) ⊎ ((v ≢ q) × (v ≢ w) × (seat s v ≡ some x)) → entry t2 v u ≡ pos 0
         own-zeros v u x h k d (inl e) = rw (e .0) (own-zero-q u k (λ z. d (z ∙ sym (e .0))))
         own-zeros v u x h k d (inr e) = own-zero-old v u x h k (e .0) (e .1) (e .2) d
+
+    pub lowest-moved : divisorSize N (moved 𝓥 P s r w .tableau) ≡ 1
+    unfolding moved pivot t1
+    lowest-moved = reduced-one N t1 (nonzero-ne (t1 .common) common1-nonzero)

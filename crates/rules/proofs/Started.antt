@@ -1,5 +1,5 @@
 -- The start of the rules is sound where no limits cross.
---   at-start, seat-start, seated-problem, basic-row    what stands where at the start
+--   at-start, common-one, seat-start, seated-problem, basic-row    what stands where at the start
 --   rowed-start, sound-start
 --   no-conflict                                        no crossed limits: `Apart`
 use mathlib.Core.Bool.{Bool, cond, false, true}
@@ -116,7 +116,7 @@ module _ {X : Type 0} (𝓥 : Values X) where
     placed : (v : ℕ) (x : X) → v < vars P → seat (start 𝓥 P) v ≡ some x → (v < P .n) × (x ≡ startValue 𝓥 (P .lower v) (P .upper v))
     placed v x h e = seated-problem P v x (sym (seat-start P v h) ∙ e)
 
-    common-one : common (start 𝓥 P) ≡ pos 1
+    pub common-one : common (start 𝓥 P) ≡ pos 1
     unfolding start
     common-one = refl
 
