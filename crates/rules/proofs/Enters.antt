@@ -2,7 +2,7 @@
 --   entered        of the variable that enters: `Entered`
 --   none-enters    every nonbasic variable is stuck: `Stuck`
 --   swap           the two seats that change, and that no other does: `Swap`
-use mathlib.Core.Bool.{Bool, cond, false, true}
+use mathlib.Core.Bool.{false, true}
 use mathlib.Core.List.{List}
 use mathlib.Core.Logic.{_≢_}
 use mathlib.Core.Option.{Option, Option·none-ne-some, none, some}
@@ -14,7 +14,7 @@ use lib.IntN.{negsuc, pos, ℤ}
 use lib.ListN.{length, length-set, set}
 use lib.Seq.{getD-set-other, getD-set-same}
 use lib.Signed.{<ℤ-irrefl, <ℤ-≤ℤ-trans, ltZ-yes, _<ℤ_}
-use Rattle.whole.proofs.Below.{Found, lowest-none, lowest-some}
+use Rattle.whole.proofs.Below.{lowest-passes, none-passes}
 use Rattle.whole.proofs.Bools.{zero-one}
 use Rattle.whole.specs.Values.{Le, Lt, Values}
 use Rattle.rules.proofs.Leaves.{Left}
@@ -74,14 +74,6 @@ module _ {X : Type 0} (𝓥 : Values X) where
   suits-no P w (pos (suc k)) x e = record { no-rise = λ h. may-rise-no x (P .upper w) e; no-fall = λ h. absurd (<ℤ-irrefl (<ℤ-≤ℤ-trans h (record { le = le→leb 0 (suc k) (omega arith) }))) }
   suits-no P w (negsuc k) x e = record { no-rise = λ h. absurd (h .lt); no-fall = λ h. may-fall-no x (P .lower w) e }
 
-  chosen : (b : Bool) (v w : ℕ) → cond b (some v) none ≡ some w → (b ≡ true) × (v ≡ w)
-  chosen true v w e = (refl, cc)
-  chosen false v w e = let z : _≡_ {A = ℕ} 0 1 = cc in zero-one z
-
-  passed-over : (b : Bool) (v : ℕ) → _≡_ {A = Option ℕ} (cond b (some v) none) none → b ≡ false
-  passed-over true v e = let z : _≡_ {A = ℕ} 0 1 = cc in zero-one z
-  passed-over false v e = refl
-
   seated-suits : (P : Problem X) (w : ℕ) (a : ℤ) (o : Option X) → suits 𝓥 a o (P .lower w) (P .upper w) ≡ true → (x : X) × (o ≡ some x) × Suits P w a x
   unfolding suits
   seated-suits P w a none e = let z : _≡_ {A = ℕ} 0 1 = cc in zero-one z
@@ -89,28 +81,13 @@ module _ {X : Type 0} (𝓥 : Values X) where
 
   pub entered : (P : Problem X) (s : State X) (r : Leaving) (w : ℕ) → entering 𝓥 P s r ≡ some w → Entered P s r w
   unfolding entering
-  entered P s r w e = rw v (record {
-    variable = f .in-range;
-    value = g .0;
-    was-seated = g .1;
-    suits = g .2;
-    stuck = λ u x h q. suits-no P u (a u) x (rw q at (passed-over (test u) u (f .first u h)));
-  })
+  entered P s r w e =
+      let f = lowest-passes (vars P) (λ u. suits 𝓥 (a u) (seat s u) (P .lower u) (P .upper u)) w .0 e in
+      let g = seated-suits P w (a w) (seat s w) (f .1) in
+      record { variable = f .0; value = g .0; was-seated = g .1; suits = g .2; stuck = λ u x h q. suits-no P u (a u) x (rw q at (f .2 u h)) }
     where
       a : ℕ → ℤ
       a u = pull (r .side) (entry (s .tableau) (r .variable) u)
-
-      test : ℕ → Bool
-      test u = suits 𝓥 (a u) (seat s u) (P .lower u) (P .upper u)
-
-      f : Found (vars P) (λ u. cond (test u) (some u) none) w
-      f = lowest-some (vars P) (λ u. cond (test u) (some u) none) w e
-
-      v : w ≡ f .at
-      v = sym (chosen (test (f .at)) (f .at) w (f .is) .1)
-
-      g : (x : X) × (seat s (f .at) ≡ some x) × Suits P (f .at) (a (f .at)) x
-      g = seated-suits P (f .at) (a (f .at)) (seat s (f .at)) (chosen (test (f .at)) (f .at) w (f .is) .0)
 
   -- ---- the swap
 
@@ -134,10 +111,8 @@ module _ {X : Type 0} (𝓥 : Values X) where
   pub none-enters : (P : Problem X) (s : State X) (r : Leaving) → entering 𝓥 P s r ≡ none → (u : ℕ) (x : X) → u < vars P → seat s u ≡ some x →
       Stuck P u (pull (r .side) (entry (s .tableau) (r .variable) u)) x
   unfolding entering
-  none-enters P s r e u x h q = suits-no P u (a u) x (rw q at (passed-over (test u) u (lowest-none (vars P) (λ u. cond (test u) (some u) none) e u h)))
+  none-enters P s r e u x h q =
+      suits-no P u (a u) x (rw q at (none-passes (vars P) (λ u. suits 𝓥 (a u) (seat s u) (P .lower u) (P .upper u)) .0 e u h))
     where
       a : ℕ → ℤ
       a u = pull (r .side) (entry (s .tableau) (r .variable) u)
-
-      test : ℕ → Bool
-      test u = suits 𝓥 (a u) (seat s u) (P .lower u) (P .upper u)

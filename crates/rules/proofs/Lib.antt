@@ -23,3 +23,4 @@ pub mod Refused
 pub mod Ranges
 pub mod Small
 pub mod Kept
+pub mod AnswerIs

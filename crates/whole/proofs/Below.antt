@@ -1,9 +1,11 @@
 -- What a search or a test over the numbers below k says of each of them.
 --   lowest-none, lowest-some (Found), lowest-is    nothing found; what is found is first; and back
+--   lowest-passes, none-passes                     the lowest number that passes a test
 --   all-each, all-of, all-not, all-fails           the test passes at each number, or fails at one
 --   some-none, some-at, some-of                    the test fails at each, or passes at one
 use mathlib.Core.Path.{_≡_, refl, _∙_}
-use mathlib.Core.Bool.{Bool, true, false}
+use mathlib.Core.Bool.{Bool, true, false, cond}
+use mathlib.Core.Logic.{_↔_}
 use mathlib.Core.Option.{Option, none, some, Option·none-ne-some, Option·some-ne-none}
 use Prim.Native.Nat.{ℕ, zero, suc, _+_, _<_}
 use native.Mathlib.Omega.{arith}
@@ -59,6 +61,29 @@ lowest-is {A} (suc k) v f a h e first = go (ℕ-discrete v k) (λ q. lowest-is k
     go : Dec (v ≡ k) → (v < k → lowest k f ≡ some a) → lowest (suc k) f ≡ some a
     go (yes z) rest = let q = lowest-empty k f (λ u p. first u (omega arith)) in rw (q, lowest) (rw (← z) e)
     go (no n) rest = let q = rest (omega arith) in rw (q, lowest) refl
+
+-- the lowest number that passes a test
+
+chosen : (b : Bool) (v w : ℕ) → cond b (some v) none ≡ some w → (b ≡ true) × (v ≡ w)
+chosen true v w e = (refl, cc)
+chosen false v w e = absurd (Option·none-ne-some w e)
+
+passed-over : (b : Bool) (v : ℕ) → _≡_ {A = Option ℕ} (cond b (some v) none) none → b ≡ false
+passed-over true v e = absurd (Option·some-ne-none v e)
+passed-over false v e = refl
+
+pub lowest-passes : (k : ℕ) (f : ℕ → Bool) (w : ℕ) →
+    (lowest k (λ v. cond (f v) (some v) none) ≡ some w) ↔ ((w < k) × (f w ≡ true) × ((u : ℕ) → u < w → f u ≡ false))
+lowest-passes k f w = (there, λ (h, e, first). lowest-is k w _ w h (rw e refl) (λ u l. rw (first u l) refl))
+  where
+    there : lowest k (λ v. cond (f v) (some v) none) ≡ some w → (w < k) × (f w ≡ true) × ((u : ℕ) → u < w → f u ≡ false)
+    there e =
+        let g = lowest-some k (λ v. cond (f v) (some v) none) w e in
+        let z : g .at ≡ w = chosen (f (g .at)) (g .at) w (g .is) .1 in
+        (omega arith, rw (← z) (chosen (f (g .at)) (g .at) w (g .is) .0), λ u l. passed-over (f u) u (g .first u (omega arith)))
+
+pub none-passes : (k : ℕ) (f : ℕ → Bool) → (lowest k (λ v. cond (f v) (some v) none) ≡ none) ↔ ((v : ℕ) → v < k → f v ≡ false)
+none-passes k f = (λ e v h. passed-over (f v) v (lowest-none k _ e v h), λ h. lowest-empty k _ (λ v l. rw (h v l) refl))
 
 -- ---- a test at each number
 

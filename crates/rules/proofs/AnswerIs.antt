@@ -1,0 +1,111 @@
+-- The answer is the run: from a sound state with n seated, where no limits cross, it ends once, after fewer pivots than the bound, and the
+-- words are those of the state that it ends at; where some cross, the lowest such variable is the evidence, with no pivot.
+--   Crosses, crosses-exactly, none-crosses    the lowest variable whose lower limit exceeds its upper; none
+--   ending-run, ending-crossed                what a check comes to, of any values
+--   answer-run : TheRun P s                   the one count, and the answer's words
+--   answer-crossed                            the words where limits cross
+--   start-run                                 of the start of any problem
+use mathlib.Core.Bool.{false}
+use mathlib.Core.List.{_++_, _∷_}
+use mathlib.Core.Logic.{_↔_}
+use mathlib.Core.Option.{Option, Option·none-ne-some, none, some}
+use mathlib.Core.Path.{ap, refl, _≡_}
+use Prim.Native.Nat.{ℕ, _<_}
+use native.Mathlib.Omega.{arith}
+use lib.IntN.{pos, ℤ}
+use Rattle.whole.proofs.Below.{lowest-passes, none-passes}
+use Rattle.whole.proofs.Bools.{true-false}
+use Rattle.whole.proofs.Instances.{whole-laws}
+use Rattle.whole.proofs.Tells.{Tells, tells-false, tells-true}
+use Rattle.whole.proofs.Values.{Laws}
+use Rattle.whole.specs.Tables.{table}
+use Rattle.whole.specs.Values.{Lt, Values, whole}
+use Rattle.rules.proofs.Bounded.{below-bound}
+use Rattle.rules.proofs.Ends.{ends, start-seated}
+use Rattle.rules.proofs.Runs.{ends-only, run-is}
+use Rattle.rules.proofs.Sound.{Sound, howManySeated}
+use Rattle.rules.proofs.Started.{no-conflict, sound-start}
+use Rattle.rules.specs.Answer.{answerFrom, wordsOf}
+use Rattle.rules.specs.Problem.{Problem, vars}
+use Rattle.rules.specs.Run.{Ending, Ends, after, bound, conflict, crossed, ending}
+use Rattle.rules.specs.Step.{State, cannot, same, start, step}
+
+module _ {X : Type 0} (𝓥 : Values X) where
+  -- ---- crossed limits
+
+  -- its lower limit exceeds its upper
+  abbrev pub Crosses : Problem X → ℕ → Type 0
+  Crosses P v = (l : X) × (u : X) × (P .lower v ≡ some l) × (P .upper v ≡ some u) × Lt 𝓥 u l
+
+  crossed-tells : (P : Problem X) (v : ℕ) → Tells (crossed 𝓥 (P .lower v) (P .upper v)) (Crosses P v) (¬ Crosses P v)
+  unfolding crossed
+  crossed-tells P v = go (P .lower v) (P .upper v)
+    where
+      go : (o p : Option X) → Tells (crossed 𝓥 o p) ((l : X) × (u : X) × (o ≡ some l) × (p ≡ some u) × Lt 𝓥 u l)
+          (¬ ((l : X) × (u : X) × (o ≡ some l) × (p ≡ some u) × Lt 𝓥 u l))
+      go none p = record { if-true = λ e. true-false e refl; if-false = λ e (l, u, a, b, h). Option·none-ne-some l a; not-both = λ y n. n y }
+      go (some l) none = record { if-true = λ e. true-false e refl; if-false = λ e (k, u, a, b, h). Option·none-ne-some u b; not-both = λ y n. n y }
+      go (some l) (some u) = record { if-true = λ e. (l, u, refl, refl, e); if-false = λ e (k, w, a, b, h). clash k w a b h e; not-both = λ y n. n y }
+        where
+          clash : (k w : X) → some l ≡ some k → some u ≡ some w → Lt 𝓥 w k → 𝓥 .less u l ≡ false → ⊥
+          clash k w a b h e = let p : l ≡ k = cc in let q : u ≡ w = cc in true-false (rw (p, q) h) e
+
+  pub crosses-exactly : (P : Problem X) (v : ℕ) → (conflict 𝓥 P ≡ some v) ↔ ((v < vars P) × Crosses P v × ((u : ℕ) → u < v → ¬ Crosses P u))
+  unfolding conflict
+  crosses-exactly P v = let r = lowest-passes (vars P) (λ v. crossed 𝓥 (P .lower v) (P .upper v)) v in
+      (λ e. let f = r .0 e in (f .0, crossed-tells P v .if-true (f .1), λ u h. crossed-tells P u .if-false (f .2 u h)),
+      λ (h, c, first). r .1 (h, tells-true (crossed-tells P v) c, λ u k. tells-false (crossed-tells P u) (first u k)))
+
+  pub none-crosses : (P : Problem X) → (conflict 𝓥 P ≡ none) ↔ ((v : ℕ) → v < vars P → ¬ Crosses P v)
+  unfolding conflict
+  none-crosses P = let r = none-passes (vars P) (λ v. crossed 𝓥 (P .lower v) (P .upper v)) in
+      (λ e v h. crossed-tells P v .if-false (r .0 e v h), λ n. r .1 (λ v h. tells-false (crossed-tells P v) (n v h)))
+
+  -- ---- what a check comes to
+
+  -- the run at k pivots
+  abbrev pub ended : Problem X → State X → ℕ → Ending X
+  ended P s k = record { how = step 𝓥 P (after 𝓥 P s k); pivots = k; last = after 𝓥 P s k }
+
+  pub ending-crossed : (P : Problem X) (s : State X) (v : ℕ) → conflict 𝓥 P ≡ some v →
+      ending 𝓥 P s ≡ record { how = cannot (table (vars P) (same v)) (table (vars P) (same v)); pivots = 0; last = s }
+  unfolding ending
+  ending-crossed P s v e = rw (e, ending)
+
+  pub ending-run : Laws 𝓥 → (P : Problem X) (s : State X) → conflict 𝓥 P ≡ none → Sound 𝓥 P s → howManySeated (s .seats) ≡ P .n →
+      (k : ℕ) → Ends 𝓥 P s k → ending 𝓥 P s ≡ ended P s k
+  unfolding ending
+  ending-run law P s e S n k E = rw (e, ending) (run-is 𝓥 P s (bound P) k
+      (let h = below-bound 𝓥 law P s (no-conflict 𝓥 P e) S n k (E .runs) in omega arith) E)
+
+-- ---- the answer
+
+-- the one count of pivots, and the words of the state that the run ends at
+pub record TheRun (P : Problem ℤ) (s : State ℤ) : Type 0 where
+  pub count : ℕ
+  pub ends : Ends whole P s count
+  pub only : (k : ℕ) → Ends whole P s k → k ≡ count
+  pub below : count < bound P
+  pub words : answerFrom P s ≡ wordsOf P (ended whole P s count)
+
+pub answer-run : (P : Problem ℤ) (s : State ℤ) → conflict whole P ≡ none → Sound whole P s → howManySeated (s .seats) ≡ P .n → TheRun P s
+unfolding answerFrom
+answer-run P s e S n = go (ends whole whole-laws P s (no-conflict whole P e) S n)
+  where
+    go : (k : ℕ) × Ends whole P s k → TheRun P s
+    go (k, E) = record {
+      count = k;
+      ends = E;
+      only = λ j F. ends-only whole P s j k F E;
+      below = below-bound whole whole-laws P s (no-conflict whole P e) S n k (E .runs);
+      words = ap (wordsOf P) (ending-run whole whole-laws P s e S n k E);
+    }
+
+pub answer-crossed : (P : Problem ℤ) (s : State ℤ) (v : ℕ) → conflict whole P ≡ some v →
+    answerFrom P s ≡ pos 2 ∷ pos 0 ∷ pos 0 ∷ table (vars P) (same v) ++ table (vars P) (same v)
+unfolding answerFrom wordsOf
+answer-crossed P s v e = ap (wordsOf P) (ending-crossed whole P s v e)
+
+-- from the start of any problem
+pub start-run : (P : Problem ℤ) → conflict whole P ≡ none → TheRun P (start whole P)
+start-run P e = answer-run P (start whole P) e (sound-start whole P whole-laws (no-conflict whole P e)) (start-seated whole P)
