@@ -24,3 +24,5 @@ pub mod Ranges
 pub mod Small
 pub mod Kept
 pub mod AnswerIs
+pub mod Blame
+pub mod Answers
