@@ -1,10 +1,9 @@
--- The answer is the run: from a sound state with n seated, where no limits cross, it ends once, after fewer pivots than the bound, and the
+-- The answer is the run: from a state that is ready, where no limits cross, it ends once, after fewer pivots than the bound, and the
 -- words are those of the state that it ends at; where some cross, the lowest such variable is the evidence, with no pivot.
 --   Crosses, crosses-exactly, none-crosses    the lowest variable whose lower limit exceeds its upper; none
 --   ending-run, ending-crossed                what a check comes to, of any values
 --   answer-run : TheRun P s                   the one count, and the answer's words
 --   answer-crossed                            the words where limits cross
---   start-run                                 of the start of any problem
 use mathlib.Core.Bool.{false}
 use mathlib.Core.List.{_++_, _∷_}
 use mathlib.Core.Logic.{_↔_}
@@ -21,14 +20,15 @@ use Rattle.whole.proofs.Values.{Laws}
 use Rattle.whole.specs.Tables.{table}
 use Rattle.whole.specs.Values.{Lt, Values, whole}
 use Rattle.rules.proofs.Bounded.{below-bound}
-use Rattle.rules.proofs.Ends.{ends, start-seated}
+use Rattle.rules.proofs.Ends.{ends}
+use Rattle.rules.proofs.Moved.{sound-after}
 use Rattle.rules.proofs.Runs.{ends-only, run-is}
-use Rattle.rules.proofs.Sound.{Sound, howManySeated}
-use Rattle.rules.proofs.Started.{no-conflict, sound-start}
+use Rattle.rules.proofs.Sound.{Apart, Ready, Sound, howManySeated, ready-sound}
+use Rattle.rules.proofs.Started.{no-conflict}
 use Rattle.rules.specs.Answer.{answerFrom, wordsOf}
 use Rattle.rules.specs.Problem.{Problem, vars}
 use Rattle.rules.specs.Run.{Ending, Ends, after, bound, conflict, crossed, ending}
-use Rattle.rules.specs.Step.{State, cannot, same, start, step}
+use Rattle.rules.specs.Step.{State, cannot, same, step}
 
 module _ {X : Type 0} (𝓥 : Values X) where
   -- ---- crossed limits
@@ -52,9 +52,10 @@ module _ {X : Type 0} (𝓥 : Values X) where
 
   pub crosses-exactly : (P : Problem X) (v : ℕ) → (conflict 𝓥 P ≡ some v) ↔ ((v < vars P) × Crosses P v × ((u : ℕ) → u < v → ¬ Crosses P u))
   unfolding conflict
-  crosses-exactly P v = let r = lowest-passes (vars P) (λ v. crossed 𝓥 (P .lower v) (P .upper v)) v in
-      (λ e. let f = r .0 e in (f .0, crossed-tells P v .if-true (f .1), λ u h. crossed-tells P u .if-false (f .2 u h)),
-      λ (h, c, first). r .1 (h, tells-true (crossed-tells P v) c, λ u k. tells-false (crossed-tells P u) (first u k)))
+  crosses-exactly P v = let r = lowest-passes (vars P) (λ v. crossed 𝓥 (P .lower v) (P .upper v)) v in (
+    λ e. let f = r .0 e in (f .0, crossed-tells P v .if-true (f .1), λ u h. crossed-tells P u .if-false (f .2 u h)),
+    λ (h, c, first). r .1 (h, tells-true (crossed-tells P v) c, λ u k. tells-false (crossed-tells P u) (first u k)),
+  )
 
   pub none-crosses : (P : Problem X) → (conflict 𝓥 P ≡ none) ↔ ((v : ℕ) → v < vars P → ¬ Crosses P v)
   unfolding conflict
@@ -84,28 +85,32 @@ module _ {X : Type 0} (𝓥 : Values X) where
 pub record TheRun (P : Problem ℤ) (s : State ℤ) : Type 0 where
   pub count : ℕ
   pub ends : Ends whole P s count
+  pub sound : Sound whole P (after whole P s count)
   pub only : (k : ℕ) → Ends whole P s k → k ≡ count
   pub below : count < bound P
   pub words : answerFrom P s ≡ wordsOf P (ended whole P s count)
 
-pub answer-run : (P : Problem ℤ) (s : State ℤ) → conflict whole P ≡ none → Sound whole P s → howManySeated (s .seats) ≡ P .n → TheRun P s
+pub answer-run : (P : Problem ℤ) (s : State ℤ) → conflict whole P ≡ none → Ready whole P s → TheRun P s
 unfolding answerFrom
-answer-run P s e S n = go (ends whole whole-laws P s (no-conflict whole P e) S n)
+answer-run P s e R = go (ends whole whole-laws P s A S (R .seated-many))
   where
+    A : Apart whole P
+    A = no-conflict whole P e
+
+    S : Sound whole P s
+    S = ready-sound whole P s A R
+
     go : (k : ℕ) × Ends whole P s k → TheRun P s
     go (k, E) = record {
       count = k;
       ends = E;
+      sound = sound-after whole whole-laws P s A S k;
       only = λ j F. ends-only whole P s j k F E;
-      below = below-bound whole whole-laws P s (no-conflict whole P e) S n k (E .runs);
-      words = ap (wordsOf P) (ending-run whole whole-laws P s e S n k E);
+      below = below-bound whole whole-laws P s A S (R .seated-many) k (E .runs);
+      words = ap (wordsOf P) (ending-run whole whole-laws P s e S (R .seated-many) k E);
     }
 
 pub answer-crossed : (P : Problem ℤ) (s : State ℤ) (v : ℕ) → conflict whole P ≡ some v →
     answerFrom P s ≡ pos 2 ∷ pos 0 ∷ pos 0 ∷ table (vars P) (same v) ++ table (vars P) (same v)
 unfolding answerFrom wordsOf
 answer-crossed P s v e = ap (wordsOf P) (ending-crossed whole P s v e)
-
--- from the start of any problem
-pub start-run : (P : Problem ℤ) → conflict whole P ≡ none → TheRun P (start whole P)
-start-run P e = answer-run P (start whole P) e (sound-start whole P whole-laws (no-conflict whole P e)) (start-seated whole P)

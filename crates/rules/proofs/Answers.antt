@@ -1,7 +1,7 @@
 -- The four answers there are, with what each knows: crossed limits, or the state at which the run ends.
 --   laid                    an answer's words: verdict, count, word 2, and two words for each variable
---   laid-length, lower-part, upper-part
---   answered : Answered P s    of any state that is sound where no limits cross, with n seated
+--   verdict-word, count-word, denominator-word, lower-part, upper-part, laid-length    its parts
+--   answered : Answered P s    of any state that is ready
 use mathlib.Core.List.{List, _++_, _∷_}
 use mathlib.Core.Option.{Option, none, some}
 use mathlib.Core.Path.{ap, refl, subst, sym, _∙_, _≡_}
@@ -17,25 +17,39 @@ use Rattle.rules.proofs.Blame.{Blamed, cannot-blames}
 use Rattle.rules.proofs.Moved.{rowed-after}
 use Rattle.rules.proofs.Moves.{Stepped, is-can, is-cannot, is-goes, is-range, stepped}
 use Rattle.rules.proofs.Small.{Beyond, small-tells}
-use Rattle.rules.proofs.Sound.{Apart, Sound, howManySeated}
-use Rattle.rules.proofs.Started.{no-conflict}
+use Rattle.rules.proofs.Sound.{Ready, Rowed}
 use Rattle.rules.specs.Answer.{answerFrom, wordsOf}
 use Rattle.rules.specs.Evidence.{lowerPart, upperPart}
 use Rattle.rules.specs.Problem.{Problem, vars, word}
 use Rattle.rules.specs.Run.{Ended, after, conflict}
 use Rattle.rules.specs.Step.{Leaving, Outcome, State, common, entering, evidence, leaving, moved, same, scaled, step}
 
-abbrev pub laid : ℤ → ℤ → ℤ → List ℤ → List ℤ → List ℤ
+unfoldable pub laid : ℤ → ℤ → ℤ → List ℤ → List ℤ → List ℤ
 laid a b c xs ys = a ∷ b ∷ c ∷ (xs ++ ys)
 
 module _ (a b c : ℤ) (xs ys : List ℤ) where
+  pub verdict-word : word (laid a b c xs ys) 0 ≡ a
+  unfolding laid
+  verdict-word = refl
+
+  pub count-word : word (laid a b c xs ys) 1 ≡ b
+  unfolding laid
+  count-word = refl
+
+  pub denominator-word : word (laid a b c xs ys) 2 ≡ c
+  unfolding laid
+  denominator-word = refl
+
   pub laid-length : (N : ℕ) → length xs ≡ N → length ys ≡ N → length (laid a b c xs ys) ≡ 3 + 2 * N
+  unfolding laid
   laid-length N p q = simp (length-append) (omega arith)
 
   pub lower-part : (v : ℕ) → v < length xs → lowerPart (laid a b c xs ys) v ≡ word xs v
+  unfolding laid
   lower-part v h = let z : 3 + v ≡ suc (suc (suc v)) = omega arith in rw z (List·getD-append xs ys (pos 0) v h)
 
   pub upper-part : (N v : ℕ) → length xs ≡ N → upperPart N (laid a b c xs ys) v ≡ word ys v
+  unfolding laid
   upper-part N v e = let z : 3 + N + v ≡ suc (suc (suc (length xs + v))) = omega arith in rw z (getD-append-add xs ys v (pos 0))
 
 -- the step from t has a leaving and an entering variable, and the tableau that they make is beyond the range
@@ -66,20 +80,20 @@ module _ (P : Problem ℤ) (s : State ℤ) where
   zeros = ap (λ k. replicate k (pos 0)) (let z : 2 * vars P ≡ vars P + vars P = omega arith in z)
       ∙ sym (replicate-append-replicate (vars P) (vars P) (pos 0))
 
-  of-run : Sound whole P s → (R : TheRun P s) → Stepped whole P (after whole P s (R .count)) → Answered P s
-  unfolding wordsOf evidence
+  of-run : Rowed whole P s → (R : TheRun P s) → Stepped whole P (after whole P s (R .count)) → Answered P s
+  unfolding laid wordsOf evidence
   of-run S R (is-can q e) = can-at R q (R .words ∙ words-at (R .count) _ e)
-  of-run S R (is-cannot r q n e) = cannot-at R _ _ (cannot-blames whole P (after whole P s (R .count)) _ _ (rowed-after whole P s (S .rowed) (R .count)) e)
+  of-run S R (is-cannot r q n e) = cannot-at R _ _ (cannot-blames whole P (after whole P s (R .count)) _ _ (rowed-after whole P s S (R .count)) e)
       (R .words ∙ words-at (R .count) _ e)
   of-run S R (is-range r w q y f e) = range-at R
       (record { out = r; into = w; leaves = q; enters = y; beyond = small-tells (vars P) (moved whole P (after whole P s (R .count)) r w .tableau) .if-false f })
       (R .words ∙ words-at (R .count) _ e ∙ ap (λ l. pos 3 ∷ pos (R .count) ∷ pos 0 ∷ l) zeros)
   of-run S R (is-goes r w q y f e) = absurd (subst Ended e (R .ends .ended))
 
-  pub answered : (Apart whole P → Sound whole P s) → howManySeated (s .seats) ≡ P .n → Answered P s
-  answered S n = go (conflict whole P) refl
+  pub answered : Ready whole P s → Answered P s
+  unfolding laid
+  answered S = go (conflict whole P) refl
     where
       go : (o : Option ℕ) → conflict whole P ≡ o → Answered P s
       go (some v) e = crossing v e (answer-crossed P s v e)
-      go none e = let A = no-conflict whole P e in let R = answer-run P s e (S A) n in
-          of-run (S A) R (stepped whole P (after whole P s (R .count)))
+      go none e = let R = answer-run P s e S in of-run (S .rowed) R (stepped whole P (after whole P s (R .count)))

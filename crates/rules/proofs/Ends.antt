@@ -1,6 +1,7 @@
 -- Every run from a sound state ends, and the fuelled run with the bound as fuel is that run.
 --   ends            from any sound state with n seated
 --   start-seated    n variables are seated at the start
+--   ready-start     a check may start there
 use mathlib.Core.List.{_∷_}
 use mathlib.Core.Logic.{inl, inr, _⊎_}
 use mathlib.Core.Option.{Option, none, some}
@@ -12,8 +13,8 @@ use Rattle.whole.proofs.Values.{Laws}
 use Rattle.whole.specs.Tables.{tableFrom}
 use Rattle.whole.specs.Values.{Values}
 use Rattle.rules.proofs.Bounded.{below-bound}
-use Rattle.rules.proofs.Sound.{Apart, Sound, howManySeated}
-use Rattle.rules.proofs.Started.{basic-row, seated-problem}
+use Rattle.rules.proofs.Sound.{Apart, Ready, Sound, howManySeated}
+use Rattle.rules.proofs.Started.{basic-row, housed-start, rowed-start, seated-problem}
 use Rattle.rules.specs.Problem.{Problem, vars}
 use Rattle.rules.specs.Run.{Ended, Ends, Moves, Runs, after, bound}
 use Rattle.rules.specs.Step.{Outcome, State, can, cannot, goes, range, start, startSeat, step}
@@ -42,7 +43,7 @@ module _ {X : Type 0} (𝓥 : Values X) where
   pub ends : Laws 𝓥 → (P : Problem X) (s : State X) → Apart 𝓥 P → Sound 𝓥 P s → howManySeated (s .seats) ≡ P .n → (k : ℕ) × Ends 𝓥 P s k
   ends law P s A S n = ends-from P s (bound P) (below-bound 𝓥 law P s A S n) (bound P) 0 (omega arith) (λ i h. let z : ⊥ = omega arith in absurd z)
 
-  -- ---- for the start of 01
+  -- ---- the start
 
   seated-from : (P : Problem X) (a k : ℕ) → a + k ≡ P .n + P .m → howManySeated (tableFrom a k (startSeat 𝓥 P)) ≡ P .n - a
   unfolding tableFrom
@@ -56,3 +57,6 @@ module _ {X : Type 0} (𝓥 : Values X) where
   pub start-seated : (P : Problem X) → howManySeated (start 𝓥 P .seats) ≡ P .n
   unfolding start
   start-seated P = seated-from P 0 (vars P) (omega arith) ∙ (omega arith)
+
+  pub ready-start : Laws 𝓥 → (P : Problem X) → Ready 𝓥 P (start 𝓥 P)
+  ready-start law P = record { rowed = rowed-start 𝓥 P; housed = housed-start 𝓥 P law; seated-many = start-seated P }

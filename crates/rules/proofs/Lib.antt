@@ -26,3 +26,4 @@ pub mod Kept
 pub mod AnswerIs
 pub mod Blame
 pub mod Answers
+pub mod Shape

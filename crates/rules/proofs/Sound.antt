@@ -2,6 +2,7 @@
 --   Rowed     the rows and columns hold; no limits in it
 --   Housed    a nonbasic variable whose limits do not cross sits within them
 --   Kept      D and the entries are in lowest common form and in range, and n variables are seated
+--   Ready     Rowed and Housed, n seated: a state from which a check may start
 --   Sound     Rowed, and every nonbasic variable within its limits: `sound-of` where no limits cross
 use mathlib.Core.Bool.{false, true}
 use mathlib.Core.List.{List, [], _∷_}
@@ -56,6 +57,12 @@ module _ {X : Type 0} (𝓥 : Values X) where
     pub in-range : small (vars P) (s .tableau) ≡ true
     pub seated-many : howManySeated (s .seats) ≡ P .n
 
+  -- a state from which a check may start: crossed limits or not
+  pub record Ready (P : Problem X) (s : State X) : Type 0 where
+    pub rowed : Rowed P s
+    pub housed : Housed P s
+    pub seated-many : howManySeated (s .seats) ≡ P .n
+
   -- rows that hold, and every nonbasic variable within its limits
   pub record Sound (P : Problem X) (s : State X) : Type 0 where
     pub rowed : Rowed P s
@@ -77,6 +84,9 @@ module _ {X : Type 0} (𝓥 : Values X) where
     lowers = λ v x l h e k. H .low v x l h (apart-uncrossed P A v h) e k;
     uppers = λ v x u h e k. H .high v x u h (apart-uncrossed P A v h) e k;
   }
+
+  pub ready-sound : (P : Problem X) (s : State X) → Apart P → Ready P s → Sound P s
+  ready-sound P s A R = sound-of P s A (R .rowed) (R .housed)
 
   pub housed-of : (P : Problem X) (s : State X) → Sound P s → Housed P s
   housed-of P s S = record { low = λ v x l h c e k. S .lowers v x l h e k; high = λ v x u h c e k. S .uppers v x u h e k }

@@ -1,6 +1,6 @@
--- The start of the rules is sound where no limits cross.
+-- The start of the rules: its rows hold, its values are within limits that do not cross, and it is sound where none do.
 --   at-start, common-one, seat-start, seated-problem, basic-row    what stands where at the start
---   rowed-start, sound-start
+--   rowed-start, housed-start, sound-start
 --   no-conflict                                        no crossed limits: `Apart`
 use mathlib.Core.Bool.{Bool, cond, false, true}
 use mathlib.Core.Option.{Option, Option·none-ne-some, none, some}
@@ -9,14 +9,14 @@ use Prim.Native.Nat.{ℕ, _+_, _-_, _<_, _≤_}
 use native.Mathlib.Decide.{decLt}
 use native.Mathlib.Omega.{arith}
 use lib.IntN.{*ℤ-zero, pos, zero-*ℤ, ℤ, _*ℤ_}
-use Rattle.whole.proofs.Below.{lowest-none}
+use Rattle.whole.proofs.Below.{none-passes}
 use Rattle.whole.proofs.RingLaws.{*ℤ-idl, *ℤ-idr}
 use Rattle.whole.proofs.Sums.{sum-front, sum-one, sum-same, sum-zero}
 use Rattle.whole.proofs.Tables.{matrix-at, table-at, tableFrom-length}
 use Rattle.whole.proofs.Values.{Laws, le-refl}
 use Rattle.whole.specs.Sums.{sum}
 use Rattle.whole.specs.Values.{Le, Values, whole}
-use Rattle.rules.proofs.Sound.{Apart, Rowed, Sound}
+use Rattle.rules.proofs.Sound.{Apart, Housed, Rowed, Sound, sound-of}
 use Rattle.rules.proofs.Units.{ge-false, lt-true, problem-row, row-row, same-off, same-self}
 use Rattle.rules.specs.Evidence.{Rows}
 use Rattle.rules.specs.Problem.{Problem, vars}
@@ -81,6 +81,10 @@ module _ {X : Type 0} (𝓥 : Values X) where
                 ∙ sum-same (P .n) (λ j. P .coefficient i j *ℤ x j) (λ u. startEntry P (P .n + i) u *ℤ x u) (λ j q. ap (λ z. z *ℤ x j) (sym (row-row P i j q)))
                 ∙ sym (sum-front (P .n) (P .m) (λ u. startEntry P (P .n + i) u *ℤ x u) (λ u k. rw (row-zero (P .n + i) u (omega arith) k) (zero-*ℤ (x u)))))
 
+  uncrossed : (o p : Option X) → crossed 𝓥 o p ≡ false → (l u : X) → o ≡ some l → p ≡ some u → Le 𝓥 l u
+  unfolding crossed
+  uncrossed o p q l u a b = rw (a, b) at q
+
   value-low : Laws 𝓥 → (o p : Option X) (l : X) → ((k u : X) → o ≡ some k → p ≡ some u → Le 𝓥 k u) → o ≡ some l → Le 𝓥 l (startValue 𝓥 o p)
   unfolding startValue
   value-low law none p l a e = absurd (Option·none-ne-some l e)
@@ -135,22 +139,16 @@ module _ {X : Type 0} (𝓥 : Values X) where
         zeros v w k (yes q) = problem-row P v w q ∙ same-off v w (λ e. let z : ⊥ = omega arith in z)
         zeros v w k (no n) = row-zero P v w (omega arith) k
 
-    pub sound-start : Laws 𝓥 → Apart 𝓥 P → Sound 𝓥 P (start 𝓥 P)
-    sound-start law A = record {
-      rowed = rowed-start;
-      lowers = λ v x l h e k. rw (placed v x h e .1) (value-low law (P .lower v) (P .upper v) l (λ a b. A v a b h) k);
-      uppers = λ v x u h e k. rw (placed v x h e .1) (value-high law (P .lower v) (P .upper v) u (λ a b. A v a b h) k);
+    pub housed-start : Laws 𝓥 → Housed 𝓥 P (start 𝓥 P)
+    housed-start law = record {
+      low = λ v x l h c e k. rw (placed v x h e .1) (value-low law (P .lower v) (P .upper v) l (uncrossed (P .lower v) (P .upper v) c) k);
+      high = λ v x u h c e k. rw (placed v x h e .1) (value-high law (P .lower v) (P .upper v) u (uncrossed (P .lower v) (P .upper v) c) k);
     }
 
-  crossed-no : (l u : X) → crossed 𝓥 (some l) (some u) ≡ false → Le 𝓥 l u
-  unfolding crossed
-  crossed-no l u q = q
+    pub sound-start : Laws 𝓥 → Apart 𝓥 P → Sound 𝓥 P (start 𝓥 P)
+    sound-start law A = sound-of 𝓥 P (start 𝓥 P) A rowed-start (housed-start law)
 
   -- no conflict at the start: the limits are apart
   pub no-conflict : (P : Problem X) → conflict 𝓥 P ≡ none → Apart 𝓥 P
   unfolding conflict
-  no-conflict P e v l u h a b = go (crossed 𝓥 (P .lower v) (P .upper v)) refl (lowest-none (vars P) (λ v. cond (crossed 𝓥 (P .lower v) (P .upper v)) (some v) none) e v h)
-    where
-      go : (c : Bool) → crossed 𝓥 (P .lower v) (P .upper v) ≡ c → _≡_ {A = Option ℕ} (cond c (some v) none) none → Le 𝓥 l u
-      go true q z = absurd (Option·none-ne-some v (sym z))
-      go false q z = crossed-no l u (rw (a, b) at q)
+  no-conflict P e v l u h = uncrossed (P .lower v) (P .upper v) (none-passes (vars P) (λ v. crossed 𝓥 (P .lower v) (P .upper v)) .0 e v h) l u
