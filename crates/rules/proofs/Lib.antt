@@ -27,3 +27,4 @@ pub mod AnswerIs
 pub mod Blame
 pub mod Answers
 pub mod Shape
+pub mod Demands
