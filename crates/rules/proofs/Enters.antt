@@ -15,7 +15,8 @@ use lib.ListN.{length, length-set, set}
 use lib.Seq.{getD-set-other, getD-set-same}
 use lib.Signed.{<ℤ-irrefl, <ℤ-≤ℤ-trans, ltZ-yes, _<ℤ_}
 use Rattle.whole.proofs.Below.{lowest-passes, none-passes}
-use Rattle.whole.proofs.Bools.{zero-one}
+use Rattle.whole.proofs.Bools.{true-false, zero-one}
+use Rattle.whole.proofs.Tells.{Tells, tells-missing}
 use Rattle.whole.specs.Values.{Le, Lt, Values}
 use Rattle.rules.proofs.Leaves.{Left}
 use Rattle.rules.proofs.Swaps.{Swap}
@@ -42,37 +43,32 @@ module _ {X : Type 0} (𝓥 : Values X) where
     pub suits : Suits P w (pull (r .side) (entry (s .tableau) (r .variable) w)) value
     pub stuck : (u : ℕ) (x : X) → u < w → seat s u ≡ some x → Stuck P u (pull (r .side) (entry (s .tableau) (r .variable) u)) x
 
-  may-rise-yes : (x : X) (o : Option X) → mayRise 𝓥 x o ≡ true → (u : X) → o ≡ some u → Lt 𝓥 x u
+  rise-tells : (x : X) (o : Option X) → Tells (mayRise 𝓥 x o) ((u : X) → o ≡ some u → Lt 𝓥 x u) ((u : X) × (o ≡ some u) × Le 𝓥 u x)
   unfolding mayRise
-  may-rise-yes x none e u q = let z : _≡_ {A = ℕ} 0 1 = cc in zero-one z
-  may-rise-yes x (some k) e u q = let z : k ≡ u = cc in let h : Lt 𝓥 x k = e in rw z at h
+  rise-tells x = tells-missing (mayRise 𝓥 x) (λ u. 𝓥 .less x u) (λ u. refl) refl
 
-  may-rise-no : (x : X) (o : Option X) → mayRise 𝓥 x o ≡ false → (u : X) × (o ≡ some u) × Le 𝓥 u x
-  unfolding mayRise
-  may-rise-no x none e = let z : _≡_ {A = ℕ} 0 1 = cc in zero-one z
-  may-rise-no x (some u) e = (u, refl, e)
-
-  may-fall-yes : (x : X) (o : Option X) → mayFall 𝓥 x o ≡ true → (l : X) → o ≡ some l → Lt 𝓥 l x
+  fall-tells : (x : X) (o : Option X) → Tells (mayFall 𝓥 x o) ((l : X) → o ≡ some l → Lt 𝓥 l x) ((l : X) × (o ≡ some l) × Le 𝓥 x l)
   unfolding mayFall
-  may-fall-yes x none e l q = let z : _≡_ {A = ℕ} 0 1 = cc in zero-one z
-  may-fall-yes x (some k) e l q = let z : k ≡ l = cc in let h : Lt 𝓥 k x = e in rw z at h
-
-  may-fall-no : (x : X) (o : Option X) → mayFall 𝓥 x o ≡ false → (l : X) × (o ≡ some l) × Le 𝓥 x l
-  unfolding mayFall
-  may-fall-no x none e = let z : _≡_ {A = ℕ} 0 1 = cc in zero-one z
-  may-fall-no x (some l) e = (l, refl, e)
+  fall-tells x = tells-missing (mayFall 𝓥 x) (λ l. 𝓥 .less l x) (λ l. refl) refl
 
   suits-yes : (P : Problem X) (w : ℕ) (a : ℤ) (x : X) → suits 𝓥 a (some x) (P .lower w) (P .upper w) ≡ true → Suits P w a x
   unfolding suits
   suits-yes P w (pos zero) x e = let z : _≡_ {A = ℕ} 0 1 = cc in zero-one z
-  suits-yes P w (pos (suc k)) x e = may-go-up (ltZ-yes (lt→ltb 0 (suc k) (omega arith))) (may-rise-yes x (P .upper w) e)
-  suits-yes P w (negsuc k) x e = may-go-down (ltZ-yes tt) (may-fall-yes x (P .lower w) e)
+  suits-yes P w (pos (suc k)) x e = may-go-up (ltZ-yes (lt→ltb 0 (suc k) (omega arith))) (rise-tells x (P .upper w) .if-true e)
+  suits-yes P w (negsuc k) x e = may-go-down (ltZ-yes tt) (fall-tells x (P .lower w) .if-true e)
 
   suits-no : (P : Problem X) (w : ℕ) (a : ℤ) (x : X) → suits 𝓥 a (some x) (P .lower w) (P .upper w) ≡ false → Stuck P w a x
   unfolding suits
   suits-no P w (pos zero) x e = record { no-rise = λ h. absurd (<ℤ-irrefl h); no-fall = λ h. absurd (<ℤ-irrefl h) }
-  suits-no P w (pos (suc k)) x e = record { no-rise = λ h. may-rise-no x (P .upper w) e; no-fall = λ h. absurd (<ℤ-irrefl (<ℤ-≤ℤ-trans h (record { le = le→leb 0 (suc k) (omega arith) }))) }
-  suits-no P w (negsuc k) x e = record { no-rise = λ h. absurd (h .lt); no-fall = λ h. may-fall-no x (P .lower w) e }
+  suits-no P w (pos (suc k)) x e = record { no-rise = λ h. rise-tells x (P .upper w) .if-false e; no-fall = λ h. absurd (<ℤ-irrefl (<ℤ-≤ℤ-trans h (record { le = le→leb 0 (suc k) (omega arith) }))) }
+  suits-no P w (negsuc k) x e = record { no-rise = λ h. absurd (h .lt); no-fall = λ h. fall-tells x (P .lower w) .if-false e }
+
+  pub suits-tells : (P : Problem X) (w : ℕ) (a : ℤ) (x : X) → Tells (suits 𝓥 a (some x) (P .lower w) (P .upper w)) (Suits P w a x) (Stuck P w a x)
+  suits-tells P w a x = record { if-true = suits-yes P w a x; if-false = suits-no P w a x; not-both = clash }
+    where
+      clash : Suits P w a x → Stuck P w a x → ⊥
+      clash (may-go-up h f) S = let u = S .no-rise h in true-false (f (u .0) (u .1)) (u .2)
+      clash (may-go-down h f) S = let l = S .no-fall h in true-false (f (l .0) (l .1)) (l .2)
 
   seated-suits : (P : Problem X) (w : ℕ) (a : ℤ) (o : Option X) → suits 𝓥 a o (P .lower w) (P .upper w) ≡ true → (x : X) × (o ≡ some x) × Suits P w a x
   unfolding suits

@@ -9,6 +9,7 @@ use native.Mathlib.Omega.{arith}
 use lib.IntN.{ℤ}
 use Rattle.whole.proofs.Below.{lowest-none, lowest-some}
 use Rattle.whole.proofs.Bools.{zero-one}
+use Rattle.whole.proofs.Tells.{Tells, tells-present}
 use Rattle.whole.specs.Values.{Le, Lt, Values}
 use Rattle.rules.specs.Problem.{Problem, vars}
 use Rattle.rules.specs.Step.{Leaving, Side, State, above, below, broken, common, leaves, leaving, limitAt, over, scaled, seat, seated, under}
@@ -25,25 +26,15 @@ module _ {X : Type 0} (𝓥 : Values X) where
     too-low : {l : X} → P .lower v ≡ some l → Lt 𝓥 (scaled 𝓥 P s v) (𝓥 .scale (common s) l) → Outside P s v below l
     too-high : {u : X} → P .upper v ≡ some u → Lt 𝓥 (𝓥 .scale (common s) u) (scaled 𝓥 P s v) → Outside P s v above u
 
-  under-yes : (d : ℤ) (x : X) (o : Option X) → under 𝓥 d x o ≡ true → (l : X) × (o ≡ some l) × Lt 𝓥 x (𝓥 .scale d l)
+  pub under-tells : (d : ℤ) (x : X) (o : Option X) →
+      Tells (under 𝓥 d x o) ((l : X) × (o ≡ some l) × Lt 𝓥 x (𝓥 .scale d l)) ((l : X) → o ≡ some l → Le 𝓥 (𝓥 .scale d l) x)
   unfolding under
-  under-yes d x none e = let z : _≡_ {A = ℕ} 0 1 = cc in zero-one z
-  under-yes d x (some l) e = (l, refl, e)
+  under-tells d x = tells-present (under 𝓥 d x) (λ l. 𝓥 .less x (𝓥 .scale d l)) (λ l. refl) refl
 
-  under-no : (d : ℤ) (x : X) (o : Option X) → under 𝓥 d x o ≡ false → (l : X) → o ≡ some l → Le 𝓥 (𝓥 .scale d l) x
-  unfolding under
-  under-no d x none e l q = let z : _≡_ {A = ℕ} 0 1 = cc in zero-one z
-  under-no d x (some k) e l q = let z : k ≡ l = cc in let h : Le 𝓥 (𝓥 .scale d k) x = e in rw z at h
-
-  over-yes : (d : ℤ) (x : X) (o : Option X) → over 𝓥 d x o ≡ true → (u : X) × (o ≡ some u) × Lt 𝓥 (𝓥 .scale d u) x
+  pub over-tells : (d : ℤ) (x : X) (o : Option X) →
+      Tells (over 𝓥 d x o) ((u : X) × (o ≡ some u) × Lt 𝓥 (𝓥 .scale d u) x) ((u : X) → o ≡ some u → Le 𝓥 x (𝓥 .scale d u))
   unfolding over
-  over-yes d x none e = let z : _≡_ {A = ℕ} 0 1 = cc in zero-one z
-  over-yes d x (some u) e = (u, refl, e)
-
-  over-no : (d : ℤ) (x : X) (o : Option X) → over 𝓥 d x o ≡ false → (u : X) → o ≡ some u → Le 𝓥 x (𝓥 .scale d u)
-  unfolding over
-  over-no d x none e u q = let z : _≡_ {A = ℕ} 0 1 = cc in zero-one z
-  over-no d x (some k) e u q = let z : k ≡ u = cc in let h : Le 𝓥 x (𝓥 .scale d k) = e in rw z at h
+  over-tells d x = tells-present (over 𝓥 d x) (λ u. 𝓥 .less (𝓥 .scale d u) x) (λ u. refl) refl
 
   broken-none : (P : Problem X) (s : State X) (v : ℕ) → broken 𝓥 P s v none ≡ none → Inside P s v
   unfolding broken
@@ -52,7 +43,7 @@ module _ {X : Type 0} (𝓥 : Values X) where
       go : (a : Bool) → under 𝓥 (common s) (scaled 𝓥 P s v) (P .lower v) ≡ a → (b : Bool) → over 𝓥 (common s) (scaled 𝓥 P s v) (P .upper v) ≡ b → Inside P s v
       go true p b q = let z : _≡_ {A = ℕ} 0 1 = cc (rw (p, broken) at e) in zero-one z
       go false p true q = let z : _≡_ {A = ℕ} 0 1 = cc (rw q at (rw (p, broken) at e)) in zero-one z
-      go false p false q = record { low = under-no (common s) (scaled 𝓥 P s v) (P .lower v) p; high = over-no (common s) (scaled 𝓥 P s v) (P .upper v) q }
+      go false p false q = record { low = under-tells (common s) (scaled 𝓥 P s v) (P .lower v) .if-false p; high = over-tells (common s) (scaled 𝓥 P s v) (P .upper v) .if-false q }
 
   pub record Left (P : Problem X) (s : State X) (r : Leaving) : Type 0 where
     pub variable : r .variable < vars P
@@ -78,9 +69,9 @@ module _ {X : Type 0} (𝓥 : Values X) where
     where
       go : (a : Bool) → under 𝓥 (common s) (scaled 𝓥 P s v) (P .lower v) ≡ a → (b : Bool) → over 𝓥 (common s) (scaled 𝓥 P s v) (P .upper v) ≡ b → Blames P s v none r
       go true p b q = let z : _≡_ {A = Leaving} (leaves v below) r = cc (rw (p, broken) at e) in
-          subst (Blames P s v none) z (refl, refl, low-limit P s v (under-yes (common s) (scaled 𝓥 P s v) (P .lower v) p))
+          subst (Blames P s v none) z (refl, refl, low-limit P s v (under-tells (common s) (scaled 𝓥 P s v) (P .lower v) .if-true p))
       go false p true q = let z : _≡_ {A = Leaving} (leaves v above) r = cc (rw q at (rw (p, broken) at e)) in
-          subst (Blames P s v none) z (refl, refl, high-limit P s v (over-yes (common s) (scaled 𝓥 P s v) (P .upper v) q))
+          subst (Blames P s v none) z (refl, refl, high-limit P s v (over-tells (common s) (scaled 𝓥 P s v) (P .upper v) .if-true q))
       go false p false q = let z : _≡_ {A = ℕ} 0 1 = cc (rw q at (rw (p, broken) at e)) in zero-one z
 
   pub left : (P : Problem X) (s : State X) (r : Leaving) → leaving 𝓥 P s ≡ some r → Left P s r

@@ -28,3 +28,4 @@ pub mod Blame
 pub mod Answers
 pub mod Shape
 pub mod Demands
+pub mod Rule

@@ -2,10 +2,12 @@
 --   Tells b Yes No                           the test b is true exactly where Yes holds, and false exactly where No does
 --   tells-true, tells-false, tells-not       back from a fact to the test; the test turned round
 --   tells-and, tells-or, tells-all, -some    two tests, and one for each number below k
+--   tells-present, tells-missing             a test of something that may be missing
 --   tells-lt, -eq, -ltZ, -eqZ, -within, -outside    the plain tests of numbers
 use mathlib.Core.Bool.{Bool, false, not, true, _&&_, _||_}
 use mathlib.Core.Logic.{inl, inr, _≢_, _⊎_}
-use mathlib.Core.Path.{ap, refl, sym, _≡_}
+use mathlib.Core.Option.{Option, Option·none-ne-some, none, some}
+use mathlib.Core.Path.{ap, refl, sym, _∙_, _≡_}
 use Prim.Native.Nat.{ℕ, _<_, _≤_}
 use native.Mathlib.Omega.{arith}
 use lib.Dec.{eqb, eqb-refl, eqb→eq, leb, leb→le, le→leb, ltb, ltb→lt, nltb→le}
@@ -78,6 +80,33 @@ module _ (k : ℕ) (f : ℕ → Bool) {Yes No : ℕ → Type 0} (t : (v : ℕ) �
     if-true = λ e v h. t v h .if-true (all-each k f e v h);
     if-false = λ e. let w = all-fails k f e in (w .0, w .1, t (w .0) (w .1) .if-false (w .2));
     not-both = λ y n. t (n .0) (n .1) .not-both (y (n .0) (n .1)) (n .2);
+  }
+
+-- ---- something that may be missing: a test of it that fails, or passes, where it is missing
+
+module _ {X : Type 0} (f : Option X → Bool) (b : X → Bool) (there : (x : X) → f (some x) ≡ b x) where
+  pub tells-present : f none ≡ false → (o : Option X) → Tells (f o) ((x : X) × (o ≡ some x) × (b x ≡ true)) ((x : X) → o ≡ some x → b x ≡ false)
+  tells-present n none = record {
+    if-true = λ e. true-false e n;
+    if-false = λ e x q. absurd (Option·none-ne-some x q);
+    not-both = λ (x, q, h) g. Option·none-ne-some x q;
+  }
+  tells-present n (some y) = record {
+    if-true = λ e. (y, refl, sym (there y) ∙ e);
+    if-false = λ e x q. let z : y ≡ x = cc in rw (← z) (sym (there y) ∙ e);
+    not-both = λ (x, q, h) g. true-false h (g x q);
+  }
+
+  pub tells-missing : f none ≡ true → (o : Option X) → Tells (f o) ((x : X) → o ≡ some x → b x ≡ true) ((x : X) × (o ≡ some x) × (b x ≡ false))
+  tells-missing n none = record {
+    if-true = λ e x q. absurd (Option·none-ne-some x q);
+    if-false = λ e. true-false n e;
+    not-both = λ g (x, q, h). Option·none-ne-some x q;
+  }
+  tells-missing n (some y) = record {
+    if-true = λ e x q. let z : y ≡ x = cc in rw (← z) (sym (there y) ∙ e);
+    if-false = λ e. (y, refl, sym (there y) ∙ e);
+    not-both = λ g (x, q, h). true-false (g x q) h;
   }
 
 -- ---- numbers
