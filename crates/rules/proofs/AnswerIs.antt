@@ -83,6 +83,7 @@ module _ {X : Type 0} (𝓥 : Values X) where
 
 -- the one count of pivots, and the words of the state that the run ends at
 pub record TheRun (P : Problem ℤ) (s : State ℤ) : Type 0 where
+  pub uncrossed : conflict whole P ≡ none
   pub count : ℕ
   pub ends : Ends whole P s count
   pub sound : Sound whole P (after whole P s count)
@@ -102,6 +103,7 @@ answer-run P s e R = go (ends whole whole-laws P s A S (R .seated-many))
 
     go : (k : ℕ) × Ends whole P s k → TheRun P s
     go (k, E) = record {
+      uncrossed = e;
       count = k;
       ends = E;
       sound = sound-after whole whole-laws P s A S k;

@@ -3,11 +3,12 @@
 --   verdict-word, count-word, denominator-word, lower-part, upper-part, laid-length    its parts
 --   answered : Answered P s    of any state that is ready
 use mathlib.Core.List.{List, _++_, _∷_}
+use mathlib.Core.Logic.{_≢_}
 use mathlib.Core.Option.{Option, none, some}
 use mathlib.Core.Path.{ap, refl, subst, sym, _∙_, _≡_}
 use Prim.Native.Nat.{suc, ℕ, _*_, _+_, _<_}
 use native.Mathlib.Omega.{arith}
-use lib.IntN.{pos, ℤ}
+use lib.IntN.{natAbs, pos, ℤ}
 use lib.ListN.{List·getD-append, length, length-append, replicate, replicate-append-replicate}
 use lib.Seq.{getD-append-add}
 use Rattle.whole.specs.Tables.{table}
@@ -16,13 +17,12 @@ use Rattle.rules.proofs.AnswerIs.{TheRun, answer-crossed, answer-run, e
 use Rattle.rules.proofs.Blame.{Blamed, cannot-blames}
 use Rattle.rules.proofs.Moved.{rowed-after}
 use Rattle.rules.proofs.Moves.{Stepped, is-can, is-cannot, is-goes, is-range, stepped}
-use Rattle.rules.proofs.Small.{Beyond, small-tells}
 use Rattle.rules.proofs.Sound.{Ready, Rowed}
 use Rattle.rules.specs.Answer.{answerFrom, wordsOf}
-use Rattle.rules.specs.Evidence.{lowerPart, upperPart}
+use Rattle.rules.specs.Evidence.{lowerPart, upperPart, verdictOf}
 use Rattle.rules.specs.Problem.{Problem, vars, word}
 use Rattle.rules.specs.Run.{Ended, after, conflict}
-use Rattle.rules.specs.Step.{Leaving, Outcome, State, common, entering, evidence, leaving, moved, same, scaled, step}
+use Rattle.rules.specs.Step.{Outcome, State, common, evidence, leaving, range, same, scaled, step}
 
 unfoldable pub laid : ℤ → ℤ → ℤ → List ℤ → List ℤ → List ℤ
 laid a b c xs ys = a ∷ b ∷ c ∷ (xs ++ ys)
@@ -52,14 +52,6 @@ module _ (a b c : ℤ) (xs ys : List ℤ) where
   unfolding laid
   upper-part N v e = let z : 3 + N + v ≡ suc (suc (suc (length xs + v))) = omega arith in rw z (getD-append-add xs ys v (pos 0))
 
--- the step from t has a leaving and an entering variable, and the tableau that they make is beyond the range
-pub record TooLarge (P : Problem ℤ) (t : State ℤ) : Type 0 where
-  pub out : Leaving
-  pub into : ℕ
-  pub leaves : leaving whole P t ≡ some out
-  pub enters : entering whole P t out ≡ some into
-  pub beyond : Beyond (vars P) (moved whole P t out into .tableau)
-
 pub data Answered (P : Problem ℤ) (s : State ℤ) : Type 0 where
   crossing : (v : ℕ) → conflict whole P ≡ some v →
       answerFrom P s ≡ laid (pos 2) (pos 0) (pos 0) (table (vars P) (same v)) (table (vars P) (same v)) → Answered P s
@@ -68,7 +60,7 @@ pub data Answered (P : Problem ℤ) (s : State ℤ) : Type 0 where
       (replicate (vars P) (pos 0)) → Answered P s
   cannot-at : (R : TheRun P s) (ls us : List ℤ) → Blamed whole P (after whole P s (R .count)) ls us →
       answerFrom P s ≡ laid (pos 2) (pos (R .count)) (pos 0) ls us → Answered P s
-  range-at : (R : TheRun P s) → TooLarge P (after whole P s (R .count)) →
+  range-at : (R : TheRun P s) → step whole P (after whole P s (R .count)) ≡ range →
       answerFrom P s ≡ laid (pos 3) (pos (R .count)) (pos 0) (replicate (vars P) (pos 0)) (replicate (vars P) (pos 0)) → Answered P s
 
 module _ (P : Problem ℤ) (s : State ℤ) where
@@ -85,9 +77,7 @@ module _ (P : Problem ℤ) (s : State ℤ) where
   of-run S R (is-can q e) = can-at R q (R .words ∙ words-at (R .count) _ e)
   of-run S R (is-cannot r q n e) = cannot-at R _ _ (cannot-blames whole P (after whole P s (R .count)) _ _ (rowed-after whole P s S (R .count)) e)
       (R .words ∙ words-at (R .count) _ e)
-  of-run S R (is-range r w q y f e) = range-at R
-      (record { out = r; into = w; leaves = q; enters = y; beyond = small-tells (vars P) (moved whole P (after whole P s (R .count)) r w .tableau) .if-false f })
-      (R .words ∙ words-at (R .count) _ e ∙ ap (λ l. pos 3 ∷ pos (R .count) ∷ pos 0 ∷ l) zeros)
+  of-run S R (is-range r w q y f e) = range-at R e (R .words ∙ words-at (R .count) _ e ∙ ap (λ l. pos 3 ∷ pos (R .count) ∷ pos 0 ∷ l) zeros)
   of-run S R (is-goes r w q y f e) = absurd (subst Ended e (R .ends .ended))
 
   pub answered : Ready whole P s → Answered P s
@@ -97,3 +87,7 @@ module _ (P : Problem ℤ) (s : State ℤ) where
       go : (o : Option ℕ) → conflict whole P ≡ o → Answered P s
       go (some v) e = crossing v e (answer-crossed P s v e)
       go none e = let R = answer-run P s e S in of-run (S .rowed) R (stepped whole P (after whole P s (R .count)))
+
+  -- the answer has one verdict
+  pub other-verdict : {A : Type 0} (j k : ℕ) (b c : ℤ) (xs ys : List ℤ) → j ≢ k → answerFrom P s ≡ laid (pos k) b c xs ys → verdictOf (answerFrom P s) ≡ pos j → A
+  other-verdict j k b c xs ys n z e = absurd (n (ap natAbs (sym e ∙ ap (λ a. word a 0) z ∙ verdict-word (pos k) b c xs ys)))

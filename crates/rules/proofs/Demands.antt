@@ -11,7 +11,7 @@ use mathlib.Core.Option.{none}
 use mathlib.Core.Path.{ap, subst, sym, _∙_, _≡_}
 use Prim.Native.Nat.{ℕ, _+_, _<_, _≤_}
 use native.Mathlib.Omega.{arith}
-use lib.IntN.{natAbs, pos, ℤ}
+use lib.IntN.{pos, ℤ}
 use lib.ListN.{drop, length, length-append, length-drop, replicate}
 use lib.Seq.{getD-append-add, getD-drop}
 use Rattle.whole.proofs.Instances.{whole-laws}
@@ -20,7 +20,7 @@ use Rattle.whole.proofs.Values.{Laws, le-le, lt-irrefl, lt-le-trans, total-same
 use Rattle.whole.specs.Tables.{table}
 use Rattle.whole.specs.Values.{Values, whole}
 use Rattle.rules.proofs.AnswerIs.{Crosses, TheRun, answer-run, crosses-exactly}
-use Rattle.rules.proofs.Answers.{Answered, answered, can-at, cannot-at, crossing, denominator-word, laid, lower-part, range-at, verdict-word}
+use Rattle.rules.proofs.Answers.{Answered, answered, can-at, cannot-at, crossing, denominator-word, lower-part, other-verdict, range-at}
 use Rattle.rules.proofs.Bounded.{below-bound}
 use Rattle.rules.proofs.Ends.{ready-start, start-seated}
 use Rattle.rules.proofs.Fractions.{can-is-met, cannot-is-unmet}
@@ -53,15 +53,11 @@ module _ {X : Type 0} (𝓥 : Values X) (law : Laws 𝓥) (P : Problem X) where
       lt-irrefl law (lt-le-trans law (up-strict law (M .positive) c) (le-le law (rw a at (M .lowers v h)) (rw b at (M .uppers v h))))
 
 module _ (P : Problem ℤ) (s : State ℤ) (S : Ready whole P s) where
-  -- the answer has another verdict
-  other : {A : Type 0} (j k : ℕ) (b c : ℤ) (xs ys : List ℤ) → j ≢ k → answerFrom P s ≡ laid (pos k) b c xs ys → verdictOf (answerFrom P s) ≡ pos j → A
-  other j k b c xs ys n z e = absurd (n (ap natAbs (sym e ∙ ap (λ a. word a 0) z ∙ verdict-word (pos k) b c xs ys)))
-
   pub can-from : verdictOf (answerFrom P s) ≡ pos 1 → Meets whole P (denominatorOf (answerFrom P s)) (lowerPart (answerFrom P s))
   can-from e = go (answered P s S)
     where
       go : Answered P s → Meets whole P (denominatorOf (answerFrom P s)) (lowerPart (answerFrom P s))
-      go (crossing v c z) = other 1 2 _ _ _ _ (omega arith) z e
+      go (crossing v c z) = other-verdict P s 1 2 _ _ _ _ (omega arith) z e
       go (can-at R q z) = rw z (rw (denominator-word (pos 1) (pos (R .count)) d xs zeros) (meets-same whole whole-laws P d (scaled whole P t) _
           (λ v h. sym (lower-part (pos 1) (pos (R .count)) d xs zeros v (rw (table-length (vars P) (scaled whole P t)) h) ∙ table-at (vars P) (scaled whole P t) (pos 0) v h))
           (can-is-met whole whole-laws P t (R .sound) q)))
@@ -77,17 +73,17 @@ module _ (P : Problem ℤ) (s : State ℤ) (S : Ready whole P s) where
 
           zeros : List ℤ
           zeros = replicate (vars P) (pos 0)
-      go (cannot-at R ls us b z) = other 1 2 _ _ _ _ (omega arith) z e
-      go (range-at R b z) = other 1 3 _ _ _ _ (omega arith) z e
+      go (cannot-at R ls us b z) = other-verdict P s 1 2 _ _ _ _ (omega arith) z e
+      go (range-at R b z) = other-verdict P s 1 3 _ _ _ _ (omega arith) z e
 
   pub cannot-from : verdictOf (answerFrom P s) ≡ pos 2 → Unmet whole P
   cannot-from e = go (answered P s S)
     where
       go : Answered P s → Unmet whole P
       go (crossing v c z) = let k = crosses-exactly whole P v .0 c in crossed-unmet whole whole-laws P v (k .0) (k .1)
-      go (can-at R q z) = other 2 1 _ _ _ _ (omega arith) z e
+      go (can-at R q z) = other-verdict P s 2 1 _ _ _ _ (omega arith) z e
       go (cannot-at R ls us b z) = cannot-is-unmet whole whole-laws P (after whole P s (R .count)) (R .sound) (b .out) (b .leaves) (b .none-enters)
-      go (range-at R b z) = other 2 3 _ _ _ _ (omega arith) z e
+      go (range-at R b z) = other-verdict P s 2 3 _ _ _ _ (omega arith) z e
 
 -- ---- the answer to words
 

@@ -29,3 +29,5 @@ pub mod Answers
 pub mod Shape
 pub mod Demands
 pub mod Rule
+pub mod Only
+pub mod Range

@@ -1,5 +1,5 @@
 -- Lowest common form: the divisor divides every number and is greatest, and a tableau is its lowest form times one number.
---   divisor-divides, divisor-greatest, divisor-pos
+--   divisor-divides, divisor-greatest, divisor-times, divisor-pos
 --   factored    `Factored`: each number is the reduced one times `by`, which has the sign of D
 --   reduced-one the divisor of the lowest form is 1
 use mathlib.Core.Bool.{false, true}
@@ -13,7 +13,7 @@ use lib.Dec.{lt→ltb}
 use lib.IntN.{natAbs, negsuc, negℤ, pos, ℤ, _*ℤ_}
 use lib.Signed.{<ℤ-irrefl, <ℤ-≤ℤ-trans, quotZ, _<ℤ_}
 use Rattle.whole.proofs.Division.{exact-down, exact-up}
-use Rattle.whole.proofs.Divisors.{fold-dvd, fold-greatest}
+use Rattle.whole.proofs.Divisors.{by-one, by-one-back, fold-dvd, fold-times}
 use Rattle.whole.proofs.Order.{<ℤ→≤ℤ, Sign, le→false, lt→true, minus, null, plus, sign}
 use Rattle.whole.proofs.Sizes.{abs-*, size-pos}
 use Rattle.whole.proofs.Tables.{matrix-at}
@@ -39,21 +39,25 @@ rows-dvd (suc k) N x a = both (foldBelow k (λ v g. foldBelow N (λ u h. gcd (x 
         at v u h l (yes e) = rw e (fold-dvd N (x k) F .1 u l)
         at v u h l (no n) = dvd-trans _ (fold-dvd N (x k) F .0) (r .1 v u (omega arith) l)
 
-rows-greatest : (k N : ℕ) (x : ℕ → ℕ → ℕ) (a d : ℕ) → d ∣ a → ((v u : ℕ) → v < k → u < N → d ∣ x v u) →
-    d ∣ foldBelow k (λ v g. foldBelow N (λ u h. gcd (x v u) h) g) a
+rows-times : (k N : ℕ) (x : ℕ → ℕ → ℕ) (a d f : ℕ) → d ∣ f * a → ((v u : ℕ) → v < k → u < N → d ∣ f * x v u) →
+    d ∣ f * foldBelow k (λ v g. foldBelow N (λ u h. gcd (x v u) h) g) a
 unfolding foldBelow
-rows-greatest zero N x a d p q = p
-rows-greatest (suc k) N x a d p q =
-    fold-greatest N (x k) _ d (rows-greatest k N x a d p (λ v u h l. q v u (omega arith) l)) (λ u l. q k u (omega arith) l)
+rows-times zero N x a d f p q = p
+rows-times (suc k) N x a d f p q =
+    fold-times N (x k) _ d f (rows-times k N x a d f p (λ v u h l. q v u (omega arith) l)) (λ u l. q k u (omega arith) l)
 
 module _ (N : ℕ) (t : Tableau) where
   pub divisor-divides : (divisorSize N t ∣ natAbs (t .common)) × ((v u : ℕ) → v < N → u < N → divisorSize N t ∣ natAbs (entry t v u))
   unfolding divisorSize
   divisor-divides = rows-dvd N N (λ v u. natAbs (entry t v u)) (natAbs (t .common))
 
-  pub divisor-greatest : (d : ℕ) → d ∣ natAbs (t .common) → ((v u : ℕ) → v < N → u < N → d ∣ natAbs (entry t v u)) → d ∣ divisorSize N t
+  -- what divides f times every number divides f times the divisor
+  pub divisor-times : (d f : ℕ) → d ∣ f * natAbs (t .common) → ((v u : ℕ) → v < N → u < N → d ∣ f * natAbs (entry t v u)) → d ∣ f * divisorSize N t
   unfolding divisorSize
-  divisor-greatest d p q = rows-greatest N N (λ v u. natAbs (entry t v u)) (natAbs (t .common)) d p q
+  divisor-times d f p q = rows-times N N (λ v u. natAbs (entry t v u)) (natAbs (t .common)) d f p q
+
+  pub divisor-greatest : (d : ℕ) → d ∣ natAbs (t .common) → ((v u : ℕ) → v < N → u < N → d ∣ natAbs (entry t v u)) → d ∣ divisorSize N t
+  divisor-greatest d p q = by-one-back d (divisorSize N t) (divisor-times d 1 (by-one d (natAbs (t .common)) p) (λ v u h k. by-one d (natAbs (entry t v u)) (q v u h k)))
 
   pub divisor-pos : t .common ≢ pos 0 → 0 < divisorSize N t
   divisor-pos n = pos-of-dvd-of-pos (divisor-divides .0) (size-pos (t .common) n)

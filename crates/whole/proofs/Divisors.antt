@@ -1,7 +1,8 @@
 -- Greatest common divisors of natural numbers.
 --   gcd-dvd-l, gcd-dvd-r, gcd-greatest, gcd-only    it divides both, is greatest, and is the only such number
 --   gcd-zero, gcd-step, gcd-one                     Euclid's steps, and that 1 stays
---   fold-dvd, fold-greatest                         over the numbers below k and a start
+--   gcd-times                                       what divides f times both divides f times the divisor
+--   fold-dvd, fold-greatest, fold-times             over the numbers below k and a start
 --   fold-pos, fold-most                             above 0, and no more than the start
 --   fold-lowest                                     dividing all by it leaves divisor 1
 --   gcdList-dvd, gcdList-greatest, ..               the same over a list
@@ -10,11 +11,18 @@ use mathlib.Core.List.{List, [], _∷_}
 use Prim.Native.Nat.{ℕ, zero, suc, _+_, _*_, _/_, _%_, _≤_, _<_, _∣_}
 use native.Mathlib.Omega.{arith}
 use native.Mathlib.Decide.{ℕ-discrete}
-use native.Mathlib.Nat.{dvd-refl, dvd-zero, dvd-trans, dvd-mod-iff, dvd-antisymm, dvd-of-mul-dvd-mul-right, dvd-one, dvd-mul-left, mod-lt, mod-one, mod-eq-zero-of-dvd, mul-assoc, div-add-mod', le-of-dvd, pos-of-dvd-of-pos, zero-lt-suc, one-mul}
+use native.Mathlib.Nat.{dvd-refl, dvd-zero, dvd-trans, dvd-mod-iff, dvd-add-iff-right, dvd-antisymm, dvd-mul-left-of-dvd, dvd-of-mul-dvd-mul-right, dvd-one, dvd-mul-left, mod-lt, mod-one, mod-eq-zero-of-dvd, mul-assoc, div-add-mod', le-of-dvd, mul-add, mul-left-comm, pos-of-dvd-of-pos, zero-lt-suc, one-mul}
 use lib.IntN.{ℤ, pos, natAbs}
 use lib.ListN.{length, getD}
 use Rattle.whole.specs.Below.{foldBelow}
 use Rattle.whole.specs.Divisors.{gcd, gcdTurns, gcdList}
+
+-- one times a number
+pub by-one : (d a : ℕ) → d ∣ a → d ∣ 1 * a
+by-one d a h = subst (λ z. d ∣ z) (sym (one-mul a)) h
+
+pub by-one-back : (d a : ℕ) → d ∣ 1 * a → d ∣ a
+by-one-back d a h = subst (λ z. d ∣ z) (one-mul a) h
 
 -- ---- two numbers
 
@@ -27,11 +35,17 @@ turns-dvd (suc k) a (suc b) h =
     let r = turns-dvd k (suc b) (a % suc b) (omega arith) in
     (dvd-mod-iff (gcdTurns k (suc b) (a % suc b)) {m = a} {n = suc b} (r .0) .0 (r .1), r .0)
 
-turns-greatest : (k a b d : ℕ) → d ∣ a → d ∣ b → d ∣ gcdTurns k a b
+-- what divides f times two numbers divides f times the remainder
+rest-times : (a c d f : ℕ) → d ∣ f * a → d ∣ f * c → d ∣ f * (a % c)
+rest-times a c d f p q = dvd-add-iff-right d {m = f * (a / c * c)} {n = f * (a % c)}
+    (subst (λ z. d ∣ z) (mul-left-comm (a / c) f c) (dvd-mul-left-of-dvd d q (a / c))) .1
+    (subst (λ z. d ∣ z) (ap (λ z. f * z) (sym (div-add-mod' a c)) ∙ mul-add f (a / c * c) (a % c)) p)
+
+turns-times : (k a b d f : ℕ) → d ∣ f * a → d ∣ f * b → d ∣ f * gcdTurns k a b
 unfolding gcdTurns
-turns-greatest zero a b d p q = p
-turns-greatest (suc k) a zero d p q = p
-turns-greatest (suc k) a (suc b) d p q = turns-greatest k (suc b) (a % suc b) d q (dvd-mod-iff d {m = a} {n = suc b} q .1 p)
+turns-times zero a b d f p q = p
+turns-times (suc k) a zero d f p q = p
+turns-times (suc k) a (suc b) d f p q = turns-times k (suc b) (a % suc b) d f q (rest-times a (suc b) d f p q)
 
 pub gcd-dvd-l : (a b : ℕ) → gcd a b ∣ a
 unfolding gcd
@@ -41,9 +55,13 @@ pub gcd-dvd-r : (a b : ℕ) → gcd a b ∣ b
 unfolding gcd
 gcd-dvd-r a b = turns-dvd (suc b) a b (omega arith) .1
 
-pub gcd-greatest : (a b d : ℕ) → d ∣ a → d ∣ b → d ∣ gcd a b
+-- what divides f times both divides f times the divisor
+pub gcd-times : (a b d f : ℕ) → d ∣ f * a → d ∣ f * b → d ∣ f * gcd a b
 unfolding gcd
-gcd-greatest a b d p q = turns-greatest (suc b) a b d p q
+gcd-times a b d f p q = turns-times (suc b) a b d f p q
+
+pub gcd-greatest : (a b d : ℕ) → d ∣ a → d ∣ b → d ∣ gcd a b
+gcd-greatest a b d p q = by-one-back d (gcd a b) (gcd-times a b d 1 (by-one d a p) (by-one d b q))
 
 pub gcd-only : (a b g : ℕ) → g ∣ a → g ∣ b → ((d : ℕ) → d ∣ a → d ∣ b → d ∣ g) → g ≡ gcd a b
 gcd-only a b g p q h = dvd-antisymm (gcd-greatest a b g p q) (h (gcd a b) (gcd-dvd-l a b) (gcd-dvd-r a b))
@@ -86,11 +104,14 @@ fold-dvd (suc k) x a = both (foldBelow k (λ u h. gcd (x u) h) a) (fold-dvd k x 
         at u h (yes e) = rw e (gcd-dvd-l (x k) F)
         at u h (no n) = dvd-trans (gcd (x k) F) (gcd-dvd-r (x k) F) (r .1 u (omega arith))
 
-pub fold-greatest : (k : ℕ) (x : ℕ → ℕ) (a d : ℕ) → d ∣ a → ((u : ℕ) → u < k → d ∣ x u) → d ∣ foldBelow k (λ u h. gcd (x u) h) a
+pub fold-times : (k : ℕ) (x : ℕ → ℕ) (a d f : ℕ) → d ∣ f * a → ((u : ℕ) → u < k → d ∣ f * x u) → d ∣ f * foldBelow k (λ u h. gcd (x u) h) a
 unfolding foldBelow
-fold-greatest zero x a d p q = p
-fold-greatest (suc k) x a d p q =
-    gcd-greatest (x k) _ d (q k (omega arith)) (fold-greatest k x a d p (λ u h. q u (omega arith)))
+fold-times zero x a d f p q = p
+fold-times (suc k) x a d f p q =
+    gcd-times (x k) _ d f (q k (omega arith)) (fold-times k x a d f p (λ u h. q u (omega arith)))
+
+pub fold-greatest : (k : ℕ) (x : ℕ → ℕ) (a d : ℕ) → d ∣ a → ((u : ℕ) → u < k → d ∣ x u) → d ∣ foldBelow k (λ u h. gcd (x u) h) a
+fold-greatest k x a d p q = by-one-back d _ (fold-times k x a d 1 (by-one d a p) (λ u h. by-one d (x u) (q u h)))
 
 pub fold-pos : (k : ℕ) (x : ℕ → ℕ) (a : ℕ) → 0 < a → 0 < foldBelow k (λ u h. gcd (x u) h) a
 fold-pos k x a h = pos-of-dvd-of-pos (fold-dvd k x a .0) h

@@ -1,0 +1,90 @@
+-- Out of range, exactly: there are a leaving and an entering variable, and the lowest-form tableau of the next basic set, which is one, holds a
+-- number beyond the largest.
+--   TooLarge         that, of a state
+--   range-exactly    a step is out of range exactly then
+--   range-verdict    the verdict is 3 exactly where no limits cross and, for some k, the run has k pivots and the state after them is so
+use mathlib.Core.Bool.{false}
+use mathlib.Core.Logic.{inl, inr, _↔_}
+use mathlib.Core.Option.{none, some}
+use mathlib.Core.Path.{ap, subst, sym, _∙_, _≡_}
+use Prim.Native.Nat.{ℕ}
+use native.Mathlib.Omega.{arith}
+use lib.Dec.{T}
+use lib.IntN.{pos, ℤ}
+use Rattle.whole.proofs.Tells.{tells-false}
+use Rattle.whole.specs.Numbers.{Within}
+use Rattle.whole.specs.Values.{Values, whole}
+use Rattle.rules.proofs.AnswerIs.{answer-run, ended}
+use Rattle.rules.proofs.Answers.{Answered, answered, can-at, cannot-at, crossing, other-verdict, range-at}
+use Rattle.rules.proofs.Enters.{entered}
+use Rattle.rules.proofs.Leaves.{left}
+use Rattle.rules.proofs.Moved.{rowed-after}
+use Rattle.rules.proofs.Moves.{step-range}
+use Rattle.rules.proofs.Only.{Next, SameNumbers, next-moved, next-only}
+use Rattle.rules.proofs.Small.{Beyond, small-tells}
+use Rattle.rules.proofs.Sound.{Ready, Rowed}
+use Rattle.rules.specs.Answer.{answerFrom, wordsOf}
+use Rattle.rules.specs.Evidence.{verdictOf}
+use Rattle.rules.specs.Problem.{Problem, vars, word}
+use Rattle.rules.specs.Run.{Runs, after, conflict}
+use Rattle.rules.specs.Sizes.{largestNumber}
+use Rattle.rules.specs.Step.{Leaving, Outcome, State, entering, leaving, moved, range, step}
+use Rattle.rules.specs.Tableau.{Tableau, small}
+
+module _ {X : Type 0} (𝓥 : Values X) (P : Problem X) where
+  pub record TooLarge (s : State X) : Type 0 where
+    pub out : Leaving
+    pub into : ℕ
+    pub leaves : leaving 𝓥 P s ≡ some out
+    pub enters : entering 𝓥 P s out ≡ some into
+    pub next : State X
+    pub is-next : Next 𝓥 P s out into next
+    pub beyond : Beyond (vars P) (next .tableau)
+
+  beyond-same : (t u : Tableau) → SameNumbers 𝓥 P t u → Beyond (vars P) t → Beyond (vars P) u
+  beyond-same t u e (inl n) = inl (subst (λ z. ¬ Within z largestNumber) (e .0) n)
+  beyond-same t u e (inr (v, h, (w, k, n))) = inr (v, h, (w, k, subst (λ z. ¬ Within z largestNumber) (e .1 v w h k) n))
+
+  pub range-exactly : (s : State X) → Rowed 𝓥 P s → (step 𝓥 P s ≡ range) ↔ TooLarge s
+  range-exactly s S = (
+    λ e. there (step-range 𝓥 P s .0 e),
+    λ T. step-range 𝓥 P s .1 (
+      T .out,
+      T .into,
+      T .leaves,
+      T .enters,
+      tells-false (small-tells (vars P) (moved 𝓥 P s (T .out) (T .into) .tableau))
+          (beyond-same (T .next .tableau) (moved 𝓥 P s (T .out) (T .into) .tableau) (next-only 𝓥 P s S (T .out) (T .into) (left 𝓥 P s (T .out) (T .leaves)) (entered 𝓥 P s (T .out) (T .into) (T .enters)) (T .next) (T .is-next)) (T .beyond)),
+    ),
+  )
+    where
+      there : (r : Leaving) × (w : ℕ) × (leaving 𝓥 P s ≡ some r) × (entering 𝓥 P s r ≡ some w) × (small (vars P) (moved 𝓥 P s r w .tableau) ≡ false) → TooLarge s
+      there (r, w, q, y, f) = record {
+        out = r;
+        into = w;
+        leaves = q;
+        enters = y;
+        next = moved 𝓥 P s r w;
+        is-next = next-moved 𝓥 P s S r w (left 𝓥 P s r q) (entered 𝓥 P s r w y);
+        beyond = small-tells (vars P) (moved 𝓥 P s r w .tableau) .if-false f;
+      }
+
+module _ (P : Problem ℤ) (s : State ℤ) (S : Ready whole P s) where
+  pub range-verdict : (verdictOf (answerFrom P s) ≡ pos 3) ↔ ((conflict whole P ≡ none) × ((k : ℕ) × Runs whole P s k × TooLarge whole P (after whole P s k)))
+  unfolding wordsOf
+  range-verdict = (λ e. there e (answered P s S), back)
+    where
+      there : verdictOf (answerFrom P s) ≡ pos 3 → Answered P s → (conflict whole P ≡ none) × ((k : ℕ) × Runs whole P s k × TooLarge whole P (after whole P s k))
+      there e (crossing v c z) = other-verdict P s 3 2 _ _ _ _ (omega arith) z e
+      there e (can-at R q z) = other-verdict P s 3 1 _ _ _ _ (omega arith) z e
+      there e (cannot-at R ls us b z) = other-verdict P s 3 2 _ _ _ _ (omega arith) z e
+      there e (range-at R q z) = (R .uncrossed, (R .count, R .ends .runs, range-exactly whole P (after whole P s (R .count)) (R .sound .rowed) .0 q))
+
+      back : (conflict whole P ≡ none) × ((k : ℕ) × Runs whole P s k × TooLarge whole P (after whole P s k)) → verdictOf (answerFrom P s) ≡ pos 3
+      back (c, (k, runs, T)) =
+          let R = answer-run P s c S in
+          let q = range-exactly whole P (after whole P s k) (rowed-after whole P s (S .rowed) k) .1 T in
+          let z = R .only k (record { runs = runs; ended = rw q tt }) in
+          ap (λ a. word a 0) (R .words)
+          ∙ ap (λ (h : Outcome ℤ). word (wordsOf P (record { how = h; pivots = R .count; last = after whole P s (R .count) })) 0)
+          (ap (λ j. step whole P (after whole P s j)) (sym z) ∙ q)
