@@ -31,3 +31,4 @@ pub mod Demands
 pub mod Rule
 pub mod Only
 pub mod Range
+pub mod AllRight

@@ -8,3 +8,4 @@ pub mod Step
 pub mod Run
 pub mod Answer
 pub mod Evidence
+pub mod Cases

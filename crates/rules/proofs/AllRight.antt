@@ -1,0 +1,23 @@
+-- Every worked case and every edge is right, by computation.
+use mathlib.Core.Path.{refl}
+use Rattle.whole.specs.Below.{allBelow, foldBelow, lowest, someBelow}
+use Rattle.whole.specs.Divisors.{gcd, gcdTurns}
+use Rattle.whole.specs.Numbers.{outside, within}
+use Rattle.whole.specs.Sums.{sumBy}
+use Rattle.whole.specs.Tables.{matrix, tableFrom}
+use Rattle.rules.specs.Answer.{answer, answerFrom, wordsOf}
+use Rattle.rules.specs.Cases.{AllRight, cases, comesOut, wanted}
+use Rattle.rules.specs.Evidence.{accepted, atLeast, atMost, checked, column, fair, showsCan, showsCannot, surplus}
+use Rattle.rules.specs.Limit.{badLimitWord, bit, present}
+use Rattle.rules.specs.Problem.{problem}
+use Rattle.rules.specs.Refusal.{badCoefficient, badKind, badLength, badLimit, badSize, first, problemTests, refusal, tooFew, tooShort}
+use Rattle.rules.specs.Run.{bound, choose, conflict, crossed, ending, run}
+use Rattle.rules.specs.Step.{admit, broken, entering, evidence, leaving, limitAt, mayFall, mayRise, moved, over, pull, scaled, seated, start, startEntry, startSeat, startValue, step, suits, under}
+use Rattle.rules.specs.Tableau.{divisor, divisorSize, pivot, reduced, relation, small, solved}
+
+pub all-right : AllRight cases
+unfolding cases comesOut wanted answer answerFrom wordsOf ending conflict crossed run bound choose step leaving broken under over entering suits mayRise mayFall
+    pull moved limitAt admit evidence scaled seated start startEntry startSeat startValue pivot solved reduced relation divisor divisorSize small problem present
+    bit badLimitWord refusal first problemTests tooFew badSize badLength badCoefficient badKind badLimit tooShort checked accepted showsCan showsCannot atLeast
+    atMost fair column surplus lowest someBelow allBelow foldBelow sumBy tableFrom matrix gcd gcdTurns within outside
+all-right = refl
