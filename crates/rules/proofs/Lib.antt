@@ -32,3 +32,4 @@ pub mod Rule
 pub mod Only
 pub mod Range
 pub mod AllRight
+pub mod Entries
