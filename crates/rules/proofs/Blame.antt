@@ -41,7 +41,7 @@ positive-up : (a : ℤ) → pos 0 <ℤ a → positive a ≡ pos (natAbs a)
 positive-up (pos n) h = ap (λ b. cond b (pos n) (pos 0)) (lt→true h)
 positive-up (negsuc n) h = absurd (h .lt)
 
-positive-down : (a : ℤ) → a ≤ℤ pos 0 → positive a ≡ pos 0
+pub positive-down : (a : ℤ) → a ≤ℤ pos 0 → positive a ≡ pos 0
 positive-down a h = ap (λ b. cond b a (pos 0)) (le→false h)
 
 size-pull : (σ : Side) (a : ℤ) → natAbs (pull σ a) ≡ natAbs a

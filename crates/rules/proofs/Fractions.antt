@@ -1,5 +1,6 @@
 -- Demand 2 over states: where no variable leaves the values meet the problem, and where none can enter no fractions do.
 --   can-is-met, cannot-is-unmet
+--   lower-met, upper-met    a limit that may be missing, as a fact of the one that is there; -back
 use mathlib.Core.Option.{Option, none, some}
 use mathlib.Core.Path.{refl, _≡_}
 use Prim.Native.Nat.{ℕ, _<_}
@@ -17,27 +18,27 @@ use Rattle.rules.specs.Step.{Leaving, Side, State, common, entering, lea
 use Rattle.rules.specs.Tableau.{entry}
 
 module _ {X : Type 0} (𝓥 : Values X) where
-  at-least : (o : Option X) (d : ℤ) (x : X) → ((l : X) → o ≡ some l → Le 𝓥 (𝓥 .scale d l) x) → AtLeast 𝓥 o d x
-  at-least none d x f = tt
-  at-least (some l) d x f = f l refl
+  pub lower-met : (o : Option X) (d : ℤ) (x : X) → ((l : X) → o ≡ some l → Le 𝓥 (𝓥 .scale d l) x) → AtLeast 𝓥 o d x
+  lower-met none d x f = tt
+  lower-met (some l) d x f = f l refl
 
-  at-most : (o : Option X) (d : ℤ) (x : X) → ((u : X) → o ≡ some u → Le 𝓥 x (𝓥 .scale d u)) → AtMost 𝓥 o d x
-  at-most none d x f = tt
-  at-most (some u) d x f = f u refl
+  pub upper-met : (o : Option X) (d : ℤ) (x : X) → ((u : X) → o ≡ some u → Le 𝓥 x (𝓥 .scale d u)) → AtMost 𝓥 o d x
+  upper-met none d x f = tt
+  upper-met (some u) d x f = f u refl
 
-  at-least-back : (o : Option X) (d : ℤ) (x : X) → AtLeast 𝓥 o d x → (l : X) → o ≡ some l → Le 𝓥 (𝓥 .scale d l) x
-  at-least-back o d x h l e = rw e at h
+  pub lower-met-back : (o : Option X) (d : ℤ) (x : X) → AtLeast 𝓥 o d x → (l : X) → o ≡ some l → Le 𝓥 (𝓥 .scale d l) x
+  lower-met-back o d x h l e = rw e at h
 
-  at-most-back : (o : Option X) (d : ℤ) (x : X) → AtMost 𝓥 o d x → (u : X) → o ≡ some u → Le 𝓥 x (𝓥 .scale d u)
-  at-most-back o d x h u e = rw e at h
+  pub upper-met-back : (o : Option X) (d : ℤ) (x : X) → AtMost 𝓥 o d x → (u : X) → o ≡ some u → Le 𝓥 x (𝓥 .scale d u)
+  upper-met-back o d x h u e = rw e at h
 
   module _ (law : Laws 𝓥) (P : Problem X) (s : State X) (S : Sound 𝓥 P s) where
     pub can-is-met : leaving 𝓥 P s ≡ none → Meets 𝓥 P (common s) (scaled 𝓥 P s)
     can-is-met e = record {
       positive = S .rowed .positive;
       rows = values-solve 𝓥 law P s (S .rowed);
-      lowers = λ v h. at-least (P .lower v) (common s) (scaled 𝓥 P s v) (λ l k. low v h l k (seat s v) refl);
-      uppers = λ v h. at-most (P .upper v) (common s) (scaled 𝓥 P s v) (λ u k. high v h u k (seat s v) refl);
+      lowers = λ v h. lower-met (P .lower v) (common s) (scaled 𝓥 P s v) (λ l k. low v h l k (seat s v) refl);
+      uppers = λ v h. upper-met (P .upper v) (common s) (scaled 𝓥 P s v) (λ u k. high v h u k (seat s v) refl);
     }
       where
         low : (v : ℕ) → v < vars P → (l : X) → P .lower v ≡ some l → (o : Option X) → seat s v ≡ o → Le 𝓥 (𝓥 .scale (common s) l) (scaled 𝓥 P s v)
@@ -60,8 +61,8 @@ module _ {X : Type 0} (𝓥 : Values X) where
         d = d;
         d-pos = M .positive;
         x = x;
-        low-ok = λ v l h. near-by 𝓥 P σ d v (x v) (at-least-back (P .lower v) d (x v) (M .lowers v h)) (at-most-back (P .upper v) d (x v) (M .uppers v h)) l;
-        high-ok = λ v u h. far-by 𝓥 P σ d v (x v) (at-least-back (P .lower v) d (x v) (M .lowers v h)) (at-most-back (P .upper v) d (x v) (M .uppers v h)) u;
+        low-ok = λ v l h. near-by 𝓥 P σ d v (x v) (lower-met-back (P .lower v) d (x v) (M .lowers v h)) (upper-met-back (P .upper v) d (x v) (M .uppers v h)) l;
+        high-ok = λ v u h. far-by 𝓥 P σ d v (x v) (lower-met-back (P .lower v) d (x v) (M .lowers v h)) (upper-met-back (P .upper v) d (x v) (M .uppers v h)) u;
         dT = common s;
         dT-pos = S .rowed .positive;
         a = λ w. entry (s .tableau) p w;

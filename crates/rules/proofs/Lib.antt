@@ -18,6 +18,7 @@ pub mod Started
 pub mod Bounded
 pub mod Ends
 pub mod Fractions
+pub mod Evidence
 pub mod First
 pub mod Refused
 pub mod Ranges

@@ -1,5 +1,6 @@
 -- The relation of a row, and the pivot that it makes: the solved rows hold of every solution of the rows before.
 --   relation-own, relation-off    minus D at the row's own variable, its entries elsewhere
+--   balanced                      the sum of the relation, of a solution of the rows, is 0
 --   solved-holds                  a row of `solved` holds of x where the rows of the tableau do
 use mathlib.Core.Bool.{Bool, cond, false, true}
 use mathlib.Core.Logic.{_≢_}
@@ -44,7 +45,7 @@ module _ (N : ℕ) (t : Tableau) (r w : ℕ) (r-var : r < N) (w-var : w < N) (x 
       ∙ (rw (relation-own t r, basic r r-var, zero-*ℤ (x r)) (+ℤ-idr (negℤ (t .common) *ℤ x r) ∙ neg-*ℤ (t .common) (x r)))
 
   -- the relation's sum is 0
-  balanced : sum N (λ u. relation t r u *ℤ x u) ≡ pos 0
+  pub balanced : sum N (λ u. relation t r u *ℤ x u) ≡ pos 0
   unfolding extra
   balanced =
       sum-same N (λ u. relation t r u *ℤ x u) (λ u. extra u +ℤ entry t r u *ℤ x u)

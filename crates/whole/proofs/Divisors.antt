@@ -5,17 +5,19 @@
 --   fold-dvd, fold-greatest, fold-times             over the numbers below k and a start
 --   fold-pos, fold-most                             above 0, and no more than the start
 --   fold-lowest                                     dividing all by it leaves divisor 1
---   gcdList-dvd, gcdList-greatest, ..               the same over a list
+--   gcdList-dvd, -greatest, -only, -lowest          the same over a list
 use mathlib.Core.Path.{_≡_, refl, sym, _∙_, ap, subst}
-use mathlib.Core.List.{List, [], _∷_}
+use mathlib.Core.List.{List, [], _∷_, map}
 use Prim.Native.Nat.{ℕ, zero, suc, _+_, _*_, _/_, _%_, _≤_, _<_, _∣_}
 use native.Mathlib.Omega.{arith}
 use native.Mathlib.Decide.{ℕ-discrete}
-use native.Mathlib.Nat.{dvd-refl, dvd-zero, dvd-trans, dvd-mod-iff, dvd-add-iff-right, dvd-antisymm, dvd-mul-left-of-dvd, dvd-of-mul-dvd-mul-right, dvd-one, dvd-mul-left, mod-lt, mod-one, mod-eq-zero-of-dvd, mul-assoc, div-add-mod', le-of-dvd, mul-add, mul-left-comm, pos-of-dvd-of-pos, zero-lt-suc, one-mul}
+use native.Mathlib.Nat.{dvd-refl, dvd-zero, dvd-trans, dvd-mod-iff, dvd-add-iff-right, dvd-antisymm, dvd-mul-left-of-dvd, dvd-of-mul-dvd-mul-right, dvd-one, dvd-mul-left, mod-lt, mod-one, mod-eq-zero-of-dvd, mul-assoc, div-add-mod', le-of-dvd, mul-add, mul-left-comm, pos-of-dvd-of-pos, zero-lt-suc, zero-div, one-mul}
 use lib.IntN.{ℤ, pos, natAbs}
-use lib.ListN.{length, getD}
+use lib.ListN.{length, getD, length-map, List·getD-map}
+use lib.Signed.{quotZ}
 use Rattle.whole.specs.Below.{foldBelow}
 use Rattle.whole.specs.Divisors.{gcd, gcdTurns, gcdList}
+use Rattle.whole.proofs.Division.{size-quot}
 
 -- one times a number
 pub by-one : (d a : ℕ) → d ∣ a → d ∣ 1 * a
@@ -168,3 +170,33 @@ unfolding gcdList
 gcdList-greatest d [] e p q = p
 gcdList-greatest d (z ∷ l) e p q =
     gcdList-greatest (gcd (natAbs z) d) l e (gcd-greatest (natAbs z) d e (q 0 (omega arith)) p) (λ k h. q (suc k) (omega arith))
+
+pub gcdList-only : (d : ℕ) (l : List ℤ) (g : ℕ) → g ∣ d → ((k : ℕ) → k < length l → g ∣ natAbs (getD l k (pos 0))) →
+    ((e : ℕ) → e ∣ d → ((k : ℕ) → k < length l → e ∣ natAbs (getD l k (pos 0))) → e ∣ g) → g ≡ gcdList d l
+gcdList-only d l g p q h = dvd-antisymm (gcdList-greatest d l g p q) (h (gcdList d l) (gcdList-start d l) (gcdList-dvd d l))
+
+-- dividing all of the list by the divisor leaves divisor 1
+pub gcdList-lowest : (d : ℕ) (l : List ℤ) (g : ℕ) → 0 < d → g ≡ gcdList d l →
+    gcdList (d / g) (map (λ z. quotZ z (pos g)) l) ≡ 1
+gcdList-lowest d l g h e =
+    dvd-one .0 (dvd-of-mul-dvd-mul-right D {n = 1} g-pos (subst (λ z. D * g ∣ z) (sym (one-mul g)) D-g))
+  where
+    quotients : List ℤ
+    quotients = map (λ z. quotZ z (pos g)) l
+
+    D : ℕ
+    D = gcdList (d / g) quotients
+
+    g-pos : 0 < g
+    g-pos = rw e (pos-of-dvd-of-pos (gcdList-start d l) h)
+
+    each : (k : ℕ) → k < length l → D ∣ natAbs (getD l k (pos 0)) / g
+    each k q = subst (λ z. D ∣ z)
+        (ap (λ z. natAbs (getD quotients k z)) (sym (ap pos (zero-div g)))
+        ∙ ap natAbs (List·getD-map (λ z. quotZ z (pos g)) l k (pos 0)) ∙ size-quot (getD l k (pos 0)) (pos g))
+        (gcdList-dvd (d / g) quotients k (rw (length-map l (λ z. quotZ z (pos g))) q))
+
+    D-g : D * g ∣ g
+    D-g = subst (λ z. D * g ∣ z) (sym e) (gcdList-greatest d l (D * g)
+        (lifted D g d (rw e (gcdList-start d l)) (gcdList-start (d / g) quotients))
+        (λ k q. lifted D g (natAbs (getD l k (pos 0))) (rw e (gcdList-dvd d l k q)) (each k q)))

@@ -3,26 +3,29 @@
 --   sum-same, sum-plus, sum-times  equal terms; sum of sums; a factor
 --   sum-swap, sum-zero, sum-one    two sums swapped; all terms 0; all but one
 --   sum-split                      one index taken out
---   sum-front                      the terms from n on are 0
+--   sum-front, sum-parts           the terms from n on are 0; the first n terms, and the others
 --   sum-nonneg, sum-zero-each      terms not below 0; .. whose sum is 0 are all 0
 --   sum-mono                       terms in order
+--   sum-within, sum-within-most    k terms each within b: the sum is within k times b, and within n times b for k up to n
 --   dot-sum, reduce-row            of lists; a row divided by a common factor
 use mathlib.Core.Path.{_≡_, refl, sym, _∙_, ap, ap₂, subst}
 use mathlib.Core.Logic.{_≢_}
 use mathlib.Core.Bool.{Bool, true, false}
 use mathlib.Core.List.{List, [], _∷_}
-use Prim.Native.Nat.{ℕ, zero, suc, _+_, _≤_, _<_}
+use Prim.Native.Nat.{ℕ, zero, suc, _+_, _*_, _≤_, _<_}
 use native.Mathlib.Omega.{arith}
-use native.Mathlib.Nat.{le-refl, suc-inj, add-zero, add-suc}
+use native.Mathlib.Nat.{le-refl, mul-le-mul, suc-inj, add-zero, add-suc}
 use lib.Dec.{T, eqb, eqb→eq, eqb-refl}
 use lib.ListN.{length, getD}
 use lib.Signed.{_≤ℤ_, _<ℤ_, ≤ℤ-refl}
-use lib.IntN.{ℤ, pos, _+ℤ_, _-ℤ_, _*ℤ_, +ℤ-idr, *ℤ-comm}
+use lib.IntN.{ℤ, pos, _+ℤ_, _-ℤ_, _*ℤ_, +ℤ-idr, +ℤ-assoc, *ℤ-comm}
+use Rattle.whole.specs.Numbers.{Within}
 use Rattle.whole.specs.Sums.{sum, sumBy, dot}
 use Rattle.whole.proofs.Reify.{reify}
 use Rattle.whole.proofs.Nonneg.{NN, _⊞_, nn-nat, slk}
 use Rattle.whole.proofs.Tools.{ring-at, le-at, eq-by, of-≡, _⊠₀_}
 use Rattle.whole.proofs.Order.{≤ℤ-antisym, ≤ℤ-+, *ℤ-cancel}
+use Rattle.whole.proofs.Sizes.{within-+, within-le}
 use Rattle.whole.proofs.Values.{total-same, total-plus, scale-total, total-swap, total-zero, total-one}
 use Rattle.whole.proofs.Instances.{whole-laws}
 
@@ -59,6 +62,13 @@ unfolding sumBy
 sum-front n zero f h = ap (λ k. sum k f) (add-zero n)
 sum-front n (suc m) f h =
     ap (λ k. sum k f) (add-suc n m) ∙ (rw (h (n + m) (omega arith)) (+ℤ-idr (sum (n + m) f) ∙ sum-front n m f h))
+
+-- the first n terms, and the others
+pub sum-parts : (n m : ℕ) (f : ℕ → ℤ) → sum (n + m) f ≡ sum n f +ℤ sum m (λ i. f (n + i))
+unfolding sumBy
+sum-parts n zero f = ap (λ k. sum k f) (add-zero n) ∙ sym (+ℤ-idr (sum n f))
+sum-parts n (suc m) f =
+    ap (λ k. sum k f) (add-suc n m) ∙ ap (λ z. z +ℤ f (n + m)) (sum-parts n m f) ∙ +ℤ-assoc (sum n f) (sum m (λ i. f (n + i))) (f (n + m))
 
 -- the terms but the one at j
 abbrev pub drop-if : Bool → ℤ → ℤ
@@ -155,6 +165,18 @@ pub sum-mono : (n : ℕ) {f g : ℕ → ℤ} → ((k : ℕ) → k < n → f k �
 unfolding sumBy
 sum-mono zero h = ≤ℤ-refl (pos 0)
 sum-mono (suc n) h = ≤ℤ-+ (sum-mono n (λ k l. h k (omega arith))) (h n (le-refl (suc n)))
+
+-- ---- sizes
+
+pub sum-within : (k : ℕ) {f : ℕ → ℤ} {b : ℕ} → ((i : ℕ) → i < k → Within (f i) b) → Within (sum k f) (k * b)
+unfolding sumBy
+sum-within zero h = record { within = omega arith }
+sum-within (suc k) {f} {b} h =
+    within-le (within-+ (sum-within k (λ i l. h i (omega arith))) (h k (omega arith))) (omega arith)
+
+-- every partial sum of n terms
+pub sum-within-most : (k n : ℕ) {f : ℕ → ℤ} {b : ℕ} → k ≤ n → ((i : ℕ) → i < k → Within (f i) b) → Within (sum k f) (n * b)
+sum-within-most k n {b = b} l h = within-le (sum-within k h) (mul-le-mul l (le-refl b))
 
 -- ---- lists
 

@@ -3,14 +3,16 @@
 --   table-length             how many there are
 --   table-same, table-split  equal functions; a table in two parts
 --   table-last               the last element taken off
+--   filled-in, filled-out    what a filled array holds, and past what was filled; filled-length
 use mathlib.Core.Path.{_≡_, refl, sym, _∙_, ap, ap₂}
 use mathlib.Core.List.{List, [], _∷_, _++_}
-use Prim.Native.Nat.{ℕ, zero, suc, _+_, _<_}
+use Prim.Native.Nat.{ℕ, zero, suc, _+_, _-_, _≤_, _<_}
 use native.Mathlib.Omega.{arith}
 use native.Mathlib.Nat.{add-zero}
 use lib.IntN.{ℤ, pos}
-use lib.ListN.{length, getD}
-use Rattle.whole.specs.Tables.{table, tableFrom, matrix}
+use lib.ListN.{length, drop, getD, replicate, length-append, length-drop, length-replicate, List·getD-append}
+use lib.Seq.{getD-append-add, getD-drop}
+use Rattle.whole.specs.Tables.{table, tableFrom, matrix, filled}
 
 pub tableFrom-at : {A : Type 0} (a k : ℕ) (f : ℕ → A) (d : A) (i : ℕ) → i < k → getD (tableFrom a k f) i d ≡ f (a + i)
 unfolding tableFrom
@@ -58,3 +60,30 @@ table-split i j f = tableFrom-split 0 i j f ∙ ap (λ b. table i f ++ tableFrom
 pub table-last : {A : Type 0} (k : ℕ) (f : ℕ → A) → table (suc k) f ≡ table k f ++ (f k ∷ [])
 unfolding tableFrom
 table-last k f = ap (λ n. table n f) (let z : suc k ≡ k + 1 = omega arith in z) ∙ table-split k 1 f
+
+-- ---- arrays of a fixed size
+
+pub replicate-at : {A : Type 0} (n : ℕ) (a : A) (i : ℕ) → getD (replicate n a) i a ≡ a
+replicate-at zero a zero = refl
+replicate-at zero a (suc i) = refl
+replicate-at (suc n) a zero = refl
+replicate-at (suc n) a (suc i) = replicate-at n a i
+
+module _ {A : Type 0} (size : ℕ) (rest : A) (e : ℕ) (f : ℕ → A) where
+  pub filled-in : (k : ℕ) → k < e → getD (filled size rest e f) k rest ≡ f k
+  unfolding filled
+  filled-in k h =
+      List·getD-append (table e f) (drop e (replicate size rest)) rest k (rw (table-length e f) h) ∙ table-at e f rest k h
+
+  pub filled-out : (k : ℕ) → e ≤ k → getD (filled size rest e f) k rest ≡ rest
+  unfolding filled
+  filled-out k h = ap (λ i. getD (table e f ++ drop e (replicate size rest)) i rest) split
+      ∙ getD-append-add (table e f) (drop e (replicate size rest)) (k - e) rest
+      ∙ getD-drop e (replicate size rest) (k - e) rest ∙ replicate-at size rest (e + (k - e))
+    where
+      split : k ≡ length (table e f) + (k - e)
+      split = rw (table-length e f) (omega arith)
+
+  pub filled-length : e ≤ size → length (filled size rest e f) ≡ size
+  unfolding filled
+  filled-length h = simp (length-append, length-drop, table-length, length-replicate) (omega arith)

@@ -1,0 +1,133 @@
+-- Whatever a run answers with verdict 1 or 2 is accepted, with any words after it.
+--   Decided            the verdict is 1 or 2
+--   step-judged        the words of a step's outcome, from any sound state that is kept
+--   answer-judged      the answer of a check from any state that is ready and kept
+--   answer-accepted    of accepted words: the checker's number is 8
+--   answer-not-range   the same of any verdict but out of range
+--   written-accepted   what the solver leaves in an output, handed to the checker as it is, gives 8
+use mathlib.Core.List.{List, _++_}
+use mathlib.Core.Logic.{inl, inr, _≢_, _⊎_}
+use mathlib.Core.Option.{Option, none, some}
+use mathlib.Core.Path.{refl, subst, sym, _∙_, _≡_}
+use Prim.Native.Nat.{ℕ, _*_, _+_, _<_, _≤_}
+use native.Mathlib.Omega.{arith}
+use lib.Dec.{T}
+use lib.IntN.{pos, ℤ}
+use lib.ListN.{List·getD-append, drop, length}
+use Rattle.whole.proofs.Instances.{whole-laws}
+use Rattle.whole.specs.Numbers.{Within}
+use Rattle.whole.specs.Values.{whole}
+use Rattle.rules.proofs.AnswerIs.{answer-crossed, answer-run, crosses-exactly}
+use Rattle.rules.proofs.Answers.{laid}
+use Rattle.rules.proofs.Ends.{ready-start}
+use Rattle.rules.proofs.Evidence.Can.{can-shown}
+use Rattle.rules.proofs.Evidence.Cannot.{cannot-shown}
+use Rattle.rules.proofs.Evidence.Checked.{checked-accepted}
+use Rattle.rules.proofs.Evidence.Crossed.{crossed-shown}
+use Rattle.rules.proofs.Evidence.Seats.{values-after, values-start}
+use Rattle.rules.proofs.Evidence.Words.{Judged, can-words, cannot-words}
+use Rattle.rules.proofs.Kept.{kept-after, kept-begin}
+use Rattle.rules.proofs.Leaves.{left}
+use Rattle.rules.proofs.Moves.{Stepped, is-can, is-cannot, is-goes, is-range, stepped}
+use Rattle.rules.proofs.Ranges.{lower-within, n-few, upper-within}
+use Rattle.rules.proofs.Refused.{accepted-exactly, answered-exactly}
+use Rattle.rules.proofs.Shape.{Shape, answer-shaped, shape-can, shape-cannot, shape-range}
+use Rattle.rules.proofs.Sound.{Kept, Ready, Sound}
+use Rattle.rules.specs.Answer.{answer, answerFrom, wordsOf, written}
+use Rattle.rules.specs.Evidence.{checked, verdictOf}
+use Rattle.rules.specs.Problem.{Problem, answerLength, problem, vars, varsOf}
+use Rattle.rules.specs.Refusal.{Accepted, problemRefusal, refusal}
+use Rattle.rules.specs.Run.{after, conflict}
+use Rattle.rules.specs.Sizes.{largestLimit, mostColumns, mostRows}
+use Rattle.rules.specs.Step.{Outcome, State, common, evidence, same, scaled, seat, start, step}
+
+abbrev pub Decided : List ℤ → Type 0
+Decided a = (verdictOf a ≡ pos 1) ⊎ (verdictOf a ≡ pos 2)
+
+undecided : {A : Type 0} (v : ℕ) → v ≢ 1 → v ≢ 2 → (pos v ≡ pos 1) ⊎ (pos v ≡ pos 2) → A
+undecided v n m (inl d) = let z : v ≡ 1 = cc in absurd (n z)
+undecided v n m (inr d) = let z : v ≡ 2 = cc in absurd (m z)
+
+-- ---- one step
+
+module _ (P : Problem ℤ) (s : State ℤ) (rest : List ℤ) (S : Sound whole P s) (K : Kept whole P s)
+    (few : P .n ≤ mostColumns)
+    (values : (v : ℕ) (x : ℤ) → seat s v ≡ some x → Within x largestLimit) where
+  -- what an outcome at s answers, where it decides
+  abbrev Right : ℕ → Outcome ℤ → Type 0
+  Right k o = let a : List ℤ = wordsOf P (record { how = o; pivots = k; last = s }) in Decided a → Judged P (a ++ rest)
+
+  pub step-judged : (k : ℕ) → Right k (step whole P s)
+  unfolding wordsOf evidence laid
+  step-judged k = go (stepped whole P s)
+    where
+      by-step : (o : Outcome ℤ) → step whole P s ≡ o → Right k o → Right k (step whole P s)
+      by-step o e r = subst (Right k) (sym e) r
+
+      go : Stepped whole P s → Right k (step whole P s)
+      go (is-can q e) = by-step _ e (λ d. can-words P (pos k) rest (common s) (scaled whole P s)
+          (can-shown P s S K few values q))
+      go (is-cannot r q n e) =
+          by-step _ e (λ d. cannot-words P (pos k) rest _ _ (cannot-shown P s (S .rowed) K r (left whole P s r q) n))
+      go (is-range r w q n f e) =
+          by-step _ e (undecided 3 (λ e. let z : ⊥ = omega arith in z) (λ e. let z : ⊥ = omega arith in z))
+      go (is-goes r w q n f e) =
+          by-step _ e (undecided 0 (λ e. let z : ⊥ = omega arith in z) (λ e. let z : ⊥ = omega arith in z))
+
+-- ---- the answer, from any state that is ready and kept
+
+module _ (P : Problem ℤ) (s : State ℤ) (rest : List ℤ) (few : P .n ≤ mostColumns)
+    (low : (v : ℕ) (l : ℤ) → v < vars P → P .lower v ≡ some l → Within l largestLimit)
+    (high : (v : ℕ) (u : ℤ) → v < vars P → P .upper v ≡ some u → Within u largestLimit)
+    (values : (v : ℕ) (x : ℤ) → seat s v ≡ some x → Within x largestLimit) (R : Ready whole P s) (K : Kept whole P s)
+  where
+    pub answer-judged : Decided (answerFrom P s) → Judged P (answerFrom P s ++ rest)
+    unfolding laid
+    answer-judged = go (conflict whole P) refl
+      where
+        go : (o : Option ℕ) → conflict whole P ≡ o → Decided (answerFrom P s) → Judged P (answerFrom P s ++ rest)
+        go none e = let T = answer-run P s e R in
+            rw (T .words) (step-judged P (after whole P s (T .count)) rest (T .sound)
+            (kept-after whole P s (R .rowed) K (T .count)) few
+            (values-after whole P (λ x. Within x largestLimit) low high s (R .rowed) values (T .count)) (T .count))
+        go (some v) e = let c = crosses-exactly whole P v .0 e in
+            rw (answer-crossed P s v e) (λ d. cannot-words P (pos 0) rest (same v) (same v)
+            (crossed-shown P v (c .0) (c .1)))
+
+-- ---- accepted words
+
+module _ (ws rest : List ℤ) (A : Accepted mostRows ws) where
+  -- whatever is answered with verdict 1 or 2 gets 8
+  pub answer-accepted : Decided (answer ws) → checked ws (answer ws ++ rest) ≡ 8
+  unfolding answer problemRefusal problem
+  answer-accepted d = checked-accepted ws (answer ws ++ rest) .1
+      (accepted-exactly mostRows ws .1 A, J .enough, J .judged)
+    where
+      P : Problem ℤ
+      P = problem ws
+
+      J : Judged P (answer ws ++ rest)
+      J = answer-judged P (start whole P) rest (n-few A) (lower-within A) (upper-within A)
+          (values-start whole P (λ x. Within x largestLimit) (lower-within A) (upper-within A)
+          (record { within = omega arith }))
+          (ready-start whole whole-laws P) (kept-begin A) d
+
+  -- .. that is, with any verdict but out of range
+  pub answer-not-range : verdictOf (answer ws) ≢ pos 3 → checked ws (answer ws ++ rest) ≡ 8
+  answer-not-range n = go (answer-shaped ws .shape)
+    where
+      go : Shape (varsOf ws) (answer ws) → checked ws (answer ws ++ rest) ≡ 8
+      go (shape-can v d z) = answer-accepted (inl v)
+      go (shape-cannot v d) = answer-accepted (inr v)
+      go (shape-range v d z) = absurd (n v)
+
+-- what the solver leaves in an output with room enough: any verdict but out of range gets 8
+pub written-accepted : (ws before : List ℤ) → refusal ws (length before) ≡ 0 → verdictOf (written 0 ws before) ≢ pos 3 →
+    checked ws (written 0 ws before) ≡ 8
+unfolding written
+written-accepted ws before e n = answer-not-range ws (drop (answerLength ws) before)
+    (answered-exactly ws (length before) .0 e .0)
+    (λ q. n (List·getD-append (answer ws) (drop (answerLength ws) before) (pos 0) 0 some-word ∙ q))
+  where
+    some-word : 0 < length (answer ws)
+    some-word = let m : length (answer ws) ≡ 3 + 2 * varsOf ws = answer-shaped ws .many in omega arith

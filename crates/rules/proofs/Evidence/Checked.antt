@@ -1,0 +1,217 @@
+-- The checker's number, exactly: 1 to 6 by the problem, 7 for an answer too short, 8 accepted, 9 not; nothing else.
+--   Checks, checks, checks-only    each number with the facts that it stands for; `checked` is it, and no other is
+--   checkerTable, checked-exactly  line by line: k where no earlier line's meaning holds and line k's does
+--   checked-refused, -short, -accepted, -not    each number exactly when its facts hold
+--   checked-same                   word 1 and the words past 3 + 2N never matter
+--   check-only                     what is allowed to come out is one number
+use mathlib.Core.Bool.{Bool, cond, false, true}
+use mathlib.Core.List.{List, [], _++_, _∷_}
+use mathlib.Core.Logic.{inl, inr, _↔_, _≢_}
+use mathlib.Core.Path.{refl, sym, _∙_, _≡_}
+use Prim.Native.Nat.{suc, zero, ℕ, _*_, _+_, _<_, _≤_}
+use native.Mathlib.Omega.{arith}
+use lib.IntN.{ℤ}
+use lib.ListN.{length}
+use Rattle.whole.proofs.Bools.{true-false}
+use Rattle.whole.proofs.Tells.{Tells}
+use Rattle.rules.proofs.Evidence.Same.{multipliers-same, numerators-same}
+use Rattle.rules.proofs.Evidence.Shows.{Shown, shown-tells}
+use Rattle.rules.proofs.First.{First, Test, first-exactly, line}
+use Rattle.rules.proofs.Refused.{problemTable, room-tells}
+use Rattle.rules.specs.Evidence.{accepted, checked, denominatorOf, lowerPart, upperPart, verdictOf}
+use Rattle.rules.specs.Problem.{Problem, answerLength, problem, vars, word}
+use Rattle.rules.specs.Refusal.{first, problemRefusal, problemTests, tooShort}
+use Rattle.rules.specs.Sizes.{mostRows}
+
+-- ---- the first test that applies, of a list in two parts
+
+first-kept : (ts us : List (Bool × ℕ)) (k : ℕ) → first ts ≡ suc k → first (ts ++ us) ≡ suc k
+unfolding first
+first-kept [] us k e = let z : ⊥ = omega arith in absurd z
+first-kept ((true, j) ∷ ts) us k e = e
+first-kept ((false, j) ∷ ts) us k e = first-kept ts us k e
+
+-- every number is from 1 to n
+abbrev Upto : ℕ → List (Bool × ℕ) → Type 0
+Upto n [] = Unit {0}
+Upto n (t ∷ ts) = (0 < t .1) × (t .1 ≤ n) × Upto n ts
+
+first-passed : (n : ℕ) (ts us : List (Bool × ℕ)) → Upto n ts → first ts ≡ 0 → first (ts ++ us) ≡ first us
+unfolding first
+first-passed n [] us h e = refl
+first-passed n ((true, j) ∷ ts) us (l, m, h) e = let z : ⊥ = omega arith in absurd z
+first-passed n ((false, j) ∷ ts) us (l, m, h) e = first-passed n ts us h e
+
+first-most : (n : ℕ) (ts : List (Bool × ℕ)) → Upto n ts → first ts ≤ n
+unfolding first
+first-most n [] h = omega arith
+first-most n ((true, j) ∷ ts) (l, m, h) = m
+first-most n ((false, j) ∷ ts) (l, m, h) = first-most n ts h
+
+first-three : (b c : Bool) → first ((b, 7) ∷ (c, 8) ∷ (true, 9) ∷ []) ≡ cond b 7 (cond c 8 9)
+unfolding first
+first-three true c = refl
+first-three false true = refl
+first-three false false = refl
+
+numbered : (ws : List ℤ) → Upto 6 (problemTests mostRows ws)
+unfolding problemTests
+numbered ws = omega arith
+
+-- ---- the table: refusals 1 to 6, an answer too short, evidence, and nothing else
+
+abbrev pub checkerTable : List ℤ → List ℤ → List Test
+checkerTable ws a = problemTable mostRows ws
+    ++ (line 7 (room-tells ws (length a)) ∷ line 8 (shown-tells (problem ws) a) ∷ line 9 always ∷ [])
+  where
+    always : Tells true (Unit {0}) ⊥
+    always = record { if-true = λ e. tt; if-false = λ e. true-false refl e; not-both = λ y n. n }
+
+pub checked-exactly : (ws a : List ℤ) (k : ℕ) → (checked ws a ≡ k) ↔ First (checkerTable ws a) k
+unfolding checked problemTests
+checked-exactly ws a k = first-exactly (checkerTable ws a) k
+
+-- ---- each number, with its facts
+
+pub data Checks (ws a : List ℤ) : ℕ → Type 0 where
+  refused : (k : ℕ) → k < 6 → problemRefusal ws ≡ suc k → Checks ws a (suc k)
+  short : problemRefusal ws ≡ 0 → length a < answerLength ws → Checks ws a 7
+  right : problemRefusal ws ≡ 0 → answerLength ws ≤ length a → Shown (problem ws) a → Checks ws a 8
+  wrong : problemRefusal ws ≡ 0 → answerLength ws ≤ length a → ¬ Shown (problem ws) a → Checks ws a 9
+
+module _ (ws a : List ℤ) where
+  by-problem : (k : ℕ) → problemRefusal ws ≡ suc k → checked ws a ≡ suc k
+  unfolding checked problemRefusal
+  by-problem k e =
+      first-kept (problemTests mostRows ws)
+      ((tooShort ws (length a), 7) ∷ (accepted (problem ws) a, 8) ∷ (true, 9) ∷ []) k e
+
+  by-answer : problemRefusal ws ≡ 0 →
+      checked ws a ≡ cond (tooShort ws (length a)) 7 (cond (accepted (problem ws) a) 8 9)
+  unfolding checked problemRefusal
+  by-answer e =
+      first-passed 6 (problemTests mostRows ws)
+      ((tooShort ws (length a), 7) ∷ (accepted (problem ws) a, 8) ∷ (true, 9) ∷ []) (numbered ws) e
+      ∙ first-three (tooShort ws (length a)) (accepted (problem ws) a)
+
+  most-six : problemRefusal ws ≤ 6
+  unfolding problemRefusal
+  most-six = first-most 6 (problemTests mostRows ws) (numbered ws)
+
+  pub checks : Checks ws a (checked ws a)
+  checks = go (problemRefusal ws) refl
+    where
+      judged : problemRefusal ws ≡ 0 → (b c : Bool) → tooShort ws (length a) ≡ b → accepted (problem ws) a ≡ c →
+          Checks ws a (cond b 7 (cond c 8 9))
+      judged e true c p q = short e (room-tells ws (length a) .if-true p)
+      judged e false true p q = right e (room-tells ws (length a) .if-false p) (shown-tells (problem ws) a .if-true q)
+      judged e false false p q = wrong e (room-tells ws (length a) .if-false p) (shown-tells (problem ws) a .if-false q)
+
+      go : (r : ℕ) → problemRefusal ws ≡ r → Checks ws a (checked ws a)
+      go zero e = rw (by-answer e) (judged e (tooShort ws (length a)) (accepted (problem ws) a) refl refl)
+      go (suc k) e = rw (by-problem k e) (refused k (omega (arith, most-six)) e)
+
+  -- two numbers with their facts are the same number
+  one-number : {r t : ℕ} → Checks ws a r → Checks ws a t → r ≡ t
+  one-number (refused k h e) (refused j l f) = omega arith
+  one-number (refused k h e) (short f m) = omega arith
+  one-number (refused k h e) (right f m s) = omega arith
+  one-number (refused k h e) (wrong f m s) = omega arith
+  one-number (short e l) (refused j h f) = omega arith
+  one-number (short e l) (short f m) = refl
+  one-number (short e l) (right f m s) = omega arith
+  one-number (short e l) (wrong f m s) = omega arith
+  one-number (right e l s) (refused j h f) = omega arith
+  one-number (right e l s) (short f m) = omega arith
+  one-number (right e l s) (right f m t) = refl
+  one-number (right e l s) (wrong f m t) = absurd (t s)
+  one-number (wrong e l s) (refused j h f) = omega arith
+  one-number (wrong e l s) (short f m) = omega arith
+  one-number (wrong e l s) (right f m t) = absurd (s t)
+  one-number (wrong e l s) (wrong f m t) = refl
+
+  pub checks-only : (r : ℕ) → Checks ws a r → checked ws a ≡ r
+  checks-only r c = one-number checks c
+
+  -- ---- each number exactly
+
+  pub checked-refused : (k : ℕ) → k < 6 → (checked ws a ≡ suc k) ↔ (problemRefusal ws ≡ suc k)
+  checked-refused k h = (λ e. out checks e, λ e. checks-only (suc k) (refused k h e))
+    where
+      out : {r : ℕ} → Checks ws a r → r ≡ suc k → problemRefusal ws ≡ suc k
+      out (refused j l f) e = f ∙ e
+      out (short f l) e = let z : ⊥ = omega arith in absurd z
+      out (right f l s) e = let z : ⊥ = omega arith in absurd z
+      out (wrong f l s) e = let z : ⊥ = omega arith in absurd z
+
+  pub checked-short : (checked ws a ≡ 7) ↔ ((problemRefusal ws ≡ 0) × (length a < answerLength ws))
+  checked-short = (λ e. out checks e, λ h. checks-only 7 (short (h .0) (h .1)))
+    where
+      out : {r : ℕ} → Checks ws a r → r ≡ 7 → (problemRefusal ws ≡ 0) × (length a < answerLength ws)
+      out (refused j l f) e = let z : ⊥ = omega arith in absurd z
+      out (short f l) e = (f, l)
+      out (right f l s) e = let z : ⊥ = omega arith in absurd z
+      out (wrong f l s) e = let z : ⊥ = omega arith in absurd z
+
+  pub checked-accepted : (checked ws a ≡ 8)
+      ↔ ((problemRefusal ws ≡ 0) × (answerLength ws ≤ length a) × Shown (problem ws) a)
+  checked-accepted = (λ e. out checks e, λ h. checks-only 8 (right (h .0) (h .1) (h .2)))
+    where
+      out : {r : ℕ} → Checks ws a r → r ≡ 8 → (problemRefusal ws ≡ 0) × (answerLength ws ≤ length a)
+          × Shown (problem ws) a
+      out (refused j l f) e = let z : ⊥ = omega arith in absurd z
+      out (short f l) e = let z : ⊥ = omega arith in absurd z
+      out (right f l s) e = (f, l, s)
+      out (wrong f l s) e = let z : ⊥ = omega arith in absurd z
+
+  pub checked-not : (checked ws a ≡ 9)
+      ↔ ((problemRefusal ws ≡ 0) × (answerLength ws ≤ length a) × (¬ Shown (problem ws) a))
+  checked-not = (λ e. out checks e, λ h. checks-only 9 (wrong (h .0) (h .1) (h .2)))
+    where
+      out : {r : ℕ} → Checks ws a r → r ≡ 9 → (problemRefusal ws ≡ 0) × (answerLength ws ≤ length a)
+          × (¬ Shown (problem ws) a)
+      out (refused j l f) e = let z : ⊥ = omega arith in absurd z
+      out (short f l) e = let z : ⊥ = omega arith in absurd z
+      out (right f l s) e = let z : ⊥ = omega arith in absurd z
+      out (wrong f l s) e = (f, l, s)
+
+  -- what may come out is one number
+  pub check-only : (r t : ℕ) → r ≡ checked ws a → t ≡ checked ws a → r ≡ t
+  check-only r t e f = e ∙ sym f
+
+-- ---- words that never matter
+
+shown-same : (P : Problem ℤ) (a b : List ℤ) → ((i : ℕ) → i < 3 + 2 * vars P → i ≢ 1 → word a i ≡ word b i) →
+    Shown P a → Shown P b
+shown-same P a b same = go
+  where
+    at : (i : ℕ) → i < 3 + 2 * vars P → 2 ≤ i → word a i ≡ word b i
+    at i h k = same i h (λ e. let z : ⊥ = omega arith in z)
+
+    verdict : verdictOf b ≡ verdictOf a
+    verdict = sym (same 0 (omega arith) (λ e. let z : ⊥ = omega arith in z))
+
+    denominator : denominatorOf a ≡ denominatorOf b
+    denominator = at 2 (omega arith) (omega arith)
+
+    lowers : (v : ℕ) → v < vars P → lowerPart a v ≡ lowerPart b v
+    lowers v h = at (3 + v) (omega arith) (omega arith)
+
+    uppers : (v : ℕ) → v < vars P → upperPart (vars P) a v ≡ upperPart (vars P) b v
+    uppers v h = at (3 + vars P + v) (omega arith) (omega arith)
+
+    go : Shown P a → Shown P b
+    go (inl (e, S)) = inl (verdict ∙ e, numerators-same P denominator lowers uppers S)
+    go (inr (e, S)) = inr (verdict ∙ e, multipliers-same P denominator lowers uppers S)
+
+-- word 1 and the words past 3 + 2N
+pub checked-same : (ws a b : List ℤ) → ((i : ℕ) → i < answerLength ws → i ≢ 1 → word a i ≡ word b i) →
+    answerLength ws ≤ length a → answerLength ws ≤ length b → checked ws a ≡ checked ws b
+unfolding problem
+checked-same ws a b same h k = sym (checks-only ws b (checked ws a) (moved (checks ws a)))
+  where
+    moved : {r : ℕ} → Checks ws a r → Checks ws b r
+    moved (refused j l e) = refused j l e
+    moved (short e l) = let z : ⊥ = omega arith in absurd z
+    moved (right e l s) = right e k (shown-same (problem ws) a b same s)
+    moved (wrong e l s) = wrong e k (λ t. s (shown-same (problem ws) b a (λ i h n. sym (same i h n)) t))

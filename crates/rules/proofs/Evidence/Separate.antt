@@ -1,0 +1,180 @@
+-- Fractions with separate denominators reduce to one: where fractions, each over a denominator of its own, meet the rows and
+-- limits, whole numbers over one denominator do. So `Unmet` says that no fractions at all meet them.
+--   Fraction, fractions, Equal     a whole number over one above 0; sums and multiples; a / b = c / d is a d = c b
+--   FractionsMeet                  rows and limits, of fractions
+--   one-denominator, unmet-fractions
+use mathlib.Core.Bool.{Bool, cond, false, not, true}
+use mathlib.Core.List.{[], _∷_}
+use mathlib.Core.Option.{some}
+use mathlib.Core.Path.{ap, refl, sym, _∙_, _≡_}
+use Prim.Native.Nat.{suc, zero, ℕ, _+_, _<_, _≤_}
+use native.Mathlib.Omega.{arith}
+use lib.Dec.{ltb, ltb→lt, nltb→le}
+use lib.IntN.{*ℤ-zero, negℤ, pos, ℤ, _*ℤ_, _+ℤ_}
+use lib.Signed.{ltZ, ltZ-yes, _<ℤ_, _≤ℤ_}
+use Rattle.whole.proofs.Bools.{true→T}
+use Rattle.whole.proofs.Nonneg.{of-le, of-lt, slk, _⊞_, _⊠_}
+use Rattle.whole.proofs.Order.{*ℤ-cancel, *ℤ-pos-pos, false→le, le→false}
+use Rattle.whole.proofs.Reify.{reify}
+use Rattle.whole.proofs.Tools.{eq-by, le-at, of-≡, ring-at, _⊞₀_, _⊠₀_}
+use Rattle.whole.specs.Sums.{sum, sumBy}
+use Rattle.whole.specs.Values.{Le, Values, total, whole}
+use Rattle.rules.proofs.Fractions.{lower-met, upper-met}
+use Rattle.rules.specs.Evidence.{Meets, Unmet, rowSum}
+use Rattle.rules.specs.Problem.{Problem, vars}
+
+pub record Fraction : Type 0 where
+  pub top : ℤ
+  pub under : ℤ
+  pub positive : pos 0 <ℤ under
+
+-- 0 is 0 / 1; a / b + c / d = (a d + c b) / b d; k (a / b) = k a / b; a / b < c / d is a d < c b
+abbrev pub fractions : Values Fraction
+fractions = record {
+  nil = record { top = pos 0; under = pos 1; positive = ltZ-yes tt };
+  plus = λ x y. record {
+    top = x .top *ℤ y .under +ℤ y .top *ℤ x .under;
+    under = x .under *ℤ y .under;
+    positive = *ℤ-pos-pos (x .positive) (y .positive);
+  };
+  scale = λ k x. record { top = k *ℤ x .top; under = x .under; positive = x .positive };
+  less = λ x y. ltZ (x .top *ℤ y .under) (y .top *ℤ x .under);
+}
+
+abbrev pub Equal : Fraction → Fraction → Type 0
+Equal x y = x .top *ℤ y .under ≡ y .top *ℤ x .under
+
+-- a whole number as a fraction
+abbrev pub over-one : ℤ → Fraction
+over-one l = record { top = l; under = pos 1; positive = ltZ-yes tt }
+
+pub record FractionsMeet (P : Problem ℤ) (x : ℕ → Fraction) : Type 0 where
+  pub rows : (i : ℕ) → i < P .m → Equal (x (P .n + i)) (rowSum fractions P x i)
+  pub lowers : (v : ℕ) → v < vars P → (l : ℤ) → P .lower v ≡ some l → Le fractions (over-one l) (x v)
+  pub uppers : (v : ℕ) → v < vars P → (u : ℤ) → P .upper v ≡ some u → Le fractions (x v) (over-one u)
+
+-- whole numbers over one denominator that meet the problem, with the same values
+pub record OneDenominator (P : Problem ℤ) (x : ℕ → Fraction) : Type 0 where
+  pub denominator : ℤ
+  pub numerator : ℕ → ℤ
+  pub meets : Meets whole P denominator numerator
+  pub same-value : (v : ℕ) → v < vars P → denominator *ℤ x v .top ≡ numerator v *ℤ x v .under
+
+-- ---- the algebra
+
+swapped : (a b c : ℤ) → (a *ℤ b) *ℤ c ≡ (a *ℤ c) *ℤ b
+swapped a b c = ring-at (a ∷ b ∷ c ∷ []) (search reify depth 30) refl
+
+one-more : (d t u s c a b y : ℤ) → d *ℤ t ≡ u *ℤ s → d *ℤ a ≡ y *ℤ b → d *ℤ (t *ℤ b +ℤ (c *ℤ a) *ℤ u)
+    ≡ (u *ℤ b) *ℤ (s +ℤ c *ℤ y)
+one-more d t u s c a b y p q =
+    eq-by (d ∷ t ∷ u ∷ s ∷ c ∷ a ∷ b ∷ y ∷ []) (b ⊠₀ of-≡ p ⊞₀ (c *ℤ u) ⊠₀ of-≡ q)
+    (search reify depth 30 fits 20000) refl
+
+-- a / b = t / u, d a = y b and d t = u s: so y = s, times b u
+row-over : (d a b t u y s : ℤ) → a *ℤ u ≡ t *ℤ b → d *ℤ a ≡ y *ℤ b → d *ℤ t ≡ u *ℤ s → y *ℤ (b *ℤ u) ≡ s *ℤ (b *ℤ u)
+row-over d a b t u y s r q p =
+    eq-by (d ∷ a ∷ b ∷ t ∷ u ∷ y ∷ s ∷ []) (d ⊠₀ of-≡ r ⊞₀ negℤ u ⊠₀ of-≡ q ⊞₀ b ⊠₀ of-≡ p)
+    (search reify depth 30 fits 20000) refl
+
+low-over : (f u t l : ℤ) → pos 0 <ℤ f → (l *ℤ u) ≤ℤ (t *ℤ pos 1) → ((f *ℤ u) *ℤ l) ≤ℤ (f *ℤ t)
+low-over f u t l p h = le-at (f ∷ u ∷ t ∷ l ∷ []) (of-lt p ⊠ of-le h ⊞ of-le h) (search reify depth 30) slk
+
+high-over : (f u t l : ℤ) → pos 0 <ℤ f → (t *ℤ pos 1) ≤ℤ (l *ℤ u) → (f *ℤ t) ≤ℤ ((f *ℤ u) *ℤ l)
+high-over f u t l p h = le-at (f ∷ u ∷ t ∷ l ∷ []) (of-lt p ⊠ of-le h ⊞ of-le h) (search reify depth 30) slk
+
+-- ---- one denominator for the first k of q
+
+record Shared (k : ℕ) (q : ℕ → ℤ) : Type 0 where
+  common : ℤ
+  factor : ℕ → ℤ
+  common-pos : pos 0 <ℤ common
+  factor-pos : (v : ℕ) → v < k → pos 0 <ℤ factor v
+  is-common : (v : ℕ) → v < k → factor v *ℤ q v ≡ common
+
+shared : (k : ℕ) (q : ℕ → ℤ) → ((v : ℕ) → v < k → pos 0 <ℤ q v) → Shared k q
+shared zero q h = record {
+  common = pos 1;
+  factor = λ v. pos 1;
+  common-pos = ltZ-yes tt;
+  factor-pos = λ v l. ltZ-yes tt;
+  is-common = λ v l. let z : ⊥ = omega arith in absurd z;
+}
+shared (suc k) q h = more (shared k q (λ v l. h v (omega arith)))
+  where
+    more : Shared k q → Shared (suc k) q
+    more S = record {
+      common = S .common *ℤ q k;
+      factor = factor;
+      common-pos = *ℤ-pos-pos (S .common-pos) (h k (omega arith));
+      factor-pos = λ v l. above v l (ltb v k) refl;
+      is-common = λ v l. is v l (ltb v k) refl;
+    }
+      where
+        factor : ℕ → ℤ
+        factor v = cond (ltb v k) (S .factor v *ℤ q k) (S .common)
+
+        last : (v : ℕ) → v < suc k → ltb v k ≡ false → v ≡ k
+        last v l e = omega (arith, nltb→le v k (true→T (ap not e)))
+
+        above : (v : ℕ) → v < suc k → (b : Bool) → ltb v k ≡ b → pos 0 <ℤ factor v
+        above v l true e = rw e (*ℤ-pos-pos (S .factor-pos v (ltb→lt v k (true→T e))) (h k (omega arith)))
+        above v l false e = rw e (S .common-pos)
+
+        is : (v : ℕ) → v < suc k → (b : Bool) → ltb v k ≡ b → factor v *ℤ q v ≡ S .common *ℤ q k
+        is v l true e = rw e (swapped (S .factor v) (q k) (q v)
+            ∙ ap (λ z. z *ℤ q k) (S .is-common v (ltb→lt v k (true→T e))))
+        is v l false e = rw (e, last v l e) refl
+
+module _ (P : Problem ℤ) (x : ℕ → Fraction) (M : FractionsMeet P x) where
+  S : Shared (vars P) (λ v. x v .under)
+  S = shared (vars P) (λ v. x v .under) (λ v h. x v .positive)
+
+  abbrev d : ℤ
+  d = S .common
+
+  -- x v over the one denominator
+  abbrev y : ℕ → ℤ
+  y v = S .factor v *ℤ x v .top
+
+  same-value : (v : ℕ) → v < vars P → d *ℤ x v .top ≡ y v *ℤ x v .under
+  same-value v h = ap (λ z. z *ℤ x v .top) (sym (S .is-common v h)) ∙ swapped (S .factor v) (x v .under) (x v .top)
+
+  -- a sum of multiples, as fractions and over the one denominator
+  abbrev partial : (ℕ → ℤ) → ℕ → Fraction
+  partial c k = total fractions k (λ j. fractions .scale (c j) (x j))
+
+  same-sum : (k : ℕ) (c : ℕ → ℤ) → k ≤ vars P → d *ℤ partial c k .top ≡ partial c k .under *ℤ sum k (λ j. c j *ℤ y j)
+  unfolding sumBy
+  same-sum zero c h = *ℤ-zero d
+  same-sum (suc k) c h =
+      one-more d (partial c k .top) (partial c k .under) (sum k (λ j. c j *ℤ y j)) (c k) (x k .top) (x k .under) (y k)
+      (same-sum k c (omega arith)) (same-value k (omega arith))
+
+  over-one-meets : Meets whole P d y
+  over-one-meets = record {
+    positive = S .common-pos;
+    rows = λ i h. row i h (rowSum fractions P x i) refl;
+    lowers = λ v h. lower-met whole (P .lower v) d (y v) (λ l k. le→false (low v h l (false→le (M .lowers v h l k))));
+    uppers = λ v h. upper-met whole (P .upper v) d (y v) (λ u k. le→false (high v h u (false→le (M .uppers v h u k))));
+  }
+    where
+      row : (i : ℕ) → i < P .m → (T : Fraction) → rowSum fractions P x i ≡ T → y (P .n + i) ≡ rowSum whole P y i
+      row i h T e =
+          let v : ℕ = P .n + i in
+          *ℤ-cancel (*ℤ-pos-pos (x v .positive) (T .positive))
+          (row-over d (x v .top) (x v .under) (T .top) (T .under) (y v) (rowSum whole P y i)
+          (rw e at (M .rows i h)) (same-value v (omega arith))
+          (rw e at (same-sum (P .n) (P .coefficient i) (omega arith))))
+
+      low : (v : ℕ) → v < vars P → (l : ℤ) → (l *ℤ x v .under) ≤ℤ (x v .top *ℤ pos 1) → (d *ℤ l) ≤ℤ y v
+      low v h l k = rw (← S .is-common v h) (low-over (S .factor v) (x v .under) (x v .top) l (S .factor-pos v h) k)
+
+      high : (v : ℕ) → v < vars P → (u : ℤ) → (x v .top *ℤ pos 1) ≤ℤ (u *ℤ x v .under) → y v ≤ℤ (d *ℤ u)
+      high v h u k = rw (← S .is-common v h) (high-over (S .factor v) (x v .under) (x v .top) u (S .factor-pos v h) k)
+
+  pub one-denominator : OneDenominator P x
+  one-denominator = record { denominator = d; numerator = y; meets = over-one-meets; same-value = same-value }
+
+pub unmet-fractions : (P : Problem ℤ) → Unmet whole P → (x : ℕ → Fraction) → ¬ FractionsMeet P x
+unmet-fractions P U x M = let O = one-denominator P x M in U (O .denominator) (O .numerator) (O .meets)

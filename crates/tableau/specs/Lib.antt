@@ -1,0 +1,6 @@
+-- What the code of this crate computes, by place, and what it stands for.
+pub mod Layout
+pub mod Parts
+pub mod Pivot
+pub mod Start
+pub mod Stands

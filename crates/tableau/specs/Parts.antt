@@ -1,0 +1,60 @@
+-- The parts of the struct by place and by variable.
+use Prim.Native.Nat.{ℕ}
+use mathlib.Core.Bool.{Bool, false}
+use mathlib.Core.Option.{Option}
+use lib.IntN.{ℤ, pos}
+use lib.ListN.{getD}
+use Rattle.rules.specs.Limit.{present}
+use Rattle.tableau.specs.declared.Variable.{Variable}
+use Rattle.tableau.specs.declared.RowPlace.{RowPlace}
+use Rattle.tableau.specs.declared.ColumnPlace.{ColumnPlace}
+use Rattle.tableau.specs.declared.Seat.{Seat}
+use Rattle.tableau.specs.declared.Limits.{Limits}
+use Rattle.tableau.specs.declared.Tableau.{Tableau}
+use Rattle.tableau.specs.Layout.{flat}
+
+abbrev pub variable : ℕ → Variable
+variable v = record { 0 = v }
+
+abbrev pub row : ℕ → RowPlace
+row i = record { 0 = i }
+
+abbrev pub column : ℕ → ColumnPlace
+column j = record { 0 = j }
+
+abbrev pub nowhere : Seat
+nowhere = record { basic = false; row = row 0; column = column 0 }
+
+-- the number at flat place k, and at a row place and a column place
+abbrev pub cell : Tableau → ℕ → ℤ
+cell t k = getD (t .entries) k (pos 0)
+
+abbrev pub cellAt : Tableau → ℕ → ℕ → ℤ
+cellAt t i j = cell t (flat i j)
+
+-- the variable in a row place and in a column place, and the value there
+abbrev pub basicAt : Tableau → ℕ → ℕ
+basicAt t i = getD (t .basic) i (variable 0) .0
+
+abbrev pub nonbasicAt : Tableau → ℕ → ℕ
+nonbasicAt t j = getD (t .nonbasic) j (variable 0) .0
+
+abbrev pub valueAt : Tableau → ℕ → ℤ
+valueAt t j = getD (t .values) j (pos 0)
+
+-- the seat of a variable
+abbrev pub seatAt : Tableau → ℕ → Seat
+seatAt t v = getD (t .seats) v nowhere
+
+abbrev pub rowOf : Tableau → ℕ → ℕ
+rowOf t v = seatAt t v .row .0
+
+abbrev pub columnOf : Tableau → ℕ → ℕ
+columnOf t v = seatAt t v .column .0
+
+-- the limits of a variable, which may be missing
+abbrev pub lowerOf : Limits → ℕ → Option ℤ
+lowerOf l v = present (getD (l .lowers) v false) (getD (l .lower) v (pos 0))
+
+abbrev pub upperOf : Limits → ℕ → Option ℤ
+upperOf l v = present (getD (l .uppers) v false) (getD (l .upper) v (pos 0))

@@ -1,0 +1,52 @@
+// The tableau by place: D times each basic variable is a whole-number sum over the nonbasic ones. D is `common`.
+
+// A variable's number, and the two kinds of place: none stands for another.
+pub struct Variable(pub usize);
+
+pub struct RowPlace(pub usize);
+
+pub struct ColumnPlace(pub usize);
+
+// Where a variable sits: in a row where it is basic, in a column where it is not.
+pub struct Seat {
+    pub basic: bool,
+    pub row: RowPlace,
+    pub column: ColumnPlace,
+}
+
+// The limits of every variable: whether there is one, and which. The number of a missing limit is 0, and nothing reads it.
+pub struct Limits {
+    pub lowers: [bool; Tableau::MOST_VARIABLES],
+    pub lower: [i64; Tableau::MOST_VARIABLES],
+    pub uppers: [bool; Tableau::MOST_VARIABLES],
+    pub upper: [i64; Tableau::MOST_VARIABLES],
+}
+
+// The entries lie flat, as specs/Layout.antt says; a cell that is not in use is 0.
+pub struct Tableau {
+    pub rows: usize,
+    pub columns: usize,
+    pub common: i64,
+    pub entries: [i64; Tableau::MOST_ENTRIES],
+    pub basic: [Variable; Tableau::MOST_ROWS],
+    pub nonbasic: [Variable; Tableau::MOST_COLUMNS],
+    pub values: [i64; Tableau::MOST_COLUMNS],
+    pub seats: [Seat; Tableau::MOST_VARIABLES],
+    pub limits: Limits,
+}
+
+impl Tableau {
+    pub const MOST_COLUMNS: usize = 8;
+
+    pub const MOST_ROWS: usize = 16;
+
+    pub const MOST_VARIABLES: usize = 24;
+
+    pub const MOST_ENTRIES: usize = 128;
+
+    pub const LARGEST_COEFFICIENT: i32 = 1000;
+
+    pub const LARGEST_LIMIT: i32 = 30000;
+
+    pub const LARGEST_NUMBER: i64 = 2147483647;
+}
