@@ -8,7 +8,7 @@ use mathlib.Core.Bool.{false}
 use mathlib.Core.List.{_++_, _∷_}
 use mathlib.Core.Logic.{_↔_}
 use mathlib.Core.Option.{Option, Option·none-ne-some, none, some}
-use mathlib.Core.Path.{ap, refl, _≡_}
+use mathlib.Core.Path.{ap, refl, _∙_, _≡_}
 use Prim.Native.Nat.{ℕ, _<_}
 use native.Mathlib.Omega.{arith}
 use lib.IntN.{pos, ℤ}
@@ -26,9 +26,9 @@ use Rattle.rules.proofs.Runs.{ends-only, run-is}
 use Rattle.rules.proofs.Sound.{Apart, Ready, Sound, howManySeated, ready-sound}
 use Rattle.rules.proofs.Started.{no-conflict}
 use Rattle.rules.specs.Answer.{answerFrom, wordsOf}
-use Rattle.rules.specs.Problem.{Problem, vars}
+use Rattle.rules.specs.Problem.{Problem, vars, word}
 use Rattle.rules.specs.Run.{Ending, Ends, after, bound, conflict, crossed, ending}
-use Rattle.rules.specs.Step.{State, cannot, same, step}
+use Rattle.rules.specs.Step.{Outcome, State, can, cannot, goes, range, same, step}
 
 module _ {X : Type 0} (𝓥 : Values X) where
   -- ---- crossed limits
@@ -90,6 +90,18 @@ pub record TheRun (P : Problem ℤ) (s : State ℤ) : Type 0 where
   pub only : (k : ℕ) → Ends whole P s k → k ≡ count
   pub below : count < bound P
   pub words : answerFrom P s ≡ wordsOf P (ended whole P s count)
+  pub word-1 : word (answerFrom P s) 1 ≡ pos count
+
+-- word 1 is the count, whatever the ending
+words-count : (P : Problem ℤ) (e : Ending ℤ) → word (wordsOf P e) 1 ≡ pos (e .pivots)
+unfolding wordsOf
+words-count P e = go (e .how)
+  where
+    go : (o : Outcome ℤ) → word (wordsOf P (record { how = o; pivots = e .pivots; last = e .last })) 1 ≡ pos (e .pivots)
+    go can = refl
+    go (cannot ls us) = refl
+    go range = refl
+    go (goes t) = refl
 
 pub answer-run : (P : Problem ℤ) (s : State ℤ) → conflict whole P ≡ none → Ready whole P s → TheRun P s
 unfolding answerFrom
@@ -101,6 +113,9 @@ answer-run P s e R = go (ends whole whole-laws P s A S (R .seated-many))
     S : Sound whole P s
     S = ready-sound whole P s A R
 
+    words : (k : ℕ) → Ends whole P s k → answerFrom P s ≡ wordsOf P (ended whole P s k)
+    words k E = ap (wordsOf P) (ending-run whole whole-laws P s e S (R .seated-many) k E)
+
     go : (k : ℕ) × Ends whole P s k → TheRun P s
     go (k, E) = record {
       uncrossed = e;
@@ -109,7 +124,8 @@ answer-run P s e R = go (ends whole whole-laws P s A S (R .seated-many))
       sound = sound-after whole whole-laws P s A S k;
       only = λ j F. ends-only whole P s j k F E;
       below = below-bound whole whole-laws P s A S (R .seated-many) k (E .runs);
-      words = ap (wordsOf P) (ending-run whole whole-laws P s e S (R .seated-many) k E);
+      words = words k E;
+      word-1 = ap (λ a. word a 1) (words k E) ∙ words-count P (ended whole P s k);
     }
 
 pub answer-crossed : (P : Problem ℤ) (s : State ℤ) (v : ℕ) → conflict whole P ≡ some v →

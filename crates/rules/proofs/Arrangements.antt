@@ -67,7 +67,7 @@ module _ {X : Type 0} where
   listed (some x ∷ a) (c ∷ cs) zero h = absurd h
   listed (some x ∷ a) (c ∷ cs) (suc j) h = seat-listed x a c (withSeat none (arrangements cs (suc j))) (arrangements cs j) (h .0) (listed a cs j (h .1))
 
-  -- the count that 01 names
+  -- the count that the rules name
   pub how-many : (cs : List (Three X)) (j : ℕ) → length (arrangements cs j) ≡ 3 ^ j * choose (length cs) j
   unfolding arrangements choose
   how-many [] zero = refl

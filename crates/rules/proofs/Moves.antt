@@ -1,12 +1,12 @@
 -- What one step comes to, by the variables that it chooses and the range test of the pivoted tableau.
 --   stepped        the four cases with their choices: `Stepped`
 --   step-can, step-cannot, step-range    a step ends so exactly where the choices are these
---   step-goes      the choices behind `goes t`: `Goes`
+--   step-goes, goes-step    a step goes to t exactly where the choices are those of `Goes`
 use mathlib.Core.Bool.{Bool, false, true}
 use mathlib.Core.List.{List}
 use mathlib.Core.Logic.{_↔_}
 use mathlib.Core.Option.{Option, none, some}
-use mathlib.Core.Path.{refl, sym, _∙_, _≡_}
+use mathlib.Core.Path.{ap, refl, sym, _∙_, _≡_}
 use Prim.Native.Nat.{ℕ}
 use lib.IntN.{ℤ}
 use Rattle.whole.proofs.Bools.{zero-one}
@@ -98,3 +98,9 @@ module _ {X : Type 0} (𝓥 : Values X) where
       go (is-range r w q y f z) = let c : _≡_ {A = ℕ} 0 1 = cc in zero-one c
       go (is-goes r w q y f z) = let g : t ≡ moved 𝓥 P s r w = cc in
           record { out = r; into = w; leaves = q; enters = y; next-is = g; fits = rw g f }
+
+  pub goes-step : (P : Problem X) (s t : State X) → Goes P s t → step 𝓥 P s ≡ goes t
+  unfolding step admit
+  goes-step P s t g =
+      let f : small (vars P) (moved 𝓥 P s (g .out) (g .into) .tableau) ≡ true = rw (← (g .next-is)) (g .fits) in
+      (rw (g .leaves, step) (rw (g .enters) (rw (f, admit)))) ∙ ap goes (sym (g .next-is))
