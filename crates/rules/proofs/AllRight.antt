@@ -16,8 +16,11 @@ use Rattle.rules.specs.Step.{admit, broken, entering, evidence, leaving,
 use Rattle.rules.specs.Tableau.{divisor, divisorSize, pivot, reduced, relation, small, solved}
 
 pub all-right : AllRight cases
-unfolding cases comesOut wanted answer answerFrom wordsOf ending conflict crossed run bound choose step leaving broken under over entering suits mayRise mayFall
-    pull moved limitAt admit evidence scaled seated start startEntry startSeat startValue pivot solved reduced relation divisor divisorSize small problem present
-    bit badLimitWord refusal first problemTests tooFew badSize badLength badCoefficient badKind badLimit tooShort checked accepted showsCan showsCannot atLeast
+unfolding cases comesOut wanted answer answerFrom wordsOf ending conflict crossed run bound choose step leaving broken
+    under over entering suits mayRise mayFall
+    pull moved limitAt admit evidence scaled seated start startEntry startSeat startValue pivot solved reduced relation
+    divisor divisorSize small problem present
+    bit badLimitWord refusal first problemTests tooFew badSize badLength badCoefficient badKind badLimit tooShort
+    checked accepted showsCan showsCannot atLeast
     atMost fair column surplus lowest someBelow allBelow foldBelow sumBy tableFrom matrix gcd gcdTurns within outside
 all-right = refl

@@ -43,14 +43,27 @@ module _ {X : Type 0} (𝓥 : Values X) where
     where
       go : (o p : Option X) → Tells (crossed 𝓥 o p) ((l : X) × (u : X) × (o ≡ some l) × (p ≡ some u) × Lt 𝓥 u l)
           (¬ ((l : X) × (u : X) × (o ≡ some l) × (p ≡ some u) × Lt 𝓥 u l))
-      go none p = record { if-true = λ e. true-false e refl; if-false = λ e (l, u, a, b, h). Option·none-ne-some l a; not-both = λ y n. n y }
-      go (some l) none = record { if-true = λ e. true-false e refl; if-false = λ e (k, u, a, b, h). Option·none-ne-some u b; not-both = λ y n. n y }
-      go (some l) (some u) = record { if-true = λ e. (l, u, refl, refl, e); if-false = λ e (k, w, a, b, h). clash k w a b h e; not-both = λ y n. n y }
+      go none p = record {
+        if-true = λ e. true-false e refl;
+        if-false = λ e (l, u, a, b, h). Option·none-ne-some l a;
+        not-both = λ y n. n y;
+      }
+      go (some l) none = record {
+        if-true = λ e. true-false e refl;
+        if-false = λ e (k, u, a, b, h). Option·none-ne-some u b;
+        not-both = λ y n. n y;
+      }
+      go (some l) (some u) = record {
+        if-true = λ e. (l, u, refl, refl, e);
+        if-false = λ e (k, w, a, b, h). clash k w a b h e;
+        not-both = λ y n. n y;
+      }
         where
           clash : (k w : X) → some l ≡ some k → some u ≡ some w → Lt 𝓥 w k → 𝓥 .less u l ≡ false → ⊥
           clash k w a b h e = let p : l ≡ k = cc in let q : u ≡ w = cc in true-false (rw (p, q) h) e
 
-  pub crosses-exactly : (P : Problem X) (v : ℕ) → (conflict 𝓥 P ≡ some v) ↔ ((v < vars P) × Crosses P v × ((u : ℕ) → u < v → ¬ Crosses P u))
+  pub crosses-exactly : (P : Problem X) (v : ℕ) →
+      (conflict 𝓥 P ≡ some v) ↔ ((v < vars P) × Crosses P v × ((u : ℕ) → u < v → ¬ Crosses P u))
   unfolding conflict
   crosses-exactly P v = let r = lowest-passes (vars P) (λ v. crossed 𝓥 (P .lower v) (P .upper v)) v in (
     λ e. let f = r .0 e in (f .0, crossed-tells P v .if-true (f .1), λ u h. crossed-tells P u .if-false (f .2 u h)),
@@ -73,7 +86,8 @@ module _ {X : Type 0} (𝓥 : Values X) where
   unfolding ending
   ending-crossed P s v e = rw (e, ending)
 
-  pub ending-run : Laws 𝓥 → (P : Problem X) (s : State X) → conflict 𝓥 P ≡ none → Sound 𝓥 P s → howManySeated (s .seats) ≡ P .n →
+  pub ending-run : Laws 𝓥 → (P : Problem X) (s : State X) → conflict 𝓥 P ≡ none → Sound 𝓥 P s →
+      howManySeated (s .seats) ≡ P .n →
       (k : ℕ) → Ends 𝓥 P s k → ending 𝓥 P s ≡ ended P s k
   unfolding ending
   ending-run law P s e S n k E = rw (e, ending) (run-is 𝓥 P s (bound P) k

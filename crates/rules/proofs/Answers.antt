@@ -50,18 +50,21 @@ module _ (a b c : ℤ) (xs ys : List ℤ) where
 
   pub upper-part : (N v : ℕ) → length xs ≡ N → upperPart N (laid a b c xs ys) v ≡ word ys v
   unfolding laid
-  upper-part N v e = let z : 3 + N + v ≡ suc (suc (suc (length xs + v))) = omega arith in rw z (getD-append-add xs ys v (pos 0))
+  upper-part N v e = let z : 3 + N + v ≡ suc (suc (suc (length xs + v))) = omega arith in
+      rw z (getD-append-add xs ys v (pos 0))
 
 pub data Answered (P : Problem ℤ) (s : State ℤ) : Type 0 where
   crossing : (v : ℕ) → conflict whole P ≡ some v →
       answerFrom P s ≡ laid (pos 2) (pos 0) (pos 0) (table (vars P) (same v)) (table (vars P) (same v)) → Answered P s
   can-at : (R : TheRun P s) → leaving whole P (after whole P s (R .count)) ≡ none →
-      answerFrom P s ≡ laid (pos 1) (pos (R .count)) (common (after whole P s (R .count))) (table (vars P) (scaled whole P (after whole P s (R .count))))
+      answerFrom P s ≡ laid (pos 1) (pos (R .count)) (common (after whole P s (R .count)))
+      (table (vars P) (scaled whole P (after whole P s (R .count))))
       (replicate (vars P) (pos 0)) → Answered P s
   cannot-at : (R : TheRun P s) (ls us : List ℤ) → Blamed whole P (after whole P s (R .count)) ls us →
       answerFrom P s ≡ laid (pos 2) (pos (R .count)) (pos 0) ls us → Answered P s
   range-at : (R : TheRun P s) → step whole P (after whole P s (R .count)) ≡ range →
-      answerFrom P s ≡ laid (pos 3) (pos (R .count)) (pos 0) (replicate (vars P) (pos 0)) (replicate (vars P) (pos 0)) → Answered P s
+      answerFrom P s ≡ laid (pos 3) (pos (R .count)) (pos 0) (replicate (vars P) (pos 0)) (replicate (vars P) (pos 0)) →
+      Answered P s
 
 module _ (P : Problem ℤ) (s : State ℤ) where
   words-at : (k : ℕ) (o : Outcome ℤ) → step whole P (after whole P s k) ≡ o →
@@ -75,9 +78,11 @@ module _ (P : Problem ℤ) (s : State ℤ) where
   of-run : Rowed whole P s → (R : TheRun P s) → Stepped whole P (after whole P s (R .count)) → Answered P s
   unfolding laid wordsOf evidence
   of-run S R (is-can q e) = can-at R q (R .words ∙ words-at (R .count) _ e)
-  of-run S R (is-cannot r q n e) = cannot-at R _ _ (cannot-blames whole P (after whole P s (R .count)) _ _ (rowed-after whole P s S (R .count)) e)
+  of-run S R (is-cannot r q n e) = cannot-at R _ _
+      (cannot-blames whole P (after whole P s (R .count)) _ _ (rowed-after whole P s S (R .count)) e)
       (R .words ∙ words-at (R .count) _ e)
-  of-run S R (is-range r w q y f e) = range-at R e (R .words ∙ words-at (R .count) _ e ∙ ap (λ l. pos 3 ∷ pos (R .count) ∷ pos 0 ∷ l) zeros)
+  of-run S R (is-range r w q y f e) = range-at R e
+      (R .words ∙ words-at (R .count) _ e ∙ ap (λ l. pos 3 ∷ pos (R .count) ∷ pos 0 ∷ l) zeros)
   of-run S R (is-goes r w q y f e) = absurd (subst Ended e (R .ends .ended))
 
   pub answered : Ready whole P s → Answered P s
@@ -89,5 +94,7 @@ module _ (P : Problem ℤ) (s : State ℤ) where
       go none e = let R = answer-run P s e S in of-run (S .rowed) R (stepped whole P (after whole P s (R .count)))
 
   -- the answer has one verdict
-  pub other-verdict : {A : Type 0} (j k : ℕ) (b c : ℤ) (xs ys : List ℤ) → j ≢ k → answerFrom P s ≡ laid (pos k) b c xs ys → verdictOf (answerFrom P s) ≡ pos j → A
-  other-verdict j k b c xs ys n z e = absurd (n (ap natAbs (sym e ∙ ap (λ a. word a 0) z ∙ verdict-word (pos k) b c xs ys)))
+  pub other-verdict : {A : Type 0} (j k : ℕ) (b c : ℤ) (xs ys : List ℤ) → j ≢ k →
+      answerFrom P s ≡ laid (pos k) b c xs ys → verdictOf (answerFrom P s) ≡ pos j → A
+  other-verdict j k b c xs ys n z e = absurd
+      (n (ap natAbs (sym e ∙ ap (λ a. word a 0) z ∙ verdict-word (pos k) b c xs ys)))

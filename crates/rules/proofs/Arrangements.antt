@@ -45,16 +45,21 @@ module _ {X : Type 0} where
   Fits (some x ∷ a) (c ∷ cs) (suc j) = OneOf x c × Fits a cs j
 
   -- `some x` before the element, where x is the value that the part of the list is for
-  put : (x y : X) (a : List (Option X)) (ls : List (List (Option X))) → x ≡ y → List·Memᴰ a ls → List·Memᴰ (some x ∷ a) (withSeat (some y) ls)
+  put : (x y : X) (a : List (Option X)) (ls : List (List (Option X))) → x ≡ y → List·Memᴰ a ls →
+      List·Memᴰ (some x ∷ a) (withSeat (some y) ls)
   put x y a ls e m = rw e (Mem-map (λ b. some y ∷ b) m)
 
-  seat-listed : (x : X) (a : List (Option X)) (c : Three X) (ns ls : List (List (Option X))) → OneOf x c → List·Memᴰ a ls →
-      List·Memᴰ (some x ∷ a) (ns ++ (withSeat (some (c .one)) ls ++ (withSeat (some (c .two)) ls ++ withSeat (some (c .three)) ls)))
+  seat-listed : (x : X) (a : List (Option X)) (c : Three X) (ns ls : List (List (Option X))) → OneOf x c →
+      List·Memᴰ a ls →
+      List·Memᴰ (some x ∷ a) (ns ++ (withSeat (some (c .one)) ls
+      ++ (withSeat (some (c .two)) ls ++ withSeat (some (c .three)) ls)))
   seat-listed x a c ns ls (inl e) m = Memᴰ·append-right ns (Memᴰ·append-left _ (put x (c .one) a ls e m))
   seat-listed x a c ns ls (inr (inl e)) m =
-      Memᴰ·append-right ns (Memᴰ·append-right (withSeat (some (c .one)) ls) (Memᴰ·append-left _ (put x (c .two) a ls e m)))
+      Memᴰ·append-right ns (Memᴰ·append-right (withSeat (some (c .one)) ls)
+      (Memᴰ·append-left _ (put x (c .two) a ls e m)))
   seat-listed x a c ns ls (inr (inr e)) m =
-      Memᴰ·append-right ns (Memᴰ·append-right (withSeat (some (c .one)) ls) (Memᴰ·append-right (withSeat (some (c .two)) ls) (put x (c .three) a ls e m)))
+      Memᴰ·append-right ns (Memᴰ·append-right (withSeat (some (c .one)) ls)
+      (Memᴰ·append-right (withSeat (some (c .two)) ls) (put x (c .three) a ls e m)))
 
   pub listed : (a : List (Option X)) (cs : List (Three X)) (j : ℕ) → Fits a cs j → List·Memᴰ a (arrangements cs j)
   unfolding arrangements
@@ -65,7 +70,8 @@ module _ {X : Type 0} where
   listed (none ∷ a) (c ∷ cs) zero h = Mem-map _ (listed a cs zero h)
   listed (none ∷ a) (c ∷ cs) (suc j) h = Memᴰ·append-left _ (Mem-map _ (listed a cs (suc j) h))
   listed (some x ∷ a) (c ∷ cs) zero h = absurd h
-  listed (some x ∷ a) (c ∷ cs) (suc j) h = seat-listed x a c (withSeat none (arrangements cs (suc j))) (arrangements cs j) (h .0) (listed a cs j (h .1))
+  listed (some x ∷ a) (c ∷ cs) (suc j) h =
+      seat-listed x a c (withSeat none (arrangements cs (suc j))) (arrangements cs j) (h .0) (listed a cs j (h .1))
 
   -- the count that the rules name
   pub how-many : (cs : List (Three X)) (j : ℕ) → length (arrangements cs j) ≡ 3 ^ j * choose (length cs) j
@@ -73,9 +79,11 @@ module _ {X : Type 0} where
   how-many [] zero = refl
   how-many [] (suc j) = omega arith
   how-many (c ∷ cs) zero = length-map (arrangements cs zero) _ ∙ how-many cs zero
-  how-many (c ∷ cs) (suc j) = simp (length-append, length-map, how-many cs (suc j), how-many cs j, pow-succ') (omega arith)
+  how-many (c ∷ cs) (suc j) = simp (length-append, length-map, how-many cs (suc j), how-many cs j, pow-succ')
+      (omega arith)
 
   -- a run of different arrangements, all of them fitting, is shorter than the count
   pub at-most : (cs : List (Three X)) (j k : ℕ) (f : ℕ → List (Option X)) → ((i : ℕ) → Fits (f i) cs j) →
       ((p q : ℕ) → p < q → q < k → f p ≢ f q) → k ≤ 3 ^ j * choose (length cs) j
-  at-most cs j k f fits d = rw (how-many cs j) at (distinct-fit (arrangements cs j) k f (λ i. listed (f i) cs j (fits i)) d)
+  at-most cs j k f fits d = rw (how-many cs j) at
+      (distinct-fit (arrangements cs j) k f (λ i. listed (f i) cs j (fits i)) d)

@@ -31,8 +31,10 @@ pub record Blame (N : ℕ) (σ : Side) (r : ℕ) (t : Tableau) (ls us : List ℤ
   pub many-uppers : length us ≡ N
   pub violated-lower : σ ≡ below → (word ls r ≡ t .common) × (word us r ≡ pos 0)
   pub violated-upper : σ ≡ above → (word us r ≡ t .common) × (word ls r ≡ pos 0)
-  pub to-increase : (v : ℕ) → v < N → v ≢ r → pos 0 <ℤ pull σ (entry t r v) → (word us v ≡ pos (natAbs (entry t r v))) × (word ls v ≡ pos 0)
-  pub to-decrease : (v : ℕ) → v < N → v ≢ r → pull σ (entry t r v) <ℤ pos 0 → (word ls v ≡ pos (natAbs (entry t r v))) × (word us v ≡ pos 0)
+  pub to-increase : (v : ℕ) → v < N → v ≢ r → pos 0 <ℤ pull σ (entry t r v) →
+      (word us v ≡ pos (natAbs (entry t r v))) × (word ls v ≡ pos 0)
+  pub to-decrease : (v : ℕ) → v < N → v ≢ r → pull σ (entry t r v) <ℤ pos 0 →
+      (word ls v ≡ pos (natAbs (entry t r v))) × (word us v ≡ pos 0)
   pub elsewhere : (v : ℕ) → v < N → v ≢ r → entry t r v ≡ pos 0 → (word ls v ≡ pos 0) × (word us v ≡ pos 0)
 
 -- ---- one number
@@ -97,8 +99,10 @@ module _ (N : ℕ) (σ : Side) (r : ℕ) (t : Tableau) (r-var : r < N) (D-pos : 
   blame = record {
     many-lowers = table-length N (λ v. positive (negℤ (y v)));
     many-uppers = table-length N (λ v. positive (y v));
-    violated-lower = λ e. let p = down-pair (y r) (rw (own-below e) (neg-up (t .common) D-pos)) in
-        (lower-at r r-var ∙ p .0 ∙ ap pos (ap natAbs (own-below e) ∙ abs-neg (t .common)) ∙ D-size, upper-at r r-var ∙ p .1);
+    violated-lower = λ e. let p = down-pair (y r) (rw (own-below e) (neg-up (t .common) D-pos)) in (
+      lower-at r r-var ∙ p .0 ∙ ap pos (ap natAbs (own-below e) ∙ abs-neg (t .common)) ∙ D-size,
+      upper-at r r-var ∙ p .1,
+    );
     violated-upper = λ e. let p = up-pair (y r) (rw (own-above e) D-pos) in
         (upper-at r r-var ∙ p .0 ∙ ap (λ z. pos (natAbs z)) (own-above e) ∙ D-size, lower-at r r-var ∙ p .1);
     to-increase = λ v h n q. let p = up-pair (y v) (rw (at-other v n) q) in
@@ -117,7 +121,8 @@ pub record Blamed {X : Type 0} (𝓥 : Values X) (P : Problem X) (s : State X) (
   pub none-enters : entering 𝓥 P s out ≡ none
   pub blame : Blame (vars P) (out .side) (out .variable) (s .tableau) ls us
 
-pub cannot-blames : {X : Type 0} (𝓥 : Values X) (P : Problem X) (s : State X) (ls us : List ℤ) → Rowed 𝓥 P s → step 𝓥 P s ≡ cannot ls us → Blamed 𝓥 P s ls us
+pub cannot-blames : {X : Type 0} (𝓥 : Values X) (P : Problem X) (s : State X) (ls us : List ℤ) → Rowed 𝓥 P s →
+    step 𝓥 P s ≡ cannot ls us → Blamed 𝓥 P s ls us
 unfolding evidence
 cannot-blames {X} 𝓥 P s ls us S e = go (step-cannot 𝓥 P s ls us .0 e)
   where
@@ -128,7 +133,8 @@ cannot-blames {X} 𝓥 P s ls us S e = go (step-cannot 𝓥 P s ls us .0 e)
     ups r = table (vars P) (λ v. positive (pull (r .side) (relation (s .tableau) (r .variable) v)))
 
     go : (r : Leaving) × (leaving 𝓥 P s ≡ some r) × (entering 𝓥 P s r ≡ none)
-        × (evidence {X = X} (vars P) (r .side) (relation (s .tableau) (r .variable)) ≡ cannot ls us) → Blamed 𝓥 P s ls us
+        × (evidence {X = X} (vars P) (r .side) (relation (s .tableau) (r .variable)) ≡ cannot ls us) →
+        Blamed 𝓥 P s ls us
     go (r, q, n, z) =
         let a : lows r ≡ ls = cc in
         let b : ups r ≡ us = cc in

@@ -36,14 +36,16 @@ module _ {X : Type 0} where
   fits (none ∷ l) (c ∷ cs) d e f = fits l cs d (omega arith) (λ v x h. f (suc v) x h)
   fits (some x ∷ l) (c ∷ cs) d e f = (f 0 x refl, fits l cs d (omega arith) (λ v x h. f (suc v) x h))
 
-  one-less : (l : List (Option X)) (w : ℕ) (y : X) → getD l w none ≡ some y → howManySeated l ≡ suc (howManySeated (set l w none))
+  one-less : (l : List (Option X)) (w : ℕ) (y : X) → getD l w none ≡ some y →
+      howManySeated l ≡ suc (howManySeated (set l w none))
   one-less [] w y e = absurd (Option·none-ne-some y e)
   one-less (none ∷ l) zero y e = absurd (Option·none-ne-some y e)
   one-less (some x ∷ l) zero y e = refl
   one-less (none ∷ l) (suc w) y e = one-less l w y e
   one-less (some x ∷ l) (suc w) y e = ap suc (one-less l w y e)
 
-  one-more : (l : List (Option X)) (q : ℕ) (x : X) → q < length l → getD l q none ≡ none → howManySeated (set l q (some x)) ≡ suc (howManySeated l)
+  one-more : (l : List (Option X)) (q : ℕ) (x : X) → q < length l → getD l q none ≡ none →
+      howManySeated (set l q (some x)) ≡ suc (howManySeated l)
   one-more [] q x h e = let z : ⊥ = omega arith in absurd z
   one-more (none ∷ l) zero x h e = refl
   one-more (some y ∷ l) zero x h e = absurd (Option·none-ne-some y (sym e))
@@ -63,13 +65,15 @@ module _ {X : Type 0} (𝓥 : Values X) where
   unfolding seated
   among-start P s = record { as-many = refl; values = λ v x e. inl (rw e refl) }
 
-  limit-value : (P : Problem X) (s t : State X) (v : ℕ) {σ : Side} {x : X} → Outside 𝓥 P t v σ x → OneOf x (values-of P s v)
+  limit-value : (P : Problem X) (s t : State X) (v : ℕ) {σ : Side} {x : X} → Outside 𝓥 P t v σ x →
+      OneOf x (values-of P s v)
   unfolding seated
   limit-value P s t v (too-low e h) = inr (inl (rw e refl))
   limit-value P s t v (too-high e h) = inr (inr (rw e refl))
 
   -- as many are seated after a move
-  pub seated-moved : (P : Problem X) (t : State X) → Rowed 𝓥 P t → (r : Leaving) (w : ℕ) → Left 𝓥 P t r → Entered 𝓥 P t r w →
+  pub seated-moved : (P : Problem X) (t : State X) → Rowed 𝓥 P t → (r : Leaving) (w : ℕ) → Left 𝓥 P t r →
+      Entered 𝓥 P t r w →
       howManySeated (moved 𝓥 P t r w .seats) ≡ howManySeated (t .seats)
   unfolding moved
   seated-moved P t S r w L E =
@@ -80,14 +84,19 @@ module _ {X : Type 0} (𝓥 : Values X) where
       q-not-w : r .variable ≢ w
       q-not-w e = Option·none-ne-some (E .value) (sym (L .was-basic) ∙ (rw (← e) at (E .was-seated)))
 
-  module _ (P : Problem X) (s t : State X) (S : Sound 𝓥 P t) (A : Among P s t) (r : Leaving) (w : ℕ) (L : Left 𝓥 P t r) (E : Entered 𝓥 P t r w) where
+  module _ (P : Problem X) (s t : State X) (S : Sound 𝓥 P t) (A : Among P s t) (r : Leaving) (w : ℕ) (L : Left 𝓥 P t r)
+      (E : Entered 𝓥 P t r w) where
     W : Swap (seat t) (seat (moved 𝓥 P t r w)) (r .variable) w (limitAt 𝓥 P r)
     W = swap 𝓥 P t r w (S .rowed .seats-many) L E
 
     among-moved : Among P s (moved 𝓥 P t r w)
-    among-moved = record { as-many = seated-moved P t (S .rowed) r w L E ∙ A .as-many; values = λ v x e. go v x e (ℕ-discrete v (r .variable)) (ℕ-discrete v w) }
+    among-moved = record {
+      as-many = seated-moved P t (S .rowed) r w L E ∙ A .as-many;
+      values = λ v x e. go v x e (ℕ-discrete v (r .variable)) (ℕ-discrete v w);
+    }
       where
-        go : (v : ℕ) (x : X) → seat (moved 𝓥 P t r w) v ≡ some x → Dec (v ≡ r .variable) → Dec (v ≡ w) → OneOf x (values-of P s v)
+        go : (v : ℕ) (x : X) → seat (moved 𝓥 P t r w) v ≡ some x → Dec (v ≡ r .variable) → Dec (v ≡ w) →
+            OneOf x (values-of P s v)
         go v x e (yes z) d =
             let a : some (limitAt 𝓥 P r) ≡ some x = sym (W .set-to) ∙ (rw z at e) in
             let b : limitAt 𝓥 P r ≡ x = cc in
@@ -95,20 +104,24 @@ module _ {X : Type 0} (𝓥 : Values X) where
         go v x e (no n) (yes z) = absurd (Option·none-ne-some x (sym (W .now-basic) ∙ (rw z at e)))
         go v x e (no n) (no m) = A .values v x (sym (W .others v n m) ∙ e)
 
-  among-next : (P : Problem X) (s t : State X) (o : Outcome X) → Sound 𝓥 P t → Among P s t → step 𝓥 P t ≡ o → Among P s (next t o)
+  among-next : (P : Problem X) (s t : State X) (o : Outcome X) → Sound 𝓥 P t → Among P s t → step 𝓥 P t ≡ o →
+      Among P s (next t o)
   unfolding next
   among-next P s t can S A e = A
   among-next P s t (cannot ls us) S A e = A
   among-next P s t range S A e = A
   among-next P s t (goes u) S A e = let g = step-goes 𝓥 P t u e in
-      rw (g .next-is) (among-moved P s t S A (g .out) (g .into) (left 𝓥 P t (g .out) (g .leaves)) (entered 𝓥 P t (g .out) (g .into) (g .enters)))
+      rw (g .next-is) (among-moved P s t S A (g .out) (g .into) (left 𝓥 P t (g .out) (g .leaves))
+      (entered 𝓥 P t (g .out) (g .into) (g .enters)))
 
   among-after : Laws 𝓥 → (P : Problem X) (s : State X) → Apart 𝓥 P → Sound 𝓥 P s → (k : ℕ) → Among P s (after 𝓥 P s k)
   unfolding after
   among-after law P s A S zero = among-start P s
-  among-after law P s A S (suc k) = among-next P s (after 𝓥 P s k) (step 𝓥 P (after 𝓥 P s k)) (sound-after 𝓥 law P s A S k) (among-after law P s A S k) refl
+  among-after law P s A S (suc k) = among-next P s (after 𝓥 P s k) (step 𝓥 P (after 𝓥 P s k))
+      (sound-after 𝓥 law P s A S k) (among-after law P s A S k) refl
 
-  module _ (law : Laws 𝓥) (P : Problem X) (s : State X) (A : Apart 𝓥 P) (S : Sound 𝓥 P s) (n : howManySeated (s .seats) ≡ P .n) where
+  module _ (law : Laws 𝓥) (P : Problem X) (s : State X) (A : Apart 𝓥 P) (S : Sound 𝓥 P s)
+      (n : howManySeated (s .seats) ≡ P .n) where
     choices : List (Three X)
     choices = table (vars P) (values-of P s)
 
@@ -120,12 +133,17 @@ module _ {X : Type 0} (𝓥 : Values X) where
     unfolding choices
     fits-after k =
         let B = among-after law P s A S k in
-        rw (B .as-many ∙ n) at (fits (after 𝓥 P s k .seats) choices (values-of P s 0) (sound-after 𝓥 law P s A S k .rowed .seats-many ∙ sym many-choices) (λ v x e. one-of v x e (decLt v (vars P)) (B .values v x e)))
+        rw (B .as-many ∙ n) at (fits (after 𝓥 P s k .seats) choices (values-of P s 0)
+        (sound-after 𝓥 law P s A S k .rowed .seats-many ∙ sym many-choices)
+        (λ v x e. one-of v x e (decLt v (vars P)) (B .values v x e)))
       where
-        one-of : (v : ℕ) (x : X) → seat (after 𝓥 P s k) v ≡ some x → Dec (v < vars P) → OneOf x (values-of P s v) → OneOf x (getD choices v (values-of P s 0))
+        one-of : (v : ℕ) (x : X) → seat (after 𝓥 P s k) v ≡ some x → Dec (v < vars P) → OneOf x (values-of P s v) →
+            OneOf x (getD choices v (values-of P s 0))
         one-of v x e (yes h) o = rw (table-at (vars P) (values-of P s) (values-of P s 0) v h) o
-        one-of v x e (no h) o = let z : length (after 𝓥 P s k .seats) ≡ vars P = sound-after 𝓥 law P s A S k .rowed .seats-many in
-            absurd (Option·none-ne-some x (sym (List·getD-eq-default (after 𝓥 P s k .seats) none {n = v} (omega arith)) ∙ e))
+        one-of v x e (no h) o = let z : length (after 𝓥 P s k .seats) ≡ vars P = sound-after 𝓥 law P s A S
+            k .rowed .seats-many in
+            absurd (Option·none-ne-some x
+            (sym (List·getD-eq-default (after 𝓥 P s k .seats) none {n = v} (omega arith)) ∙ e))
 
     pub below-bound : (k : ℕ) → Runs 𝓥 P s k → k < bound P
     unfolding bound

@@ -59,7 +59,8 @@ module _ {X : Type 0} (𝓥 : Values X) where
     -- r left at S, and enters at T with the limit that it got
     pub xr : X
     pub xr-is : seatT r ≡ some xr
-    pub suits-r : (pos 0 <ℤ a r × ((u : X) → upper r ≡ some u → lt xr u)) ⊎ (a r <ℤ pos 0 × ((l : X) → lower r ≡ some l → lt l xr))
+    pub suits-r : (pos 0 <ℤ a r × ((u : X) → upper r ≡ some u → lt xr u))
+        ⊎ (a r <ℤ pos 0 × ((l : X) → lower r ≡ some l → lt l xr))
     pub left-r : ((lower r ≡ some xr) × lt (yS r) (scale dS xr)) ⊎ ((upper r ≡ some xr) × lt (scale dS xr) (yS r))
     pub above : (w : ℕ) (x : X) → r < w → seatT w ≡ some x → seatS w ≡ some x
 
@@ -74,9 +75,11 @@ module _ {X : Type 0} (𝓥 : Values X) where
 
     strict-at-r : lt (left r) (right r)
     unfolding seated
-    strict-at-r = subst (λ o. lt (left r) (scale (a r) (scale dS (seated 𝓥 o)))) (sym (F .xr-is)) (go (F .suits-r) (F .left-r))
+    strict-at-r = subst (λ o. lt (left r) (scale (a r) (scale dS (seated 𝓥 o)))) (sym (F .xr-is))
+        (go (F .suits-r) (F .left-r))
       where
-        go : (pos 0 <ℤ a r × ((u : X) → F .upper r ≡ some u → lt xr u)) ⊎ (a r <ℤ pos 0 × ((l : X) → F .lower r ≡ some l → lt l xr)) →
+        go : (pos 0 <ℤ a r × ((u : X) → F .upper r ≡ some u → lt xr u))
+            ⊎ (a r <ℤ pos 0 × ((l : X) → F .lower r ≡ some l → lt l xr)) →
             ((F .lower r ≡ some xr) × lt (yS r) (scale dS xr)) ⊎ ((F .upper r ≡ some xr) × lt (scale dS xr) (yS r)) →
             lt (scale (a r) (yS r)) (scale (a r) (scale dS xr))
         go (inl s) (inl v) = up-strict L (s .0) (v .1)
@@ -106,16 +109,20 @@ module _ {X : Type 0} (𝓥 : Values X) where
       where
         go : (o : Option X) → seatT w ≡ o → Dec (w < r) → Dec (w ≡ r) → le (left w) (right w)
         go none e d c = basic-le w (F .basic-zero w h e)
-        go (some x) e (yes l) c = subst (λ o. le (left w) (scale (a w) (scale dS (seated 𝓥 o)))) (sym e) (below-le w x l e)
+        go (some x) e (yes l) c = subst (λ o. le (left w) (scale (a w) (scale dS (seated 𝓥 o)))) (sym e)
+            (below-le w x l e)
         go (some x) e (no n) (yes c) = rw c (weaken L strict-at-r)
-        go (some x) e (no n) (no c) = same-le L (ap (scale (a w)) (F .seatedS w x h (F .above w x (omega arith) e) ∙ ap (λ o. scale dS (seated 𝓥 o)) (sym e)))
+        go (some x) e (no n) (no c) = same-le L
+            (ap (scale (a w)) (F .seatedS w x h (F .above w x (omega arith) e)
+            ∙ ap (λ o. scale dS (seated 𝓥 o)) (sym e)))
 
     sum-T : X
     sum-T = total 𝓥 N (λ w. scale (a w) (seated 𝓥 (seatT w)))
 
     total-right : total 𝓥 N right ≡ scale dS sum-T
     unfolding sum-T
-    total-right = total-same L N right (λ w. scale dS (scale (a w) (seated 𝓥 (seatT w)))) (λ w h. scale-comm L (a w) dS _) ∙ sym (scale-total L dS N _)
+    total-right = total-same L N right (λ w. scale dS (scale (a w) (seated 𝓥 (seatT w))))
+        (λ w h. scale-comm L (a w) dS _) ∙ sym (scale-total L dS N _)
 
     further : lt (scale dT (yS p)) (scale dS sum-T)
     further = rw (F .row-of-S, ← total-right) (total-lt L N r left right (F .r-var) strict-at-r le-at)
@@ -163,9 +170,11 @@ module _ {X : Type 0} (𝓥 : Values X) where
         go (some y) e = by-sign (sign (a w))
           where
             by-sign : Sign (a w) → le (scale (a w) (x w)) (scale (a w) (scale d y))
-            by-sign (plus q) = let u = B .no-rise w y h e q in up L q (le-le L (B .high-ok w (u .0) h (u .1)) (up L (B .d-pos) (u .2)))
+            by-sign (plus q) = let u = B .no-rise w y h e q in
+                up L q (le-le L (B .high-ok w (u .0) h (u .1)) (up L (B .d-pos) (u .2)))
             by-sign (null z) = same-le L (rw z (L .zero-scale (x w) ∙ sym (L .zero-scale (scale d y))))
-            by-sign (minus q) = let l = B .no-fall w y h e q in down L q (le-le L (up L (B .d-pos) (l .2)) (B .low-ok w (l .0) h (l .1)))
+            by-sign (minus q) = let l = B .no-fall w y h e q in
+                down L q (le-le L (up L (B .d-pos) (l .2)) (B .low-ok w (l .0) h (l .1)))
 
     pub barred : ⊥
     barred = lt-irrefl L (le-lt-trans L first (lt-le-trans L (up-strict L (B .d-pos) (B .p-broken)) last))

@@ -42,7 +42,8 @@ module _ {X : Type 0} (𝓥 : Values X) (law : Laws 𝓥) (P : Problem X) where
   meets-same : (d : ℤ) (x y : ℕ → X) → ((v : ℕ) → v < vars P → x v ≡ y v) → Meets 𝓥 P d x → Meets 𝓥 P d y
   meets-same d x y e M = record {
     positive = M .positive;
-    rows = λ i h. sym (e (P .n + i) (omega arith)) ∙ M .rows i h ∙ total-same law (P .n) _ _ (λ j k. ap (𝓥 .scale (P .coefficient i j)) (e j (omega arith)));
+    rows = λ i h. sym (e (P .n + i) (omega arith)) ∙ M .rows i h
+        ∙ total-same law (P .n) _ _ (λ j k. ap (𝓥 .scale (P .coefficient i j)) (e j (omega arith)));
     lowers = λ v h. subst (AtLeast 𝓥 (P .lower v) d) (e v h) (M .lowers v h);
     uppers = λ v h. subst (AtMost 𝓥 (P .upper v) d) (e v h) (M .uppers v h);
   }
@@ -50,16 +51,20 @@ module _ {X : Type 0} (𝓥 : Values X) (law : Laws 𝓥) (P : Problem X) where
   -- limits that cross leave no fractions
   crossed-unmet : (v : ℕ) → v < vars P → Crosses 𝓥 P v → Unmet 𝓥 P
   crossed-unmet v h (l, u, a, b, c) d x M =
-      lt-irrefl law (lt-le-trans law (up-strict law (M .positive) c) (le-le law (rw a at (M .lowers v h)) (rw b at (M .uppers v h))))
+      lt-irrefl law (lt-le-trans law (up-strict law (M .positive) c)
+      (le-le law (rw a at (M .lowers v h)) (rw b at (M .uppers v h))))
 
 module _ (P : Problem ℤ) (s : State ℤ) (S : Ready whole P s) where
-  pub can-from : verdictOf (answerFrom P s) ≡ pos 1 → Meets whole P (denominatorOf (answerFrom P s)) (lowerPart (answerFrom P s))
+  pub can-from : verdictOf (answerFrom P s) ≡ pos 1 →
+      Meets whole P (denominatorOf (answerFrom P s)) (lowerPart (answerFrom P s))
   can-from e = go (answered P s S)
     where
       go : Answered P s → Meets whole P (denominatorOf (answerFrom P s)) (lowerPart (answerFrom P s))
       go (crossing v c z) = other-verdict P s 1 2 _ _ _ _ (omega arith) z e
-      go (can-at R q z) = rw z (rw (denominator-word (pos 1) (pos (R .count)) d xs zeros) (meets-same whole whole-laws P d (scaled whole P t) _
-          (λ v h. sym (lower-part (pos 1) (pos (R .count)) d xs zeros v (rw (table-length (vars P) (scaled whole P t)) h) ∙ table-at (vars P) (scaled whole P t) (pos 0) v h))
+      go (can-at R q z) = rw z (rw (denominator-word (pos 1) (pos (R .count)) d xs zeros)
+          (meets-same whole whole-laws P d (scaled whole P t) _
+          (λ v h. sym (lower-part (pos 1) (pos (R .count)) d xs zeros v
+          (rw (table-length (vars P) (scaled whole P t)) h) ∙ table-at (vars P) (scaled whole P t) (pos 0) v h))
           (can-is-met whole whole-laws P t (R .sound) q)))
         where
           t : State ℤ
@@ -82,7 +87,8 @@ module _ (P : Problem ℤ) (s : State ℤ) (S : Ready whole P s) where
       go : Answered P s → Unmet whole P
       go (crossing v c z) = let k = crosses-exactly whole P v .0 c in crossed-unmet whole whole-laws P v (k .0) (k .1)
       go (can-at R q z) = other-verdict P s 2 1 _ _ _ _ (omega arith) z e
-      go (cannot-at R ls us b z) = cannot-is-unmet whole whole-laws P (after whole P s (R .count)) (R .sound) (b .out) (b .leaves) (b .none-enters)
+      go (cannot-at R ls us b z) = cannot-is-unmet whole whole-laws P (after whole P s (R .count)) (R .sound) (b .out)
+          (b .leaves) (b .none-enters)
       go (range-at R b z) = other-verdict P s 2 3 _ _ _ _ (omega arith) z e
 
 -- ---- the answer to words
@@ -94,7 +100,8 @@ module _ (ws : List ℤ) where
   ready : Ready whole (problem ws) begin
   ready = ready-start whole whole-laws (problem ws)
 
-  pub can-meets-limits : verdictOf (answer ws) ≡ pos 1 → Meets whole (problem ws) (denominatorOf (answer ws)) (lowerPart (answer ws))
+  pub can-meets-limits : verdictOf (answer ws) ≡ pos 1 →
+      Meets whole (problem ws) (denominatorOf (answer ws)) (lowerPart (answer ws))
   unfolding answer
   can-meets-limits e = can-from (problem ws) begin ready e
 
@@ -114,7 +121,8 @@ module _ (ws : List ℤ) where
     sound : Sound whole (problem ws) begin
     sound = sound-start whole (problem ws) whole-laws apart
 
-    pub no-twice : (i j : ℕ) → i < j → Runs whole (problem ws) begin j → after whole (problem ws) begin i .seats ≢ after whole (problem ws) begin j .seats
+    pub no-twice : (i j : ℕ) → i < j → Runs whole (problem ws) begin j →
+        after whole (problem ws) begin i .seats ≢ after whole (problem ws) begin j .seats
     no-twice = twice-never whole whole-laws (problem ws) begin apart sound
 
     pub few-pivots : (k : ℕ) → Runs whole (problem ws) begin k → k < bound (problem ws)
@@ -126,7 +134,8 @@ module _ (ws : List ℤ) where
 -- ---- the output
 
 pub solve-only : (ws before : List ℤ) (r r′ : ℕ) (out out′ : List ℤ) →
-    (r ≡ refusal ws (length before)) × (out ≡ written r ws before) → (r′ ≡ refusal ws (length before)) × (out′ ≡ written r′ ws before) →
+    (r ≡ refusal ws (length before)) × (out ≡ written r ws before) →
+    (r′ ≡ refusal ws (length before)) × (out′ ≡ written r′ ws before) →
     (r ≡ r′) × (out ≡ out′)
 solve-only ws before r r′ out out′ (a, b) (c, d) = (a ∙ sym c, b ∙ ap (λ k. written k ws before) (a ∙ sym c) ∙ sym d)
 
@@ -139,4 +148,5 @@ module _ (ws before : List ℤ) (room : answerLength ws ≤ length before) where
   pub written-past : (i : ℕ) → word (written 0 ws before) (answerLength ws + i) ≡ word before (answerLength ws + i)
   unfolding written
   written-past i = ap (λ k. word (answer ws ++ drop (answerLength ws) before) (k + i)) (sym (answer-shaped ws .many))
-      ∙ getD-append-add (answer ws) (drop (answerLength ws) before) i (pos 0) ∙ getD-drop (answerLength ws) before i (pos 0)
+      ∙ getD-append-add (answer ws) (drop (answerLength ws) before) i (pos 0)
+      ∙ getD-drop (answerLength ws) before i (pos 0)

@@ -28,11 +28,14 @@ module _ {X : Type 0} (𝓥 : Values X) where
   decMoves range = inr tt
   decMoves (goes t) = inl tt
 
-  ends-from : (P : Problem X) (s : State X) (B : ℕ) → ((k : ℕ) → Runs 𝓥 P s k → k < B) → (f i : ℕ) → i + f ≡ B → Runs 𝓥 P s i → (k : ℕ) × Ends 𝓥 P s k
+  ends-from : (P : Problem X) (s : State X) (B : ℕ) → ((k : ℕ) → Runs 𝓥 P s k → k < B) → (f i : ℕ) → i + f ≡ B →
+      Runs 𝓥 P s i → (k : ℕ) × Ends 𝓥 P s k
   ends-from P s B b zero i e r = let z : i < B = b i r in let y : ⊥ = omega arith in absurd y
-  ends-from P s B b (suc f) i e r = go (decMoves (step 𝓥 P (after 𝓥 P s i))) (λ r′. ends-from P s B b f (suc i) (omega arith) r′)
+  ends-from P s B b (suc f) i e r = go (decMoves (step 𝓥 P (after 𝓥 P s i)))
+      (λ r′. ends-from P s B b f (suc i) (omega arith) r′)
     where
-      go : (Moves (step 𝓥 P (after 𝓥 P s i))) ⊎ (Ended (step 𝓥 P (after 𝓥 P s i))) → (Runs 𝓥 P s (suc i) → (k : ℕ) × Ends 𝓥 P s k) → (k : ℕ) × Ends 𝓥 P s k
+      go : (Moves (step 𝓥 P (after 𝓥 P s i))) ⊎ (Ended (step 𝓥 P (after 𝓥 P s i))) →
+          (Runs 𝓥 P s (suc i) → (k : ℕ) × Ends 𝓥 P s k) → (k : ℕ) × Ends 𝓥 P s k
       go (inr d) rest = (i, record { runs = r; ended = d })
       go (inl m) rest = rest (λ j h. one j h (ℕ-discrete j i))
         where
@@ -40,17 +43,21 @@ module _ {X : Type 0} (𝓥 : Values X) where
           one j h (yes e) = rw e m
           one j h (no n) = r j (omega arith)
 
-  pub ends : Laws 𝓥 → (P : Problem X) (s : State X) → Apart 𝓥 P → Sound 𝓥 P s → howManySeated (s .seats) ≡ P .n → (k : ℕ) × Ends 𝓥 P s k
-  ends law P s A S n = ends-from P s (bound P) (below-bound 𝓥 law P s A S n) (bound P) 0 (omega arith) (λ i h. let z : ⊥ = omega arith in absurd z)
+  pub ends : Laws 𝓥 → (P : Problem X) (s : State X) → Apart 𝓥 P → Sound 𝓥 P s → howManySeated (s .seats) ≡ P .n →
+      (k : ℕ) × Ends 𝓥 P s k
+  ends law P s A S n = ends-from P s (bound P) (below-bound 𝓥 law P s A S n) (bound P) 0 (omega arith)
+      (λ i h. let z : ⊥ = omega arith in absurd z)
 
   -- ---- the start
 
-  seated-from : (P : Problem X) (a k : ℕ) → a + k ≡ P .n + P .m → howManySeated (tableFrom a k (startSeat 𝓥 P)) ≡ P .n - a
+  seated-from : (P : Problem X) (a k : ℕ) → a + k ≡ P .n + P .m →
+      howManySeated (tableFrom a k (startSeat 𝓥 P)) ≡ P .n - a
   unfolding tableFrom
   seated-from P a zero e = omega arith
   seated-from P a (suc k) e = go (startSeat 𝓥 P a) refl (seated-from P (suc a) k (omega arith))
     where
-      go : (o : Option X) → startSeat 𝓥 P a ≡ o → howManySeated (tableFrom (suc a) k (startSeat 𝓥 P)) ≡ P .n - suc a → howManySeated (o ∷ tableFrom (suc a) k (startSeat 𝓥 P)) ≡ P .n - a
+      go : (o : Option X) → startSeat 𝓥 P a ≡ o → howManySeated (tableFrom (suc a) k (startSeat 𝓥 P)) ≡ P .n - suc a →
+          howManySeated (o ∷ tableFrom (suc a) k (startSeat 𝓥 P)) ≡ P .n - a
       go none q h = let z : P .n ≤ a = basic-row 𝓥 P a q in h ∙ (omega arith)
       go (some x) q h = let z : a < P .n = seated-problem 𝓥 P a x q .0 in ap suc h ∙ (omega arith)
 

@@ -47,7 +47,10 @@ first-exactly (t ∷ ts) k = both (first-exactly ts k)
       where
         go : (b : Bool) → t .test ≡ b → first (tests (t ∷ ts)) ≡ k → First (t ∷ ts) k
         go true q e = inl (t .tells .if-true q, sym e ∙ first-hit (t .number) (tests ts) q)
-        go false q e = inr (λ h. t .tells .not-both h (t .tells .if-false q), r .0 (sym (first-skip (t .number) (tests ts) q) ∙ e))
+        go false q e = inr (
+          λ h. t .tells .not-both h (t .tells .if-false q),
+          r .0 (sym (first-skip (t .number) (tests ts) q) ∙ e),
+        )
 
         back : First (t ∷ ts) k → first (tests (t ∷ ts)) ≡ k
         back (inl h) = first-hit (t .number) (tests ts) (tells-true (t .tells) (h .0)) ∙ sym (h .1)
@@ -74,7 +77,10 @@ first-fine [] n = (λ e. tt, λ u. refl)
 first-fine (t ∷ ts) n = both (first-fine ts (n .1))
   where
     both : (first (tests ts) ≡ 0) ↔ AllFine ts → (first (tests (t ∷ ts)) ≡ 0) ↔ AllFine (t ∷ ts)
-    both r = (λ e. go (t .test) refl e, λ f. first-skip (t .number) (tests ts) (tells-false (t .tells) (f .0)) ∙ r .1 (f .1))
+    both r = (
+      λ e. go (t .test) refl e,
+      λ f. first-skip (t .number) (tests ts) (tells-false (t .tells) (f .0)) ∙ r .1 (f .1),
+    )
       where
         go : (b : Bool) → t .test ≡ b → first (tests (t ∷ ts)) ≡ 0 → AllFine (t ∷ ts)
         go true q e = absurd (n .0 (sym (first-hit (t .number) (tests ts) q) ∙ e))

@@ -41,13 +41,17 @@ module _ {X : Type 0} (𝓥 : Values X) where
       uppers = λ v h. upper-met (P .upper v) (common s) (scaled 𝓥 P s v) (λ u k. high v h u k (seat s v) refl);
     }
       where
-        low : (v : ℕ) → v < vars P → (l : X) → P .lower v ≡ some l → (o : Option X) → seat s v ≡ o → Le 𝓥 (𝓥 .scale (common s) l) (scaled 𝓥 P s v)
+        low : (v : ℕ) → v < vars P → (l : X) → P .lower v ≡ some l → (o : Option X) → seat s v ≡ o →
+            Le 𝓥 (𝓥 .scale (common s) l) (scaled 𝓥 P s v)
         low v h l k none q = none-leaves 𝓥 P s e v h q .low l k
-        low v h l k (some x) q = rw (seated-scaled 𝓥 law P s (S .rowed) v x h q) (up law (S .rowed .positive) (S .lowers v x l h q k))
+        low v h l k (some x) q = rw (seated-scaled 𝓥 law P s (S .rowed) v x h q)
+            (up law (S .rowed .positive) (S .lowers v x l h q k))
 
-        high : (v : ℕ) → v < vars P → (u : X) → P .upper v ≡ some u → (o : Option X) → seat s v ≡ o → Le 𝓥 (scaled 𝓥 P s v) (𝓥 .scale (common s) u)
+        high : (v : ℕ) → v < vars P → (u : X) → P .upper v ≡ some u → (o : Option X) → seat s v ≡ o →
+            Le 𝓥 (scaled 𝓥 P s v) (𝓥 .scale (common s) u)
         high v h u k none q = none-leaves 𝓥 P s e v h q .high u k
-        high v h u k (some x) q = rw (seated-scaled 𝓥 law P s (S .rowed) v x h q) (up law (S .rowed .positive) (S .uppers v x u h q k))
+        high v h u k (some x) q = rw (seated-scaled 𝓥 law P s (S .rowed) v x h q)
+            (up law (S .rowed .positive) (S .uppers v x u h q k))
 
     module _ (d : ℤ) (x : ℕ → X) (M : Meets 𝓥 P d x) where
       bar : (σ : Side) (p : ℕ) → Left 𝓥 P s (leaves p σ) → entering 𝓥 P s (leaves p σ) ≡ none → Barred (sided σ 𝓥)
@@ -61,8 +65,10 @@ module _ {X : Type 0} (𝓥 : Values X) where
         d = d;
         d-pos = M .positive;
         x = x;
-        low-ok = λ v l h. near-by 𝓥 P σ d v (x v) (lower-met-back (P .lower v) d (x v) (M .lowers v h)) (upper-met-back (P .upper v) d (x v) (M .uppers v h)) l;
-        high-ok = λ v u h. far-by 𝓥 P σ d v (x v) (lower-met-back (P .lower v) d (x v) (M .lowers v h)) (upper-met-back (P .upper v) d (x v) (M .uppers v h)) u;
+        low-ok = λ v l h. near-by 𝓥 P σ d v (x v) (lower-met-back (P .lower v) d (x v) (M .lowers v h))
+            (upper-met-back (P .upper v) d (x v) (M .uppers v h)) l;
+        high-ok = λ v u h. far-by 𝓥 P σ d v (x v) (lower-met-back (P .lower v) d (x v) (M .lowers v h))
+            (upper-met-back (P .upper v) d (x v) (M .uppers v h)) u;
         dT = common s;
         dT-pos = S .rowed .positive;
         a = λ w. entry (s .tableau) p w;
@@ -77,4 +83,5 @@ module _ {X : Type 0} (𝓥 : Values X) where
       }
 
     pub cannot-is-unmet : (r : Leaving) → leaving 𝓥 P s ≡ some r → entering 𝓥 P s r ≡ none → Unmet 𝓥 P
-    cannot-is-unmet r l e d x M = barred (sided (r .side) 𝓥) (sided-laws (r .side) law) (bar d x M (r .side) (r .variable) (left 𝓥 P s r l) e)
+    cannot-is-unmet r l e d x M = barred (sided (r .side) 𝓥) (sided-laws (r .side) law)
+        (bar d x M (r .side) (r .variable) (left 𝓥 P s r l) e)

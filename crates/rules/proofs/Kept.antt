@@ -44,16 +44,21 @@ module _ {X : Type 0} (𝓥 : Values X) where
   unfolding startEntry
   entry-within P C v w h = go (ltb v (P .n)) refl (ltb w (P .n)) refl
     where
-      go : (b : Bool) → ltb v (P .n) ≡ b → (c : Bool) → ltb w (P .n) ≡ c → Within (cond b (same v w) (cond c (P .coefficient (v - P .n) w) (pos 0))) largestNumber
+      go : (b : Bool) → ltb v (P .n) ≡ b → (c : Bool) → ltb w (P .n) ≡ c →
+          Within (cond b (same v w) (cond c (P .coefficient (v - P .n) w) (pos 0))) largestNumber
       go true p c q = one-or-zero (eqb v w)
-      go false p true q = within-le (C (v - P .n) w (let k = tells-lt v (P .n) .if-false p in omega arith) (tells-lt w (P .n) .if-true q)) (omega arith)
+      go false p true q = within-le (C (v - P .n) w (let k = tells-lt v (P .n) .if-false p in omega arith)
+          (tells-lt w (P .n) .if-true q)) (omega arith)
       go false p false q = record { within = omega arith }
 
-  pub kept-start : (P : Problem X) → ((i j : ℕ) → i < P .m → j < P .n → Within (P .coefficient i j) largestCoefficient) → Kept 𝓥 P (start 𝓥 P)
+  pub kept-start : (P : Problem X) → ((i j : ℕ) → i < P .m → j < P .n →
+      Within (P .coefficient i j) largestCoefficient) → Kept 𝓥 P (start 𝓥 P)
   kept-start P C = record {
     lowest-form = dvd-one .0 (rw (common-one 𝓥 P) at (divisor-divides (vars P) (start 𝓥 P .tableau) .0));
-    in-range = tells-true (small-tells (vars P) (start 𝓥 P .tableau))
-        (rw (common-one 𝓥 P) (record { within = omega arith }), λ v h u k. rw (at-start 𝓥 P v u h k) (entry-within P C v u h));
+    in-range = tells-true (small-tells (vars P) (start 𝓥 P .tableau)) (
+      rw (common-one 𝓥 P) (record { within = omega arith }),
+      λ v h u k. rw (at-start 𝓥 P v u h k) (entry-within P C v u h),
+    );
     seated-many = start-seated 𝓥 P;
   }
 
@@ -75,4 +80,5 @@ module _ {X : Type 0} (𝓥 : Values X) where
       (λ s t B e. (rowed-goes 𝓥 P s t (B .0) e, kept-goes P s t (B .0) (B .1) e)) s (S, K) k .1
 
 pub kept-begin : {rows : ℕ} {ws : List ℤ} → Accepted rows ws → Kept whole (problem ws) (start whole (problem ws))
-kept-begin {rows} {ws} A = kept-start whole (problem ws) (λ i j h k. coefficient-within A i j (rw (← problem-m ws) h) (rw (← problem-n ws) k))
+kept-begin {rows} {ws} A = kept-start whole (problem ws)
+    (λ i j h k. coefficient-within A i j (rw (← problem-m ws) h) (rw (← problem-n ws) k))

@@ -27,23 +27,30 @@ module _ {X : Type 0} (𝓥 : Values X) where
     too-high : {u : X} → P .upper v ≡ some u → Lt 𝓥 (𝓥 .scale (common s) u) (scaled 𝓥 P s v) → Outside P s v above u
 
   pub under-tells : (d : ℤ) (x : X) (o : Option X) →
-      Tells (under 𝓥 d x o) ((l : X) × (o ≡ some l) × Lt 𝓥 x (𝓥 .scale d l)) ((l : X) → o ≡ some l → Le 𝓥 (𝓥 .scale d l) x)
+      Tells (under 𝓥 d x o) ((l : X) × (o ≡ some l) × Lt 𝓥 x (𝓥 .scale d l))
+      ((l : X) → o ≡ some l → Le 𝓥 (𝓥 .scale d l) x)
   unfolding under
   under-tells d x = tells-present (under 𝓥 d x) (λ l. 𝓥 .less x (𝓥 .scale d l)) (λ l. refl) refl
 
   pub over-tells : (d : ℤ) (x : X) (o : Option X) →
-      Tells (over 𝓥 d x o) ((u : X) × (o ≡ some u) × Lt 𝓥 (𝓥 .scale d u) x) ((u : X) → o ≡ some u → Le 𝓥 x (𝓥 .scale d u))
+      Tells (over 𝓥 d x o) ((u : X) × (o ≡ some u) × Lt 𝓥 (𝓥 .scale d u) x)
+      ((u : X) → o ≡ some u → Le 𝓥 x (𝓥 .scale d u))
   unfolding over
   over-tells d x = tells-present (over 𝓥 d x) (λ u. 𝓥 .less (𝓥 .scale d u) x) (λ u. refl) refl
 
   broken-none : (P : Problem X) (s : State X) (v : ℕ) → broken 𝓥 P s v none ≡ none → Inside P s v
   unfolding broken
-  broken-none P s v e = go (under 𝓥 (common s) (scaled 𝓥 P s v) (P .lower v)) refl (over 𝓥 (common s) (scaled 𝓥 P s v) (P .upper v)) refl
+  broken-none P s v e = go (under 𝓥 (common s) (scaled 𝓥 P s v) (P .lower v)) refl
+      (over 𝓥 (common s) (scaled 𝓥 P s v) (P .upper v)) refl
     where
-      go : (a : Bool) → under 𝓥 (common s) (scaled 𝓥 P s v) (P .lower v) ≡ a → (b : Bool) → over 𝓥 (common s) (scaled 𝓥 P s v) (P .upper v) ≡ b → Inside P s v
+      go : (a : Bool) → under 𝓥 (common s) (scaled 𝓥 P s v) (P .lower v) ≡ a → (b : Bool) →
+          over 𝓥 (common s) (scaled 𝓥 P s v) (P .upper v) ≡ b → Inside P s v
       go true p b q = let z : _≡_ {A = ℕ} 0 1 = cc (rw (p, broken) at e) in zero-one z
       go false p true q = let z : _≡_ {A = ℕ} 0 1 = cc (rw q at (rw (p, broken) at e)) in zero-one z
-      go false p false q = record { low = under-tells (common s) (scaled 𝓥 P s v) (P .lower v) .if-false p; high = over-tells (common s) (scaled 𝓥 P s v) (P .upper v) .if-false q }
+      go false p false q = record {
+        low = under-tells (common s) (scaled 𝓥 P s v) (P .lower v) .if-false p;
+        high = over-tells (common s) (scaled 𝓥 P s v) (P .upper v) .if-false q;
+      }
 
   pub record Left (P : Problem X) (s : State X) (r : Leaving) : Type 0 where
     pub variable : r .variable < vars P
@@ -51,27 +58,42 @@ module _ {X : Type 0} (𝓥 : Values X) where
     pub outside : Outside P s (r .variable) (r .side) (limitAt 𝓥 P r)
     pub inside : (u : ℕ) → u < r .variable → seat s u ≡ none → Inside P s u
 
-  low-limit : (P : Problem X) (s : State X) (v : ℕ) → (l : X) × (P .lower v ≡ some l) × (Lt 𝓥 (scaled 𝓥 P s v) (𝓥 .scale (common s) l)) → Outside P s v below (limitAt 𝓥 P (leaves v below))
+  low-limit : (P : Problem X) (s : State X) (v : ℕ) →
+      (l : X) × (P .lower v ≡ some l) × (Lt 𝓥 (scaled 𝓥 P s v) (𝓥 .scale (common s) l)) →
+      Outside P s v below (limitAt 𝓥 P (leaves v below))
   unfolding limitAt seated
   low-limit P s v (l, e, h) = rw e (too-low e h)
 
-  high-limit : (P : Problem X) (s : State X) (v : ℕ) → (u : X) × (P .upper v ≡ some u) × (Lt 𝓥 (𝓥 .scale (common s) u) (scaled 𝓥 P s v)) → Outside P s v above (limitAt 𝓥 P (leaves v above))
+  high-limit : (P : Problem X) (s : State X) (v : ℕ) →
+      (u : X) × (P .upper v ≡ some u) × (Lt 𝓥 (𝓥 .scale (common s) u) (scaled 𝓥 P s v)) →
+      Outside P s v above (limitAt 𝓥 P (leaves v above))
   unfolding limitAt seated
   high-limit P s v (u, e, h) = rw e (too-high e h)
 
   Blames : Problem X → State X → ℕ → Option X → Leaving → Type 0
   Blames P s v o r = (o ≡ none) × (r .variable ≡ v) × Outside P s (r .variable) (r .side) (limitAt 𝓥 P r)
 
-  broken-some : (P : Problem X) (s : State X) (v : ℕ) (o : Option X) (r : Leaving) → broken 𝓥 P s v o ≡ some r → Blames P s v o r
+  broken-some : (P : Problem X) (s : State X) (v : ℕ) (o : Option X) (r : Leaving) → broken 𝓥 P s v o ≡ some r →
+      Blames P s v o r
   unfolding broken Blames
   broken-some P s v (some x) r e = let z : _≡_ {A = ℕ} 0 1 = cc in zero-one z
-  broken-some P s v none r e = go (under 𝓥 (common s) (scaled 𝓥 P s v) (P .lower v)) refl (over 𝓥 (common s) (scaled 𝓥 P s v) (P .upper v)) refl
+  broken-some P s v none r e = go (under 𝓥 (common s) (scaled 𝓥 P s v) (P .lower v)) refl
+      (over 𝓥 (common s) (scaled 𝓥 P s v) (P .upper v)) refl
     where
-      go : (a : Bool) → under 𝓥 (common s) (scaled 𝓥 P s v) (P .lower v) ≡ a → (b : Bool) → over 𝓥 (common s) (scaled 𝓥 P s v) (P .upper v) ≡ b → Blames P s v none r
+      go : (a : Bool) → under 𝓥 (common s) (scaled 𝓥 P s v) (P .lower v) ≡ a → (b : Bool) →
+          over 𝓥 (common s) (scaled 𝓥 P s v) (P .upper v) ≡ b → Blames P s v none r
       go true p b q = let z : _≡_ {A = Leaving} (leaves v below) r = cc (rw (p, broken) at e) in
-          subst (Blames P s v none) z (refl, refl, low-limit P s v (under-tells (common s) (scaled 𝓥 P s v) (P .lower v) .if-true p))
+          subst (Blames P s v none) z (
+            refl,
+            refl,
+            low-limit P s v (under-tells (common s) (scaled 𝓥 P s v) (P .lower v) .if-true p),
+          )
       go false p true q = let z : _≡_ {A = Leaving} (leaves v above) r = cc (rw q at (rw (p, broken) at e)) in
-          subst (Blames P s v none) z (refl, refl, high-limit P s v (over-tells (common s) (scaled 𝓥 P s v) (P .upper v) .if-true q))
+          subst (Blames P s v none) z (
+            refl,
+            refl,
+            high-limit P s v (over-tells (common s) (scaled 𝓥 P s v) (P .upper v) .if-true q),
+          )
       go false p false q = let z : _≡_ {A = ℕ} 0 1 = cc (rw q at (rw (p, broken) at e)) in zero-one z
 
   pub left : (P : Problem X) (s : State X) (r : Leaving) → leaving 𝓥 P s ≡ some r → Left P s r
@@ -87,6 +109,7 @@ module _ {X : Type 0} (𝓥 : Values X) where
         inside = λ u h n. broken-none P s u (rw n at (f .first u (omega arith)));
       }
 
-  pub none-leaves : (P : Problem X) (s : State X) → leaving 𝓥 P s ≡ none → (v : ℕ) → v < vars P → seat s v ≡ none → Inside P s v
+  pub none-leaves : (P : Problem X) (s : State X) → leaving 𝓥 P s ≡ none → (v : ℕ) → v < vars P → seat s v ≡ none →
+      Inside P s v
   unfolding leaving
   none-leaves P s e v h n = broken-none P s v (rw n at (lowest-none (vars P) (λ v. broken 𝓥 P s v (seat s v)) e v h))

@@ -32,7 +32,8 @@ rows-dvd zero N x a = (dvd-refl a, λ v u h k. let z : ⊥ = omega arith in absu
 rows-dvd (suc k) N x a = both (foldBelow k (λ v g. foldBelow N (λ u h. gcd (x v u) h) g) a) (rows-dvd k N x a)
   where
     both : (F : ℕ) → (F ∣ a) × ((v u : ℕ) → v < k → u < N → F ∣ x v u) →
-        (foldBelow N (λ u h. gcd (x k u) h) F ∣ a) × ((v u : ℕ) → v < suc k → u < N → foldBelow N (λ u h. gcd (x k u) h) F ∣ x v u)
+        (foldBelow N (λ u h. gcd (x k u) h) F ∣ a)
+        × ((v u : ℕ) → v < suc k → u < N → foldBelow N (λ u h. gcd (x k u) h) F ∣ x v u)
     both F r = (dvd-trans _ (fold-dvd N (x k) F .0) (r .0), λ v u h l. at v u h l (ℕ-discrete v k))
       where
         at : (v u : ℕ) → v < suc k → u < N → Dec (v ≡ k) → foldBelow N (λ u h. gcd (x k u) h) F ∣ x v u
@@ -44,20 +45,25 @@ rows-times : (k N : ℕ) (x : ℕ → ℕ → ℕ) (a d f : ℕ) → d ∣ f * a
 unfolding foldBelow
 rows-times zero N x a d f p q = p
 rows-times (suc k) N x a d f p q =
-    fold-times N (x k) _ d f (rows-times k N x a d f p (λ v u h l. q v u (omega arith) l)) (λ u l. q k u (omega arith) l)
+    fold-times N (x k) _ d f (rows-times k N x a d f p (λ v u h l. q v u (omega arith) l))
+    (λ u l. q k u (omega arith) l)
 
 module _ (N : ℕ) (t : Tableau) where
-  pub divisor-divides : (divisorSize N t ∣ natAbs (t .common)) × ((v u : ℕ) → v < N → u < N → divisorSize N t ∣ natAbs (entry t v u))
+  pub divisor-divides : (divisorSize N t ∣ natAbs (t .common))
+      × ((v u : ℕ) → v < N → u < N → divisorSize N t ∣ natAbs (entry t v u))
   unfolding divisorSize
   divisor-divides = rows-dvd N N (λ v u. natAbs (entry t v u)) (natAbs (t .common))
 
   -- what divides f times every number divides f times the divisor
-  pub divisor-times : (d f : ℕ) → d ∣ f * natAbs (t .common) → ((v u : ℕ) → v < N → u < N → d ∣ f * natAbs (entry t v u)) → d ∣ f * divisorSize N t
+  pub divisor-times : (d f : ℕ) → d ∣ f * natAbs (t .common) →
+      ((v u : ℕ) → v < N → u < N → d ∣ f * natAbs (entry t v u)) → d ∣ f * divisorSize N t
   unfolding divisorSize
   divisor-times d f p q = rows-times N N (λ v u. natAbs (entry t v u)) (natAbs (t .common)) d f p q
 
-  pub divisor-greatest : (d : ℕ) → d ∣ natAbs (t .common) → ((v u : ℕ) → v < N → u < N → d ∣ natAbs (entry t v u)) → d ∣ divisorSize N t
-  divisor-greatest d p q = by-one-back d (divisorSize N t) (divisor-times d 1 (by-one d (natAbs (t .common)) p) (λ v u h k. by-one d (natAbs (entry t v u)) (q v u h k)))
+  pub divisor-greatest : (d : ℕ) → d ∣ natAbs (t .common) → ((v u : ℕ) → v < N → u < N → d ∣ natAbs (entry t v u)) →
+      d ∣ divisorSize N t
+  divisor-greatest d p q = by-one-back d (divisorSize N t)
+      (divisor-times d 1 (by-one d (natAbs (t .common)) p) (λ v u h k. by-one d (natAbs (entry t v u)) (q v u h k)))
 
   pub divisor-pos : t .common ≢ pos 0 → 0 < divisorSize N t
   divisor-pos n = pos-of-dvd-of-pos (divisor-divides .0) (size-pos (t .common) n)
@@ -116,13 +122,16 @@ module _ (N : ℕ) (t : Tableau) where
 
   -- what divides the lowest form divides the tableau, with the divisor as a further factor
   lifted : (F : Factored N t) (d : ℕ) (x z : ℤ) → F .by *ℤ x ≡ z → d ∣ natAbs x → d * divisorSize N t ∣ natAbs z
-  lifted F d x z e h = subst (λ a. d * divisorSize N t ∣ a) (size F x z e) (mul-dvd-mul-right d {b = natAbs x} h (divisorSize N t))
+  lifted F d x z e h = subst (λ a. d * divisorSize N t ∣ a) (size F x z e)
+      (mul-dvd-mul-right d {b = natAbs x} h (divisorSize N t))
     where
       size : (F : Factored N t) (x z : ℤ) → F .by *ℤ x ≡ z → natAbs x * divisorSize N t ≡ natAbs z
-      size F x z e = ap (λ g. natAbs x * g) (sym (F .by-size)) ∙ mul-comm (natAbs x) (natAbs (F .by)) ∙ sym (abs-* (F .by) x) ∙ ap natAbs e
+      size F x z e = ap (λ g. natAbs x * g) (sym (F .by-size)) ∙ mul-comm (natAbs x) (natAbs (F .by))
+          ∙ sym (abs-* (F .by) x) ∙ ap natAbs e
 
   pub reduced-one : t .common ≢ pos 0 → divisorSize N (reduced N t) ≡ 1
-  reduced-one n = dvd-one .0 (dvd-of-mul-dvd-mul-right D {n = 1} (divisor-pos N t n) (subst (λ z. D * g ∣ z) (sym (one-mul g)) D-g))
+  reduced-one n = dvd-one .0 (dvd-of-mul-dvd-mul-right D {n = 1} (divisor-pos N t n)
+      (subst (λ z. D * g ∣ z) (sym (one-mul g)) D-g))
     where
       g : ℕ
       g = divisorSize N t
@@ -136,4 +145,5 @@ module _ (N : ℕ) (t : Tableau) where
       D-g : D * g ∣ g
       D-g = divisor-greatest N t (D * g)
           (lifted F D (reduced N t .common) (t .common) (F .of-common) (divisor-divides N (reduced N t) .0))
-          (λ v u h k. lifted F D (entry (reduced N t) v u) (entry t v u) (F .of-entry v u h k) (divisor-divides N (reduced N t) .1 v u h k))
+          (λ v u h k. lifted F D (entry (reduced N t) v u) (entry t v u) (F .of-entry v u h k)
+          (divisor-divides N (reduced N t) .1 v u h k))

@@ -59,7 +59,8 @@ module _ {X : Type 0} (𝓥 : Values X) where
   unfolding step evidence
   step-cannot P s ls us = (λ e. go e (stepped P s), λ (r, q, y, z). rw (q, step) (rw y z))
     where
-      go : step 𝓥 P s ≡ cannot ls us → Stepped P s → (r : Leaving) × (leaving 𝓥 P s ≡ some r) × (entering 𝓥 P s r ≡ none)
+      go : step 𝓥 P s ≡ cannot ls us → Stepped P s →
+          (r : Leaving) × (leaving 𝓥 P s ≡ some r) × (entering 𝓥 P s r ≡ none)
           × (evidence {X = X} (vars P) (r .side) (relation (s .tableau) (r .variable)) ≡ cannot ls us)
       go e (is-can q z) = let c : _≡_ {A = ℕ} 0 1 = cc in zero-one c
       go e (is-cannot r q y z) = (r, q, y, sym z ∙ e)
@@ -67,12 +68,14 @@ module _ {X : Type 0} (𝓥 : Values X) where
       go e (is-goes r w q y f z) = let c : _≡_ {A = ℕ} 0 1 = cc in zero-one c
 
   pub step-range : (P : Problem X) (s : State X) → (step 𝓥 P s ≡ range)
-      ↔ ((r : Leaving) × (w : ℕ) × (leaving 𝓥 P s ≡ some r) × (entering 𝓥 P s r ≡ some w) × (small (vars P) (moved 𝓥 P s r w .tableau) ≡ false))
+      ↔ ((r : Leaving) × (w : ℕ) × (leaving 𝓥 P s ≡ some r) × (entering 𝓥 P s r ≡ some w)
+      × (small (vars P) (moved 𝓥 P s r w .tableau) ≡ false))
   unfolding step evidence admit
   step-range P s = (λ e. go e (stepped P s), λ (r, w, q, y, f). rw (q, step) (rw y (rw (f, admit))))
     where
       go : step 𝓥 P s ≡ range → Stepped P s →
-          (r : Leaving) × (w : ℕ) × (leaving 𝓥 P s ≡ some r) × (entering 𝓥 P s r ≡ some w) × (small (vars P) (moved 𝓥 P s r w .tableau) ≡ false)
+          (r : Leaving) × (w : ℕ) × (leaving 𝓥 P s ≡ some r) × (entering 𝓥 P s r ≡ some w)
+          × (small (vars P) (moved 𝓥 P s r w .tableau) ≡ false)
       go e (is-can q z) = let c : _≡_ {A = ℕ} 0 1 = cc in zero-one c
       go e (is-cannot r q y z) = let c : _≡_ {A = ℕ} 0 1 = cc in zero-one c
       go e (is-range r w q y f z) = (r, w, q, y, f)

@@ -35,24 +35,29 @@ module _ {X : Type 0} (𝓥 : Values X) (P : Problem X) where
   SameNumbers t u = (t .common ≡ u .common) × ((v w : ℕ) → v < vars P → w < vars P → entry t v w ≡ entry u v w)
 
   module _ (s t : State X) (S : Rowed 𝓥 P s) (T : Rowed 𝓥 P t) (same : SameBasis s t) where
-    pub crosswise : (v w : ℕ) → v < vars P → w < vars P → common s *ℤ entry (t .tableau) v w ≡ entry (s .tableau) v w *ℤ common t
+    pub crosswise : (v w : ℕ) → v < vars P → w < vars P →
+        common s *ℤ entry (t .tableau) v w ≡ entry (s .tableau) v w *ℤ common t
     crosswise v w h k = go (seat t w) refl
       where
         -- the entries of column w of t, in row v of s: nothing but at w itself
-        else-zero : (u : ℕ) → u < vars P → u ≢ w → (o : Option X) → seat t u ≡ o → entry (s .tableau) v u *ℤ entry (t .tableau) u w ≡ pos 0
+        else-zero : (u : ℕ) → u < vars P → u ≢ w → (o : Option X) → seat t u ≡ o →
+            entry (s .tableau) v u *ℤ entry (t .tableau) u w ≡ pos 0
         else-zero u l n none e = rw (S .basic-zero v u h l (same u l .1 e)) (zero-*ℤ (entry (t .tableau) u w))
         else-zero u l n (some x) e = rw (T .own-zero u w x l k e (λ z. n (sym z))) (*ℤ-zero (entry (s .tableau) v u))
 
         go : (o : Option X) → seat t w ≡ o → common s *ℤ entry (t .tableau) v w ≡ entry (s .tableau) v w *ℤ common t
-        go none e = rw (T .basic-zero v w h k e, S .basic-zero v w h k (same w k .1 e)) (*ℤ-zero (common s) ∙ sym (zero-*ℤ (common t)))
+        go none e = rw (T .basic-zero v w h k e, S .basic-zero v w h k (same w k .1 e))
+            (*ℤ-zero (common s) ∙ sym (zero-*ℤ (common t)))
         go (some x) e = S .holds (λ u. entry (t .tableau) u w) (T .columns w k) v h
-            ∙ sum-one (vars P) w (λ u. entry (s .tableau) v u *ℤ entry (t .tableau) u w) k (λ u l n. else-zero u l n (seat t u) refl)
+            ∙ sum-one (vars P) w (λ u. entry (s .tableau) v u *ℤ entry (t .tableau) u w) k
+            (λ u l n. else-zero u l n (seat t u) refl)
             ∙ ap (λ z. entry (s .tableau) v w *ℤ z) (T .own w x k e)
 
     -- D of s divides D of t, where s is in lowest form
     common-divides : divisorSize (vars P) (s .tableau) ≡ 1 → natAbs (common s) ∣ natAbs (common t)
     common-divides e = subst (λ z. a ∣ z) (ap (λ g. b * g) e ∙ mul-one b)
-        (divisor-times (vars P) (s .tableau) a b (dvd-mul-left a b) (λ v w h k. subst (λ z. a ∣ z) (sizes v w h k) (dvd-mul-right a (natAbs (entry (t .tableau) v w)))))
+        (divisor-times (vars P) (s .tableau) a b (dvd-mul-left a b)
+        (λ v w h k. subst (λ z. a ∣ z) (sizes v w h k) (dvd-mul-right a (natAbs (entry (t .tableau) v w)))))
       where
         a : ℕ
         a = natAbs (common s)
@@ -60,21 +65,26 @@ module _ {X : Type 0} (𝓥 : Values X) (P : Problem X) where
         b : ℕ
         b = natAbs (common t)
 
-        sizes : (v w : ℕ) → v < vars P → w < vars P → a * natAbs (entry (t .tableau) v w) ≡ b * natAbs (entry (s .tableau) v w)
+        sizes : (v w : ℕ) → v < vars P → w < vars P →
+            a * natAbs (entry (t .tableau) v w) ≡ b * natAbs (entry (s .tableau) v w)
         sizes v w h k = sym (abs-* (common s) (entry (t .tableau) v w)) ∙ ap natAbs (crosswise v w h k)
             ∙ abs-* (entry (s .tableau) v w) (common t) ∙ mul-comm (natAbs (entry (s .tableau) v w)) b
 
   pub tableau-only : (s t : State X) → Rowed 𝓥 P s → Rowed 𝓥 P t → SameBasis s t →
-      divisorSize (vars P) (s .tableau) ≡ 1 → divisorSize (vars P) (t .tableau) ≡ 1 → SameNumbers (s .tableau) (t .tableau)
+      divisorSize (vars P) (s .tableau) ≡ 1 → divisorSize (vars P) (t .tableau) ≡ 1 →
+      SameNumbers (s .tableau) (t .tableau)
   tableau-only s t S T same p q = (D-same, λ v w h k. cancel (common s) _ _ (inl (S .positive)) (turn v w h k))
     where
       D-same : common s ≡ common t
       D-same = own-size 0 (common s) (<ℤ→≤ℤ (S .positive))
-          ∙ ap pos (dvd-antisymm (common-divides s t S T same p) (common-divides t s T S (λ v h. (same v h .1, same v h .0)) q))
+          ∙ ap pos (dvd-antisymm (common-divides s t S T same p)
+          (common-divides t s T S (λ v h. (same v h .1, same v h .0)) q))
           ∙ sym (own-size 0 (common t) (<ℤ→≤ℤ (T .positive)))
 
-      turn : (v w : ℕ) → v < vars P → w < vars P → common s *ℤ entry (s .tableau) v w ≡ common s *ℤ entry (t .tableau) v w
-      turn v w h k = *ℤ-comm (common s) (entry (s .tableau) v w) ∙ ap (λ z. entry (s .tableau) v w *ℤ z) D-same ∙ sym (crosswise s t S T same v w h k)
+      turn : (v w : ℕ) → v < vars P → w < vars P →
+          common s *ℤ entry (s .tableau) v w ≡ common s *ℤ entry (t .tableau) v w
+      turn v w h k = *ℤ-comm (common s) (entry (s .tableau) v w) ∙ ap (λ z. entry (s .tableau) v w *ℤ z) D-same
+          ∙ sym (crosswise s t S T same v w h k)
 
   -- ---- the next tableau
 
@@ -98,9 +108,11 @@ module _ {X : Type 0} (𝓥 : Values X) (P : Problem X) where
       where
         back : (v : ℕ) → (v ≡ w) ⊎ ((v ≢ r .variable) × (seat s v ≡ none)) → seat (moved 𝓥 P s r w) v ≡ none
         back v (inl e) = rw e (W .now-basic)
-        back v (inr (n, e)) = W .others v n (λ z. Option·none-ne-some (E .value) (sym e ∙ ap (seat s) z ∙ E .was-seated)) ∙ e
+        back v (inr (n, e)) = W .others v n
+            (λ z. Option·none-ne-some (E .value) (sym e ∙ ap (seat s) z ∙ E .was-seated)) ∙ e
 
     -- .. and any other has the same numbers
     pub next-only : (t : State X) → Next s r w t → SameNumbers (t .tableau) (moved 𝓥 P s r w .tableau)
     next-only t T = tableau-only t (moved 𝓥 P s r w) (T .rowed) (next-moved .rowed)
-        (λ v h. (λ e. next-moved .basis v h .1 (T .basis v h .0 e), λ e. T .basis v h .1 (next-moved .basis v h .0 e))) (T .lowest-form) (next-moved .lowest-form)
+        (λ v h. (λ e. next-moved .basis v h .1 (T .basis v h .0 e), λ e. T .basis v h .1 (next-moved .basis v h .0 e)))
+        (T .lowest-form) (next-moved .lowest-form)

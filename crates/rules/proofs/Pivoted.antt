@@ -34,7 +34,8 @@ use Rattle.rules.specs.Problem.{Problem, vars}
 use Rattle.rules.specs.Step.{Leaving, Side, State, above, below, common, limitAt, moved, positive, pull, seat}
 use Rattle.rules.specs.Tableau.{Tableau, divisorSize, entry, pivot, reduced, relation, solved}
 
-pub pivot-nonzero : {X : Type 0} (𝓥 : Values X) (P : Problem X) (σ : Side) (w : ℕ) (a : ℤ) (x : X) → Suits 𝓥 P w (pull σ a) x → Nonzero a
+pub pivot-nonzero : {X : Type 0} (𝓥 : Values X) (P : Problem X) (σ : Side) (w : ℕ) (a : ℤ) (x : X) →
+    Suits 𝓥 P w (pull σ a) x → Nonzero a
 unfolding pull
 pivot-nonzero 𝓥 P below w a x (may-go-up h f) = inl h
 pivot-nonzero 𝓥 P below w a x (may-go-down h f) = inr h
@@ -43,10 +44,12 @@ pivot-nonzero 𝓥 P above w (pos (suc k)) x (may-go-up h f) = absurd (h .lt)
 pivot-nonzero 𝓥 P above w (negsuc k) x (may-go-up h f) = inr (record { lt = tt })
 pivot-nonzero 𝓥 P above w (pos zero) x (may-go-down h f) = absurd (<ℤ-irrefl h)
 pivot-nonzero 𝓥 P above w (pos (suc k)) x (may-go-down h f) = inl (record { lt = lt→ltb 0 (suc k) (omega arith) })
-pivot-nonzero 𝓥 P above w (negsuc k) x (may-go-down h f) = let q : suc k < 0 = ltb→lt (suc k) 0 (h .lt) in let z : ⊥ = omega arith in absurd z
+pivot-nonzero 𝓥 P above w (negsuc k) x (may-go-down h f) = let q : suc k < 0 = ltb→lt (suc k) 0 (h .lt) in
+    let z : ⊥ = omega arith in absurd z
 
 module _ {X : Type 0} (𝓥 : Values X) where
-  module _ (P : Problem X) (s : State X) (S : Rowed 𝓥 P s) (r : Leaving) (w : ℕ) (L : Left 𝓥 P s r) (E : Entered 𝓥 P s r w) where
+  module _ (P : Problem X) (s : State X) (S : Rowed 𝓥 P s) (r : Leaving) (w : ℕ) (L : Left 𝓥 P s r)
+      (E : Entered 𝓥 P s r w) where
     abbrev N : ℕ
     N = vars P
 
@@ -96,14 +99,17 @@ module _ {X : Type 0} (𝓥 : Values X) where
 
     positive2 : pos 0 <ℤ t2 .common
     unfolding t2
-    positive2 = quotient-up (F .by) (t2 .common) (rw (F .of-common) common1-nonzero) (λ h. F .sign-up (rw (F .of-common) at h)) (λ h. F .sign-down (rw (F .of-common) at h))
+    positive2 = quotient-up (F .by) (t2 .common) (rw (F .of-common) common1-nonzero)
+        (λ h. F .sign-up (rw (F .of-common) at h)) (λ h. F .sign-down (rw (F .of-common) at h))
 
     holds2 : (x : ℕ → ℤ) → Rows whole P x → (v : ℕ) → v < N → t2 .common *ℤ x v ≡ sum N (λ u. entry t2 v u *ℤ x u)
     unfolding t2 t1
     holds2 x X v h = cancel (F .by) (t2 .common *ℤ x v) (sum N (λ u. entry t2 v u *ℤ x u)) by-nonzero (
         sym (*ℤ-assoc (F .by) (t2 .common) (x v)) ∙ ap (λ d. d *ℤ x v) (F .of-common)
-        ∙ solved-holds N t q w (L .variable) (E .variable) x (S .holds x X) (λ v k. S .basic-zero v q k (L .variable) (L .was-basic)) v h
-        ∙ sum-same N (λ u. entry t1 v u *ℤ x u) (λ u. F .by *ℤ (entry t2 v u *ℤ x u)) (λ u k. ap (λ e. e *ℤ x u) (sym (F .of-entry v u h k)) ∙ *ℤ-assoc (F .by) (entry t2 v u) (x u))
+        ∙ solved-holds N t q w (L .variable) (E .variable) x (S .holds x X)
+        (λ v k. S .basic-zero v q k (L .variable) (L .was-basic)) v h
+        ∙ sum-same N (λ u. entry t1 v u *ℤ x u) (λ u. F .by *ℤ (entry t2 v u *ℤ x u))
+        (λ u k. ap (λ e. e *ℤ x u) (sym (F .of-entry v u h k)) ∙ *ℤ-assoc (F .by) (entry t2 v u) (x u))
         ∙ sum-times N (F .by) (λ u. entry t2 v u *ℤ x u))
 
     -- c (p m - n y) = p (c m) - y (c n)
@@ -115,12 +121,18 @@ module _ {X : Type 0} (𝓥 : Values X) where
         entry1 (P .n + i) u (omega arith) k
         ∙ ap (λ z. p *ℤ z -ℤ entry t (P .n + i) w *ℤ y) (S .columns u k i h)
         ∙ ap (λ z. p *ℤ rowSum whole P (λ v. entry t v u) i -ℤ z *ℤ y) (S .columns w (E .variable) i h)
-        ∙ ap (λ z. p *ℤ rowSum whole P (λ v. entry t v u) i +ℤ z) (ap negℤ (*ℤ-comm (rowSum whole P (λ v. entry t v w) i) y) ∙ sym (neg-*ℤ y (rowSum whole P (λ v. entry t v w) i)))
-        ∙ ap (λ z. z +ℤ negℤ y *ℤ rowSum whole P (λ v. entry t v w) i) (sym (sum-times (P .n) p (λ j. P .coefficient i j *ℤ entry t j u)))
-        ∙ ap (λ z. sum (P .n) (λ j. p *ℤ (P .coefficient i j *ℤ entry t j u)) +ℤ z) (sym (sum-times (P .n) (negℤ y) (λ j. P .coefficient i j *ℤ entry t j w)))
-        ∙ sym (sum-plus (P .n) (λ j. p *ℤ (P .coefficient i j *ℤ entry t j u)) (λ j. negℤ y *ℤ (P .coefficient i j *ℤ entry t j w)))
+        ∙ ap (λ z. p *ℤ rowSum whole P (λ v. entry t v u) i +ℤ z)
+        (ap negℤ (*ℤ-comm (rowSum whole P (λ v. entry t v w) i) y)
+        ∙ sym (neg-*ℤ y (rowSum whole P (λ v. entry t v w) i)))
+        ∙ ap (λ z. z +ℤ negℤ y *ℤ rowSum whole P (λ v. entry t v w) i)
+        (sym (sum-times (P .n) p (λ j. P .coefficient i j *ℤ entry t j u)))
+        ∙ ap (λ z. sum (P .n) (λ j. p *ℤ (P .coefficient i j *ℤ entry t j u)) +ℤ z)
+        (sym (sum-times (P .n) (negℤ y) (λ j. P .coefficient i j *ℤ entry t j w)))
+        ∙ sym (sum-plus (P .n) (λ j. p *ℤ (P .coefficient i j *ℤ entry t j u))
+        (λ j. negℤ y *ℤ (P .coefficient i j *ℤ entry t j w)))
         ∙ sum-same (P .n) _ (λ j. P .coefficient i j *ℤ entry t1 j u)
-        (λ j g. sym (mix (P .coefficient i j) p (entry t j u) (entry t j w) y) ∙ ap (λ z. P .coefficient i j *ℤ z) (sym (entry1 j u (omega arith) k)))
+        (λ j g. sym (mix (P .coefficient i j) p (entry t j u) (entry t j w) y)
+        ∙ ap (λ z. P .coefficient i j *ℤ z) (sym (entry1 j u (omega arith) k)))
       where
         y : ℤ
         y = relation t q u
@@ -133,7 +145,8 @@ module _ {X : Type 0} (𝓥 : Values X) where
     columns2 u k i h = entry2 (P .n + i) u (rowSum whole P (λ v. entry t2 v u) i) (omega arith) k (
         columns1 u k i h
         ∙ sum-same (P .n) (λ j. P .coefficient i j *ℤ entry t1 j u) (λ j. F .by *ℤ (P .coefficient i j *ℤ entry t2 j u))
-        (λ j g. ap (λ z. P .coefficient i j *ℤ z) (sym (F .of-entry j u (omega arith) k)) ∙ swap-front (P .coefficient i j) (F .by) (entry t2 j u))
+        (λ j g. ap (λ z. P .coefficient i j *ℤ z) (sym (F .of-entry j u (omega arith) k))
+        ∙ swap-front (P .coefficient i j) (F .by) (entry t2 j u))
         ∙ sum-times (P .n) (F .by) (λ j. P .coefficient i j *ℤ entry t2 j u))
 
     w-not-q : w ≢ q
@@ -143,37 +156,60 @@ module _ {X : Type 0} (𝓥 : Values X) where
     zero2 v u h k e = entry2 v u (pos 0) h k (e ∙ sym (*ℤ-zero (F .by)))
 
     at-w : (v : ℕ) → v < N → entry t2 v w ≡ pos 0
-    at-w v h = zero2 v w h (E .variable) (entry1 v w h (E .variable) ∙ (rw (relation-off t q w w-not-q, *ℤ-comm p (entry t v w)) (+ℤ-invr (entry t v w *ℤ p))))
+    at-w v h = zero2 v w h (E .variable)
+        (entry1 v w h (E .variable) ∙ (rw (relation-off t q w w-not-q, *ℤ-comm p (entry t v w))
+        (+ℤ-invr (entry t v w *ℤ p))))
 
     at-basic : (v u : ℕ) → v < N → u < N → u ≢ q → seat s u ≡ none → entry t2 v u ≡ pos 0
-    at-basic v u h k n e = zero2 v u h k (entry1 v u h k ∙ (rw (relation-off t q u n, S .basic-zero v u h k e, S .basic-zero q u (L .variable) k e, *ℤ-zero p, *ℤ-zero (entry t v w)) refl))
+    at-basic v u h k n e = zero2 v u h k
+        (entry1 v u h k ∙ (rw (
+          relation-off t q u n,
+          S .basic-zero v u h k e,
+          S .basic-zero q u (L .variable) k e,
+          *ℤ-zero p,
+          *ℤ-zero (entry t v w),
+        ) refl))
 
     own-q : entry t2 q q ≡ t2 .common
     unfolding t2
     own-q = entry2 q q (t2 .common) (L .variable) (L .variable)
         (entry1 q q (L .variable) (L .variable)
-        ∙ (rw (relation-own t q, S .basic-zero q q (L .variable) (L .variable) (L .was-basic), *ℤ-zero p, *ℤ-neg p (common s), negℤ-negℤ (p *ℤ common s)) (+ℤ-idl (p *ℤ common s)))
+        ∙ (rw (
+          relation-own t q,
+          S .basic-zero q q (L .variable) (L .variable) (L .was-basic),
+          *ℤ-zero p,
+          *ℤ-neg p (common s),
+          negℤ-negℤ (p *ℤ common s),
+        ) (+ℤ-idl (p *ℤ common s)))
         ∙ sym common1 ∙ sym (F .of-common))
 
     own-old : (v : ℕ) (x : X) → v < N → v ≢ q → v ≢ w → seat s v ≡ some x → entry t2 v v ≡ t2 .common
     unfolding t2
     own-old v x h n k e = entry2 v v (t2 .common) h h
         (entry1 v v h h
-        ∙ (rw (S .own v x h e, S .own-zero v w x h (E .variable) e (λ z. k (sym z)), zero-*ℤ (relation t q v)) (+ℤ-idr (p *ℤ common s)))
+        ∙ (rw (S .own v x h e, S .own-zero v w x h (E .variable) e (λ z. k (sym z)), zero-*ℤ (relation t q v))
+        (+ℤ-idr (p *ℤ common s)))
         ∙ sym common1 ∙ sym (F .of-common))
 
     own-zero-q : (u : ℕ) → u < N → u ≢ q → entry t2 q u ≡ pos 0
-    own-zero-q u k n = zero2 q u (L .variable) k (entry1 q u (L .variable) k ∙ (rw (relation-off t q u n) (+ℤ-invr (p *ℤ entry t q u))))
+    own-zero-q u k n = zero2 q u (L .variable) k
+        (entry1 q u (L .variable) k ∙ (rw (relation-off t q u n) (+ℤ-invr (p *ℤ entry t q u))))
 
     own-zero-old : (v u : ℕ) (x : X) → v < N → u < N → v ≢ q → v ≢ w → seat s v ≡ some x → u ≢ v → entry t2 v u ≡ pos 0
     own-zero-old v u x h k n m e d = zero2 v u h k (entry1 v u h k
-        ∙ (rw (S .own-zero v u x h k e d, S .own-zero v w x h (E .variable) e (λ z. m (sym z)), *ℤ-zero p, zero-*ℤ (relation t q u)) refl))
+        ∙ (rw (
+          S .own-zero v u x h k e d,
+          S .own-zero v w x h (E .variable) e (λ z. m (sym z)),
+          *ℤ-zero p,
+          zero-*ℤ (relation t q u),
+        ) refl))
 
     W : Swap (seat s) (seat (moved 𝓥 P s r w)) q w (limitAt 𝓥 P r)
     W = swap 𝓥 P s r w (S .seats-many) L E
 
     -- what is seated, or basic, afterwards
-    pub was-some : (v : ℕ) (x : X) → seat (moved 𝓥 P s r w) v ≡ some x → ((v ≡ q) × (x ≡ limitAt 𝓥 P r)) ⊎ ((v ≢ q) × (v ≢ w) × (seat s v ≡ some x))
+    pub was-some : (v : ℕ) (x : X) → seat (moved 𝓥 P s r w) v ≡ some x →
+        ((v ≡ q) × (x ≡ limitAt 𝓥 P r)) ⊎ ((v ≢ q) × (v ≢ w) × (seat s v ≡ some x))
     was-some v x e = go (ℕ-discrete v q) (ℕ-discrete v w)
       where
         go : Dec (v ≡ q) → Dec (v ≡ w) → ((v ≡ q) × (x ≡ limitAt 𝓥 P r)) ⊎ ((v ≢ q) × (v ≢ w) × (seat s v ≡ some x))
@@ -192,7 +228,8 @@ module _ {X : Type 0} (𝓥 : Values X) where
     pub rowed-moved : Rowed 𝓥 P (moved 𝓥 P s r w)
     unfolding moved pivot t1 t2
     rowed-moved = record {
-      seats-many = length-set (set (s .seats) w none) q (some (limitAt 𝓥 P r)) ∙ length-set (s .seats) w none ∙ S .seats-many;
+      seats-many = length-set (set (s .seats) w none) q (some (limitAt 𝓥 P r)) ∙ length-set (s .seats) w none
+          ∙ S .seats-many;
       positive = positive2;
       columns = columns2;
       holds = holds2;
@@ -205,11 +242,13 @@ module _ {X : Type 0} (𝓥 : Values X) where
         zeros v u h k (inl e) = rw e (at-w v h)
         zeros v u h k (inr e) = at-basic v u h k (e .0) (e .1)
 
-        owns : (v : ℕ) (x : X) → v < N → ((v ≡ q) × (x ≡ limitAt 𝓥 P r)) ⊎ ((v ≢ q) × (v ≢ w) × (seat s v ≡ some x)) → entry t2 v v ≡ t2 .common
+        owns : (v : ℕ) (x : X) → v < N → ((v ≡ q) × (x ≡ limitAt 𝓥 P r)) ⊎ ((v ≢ q) × (v ≢ w) × (seat s v ≡ some x)) →
+            entry t2 v v ≡ t2 .common
         owns v x h (inl e) = rw (e .0) own-q
         owns v x h (inr e) = own-old v x h (e .0) (e .1) (e .2)
 
-        own-zeros : (v u : ℕ) (x : X) → v < N → u < N → u ≢ v → ((v ≡ q) × (x ≡ limitAt 𝓥 P r)) ⊎ ((v ≢ q) × (v ≢ w) × (seat s v ≡ some x)) → entry t2 v u ≡ pos 0
+        own-zeros : (v u : ℕ) (x : X) → v < N → u < N → u ≢ v →
+            ((v ≡ q) × (x ≡ limitAt 𝓥 P r)) ⊎ ((v ≢ q) × (v ≢ w) × (seat s v ≡ some x)) → entry t2 v u ≡ pos 0
         own-zeros v u x h k d (inl e) = rw (e .0) (own-zero-q u k (λ z. d (z ∙ sym (e .0))))
         own-zeros v u x h k d (inr e) = own-zero-old v u x h k (e .0) (e .1) (e .2) d
 

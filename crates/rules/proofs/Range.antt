@@ -54,11 +54,14 @@ module _ {X : Type 0} (𝓥 : Values X) (P : Problem X) where
       T .leaves,
       T .enters,
       tells-false (small-tells (vars P) (moved 𝓥 P s (T .out) (T .into) .tableau))
-          (beyond-same (T .next .tableau) (moved 𝓥 P s (T .out) (T .into) .tableau) (next-only 𝓥 P s S (T .out) (T .into) (left 𝓥 P s (T .out) (T .leaves)) (entered 𝓥 P s (T .out) (T .into) (T .enters)) (T .next) (T .is-next)) (T .beyond)),
+          (beyond-same (T .next .tableau) (moved 𝓥 P s (T .out) (T .into) .tableau)
+          (next-only 𝓥 P s S (T .out) (T .into) (left 𝓥 P s (T .out) (T .leaves))
+          (entered 𝓥 P s (T .out) (T .into) (T .enters)) (T .next) (T .is-next)) (T .beyond)),
     ),
   )
     where
-      there : (r : Leaving) × (w : ℕ) × (leaving 𝓥 P s ≡ some r) × (entering 𝓥 P s r ≡ some w) × (small (vars P) (moved 𝓥 P s r w .tableau) ≡ false) → TooLarge s
+      there : (r : Leaving) × (w : ℕ) × (leaving 𝓥 P s ≡ some r) × (entering 𝓥 P s r ≡ some w)
+          × (small (vars P) (moved 𝓥 P s r w .tableau) ≡ false) → TooLarge s
       there (r, w, q, y, f) = record {
         out = r;
         into = w;
@@ -70,21 +73,28 @@ module _ {X : Type 0} (𝓥 : Values X) (P : Problem X) where
       }
 
 module _ (P : Problem ℤ) (s : State ℤ) (S : Ready whole P s) where
-  pub range-verdict : (verdictOf (answerFrom P s) ≡ pos 3) ↔ ((conflict whole P ≡ none) × ((k : ℕ) × Runs whole P s k × TooLarge whole P (after whole P s k)))
+  pub range-verdict : (verdictOf (answerFrom P s) ≡ pos 3)
+      ↔ ((conflict whole P ≡ none) × ((k : ℕ) × Runs whole P s k × TooLarge whole P (after whole P s k)))
   unfolding wordsOf
   range-verdict = (λ e. there e (answered P s S), back)
     where
-      there : verdictOf (answerFrom P s) ≡ pos 3 → Answered P s → (conflict whole P ≡ none) × ((k : ℕ) × Runs whole P s k × TooLarge whole P (after whole P s k))
+      there : verdictOf (answerFrom P s) ≡ pos 3 → Answered P s →
+          (conflict whole P ≡ none) × ((k : ℕ) × Runs whole P s k × TooLarge whole P (after whole P s k))
       there e (crossing v c z) = other-verdict P s 3 2 _ _ _ _ (omega arith) z e
       there e (can-at R q z) = other-verdict P s 3 1 _ _ _ _ (omega arith) z e
       there e (cannot-at R ls us b z) = other-verdict P s 3 2 _ _ _ _ (omega arith) z e
-      there e (range-at R q z) = (R .uncrossed, (R .count, R .ends .runs, range-exactly whole P (after whole P s (R .count)) (R .sound .rowed) .0 q))
+      there e (range-at R q z) = (
+        R .uncrossed,
+        (R .count, R .ends .runs, range-exactly whole P (after whole P s (R .count)) (R .sound .rowed) .0 q),
+      )
 
-      back : (conflict whole P ≡ none) × ((k : ℕ) × Runs whole P s k × TooLarge whole P (after whole P s k)) → verdictOf (answerFrom P s) ≡ pos 3
+      back : (conflict whole P ≡ none) × ((k : ℕ) × Runs whole P s k × TooLarge whole P (after whole P s k)) →
+          verdictOf (answerFrom P s) ≡ pos 3
       back (c, (k, runs, T)) =
           let R = answer-run P s c S in
           let q = range-exactly whole P (after whole P s k) (rowed-after whole P s (S .rowed) k) .1 T in
           let z = R .only k (record { runs = runs; ended = rw q tt }) in
           ap (λ a. word a 0) (R .words)
-          ∙ ap (λ (h : Outcome ℤ). word (wordsOf P (record { how = h; pivots = R .count; last = after whole P s (R .count) })) 0)
+          ∙ ap (λ (h : Outcome ℤ). word (wordsOf P
+          (record { how = h; pivots = R .count; last = after whole P s (R .count) })) 0)
           (ap (λ j. step whole P (after whole P s j)) (sym z) ∙ q)

@@ -45,12 +45,14 @@ module _ (ws : List ℤ) where
   few-tells = tells-lt (length ws) 2
 
   -- n or m outside its range
-  pub size-tells : (rows : ℕ) → Tells (badSize rows ws) (OutOfRange 1 mostColumns (word ws 0) ⊎ OutOfRange 0 rows (word ws 1))
+  pub size-tells : (rows : ℕ) → Tells (badSize rows ws)
+      (OutOfRange 1 mostColumns (word ws 0) ⊎ OutOfRange 0 rows (word ws 1))
       (InRange 1 mostColumns (word ws 0) × InRange 0 rows (word ws 1))
   unfolding badSize
   size-tells rows = tells-or (tells-outside 1 mostColumns (word ws 0)) (tells-outside 0 rows (word ws 1))
 
-  pub length-tells : Tells (badLength ws) (length ws ≢ 2 + mOf ws * nOf ws + 3 * varsOf ws) (length ws ≡ 2 + mOf ws * nOf ws + 3 * varsOf ws)
+  pub length-tells : Tells (badLength ws) (length ws ≢ 2 + mOf ws * nOf ws + 3 * varsOf ws)
+      (length ws ≡ 2 + mOf ws * nOf ws + 3 * varsOf ws)
   unfolding badLength
   length-tells = tells-not (tells-eq (length ws) (2 + mOf ws * nOf ws + 3 * varsOf ws))
 
@@ -58,7 +60,8 @@ module _ (ws : List ℤ) where
       ((i : ℕ) × (i < mOf ws * nOf ws) × (¬ Within (word ws (2 + i)) largestCoefficient))
       ((i : ℕ) → i < mOf ws * nOf ws → Within (word ws (2 + i)) largestCoefficient)
   unfolding badCoefficient
-  coefficient-tells = tells-some (mOf ws * nOf ws) _ (λ i h. tells-not (tells-within largestCoefficient (word ws (2 + i))))
+  coefficient-tells = tells-some (mOf ws * nOf ws) _
+      (λ i h. tells-not (tells-within largestCoefficient (word ws (2 + i))))
 
   pub kind-tells : Tells (badKind ws)
       ((v : ℕ) × (v < varsOf ws) × OutOfRange 0 3 (kind ws v))
@@ -68,11 +71,14 @@ module _ (ws : List ℤ) where
 
   -- some limit outside its range, or a missing limit's word not 0
   pub limits-tell : Tells (badLimit ws)
-      ((v : ℕ) × (v < varsOf ws) × (BadLimit (hasLower (kind ws v)) (lowerWord ws v) ⊎ BadLimit (hasUpper (kind ws v)) (upperWord ws v)))
-      ((v : ℕ) → v < varsOf ws → FineLimit (hasLower (kind ws v)) (lowerWord ws v) × FineLimit (hasUpper (kind ws v)) (upperWord ws v))
+      ((v : ℕ) × (v < varsOf ws) × (BadLimit (hasLower (kind ws v)) (lowerWord ws v) ⊎ BadLimit (hasUpper (kind ws v))
+      (upperWord ws v)))
+      ((v : ℕ) → v < varsOf ws → FineLimit (hasLower (kind ws v)) (lowerWord ws v)
+      × FineLimit (hasUpper (kind ws v)) (upperWord ws v))
   unfolding badLimit
   limits-tell = tells-some (varsOf ws) _ (λ v h.
-      tells-or (limit-tells (hasLower (kind ws v)) (lowerWord ws v)) (limit-tells (hasUpper (kind ws v)) (upperWord ws v)))
+      tells-or (limit-tells (hasLower (kind ws v)) (lowerWord ws v))
+      (limit-tells (hasUpper (kind ws v)) (upperWord ws v)))
 
   -- output, or the checker's answer, too short
   pub room-tells : (room : ℕ) → Tells (tooShort ws room) (room < answerLength ws) (answerLength ws ≤ room)
@@ -83,7 +89,8 @@ module _ (ws : List ℤ) where
 
 abbrev pub problemTable : ℕ → List ℤ → List Test
 problemTable rows ws =
-    line 1 (few-tells ws) ∷ line 2 (size-tells ws rows) ∷ line 3 (length-tells ws) ∷ line 4 (coefficient-tells ws) ∷ line 5 (kind-tells ws)
+    line 1 (few-tells ws) ∷ line 2 (size-tells ws rows) ∷ line 3 (length-tells ws) ∷ line 4 (coefficient-tells ws)
+    ∷ line 5 (kind-tells ws)
     ∷ line 6 (limits-tell ws) ∷ []
 
 abbrev pub solverTable : List ℤ → ℕ → List Test
@@ -121,7 +128,16 @@ accepted-fine rows ws A = (
   A .enough,
   (
     ((A .n-least, A .n-most), (A .m-least, A .m-most)),
-    (A .exact, (A .coefficients, ((λ v h. (A .kind-least v h, A .kind-most v h)), ((λ v h. (A .lowers v h, A .uppers v h)), tt)))),
+    (
+      A .exact,
+      (
+        A .coefficients,
+        (
+          (λ v h. (A .kind-least v h, A .kind-most v h)),
+          ((λ v h. (A .lowers v h, A .uppers v h)), tt),
+        ),
+      ),
+    ),
   ),
 )
 
@@ -130,7 +146,8 @@ unfolding problemTests
 accepted-exactly rows ws = let r = first-fine (problemTable rows ws) (omega arith) in
     (λ e. fine-accepted rows ws (r .0 e), λ A. r .1 (accepted-fine rows ws A))
 
-pub answered-exactly : (ws : List ℤ) (room : ℕ) → (refusal ws room ≡ 0) ↔ (Accepted mostRows ws × (answerLength ws ≤ room))
+pub answered-exactly : (ws : List ℤ) (room : ℕ) →
+    (refusal ws room ≡ 0) ↔ (Accepted mostRows ws × (answerLength ws ≤ room))
 unfolding refusal problemTests
 answered-exactly ws room = let r = first-fine (solverTable ws room) (omega arith) in
     (λ e. split (r .0 e), λ A. r .1 (join (accepted-fine mostRows ws (A .0)) (A .1)))
@@ -140,4 +157,5 @@ answered-exactly ws room = let r = first-fine (solverTable ws room) (omega arith
         (fine-accepted mostRows ws (few, (size, (exact, (coefficients, (kinds, (limits, tt)))))), fits)
 
     join : AllFine (problemTable mostRows ws) → answerLength ws ≤ room → AllFine (solverTable ws room)
-    join (few, (size, (exact, (coefficients, (kinds, (limits, end)))))) fits = (few, (size, (exact, (coefficients, (kinds, (limits, (fits, tt)))))))
+    join (few, (size, (exact, (coefficients, (kinds, (limits, end)))))) fits =
+        (few, (size, (exact, (coefficients, (kinds, (limits, (fits, tt)))))))

@@ -42,7 +42,8 @@ module _ (N : ℕ) (t : Tableau) (r w : ℕ) (r-var : r < N) (w-var : w < N) (x 
   extra-sum : sum N extra ≡ negℤ (t .common *ℤ x r)
   unfolding extra
   extra-sum = sum-one N r extra r-var (λ u h n. rw (relation-off t r u n) (+ℤ-invr (entry t r u *ℤ x u)))
-      ∙ (rw (relation-own t r, basic r r-var, zero-*ℤ (x r)) (+ℤ-idr (negℤ (t .common) *ℤ x r) ∙ neg-*ℤ (t .common) (x r)))
+      ∙ (rw (relation-own t r, basic r r-var, zero-*ℤ (x r))
+      (+ℤ-idr (negℤ (t .common) *ℤ x r) ∙ neg-*ℤ (t .common) (x r)))
 
   -- the relation's sum is 0
   pub balanced : sum N (λ u. relation t r u *ℤ x u) ≡ pos 0
@@ -62,10 +63,18 @@ module _ (N : ℕ) (t : Tableau) (r w : ℕ) (r-var : r < N) (w-var : w < N) (x 
   pub solved-holds : (v : ℕ) → v < N → solved N t r w .common *ℤ x v ≡ sum N (λ u. entry (solved N t r w) v u *ℤ x u)
   unfolding solved
   solved-holds v h = sym (
-      sum-same N (λ u. entry (solved N t r w) v u *ℤ x u) (λ u. p *ℤ (entry t v u *ℤ x u) +ℤ negℤ c *ℤ (relation t r u *ℤ x u))
-      (λ u k. ap (λ e. e *ℤ x u) (matrix-at N (λ v u. p *ℤ entry t v u -ℤ entry t v w *ℤ relation t r u) v u h k) ∙ spread p (entry t v u) c (relation t r u) (x u))
+      sum-same N (λ u. entry (solved N t r w) v u *ℤ x u)
+      (λ u. p *ℤ (entry t v u *ℤ x u) +ℤ negℤ c *ℤ (relation t r u *ℤ x u))
+      (λ u k. ap (λ e. e *ℤ x u) (matrix-at N (λ v u. p *ℤ entry t v u -ℤ entry t v w *ℤ relation t r u) v u h k)
+      ∙ spread p (entry t v u) c (relation t r u) (x u))
       ∙ sum-plus N (λ u. p *ℤ (entry t v u *ℤ x u)) (λ u. negℤ c *ℤ (relation t r u *ℤ x u))
-      ∙ (rw (sum-times N p (λ u. entry t v u *ℤ x u), sum-times N (negℤ c) (λ u. relation t r u *ℤ x u), balanced, *ℤ-zero (negℤ c), ← holds v h)
+      ∙ (rw (
+        sum-times N p (λ u. entry t v u *ℤ x u),
+        sum-times N (negℤ c) (λ u. relation t r u *ℤ x u),
+        balanced,
+        *ℤ-zero (negℤ c),
+        ← holds v h,
+      )
       (+ℤ-idr (p *ℤ (t .common *ℤ x v)) ∙ sym (*ℤ-assoc p (t .common) (x v)))))
     where
       p : ℤ

@@ -55,15 +55,18 @@ module _ {X : Type 0} (𝓥 : Values X) where
         go (some x) e = broken-seated v x e
 
     -- a variable that is outside on a side
-    broken-side : (v : ℕ) (σ : Side) (x : X) → Outside 𝓥 P s v σ x → (σ ≡ above → NotUnder P s v) → broken 𝓥 P s v none ≡ some (leaves v σ)
+    broken-side : (v : ℕ) (σ : Side) (x : X) → Outside 𝓥 P s v σ x → (σ ≡ above → NotUnder P s v) →
+        broken 𝓥 P s v none ≡ some (leaves v σ)
     unfolding broken
-    broken-side v below x (too-low e h) n = let p = tells-true (under-tells 𝓥 (common s) (scaled 𝓥 P s v) (P .lower v)) (x, e, h) in rw (p, broken) refl
+    broken-side v below x (too-low e h) n =
+        let p = tells-true (under-tells 𝓥 (common s) (scaled 𝓥 P s v) (P .lower v)) (x, e, h) in rw (p, broken) refl
     broken-side v above x (too-high e h) n =
         let p = tells-false (under-tells 𝓥 (common s) (scaled 𝓥 P s v) (P .lower v)) (n refl) in
         let q = tells-true (over-tells 𝓥 (common s) (scaled 𝓥 P s v) (P .upper v)) (x, e, h) in
         rw (p, broken) (rw q refl)
 
-    pub leaving-of : (r : Leaving) → Left 𝓥 P s r → (r .side ≡ above → NotUnder P s (r .variable)) → leaving 𝓥 P s ≡ some r
+    pub leaving-of : (r : Leaving) → Left 𝓥 P s r → (r .side ≡ above → NotUnder P s (r .variable)) →
+        leaving 𝓥 P s ≡ some r
     unfolding leaving
     leaving-of r L n = lowest-is (vars P) (r .variable) _ r (L .variable)
         (rw (L .was-basic) (broken-side (r .variable) (r .side) (limitAt 𝓥 P r) (L .outside) n))
@@ -74,10 +77,12 @@ module _ {X : Type 0} (𝓥 : Values X) where
     none-leaving-exactly = (none-leaves 𝓥 P s, λ I. lowest-empty (vars P) _ (λ v h. not-broken v (I v h)))
 
   -- where no limits cross, nothing is both above its upper limit and below its lower one
-  pub leaving-exactly : Laws 𝓥 → (P : Problem X) (s : State X) → Apart 𝓥 P → pos 0 <ℤ common s → (r : Leaving) → (leaving 𝓥 P s ≡ some r) ↔ Left 𝓥 P s r
+  pub leaving-exactly : Laws 𝓥 → (P : Problem X) (s : State X) → Apart 𝓥 P → pos 0 <ℤ common s → (r : Leaving) →
+      (leaving 𝓥 P s ≡ some r) ↔ Left 𝓥 P s r
   leaving-exactly law P s A d r = (left 𝓥 P s r, λ L. leaving-of P s r L (λ e. above-only (L .variable) (L .outside) e))
     where
-      above-only : r .variable < vars P → {σ : Side} {x : X} → Outside 𝓥 P s (r .variable) σ x → σ ≡ above → NotUnder P s (r .variable)
+      above-only : r .variable < vars P → {σ : Side} {x : X} → Outside 𝓥 P s (r .variable) σ x → σ ≡ above →
+          NotUnder P s (r .variable)
       above-only k (too-low q h) e = let z : _≡_ {A = ℕ} 0 1 = cc in zero-one z
       above-only k (too-high {u} q h) e = λ l m. le-le law (up law d (A (r .variable) l u k m q)) (weaken law h)
 
@@ -87,7 +92,8 @@ module _ {X : Type 0} (𝓥 : Values X) where
     abbrev turned-entry : ℕ → ℤ
     turned-entry u = pull (r .side) (entry (s .tableau) (r .variable) u)
 
-    not-suited : (u : ℕ) → ((x : X) → seat s u ≡ some x → Stuck 𝓥 P u (turned-entry u) x) → suits 𝓥 (turned-entry u) (seat s u) (P .lower u) (P .upper u) ≡ false
+    not-suited : (u : ℕ) → ((x : X) → seat s u ≡ some x → Stuck 𝓥 P u (turned-entry u) x) →
+        suits 𝓥 (turned-entry u) (seat s u) (P .lower u) (P .upper u) ≡ false
     unfolding suits
     not-suited u S = go (seat s u) refl
       where
@@ -99,14 +105,22 @@ module _ {X : Type 0} (𝓥 : Values X) where
     unfolding entering
     entering-exactly w = (
       entered 𝓥 P s r w,
-      λ E. lowest-passes (vars P) _ w .1
-          (E .variable, rw (E .was-seated) (tells-true (suits-tells 𝓥 P w (turned-entry w) (E .value)) (E .suits)), λ u h. not-suited u (λ x q. E .stuck u x h q)),
+      λ E. lowest-passes (vars P) _ w .1 (
+        E .variable,
+        rw (E .was-seated) (tells-true (suits-tells 𝓥 P w (turned-entry w) (E .value)) (E .suits)),
+        λ u h. not-suited u (λ x q. E .stuck u x h q),
+      ),
     )
 
-    pub none-entering-exactly : (entering 𝓥 P s r ≡ none) ↔ ((u : ℕ) (x : X) → u < vars P → seat s u ≡ some x → Stuck 𝓥 P u (turned-entry u) x)
+    pub none-entering-exactly : (entering 𝓥 P s r ≡ none)
+        ↔ ((u : ℕ) (x : X) → u < vars P → seat s u ≡ some x → Stuck 𝓥 P u (turned-entry u) x)
     unfolding entering
-    none-entering-exactly = (none-enters 𝓥 P s r, λ S. none-passes (vars P) _ .1 (λ u h. not-suited u (λ x q. S u x h q)))
+    none-entering-exactly = (
+      none-enters 𝓥 P s r,
+      λ S. none-passes (vars P) _ .1 (λ u h. not-suited u (λ x q. S u x h q)),
+    )
 
   -- the leaving variable's value afterwards is the limit that it violates
-  pub limit-exactly : (P : Problem X) (s : State X) (r : Leaving) → Left 𝓥 P s r → near (r .side) P (r .variable) ≡ some (limitAt 𝓥 P r)
+  pub limit-exactly : (P : Problem X) (s : State X) (r : Leaving) → Left 𝓥 P s r →
+      near (r .side) P (r .variable) ≡ some (limitAt 𝓥 P r)
   limit-exactly P s r L = outside-by 𝓥 P (L .outside) .0

@@ -40,7 +40,8 @@ module _ {X : Type 0} (𝓥 : Values X) where
   goes-next s range m = absurd m
   goes-next s (goes t) m = refl
 
-  run-end : (f : ℕ) (P : Problem X) (s : State X) (k : ℕ) (o : Outcome X) → step 𝓥 P s ≡ o → Ended o → run 𝓥 f P s k ≡ record { how = o; pivots = k; last = s }
+  run-end : (f : ℕ) (P : Problem X) (s : State X) (k : ℕ) (o : Outcome X) → step 𝓥 P s ≡ o → Ended o →
+      run 𝓥 f P s k ≡ record { how = o; pivots = k; last = s }
   unfolding run
   run-end zero P s k o e h = rw e
   run-end (suc f) P s k can e h = rw (e, run)
@@ -48,11 +49,13 @@ module _ {X : Type 0} (𝓥 : Values X) where
   run-end (suc f) P s k range e h = rw (e, run)
   run-end (suc f) P s k (goes t) e h = absurd h
 
-  run-on : (f : ℕ) (P : Problem X) (s t : State X) (k : ℕ) → step 𝓥 P s ≡ goes t → run 𝓥 (suc f) P s k ≡ run 𝓥 f P t (suc k)
+  run-on : (f : ℕ) (P : Problem X) (s t : State X) (k : ℕ) → step 𝓥 P s ≡ goes t →
+      run 𝓥 (suc f) P s k ≡ run 𝓥 f P t (suc k)
   unfolding run
   run-on f P s t k e = rw (e, run)
 
-  pub next-after : (P : Problem X) (s : State X) (i : ℕ) → Moves (step 𝓥 P (after 𝓥 P s i)) → step 𝓥 P (after 𝓥 P s i) ≡ goes (after 𝓥 P s (suc i))
+  pub next-after : (P : Problem X) (s : State X) (i : ℕ) → Moves (step 𝓥 P (after 𝓥 P s i)) →
+      step 𝓥 P (after 𝓥 P s i) ≡ goes (after 𝓥 P s (suc i))
   unfolding after
   next-after P s i m = goes-next (after 𝓥 P s i) (step 𝓥 P (after 𝓥 P s i)) m
 

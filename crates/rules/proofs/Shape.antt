@@ -28,7 +28,8 @@ pub data Shape (N : ℕ) (a : List ℤ) : Type 0 where
   shape-can : verdictOf a ≡ pos 1 → pos 0 <ℤ denominatorOf a → ((v : ℕ) → v < N → upperPart N a v ≡ pos 0) → Shape N a
   shape-cannot : verdictOf a ≡ pos 2 → denominatorOf a ≡ pos 0 → Shape N a
   -- out of range: zeros
-  shape-range : verdictOf a ≡ pos 3 → denominatorOf a ≡ pos 0 → ((v : ℕ) → v < N → (lowerPart a v ≡ pos 0) × (upperPart N a v ≡ pos 0)) → Shape N a
+  shape-range : verdictOf a ≡ pos 3 → denominatorOf a ≡ pos 0 →
+      ((v : ℕ) → v < N → (lowerPart a v ≡ pos 0) × (upperPart N a v ≡ pos 0)) → Shape N a
 
 pub record Shaped (N : ℕ) (a : List ℤ) : Type 0 where
   pub many : length a ≡ 3 + 2 * N
@@ -47,11 +48,15 @@ module _ (N : ℕ) where
   laid-can : (k d : ℤ) (xs : List ℤ) → pos 0 <ℤ d → length xs ≡ N → Shaped N (laid (pos 1) k d xs zeros)
   laid-can k d xs h e = record {
     many = laid-length (pos 1) k d xs zeros N e zeros-many;
-    shape = shape-can (verdict-word (pos 1) k d xs zeros) (rw (denominator-word (pos 1) k d xs zeros) h) (λ v l. upper-part (pos 1) k d xs zeros N v e ∙ zero-at v l);
+    shape = shape-can (verdict-word (pos 1) k d xs zeros) (rw (denominator-word (pos 1) k d xs zeros) h)
+        (λ v l. upper-part (pos 1) k d xs zeros N v e ∙ zero-at v l);
   }
 
   laid-cannot : (k : ℤ) (xs ys : List ℤ) → length xs ≡ N → length ys ≡ N → Shaped N (laid (pos 2) k (pos 0) xs ys)
-  laid-cannot k xs ys e f = record { many = laid-length (pos 2) k (pos 0) xs ys N e f; shape = shape-cannot (verdict-word (pos 2) k (pos 0) xs ys) (denominator-word (pos 2) k (pos 0) xs ys) }
+  laid-cannot k xs ys e f = record {
+    many = laid-length (pos 2) k (pos 0) xs ys N e f;
+    shape = shape-cannot (verdict-word (pos 2) k (pos 0) xs ys) (denominator-word (pos 2) k (pos 0) xs ys);
+  }
 
   laid-range : (k : ℤ) → Shaped N (laid (pos 3) k (pos 0) zeros zeros)
   laid-range k = record {
@@ -65,9 +70,12 @@ module _ (N : ℕ) where
 
 module _ (P : Problem ℤ) (s : State ℤ) where
   of-answered : Answered P s → Shaped (vars P) (answerFrom P s)
-  of-answered (crossing v c e) = rw e (laid-cannot (vars P) (pos 0) _ _ (table-length (vars P) (same v)) (table-length (vars P) (same v)))
-  of-answered (can-at R q e) = rw e (laid-can (vars P) _ _ _ (R .sound .rowed .positive) (table-length (vars P) (scaled whole P (after whole P s (R .count)))))
-  of-answered (cannot-at R ls us b e) = rw e (laid-cannot (vars P) _ ls us (b .blame .many-lowers) (b .blame .many-uppers))
+  of-answered (crossing v c e) = rw e (laid-cannot (vars P) (pos 0) _ _ (table-length (vars P) (same v))
+      (table-length (vars P) (same v)))
+  of-answered (can-at R q e) = rw e (laid-can (vars P) _ _ _ (R .sound .rowed .positive)
+      (table-length (vars P) (scaled whole P (after whole P s (R .count)))))
+  of-answered (cannot-at R ls us b e) = rw e
+      (laid-cannot (vars P) _ ls us (b .blame .many-lowers) (b .blame .many-uppers))
   of-answered (range-at R b e) = rw e (laid-range (vars P) _)
 
   pub shaped : Ready whole P s → Shaped (vars P) (answerFrom P s)

@@ -48,24 +48,28 @@ module _ {X : Type 0} (𝓥 : Values X) (P : Problem X) where
 
   -- outside on any side, seen from σ
   pub either-by : {s : State X} {v : ℕ} {τ : Side} {x : X} (σ : Side) → Outside 𝓥 P s v τ x →
-      ((near σ P v ≡ some x) × Lt (sided σ 𝓥) (scaled 𝓥 P s v) (𝓥 .scale (common s) x)) ⊎ ((far σ P v ≡ some x) × Lt (sided σ 𝓥) (𝓥 .scale (common s) x) (scaled 𝓥 P s v))
+      ((near σ P v ≡ some x) × Lt (sided σ 𝓥) (scaled 𝓥 P s v) (𝓥 .scale (common s) x))
+      ⊎ ((far σ P v ≡ some x) × Lt (sided σ 𝓥) (𝓥 .scale (common s) x) (scaled 𝓥 P s v))
   either-by below (too-low e h) = inl (e, h)
   either-by below (too-high e h) = inr (e, h)
   either-by above (too-low e h) = inr (e, h)
   either-by above (too-high e h) = inl (e, h)
 
-  pub no-rise-by : (σ : Side) (w : ℕ) (a : ℤ) (x : X) → Stuck 𝓥 P w (pull σ a) x → pos 0 <ℤ a → (u : X) × (far σ P w ≡ some u) × Le (sided σ 𝓥) u x
+  pub no-rise-by : (σ : Side) (w : ℕ) (a : ℤ) (x : X) → Stuck 𝓥 P w (pull σ a) x → pos 0 <ℤ a →
+      (u : X) × (far σ P w ≡ some u) × Le (sided σ 𝓥) u x
   unfolding pull
   no-rise-by below w a x S h = S .no-rise h
   no-rise-by above w a x S h = S .no-fall (neg-up a h)
 
-  pub no-fall-by : (σ : Side) (w : ℕ) (a : ℤ) (x : X) → Stuck 𝓥 P w (pull σ a) x → a <ℤ pos 0 → (l : X) × (near σ P w ≡ some l) × Le (sided σ 𝓥) x l
+  pub no-fall-by : (σ : Side) (w : ℕ) (a : ℤ) (x : X) → Stuck 𝓥 P w (pull σ a) x → a <ℤ pos 0 →
+      (l : X) × (near σ P w ≡ some l) × Le (sided σ 𝓥) x l
   unfolding pull
   no-fall-by below w a x S h = S .no-fall h
   no-fall-by above w a x S h = S .no-rise (neg-down a h)
 
   pub suits-by : (σ : Side) (w : ℕ) (a : ℤ) (x : X) → Suits 𝓥 P w (pull σ a) x →
-      (pos 0 <ℤ a × ((u : X) → far σ P w ≡ some u → Lt (sided σ 𝓥) x u)) ⊎ (a <ℤ pos 0 × ((l : X) → near σ P w ≡ some l → Lt (sided σ 𝓥) l x))
+      (pos 0 <ℤ a × ((u : X) → far σ P w ≡ some u → Lt (sided σ 𝓥) x u))
+      ⊎ (a <ℤ pos 0 × ((l : X) → near σ P w ≡ some l → Lt (sided σ 𝓥) l x))
   unfolding pull
   suits-by below w a x (may-go-up q f) = inl (q, f)
   suits-by below w a x (may-go-down q f) = inr (q, f)
@@ -73,12 +77,14 @@ module _ {X : Type 0} (𝓥 : Values X) (P : Problem X) where
   suits-by above w a x (may-go-down q f) = inl (neg-up-back a q, f)
 
   -- within its limits, seen from σ
-  pub near-by : (σ : Side) (d : ℤ) (v : ℕ) (y : X) → ((l : X) → P .lower v ≡ some l → Le 𝓥 (𝓥 .scale d l) y) → ((u : X) → P .upper v ≡ some u → Le 𝓥 y (𝓥 .scale d u)) →
+  pub near-by : (σ : Side) (d : ℤ) (v : ℕ) (y : X) → ((l : X) → P .lower v ≡ some l → Le 𝓥 (𝓥 .scale d l) y) →
+      ((u : X) → P .upper v ≡ some u → Le 𝓥 y (𝓥 .scale d u)) →
       (l : X) → near σ P v ≡ some l → Le (sided σ 𝓥) (𝓥 .scale d l) y
   near-by below d v y f g = f
   near-by above d v y f g = g
 
-  pub far-by : (σ : Side) (d : ℤ) (v : ℕ) (y : X) → ((l : X) → P .lower v ≡ some l → Le 𝓥 (𝓥 .scale d l) y) → ((u : X) → P .upper v ≡ some u → Le 𝓥 y (𝓥 .scale d u)) →
+  pub far-by : (σ : Side) (d : ℤ) (v : ℕ) (y : X) → ((l : X) → P .lower v ≡ some l → Le 𝓥 (𝓥 .scale d l) y) →
+      ((u : X) → P .upper v ≡ some u → Le 𝓥 y (𝓥 .scale d u)) →
       (u : X) → far σ P v ≡ some u → Le (sided σ 𝓥) y (𝓥 .scale d u)
   far-by below d v y f g = g
   far-by above d v y f g = f

@@ -12,7 +12,8 @@ Small N t = Within (t .common) largestNumber × ((v : ℕ) → v < N → (u : �
 
 abbrev pub Beyond : ℕ → Tableau → Type 0
 Beyond N t =
-    (¬ Within (t .common) largestNumber) ⊎ ((v : ℕ) × (v < N) × ((u : ℕ) × (u < N) × (¬ Within (entry t v u) largestNumber)))
+    (¬ Within (t .common) largestNumber)
+    ⊎ ((v : ℕ) × (v < N) × ((u : ℕ) × (u < N) × (¬ Within (entry t v u) largestNumber)))
 
 pub small-tells : (N : ℕ) (t : Tableau) → Tells (small N t) (Small N t) (Beyond N t)
 unfolding small

@@ -72,7 +72,8 @@ module _ {X : Type 0} (seat : ℕ → ℕ → Option X) (leave enter : ℕ → �
       pick : Highest (suc i) (suc i + suc d) → Highest i (i + suc (suc d))
       pick h = go (decLe (leave i) (leave (h .at)))
         where
-          here-or-later : (k : ℕ) → i ≤ k → k < i + suc (suc d) → (A : Type 0) → (k ≡ i → A) → (suc i ≤ k → k < suc i + suc d → A) → A
+          here-or-later : (k : ℕ) → i ≤ k → k < i + suc (suc d) → (A : Type 0) → (k ≡ i → A) →
+              (suc i ≤ k → k < suc i + suc d → A) → A
           here-or-later k p q A f g = cases (ℕ-discrete k i)
             where
               cases : Dec (k ≡ i) → A
@@ -90,14 +91,17 @@ module _ {X : Type 0} (seat : ℕ → ℕ → Option X) (leave enter : ℕ → �
             at = i;
             from = omega arith;
             upto = omega arith;
-            most = λ k p q. here-or-later k p q (leave k ≤ leave i) (λ e. rw e (omega arith)) (λ a b. let m : leave k ≤ leave (h .at) = h .most k a b in omega arith);
+            most = λ k p q. here-or-later k p q (leave k ≤ leave i) (λ e. rw e (omega arith))
+                (λ a b. let m : leave k ≤ leave (h .at) = h .most k a b in omega arith);
           }
 
   module _ (i j : ℕ) (steps : (k : ℕ) → i ≤ k → k < j → Swap (seat k) (seat (suc k)) (leave k) (enter k) (lim k)) where
     -- r is seated at a with x: up to a + d it enters, with x, or it sits there with x still
-    seated-on : (d a r : ℕ) (x : X) → i ≤ a → a + d ≤ j → seat a r ≡ some x → Enters a (a + d) r x ⊎ (seat (a + d) r ≡ some x)
+    seated-on : (d a r : ℕ) (x : X) → i ≤ a → a + d ≤ j → seat a r ≡ some x →
+        Enters a (a + d) r x ⊎ (seat (a + d) r ≡ some x)
     seated-on zero a r x p q h = inr (let e : a + 0 ≡ a = omega arith in rw e h)
-    seated-on (suc d) a r x p q h = go (ℕ-discrete r (enter a)) (λ h′. seated-on d (suc a) r x (omega arith) (omega arith) h′)
+    seated-on (suc d) a r x p q h = go (ℕ-discrete r (enter a))
+        (λ h′. seated-on d (suc a) r x (omega arith) (omega arith) h′)
       where
         st : Swap (seat a) (seat (suc a)) (leave a) (enter a) (lim a)
         st = steps a p (omega arith)
@@ -105,11 +109,20 @@ module _ {X : Type 0} (seat : ℕ → ℕ → Option X) (leave enter : ℕ → �
         not-left : r ≢ leave a
         not-left e = none-some (rw e (st .was-basic)) h
 
-        later : Enters (suc a) (suc a + d) r x ⊎ (seat (suc a + d) r ≡ some x) → Enters a (a + suc d) r x ⊎ (seat (a + suc d) r ≡ some x)
-        later (inl t) = inl (record { at = t .at; from = omega arith; upto = omega arith; enters = t .enters; value = t .value })
+        later : Enters (suc a) (suc a + d) r x ⊎ (seat (suc a + d) r ≡ some x) →
+            Enters a (a + suc d) r x ⊎ (seat (a + suc d) r ≡ some x)
+        later (inl t) = inl (record {
+          at = t .at;
+          from = omega arith;
+          upto = omega arith;
+          enters = t .enters;
+          value = t .value;
+        })
         later (inr e) = inr (let z : a + suc d ≡ suc a + d = omega arith in rw z e)
 
-        go : Dec (r ≡ enter a) → (seat (suc a) r ≡ some x → Enters (suc a) (suc a + d) r x ⊎ (seat (suc a + d) r ≡ some x)) → Enters a (a + suc d) r x ⊎ (seat (a + suc d) r ≡ some x)
+        go : Dec (r ≡ enter a) → (seat (suc a) r ≡ some x →
+            Enters (suc a) (suc a + d) r x ⊎ (seat (suc a + d) r ≡ some x)) →
+            Enters a (a + suc d) r x ⊎ (seat (a + suc d) r ≡ some x)
         go (yes e) rest = inl (record { at = a; from = omega arith; upto = omega arith; enters = sym e; value = h })
         go (no n) rest = later (rest (st .others r not-left n ∙ h))
 
@@ -124,11 +137,13 @@ module _ {X : Type 0} (seat : ℕ → ℕ → Option X) (leave enter : ℕ → �
         not-entered : v ≢ enter a
         not-entered e = none-some (rw e at h) (st .was-seated .1)
 
-        later : Leaves (suc a) (suc a + d) v ⊎ (seat (suc a + d) v ≡ none) → Leaves a (a + suc d) v ⊎ (seat (a + suc d) v ≡ none)
+        later : Leaves (suc a) (suc a + d) v ⊎ (seat (suc a + d) v ≡ none) →
+            Leaves a (a + suc d) v ⊎ (seat (a + suc d) v ≡ none)
         later (inl t) = inl (record { at = t .at; from = omega arith; upto = omega arith; leaves = t .leaves })
         later (inr e) = inr (let z : a + suc d ≡ suc a + d = omega arith in rw z e)
 
-        go : Dec (v ≡ leave a) → (seat (suc a) v ≡ none → Leaves (suc a) (suc a + d) v ⊎ (seat (suc a + d) v ≡ none)) → Leaves a (a + suc d) v ⊎ (seat (a + suc d) v ≡ none)
+        go : Dec (v ≡ leave a) → (seat (suc a) v ≡ none → Leaves (suc a) (suc a + d) v ⊎ (seat (suc a + d) v ≡ none)) →
+            Leaves a (a + suc d) v ⊎ (seat (a + suc d) v ≡ none)
         go (yes e) rest = inl (record { at = a; from = omega arith; upto = omega arith; leaves = sym e })
         go (no n) rest = later (rest (st .others v n not-entered ∙ h))
 
@@ -156,9 +171,11 @@ module _ {X : Type 0} (seat : ℕ → ℕ → Option X) (leave enter : ℕ → �
             where
               cases : Enters i (i + d) v x ⊎ (seat (i + d) v ≡ some x) → seat (i + d) v ≡ some x
               cases (inl t) =
-                  let st : Swap (seat (t .at)) (seat (suc (t .at))) (leave (t .at)) (enter (t .at)) (lim (t .at)) = steps (t .at) (t .from) (omega arith) in
+                  let st : Swap (seat (t .at)) (seat (suc (t .at))) (leave (t .at)) (enter (t .at))
+                  (lim (t .at)) = steps (t .at) (t .from) (omega arith) in
                   let n : seat (suc (t .at)) v ≡ none = rw (t .enters) at st .now-basic in
-                  absurd (none-some (stays-basic (suc (t .at)) j v (omega arith) (omega arith) (omega arith) h n) (sym (same v) ∙ e))
+                  absurd (none-some (stays-basic (suc (t .at)) j v (omega arith) (omega arith) (omega arith) h n)
+                  (sym (same v) ∙ e))
               cases (inr f) = f
 
       unmoved : (S T w : ℕ) (x : X) → i ≤ S → S < j → i ≤ T → T < j → r < w → seat T w ≡ some x → seat S w ≡ some x
@@ -179,12 +196,25 @@ module _ {X : Type 0} (seat : ℕ → ℕ → Option X) (leave enter : ℕ → �
           go : (d : ℕ) × (suc S + d ≡ j) → (d : ℕ) × (i + d ≡ S) → Enters i j r (lim S)
           go (d, z) (c, y) = cases (seated-on d (suc S) r (lim S) (omega arith) (omega arith) (rw l at st .set-to))
             where
-              before : seat i r ≡ some (lim S) → Enters i (i + c) r (lim S) ⊎ (seat (i + c) r ≡ some (lim S)) → Enters i j r (lim S)
-              before f (inl t) = record { at = t .at; from = t .from; upto = omega arith; enters = t .enters; value = t .value }
+              before : seat i r ≡ some (lim S) → Enters i (i + c) r (lim S) ⊎ (seat (i + c) r ≡ some (lim S)) →
+                  Enters i j r (lim S)
+              before f (inl t) = record {
+                at = t .at;
+                from = t .from;
+                upto = omega arith;
+                enters = t .enters;
+                value = t .value;
+              }
               before f (inr g) = absurd (none-some (rw l at st .was-basic) (rw y at g))
 
               cases : Enters (suc S) (suc S + d) r (lim S) ⊎ (seat (suc S + d) r ≡ some (lim S)) → Enters i j r (lim S)
-              cases (inl t) = record { at = t .at; from = omega arith; upto = omega arith; enters = t .enters; value = t .value }
+              cases (inl t) = record {
+                at = t .at;
+                from = omega arith;
+                upto = omega arith;
+                enters = t .enters;
+                value = t .value;
+              }
               cases (inr f) = let g : seat i r ≡ some (lim S) = same r ∙ (rw z at f) in
                   before g (seated-on c i r (lim S) (omega arith) (omega arith) g)
 
@@ -199,7 +229,8 @@ module _ {X : Type 0} (seat : ℕ → ℕ → Option X) (leave enter : ℕ → �
               where
                 use-it : Enters i j (leave (m .at)) (lim (m .at)) → Clash i j
                 use-it t =
-                    let st : Swap (seat (t .at)) (seat (suc (t .at))) (leave (t .at)) (enter (t .at)) (lim (t .at)) = steps (t .at) (t .from) (t .upto) in
+                    let st : Swap (seat (t .at)) (seat (suc (t .at))) (leave (t .at)) (enter (t .at))
+                    (lim (t .at)) = steps (t .at) (t .from) (t .upto) in
                     record {
                       S = m .at;
                       T = t .at;
@@ -208,10 +239,12 @@ module _ {X : Type 0} (seat : ℕ → ℕ → Option X) (leave enter : ℕ → �
                       again = t .enters;
                       value = t .value;
                       lower = below st (m .most (t .at) (t .from) (t .upto));
-                      above = λ w x. unmoved same (leave (m .at)) (m .most) (m .at) (t .at) w x (m .from) (m .upto) (t .from) (t .upto);
+                      above = λ w x. unmoved same (leave (m .at)) (m .most) (m .at) (t .at) w x (m .from) (m .upto)
+                          (t .from) (t .upto);
                     }
                   where
-                    below : Swap (seat (t .at)) (seat (suc (t .at))) (leave (t .at)) (enter (t .at)) (lim (t .at)) → leave (t .at) ≤ leave (m .at) → leave (t .at) < leave (m .at)
+                    below : Swap (seat (t .at)) (seat (suc (t .at))) (leave (t .at)) (enter (t .at)) (lim (t .at)) →
+                        leave (t .at) ≤ leave (m .at) → leave (t .at) < leave (m .at)
                     below st k = strict (ℕ-discrete (leave (t .at)) (leave (m .at)))
                       where
                         strict : Dec (leave (t .at) ≡ leave (m .at)) → leave (t .at) < leave (m .at)

@@ -31,7 +31,8 @@ module _ {X : Type 0} (𝓥 : Values X) where
 
         go : (o : Option X) → seat A v ≡ o → Le 𝓥 (𝓥 .scale (common A) l) (scaled 𝓥 P A v)
         go none q = LA .inside v h q .low l e
-        go (some x) q = rw (seated-scaled 𝓥 L P A (SA .rowed) v x var q) (up L (SA .rowed .positive) (SA .lowers v x l var q e))
+        go (some x) q = rw (seated-scaled 𝓥 L P A (SA .rowed) v x var q)
+            (up L (SA .rowed .positive) (SA .lowers v x l var q e))
 
     high-fine : (v : ℕ) (u : X) → v < r .variable → P .upper v ≡ some u → Le 𝓥 (scaled 𝓥 P A v) (𝓥 .scale (common A) u)
     high-fine v u h e = go (seat A v) refl
@@ -41,11 +42,13 @@ module _ {X : Type 0} (𝓥 : Values X) where
 
         go : (o : Option X) → seat A v ≡ o → Le 𝓥 (scaled 𝓥 P A v) (𝓥 .scale (common A) u)
         go none q = LA .inside v h q .high u e
-        go (some x) q = rw (seated-scaled 𝓥 L P A (SA .rowed) v x var q) (up L (SA .rowed .positive) (SA .uppers v x u var q e))
+        go (some x) q = rw (seated-scaled 𝓥 L P A (SA .rowed) v x var q)
+            (up L (SA .rowed .positive) (SA .uppers v x u var q e))
 
     module _ (B : State X) (SB : Sound 𝓥 P B) (value : seat B (r .variable) ≡ some (limitAt 𝓥 P r))
         (above-same : (w : ℕ) (x : X) → r .variable < w → seat B w ≡ some x → seat A w ≡ some x) where
-      facts : (σ : Side) (p : ℕ) → p < r .variable → Left 𝓥 P B (leaves p σ) → Entered 𝓥 P B (leaves p σ) (r .variable) → Facts (sided σ 𝓥)
+      facts : (σ : Side) (p : ℕ) → p < r .variable → Left 𝓥 P B (leaves p σ) →
+          Entered 𝓥 P B (leaves p σ) (r .variable) → Facts (sided σ 𝓥)
       unfolding scaled seated
       facts σ p h LB EB = record {
         N = vars P;
@@ -100,9 +103,11 @@ module _ {X : Type 0} (𝓥 : Values X) where
     record Step (k : ℕ) : Type 0 where
       pub out : Left 𝓥 P (after 𝓥 P s k) (leaves-at k)
       pub into : Entered 𝓥 P (after 𝓥 P s k) (leaves-at k) (enters-at k)
-      pub swaps : Swap (seat (after 𝓥 P s k)) (seat (after 𝓥 P s (suc k))) (leaves-at k .variable) (enters-at k) (limitAt 𝓥 P (leaves-at k))
+      pub swaps : Swap (seat (after 𝓥 P s k)) (seat (after 𝓥 P s (suc k))) (leaves-at k .variable) (enters-at k)
+          (limitAt 𝓥 P (leaves-at k))
 
-    make : (k : ℕ) (r : Leaving) (w : ℕ) → leaves-at k ≡ r → enters-at k ≡ w → Left 𝓥 P (after 𝓥 P s k) r → Entered 𝓥 P (after 𝓥 P s k) r w →
+    make : (k : ℕ) (r : Leaving) (w : ℕ) → leaves-at k ≡ r → enters-at k ≡ w → Left 𝓥 P (after 𝓥 P s k) r →
+        Entered 𝓥 P (after 𝓥 P s k) r w →
         Swap (seat (after 𝓥 P s k)) (seat (after 𝓥 P s (suc k))) (r .variable) w (limitAt 𝓥 P r) → Step k
     make k r w e f L E W = record { out = rw e L; into = rw (e, f) E; swaps = rw (e, f) W }
 
@@ -113,13 +118,17 @@ module _ {X : Type 0} (𝓥 : Values X) where
         from-goes : Goes 𝓥 P (after 𝓥 P s k) (after 𝓥 P s (suc k)) → Step k
         from-goes g =
             let e : leaves-at k ≡ g .out = ap (λ o. Option·getD o (leaves 0 below)) (g .leaves) in
-            let f : enters-at k ≡ g .into = ap (λ r. Option·getD (entering 𝓥 P (after 𝓥 P s k) r) 0) e ∙ ap (λ o. Option·getD o 0) (g .enters) in
+            let f : enters-at k ≡ g .into = ap (λ r. Option·getD (entering 𝓥 P (after 𝓥 P s k) r) 0) e
+            ∙ ap (λ o. Option·getD o 0) (g .enters) in
             let L = left 𝓥 P (after 𝓥 P s k) (g .out) (g .leaves) in
             let E = entered 𝓥 P (after 𝓥 P s k) (g .out) (g .into) (g .enters) in
-            make k (g .out) (g .into) e f L E (rw (g .next-is) (swap 𝓥 P (after 𝓥 P s k) (g .out) (g .into) (sound k .rowed .seats-many) L E))
+            make k (g .out) (g .into) e f L E
+            (rw (g .next-is) (swap 𝓥 P (after 𝓥 P s k) (g .out) (g .into) (sound k .rowed .seats-many) L E))
 
     pub no-arrangement-twice : (i j : ℕ) → i < j → Runs 𝓥 P s j → after 𝓥 P s i .seats ≢ after 𝓥 P s j .seats
-    no-arrangement-twice i j h runs e = use-it (clash seats (λ k. leaves-at k .variable) enters-at (λ k. limitAt 𝓥 P (leaves-at k)) i j (λ k p q. step-at k (runs k q) .swaps) h
+    no-arrangement-twice i j h runs e = use-it
+        (clash seats (λ k. leaves-at k .variable) enters-at (λ k. limitAt 𝓥 P (leaves-at k)) i j
+        (λ k p q. step-at k (runs k q) .swaps) h
         (λ v. ap (λ l. getD l v none) e))
       where
         seats : ℕ → ℕ → Option X
@@ -129,5 +138,6 @@ module _ {X : Type 0} (𝓥 : Values X) where
         use-it c =
             let A = step-at (c .S) (runs (c .S) (c .S-in .1)) in
             let B = step-at (c .T) (runs (c .T) (c .T-in .1)) in
-            apart L P (after 𝓥 P s (c .S)) (sound (c .S)) (leaves-at (c .S)) (A .out) (after 𝓥 P s (c .T)) (sound (c .T)) (c .value) (c .above)
+            apart L P (after 𝓥 P s (c .S)) (sound (c .S)) (leaves-at (c .S)) (A .out) (after 𝓥 P s (c .T))
+            (sound (c .T)) (c .value) (c .above)
             (leaves-at (c .T)) (c .lower) (B .out) (rw (c .again) at (B .into))

@@ -43,14 +43,16 @@ module _ {X : Type 0} (P : Problem X) where
 
   pub row-row : (i w : ℕ) → w < P .n → startEntry P (P .n + i) w ≡ P .coefficient i w
   unfolding startEntry
-  row-row i w h = rw (ge-false {a = P .n + i} {b = P .n} (omega arith), lt-true h) (ap (λ k. P .coefficient k w) (let z : P .n + i - P .n ≡ i = omega arith in z))
+  row-row i w h = rw (ge-false {a = P .n + i} {b = P .n} (omega arith), lt-true h)
+      (ap (λ k. P .coefficient k w) (let z : P .n + i - P .n ≡ i = omega arith in z))
 
   times-one : (a : ℤ) → a *ℤ pos 1 ≡ a
   times-one a = unfold one in (*ℤ-one a)
 
   pub unit-solves : (w : ℕ) → w < P .n → Rows whole P (λ v. startEntry P v w)
   unit-solves w q i h = row-row i w q
-      ∙ sym (sum-one (P .n) w (λ j. P .coefficient i j *ℤ same j w) q (λ j g d. rw (same-off j w d) (*ℤ-zero (P .coefficient i j)))
+      ∙ sym (sum-one (P .n) w (λ j. P .coefficient i j *ℤ same j w) q
+      (λ j g d. rw (same-off j w d) (*ℤ-zero (P .coefficient i j)))
       ∙ (rw (same-self w) (times-one (P .coefficient i w))))
       ∙ sum-same (P .n) (λ j. P .coefficient i j *ℤ same j w) (λ j. P .coefficient i j *ℤ startEntry P j w)
       (λ j k. ap (λ e. P .coefficient i j *ℤ e) (sym (problem-row j w k)))
@@ -70,17 +72,20 @@ module _ {X Y : Type 0} {𝓥 : Values Y} (L : Laws 𝓥) (P : Problem X) (x : �
         where
           row : (i : ℕ) → P .n + i ≡ v → x v ≡ total 𝓥 (P .n) (λ j. scale (startEntry P v j) (x j))
           row i e = rw (← e) (R i (omega arith)
-              ∙ total-same L (P .n) _ (λ j. scale (startEntry P (P .n + i) j) (x j)) (λ j k. ap (λ a. scale a (x j)) (sym (row-row P i j k))))
+              ∙ total-same L (P .n) _ (λ j. scale (startEntry P (P .n + i) j) (x j))
+              (λ j k. ap (λ a. scale a (x j)) (sym (row-row P i j k))))
 
   -- d times variable v is the sum of a: where that holds of whole-number solutions, it holds of these
-  pub holds-of : (d : ℤ) (a : ℕ → ℤ) (v : ℕ) → v < vars P → ((y : ℕ → ℤ) → Rows whole P y → d *ℤ y v ≡ sum (vars P) (λ u. a u *ℤ y u)) →
+  pub holds-of : (d : ℤ) (a : ℕ → ℤ) (v : ℕ) → v < vars P →
+      ((y : ℕ → ℤ) → Rows whole P y → d *ℤ y v ≡ sum (vars P) (λ u. a u *ℤ y u)) →
       scale d (x v) ≡ total 𝓥 (vars P) (λ u. scale (a u) (x u))
   holds-of d a v h row =
       ap (scale d) (by-units v h)
       ∙ scale-total L d (P .n) (λ j. scale (e v j) (x j))
       ∙ total-same L (P .n) _ (λ j. total 𝓥 N (λ u. scale (a u) (scale (e u j) (x j)))) each
       ∙ total-swap L (P .n) N (λ j u. scale (a u) (scale (e u j) (x j)))
-      ∙ total-same L N _ (λ u. scale (a u) (x u)) (λ u k. sym (scale-total L (a u) (P .n) (λ j. scale (e u j) (x j))) ∙ ap (scale (a u)) (sym (by-units u k)))
+      ∙ total-same L N _ (λ u. scale (a u) (x u))
+      (λ u k. sym (scale-total L (a u) (P .n) (λ j. scale (e u j) (x j))) ∙ ap (scale (a u)) (sym (by-units u k)))
     where
       N : ℕ
       N = vars P

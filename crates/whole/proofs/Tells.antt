@@ -40,13 +40,21 @@ module _ {b : Bool} {Yes No : Type 0} (t : Tells b Yes No) where
       go false e = e
 
   pub tells-not : Tells (not b) No Yes
-  tells-not = record { if-true = λ e. t .if-false (not-true b e); if-false = λ e. t .if-true (not-false b e); not-both = λ n y. t .not-both y n }
+  tells-not = record {
+    if-true = λ e. t .if-false (not-true b e);
+    if-false = λ e. t .if-true (not-false b e);
+    not-both = λ n y. t .not-both y n;
+  }
 
 -- ---- tests put together
 
 module _ {a b : Bool} {A-yes A-no B-yes B-no : Type 0} (s : Tells a A-yes A-no) (t : Tells b B-yes B-no) where
   pub tells-or : Tells (a || b) (A-yes ⊎ B-yes) (A-no × B-no)
-  tells-or = record { if-true = λ e. one (or-true a b e); if-false = λ e. (s .if-false (or-false a b e .0), t .if-false (or-false a b e .1)); not-both = clash }
+  tells-or = record {
+    if-true = λ e. one (or-true a b e);
+    if-false = λ e. (s .if-false (or-false a b e .0), t .if-false (or-false a b e .1));
+    not-both = clash;
+  }
     where
       one : (a ≡ true) ⊎ (b ≡ true) → A-yes ⊎ B-yes
       one (inl e) = inl (s .if-true e)
@@ -57,7 +65,11 @@ module _ {a b : Bool} {A-yes A-no B-yes B-no : Type 0} (s : Tells a A-yes A-no) 
       clash (inr y) n = t .not-both y (n .1)
 
   pub tells-and : Tells (a && b) (A-yes × B-yes) (A-no ⊎ B-no)
-  tells-and = record { if-true = λ e. (s .if-true (and-true a b e .0), t .if-true (and-true a b e .1)); if-false = λ e. one (and-false a b e); not-both = clash }
+  tells-and = record {
+    if-true = λ e. (s .if-true (and-true a b e .0), t .if-true (and-true a b e .1));
+    if-false = λ e. one (and-false a b e);
+    not-both = clash;
+  }
     where
       one : (a ≡ false) ⊎ (b ≡ false) → A-no ⊎ B-no
       one (inl e) = inl (s .if-false e)
@@ -85,7 +97,8 @@ module _ (k : ℕ) (f : ℕ → Bool) {Yes No : ℕ → Type 0} (t : (v : ℕ) �
 -- ---- something that may be missing: a test of it that fails, or passes, where it is missing
 
 module _ {X : Type 0} (f : Option X → Bool) (b : X → Bool) (there : (x : X) → f (some x) ≡ b x) where
-  pub tells-present : f none ≡ false → (o : Option X) → Tells (f o) ((x : X) × (o ≡ some x) × (b x ≡ true)) ((x : X) → o ≡ some x → b x ≡ false)
+  pub tells-present : f none ≡ false → (o : Option X) →
+      Tells (f o) ((x : X) × (o ≡ some x) × (b x ≡ true)) ((x : X) → o ≡ some x → b x ≡ false)
   tells-present n none = record {
     if-true = λ e. true-false e n;
     if-false = λ e x q. absurd (Option·none-ne-some x q);
@@ -97,7 +110,8 @@ module _ {X : Type 0} (f : Option X → Bool) (b : X → Bool) (there : (x : X) 
     not-both = λ (x, q, h) g. true-false h (g x q);
   }
 
-  pub tells-missing : f none ≡ true → (o : Option X) → Tells (f o) ((x : X) → o ≡ some x → b x ≡ true) ((x : X) × (o ≡ some x) × (b x ≡ false))
+  pub tells-missing : f none ≡ true → (o : Option X) →
+      Tells (f o) ((x : X) → o ≡ some x → b x ≡ true) ((x : X) × (o ≡ some x) × (b x ≡ false))
   tells-missing n none = record {
     if-true = λ e x q. absurd (Option·none-ne-some x q);
     if-false = λ e. true-false n e;
@@ -112,7 +126,11 @@ module _ {X : Type 0} (f : Option X → Bool) (b : X → Bool) (there : (x : X) 
 -- ---- numbers
 
 pub tells-lt : (a b : ℕ) → Tells (ltb a b) (a < b) (b ≤ a)
-tells-lt a b = record { if-true = λ e. ltb→lt a b (rw e tt); if-false = λ e. nltb→le a b (rw e tt); not-both = λ h k. let z : ⊥ = omega arith in z }
+tells-lt a b = record {
+  if-true = λ e. ltb→lt a b (rw e tt);
+  if-false = λ e. nltb→le a b (rw e tt);
+  not-both = λ h k. let z : ⊥ = omega arith in z;
+}
 
 pub tells-eq : (a b : ℕ) → Tells (eqb a b) (a ≡ b) (a ≢ b)
 tells-eq a b = record {
@@ -122,7 +140,11 @@ tells-eq a b = record {
 }
 
 pub tells-ltZ : (a b : ℤ) → Tells (ltZ a b) (a <ℤ b) (b ≤ℤ a)
-tells-ltZ a b = record { if-true = λ e. true→lt e; if-false = λ e. false→le e; not-both = λ h k. <ℤ-irrefl (<ℤ-≤ℤ-trans h k) }
+tells-ltZ a b = record {
+  if-true = λ e. true→lt e;
+  if-false = λ e. false→le e;
+  not-both = λ h k. <ℤ-irrefl (<ℤ-≤ℤ-trans h k);
+}
 
 pub tells-eqZ : (a b : ℤ) → Tells (eqZ a b) (a ≡ b) (a ≢ b)
 tells-eqZ a b = record { if-true = same a b; if-false = differ a b; not-both = λ e n. n e }
@@ -147,6 +169,7 @@ tells-within n z = record {
   not-both = λ h k. k h;
 }
 
-pub tells-outside : (lo hi : ℕ) (z : ℤ) → Tells (outside lo hi z) ((z <ℤ pos lo) ⊎ (pos hi <ℤ z)) ((pos lo ≤ℤ z) × (z ≤ℤ pos hi))
+pub tells-outside : (lo hi : ℕ) (z : ℤ) →
+    Tells (outside lo hi z) ((z <ℤ pos lo) ⊎ (pos hi <ℤ z)) ((pos lo ≤ℤ z) × (z ≤ℤ pos hi))
 unfolding outside
 tells-outside lo hi z = tells-or (tells-ltZ z (pos lo)) (tells-ltZ (pos hi) z)
