@@ -3,7 +3,9 @@
 --   TooLarge         that, of a state
 --   range-exactly    a step is out of range exactly then
 --   range-verdict    the verdict is 3 exactly where no limits cross and, for some k, the run has k pivots and the state after them is so
+--   range-words      the same of the answer to any words
 use mathlib.Core.Bool.{false}
+use mathlib.Core.List.{List}
 use mathlib.Core.Logic.{inl, inr, _↔_}
 use mathlib.Core.Option.{none, some}
 use mathlib.Core.Path.{ap, subst, sym, _∙_, _≡_}
@@ -11,11 +13,13 @@ use Prim.Native.Nat.{ℕ}
 use native.Mathlib.Omega.{arith}
 use lib.Dec.{T}
 use lib.IntN.{pos, ℤ}
+use Rattle.whole.proofs.Instances.{whole-laws}
 use Rattle.whole.proofs.Tells.{tells-false}
 use Rattle.whole.specs.Numbers.{Within}
 use Rattle.whole.specs.Values.{Values, whole}
 use Rattle.rules.proofs.AnswerIs.{answer-run, ended}
 use Rattle.rules.proofs.Answers.{Answered, answered, can-at, cannot-at, crossing, other-verdict, range-at}
+use Rattle.rules.proofs.Ends.{ready-start}
 use Rattle.rules.proofs.Enters.{entered}
 use Rattle.rules.proofs.Leaves.{left}
 use Rattle.rules.proofs.Moved.{rowed-after}
@@ -23,12 +27,12 @@ use Rattle.rules.proofs.Moves.{step-range}
 use Rattle.rules.proofs.Only.{Next, SameNumbers, next-moved, next-only}
 use Rattle.rules.proofs.Small.{Beyond, small-tells}
 use Rattle.rules.proofs.Sound.{Ready, Rowed}
-use Rattle.rules.specs.Answer.{answerFrom, wordsOf}
+use Rattle.rules.specs.Answer.{answer, answerFrom, wordsOf}
 use Rattle.rules.specs.Evidence.{verdictOf}
-use Rattle.rules.specs.Problem.{Problem, vars, word}
+use Rattle.rules.specs.Problem.{Problem, problem, vars, word}
 use Rattle.rules.specs.Run.{Runs, after, conflict}
 use Rattle.rules.specs.Sizes.{largestNumber}
-use Rattle.rules.specs.Step.{Leaving, Outcome, State, entering, leaving, moved, range, step}
+use Rattle.rules.specs.Step.{Leaving, Outcome, State, entering, leaving, moved, range, start, step}
 use Rattle.rules.specs.Tableau.{Tableau, small}
 
 module _ {X : Type 0} (𝓥 : Values X) (P : Problem X) where
@@ -98,3 +102,10 @@ module _ (P : Problem ℤ) (s : State ℤ) (S : Ready whole P s) where
           ∙ ap (λ (h : Outcome ℤ). word (wordsOf P
           (record { how = h; pivots = R .count; last = after whole P s (R .count) })) 0)
           (ap (λ j. step whole P (after whole P s j)) (sym z) ∙ q)
+
+-- of the answer to any words
+pub range-words : (ws : List ℤ) → (verdictOf (answer ws) ≡ pos 3)
+    ↔ ((conflict whole (problem ws) ≡ none) × ((k : ℕ) × Runs whole (problem ws) (start whole (problem ws)) k
+    × TooLarge whole (problem ws) (after whole (problem ws) (start whole (problem ws)) k)))
+unfolding answer
+range-words ws = range-verdict (problem ws) (start whole (problem ws)) (ready-start whole whole-laws (problem ws))
