@@ -6,21 +6,29 @@ use Rattle.whole.specs.Numbers.{outside, within}
 use Rattle.whole.specs.Sums.{sumBy}
 use Rattle.whole.specs.Tables.{matrix, tableFrom}
 use Rattle.rules.specs.Answer.{answer, answerFrom, wordsOf}
-use Rattle.rules.specs.Cases.{AllRight, cases, comesOut, wanted}
+use Rattle.rules.specs.Cases.{cases}
+use Rattle.rules.specs.Cycle.{isBadCycle}
 use Rattle.rules.specs.Evidence.{accepted, atLeast, atMost, checked, column, fair, showsCan, showsCannot, surplus}
+use Rattle.rules.specs.Expected.{AllRight, comesOut, wanted}
 use Rattle.rules.specs.Limit.{badLimitWord, bit, present}
+use Rattle.rules.specs.LimitCases.{limitCases}
+use Rattle.rules.specs.Passes.{canMeet, distances, look, passes, settled}
 use Rattle.rules.specs.Problem.{problem}
 use Rattle.rules.specs.Refusal.{badCoefficient, badKind, badLength, badLimit, badSize, first, problemTests, refusal, tooFew, tooShort}
 use Rattle.rules.specs.Run.{bound, choose, conflict, crossed, ending, run}
 use Rattle.rules.specs.Step.{admit, broken, entering, evidence, leaving, limitAt, mayFall, mayRise, moved, over, pull, scaled, seated, start, startEntry, startSeat, startValue, step, suits, under}
 use Rattle.rules.specs.Tableau.{divisor, divisorSize, pivot, reduced, relation, small, solved}
+use Rattle.rules.specs.TimeCases.{timeCases}
+use Rattle.rules.specs.Times.{cycleWords, timesAnswer, timesOf}
+use Rattle.rules.specs.TimeWords.{badEnd, badRowLength, badStrict, badTimeSize, badWordCount, noRoom, timeEdges, timeRefusal, timeTests}
 
 pub all-right : AllRight cases
-unfolding cases comesOut wanted answer answerFrom wordsOf ending conflict crossed run bound choose step leaving broken
-    under over entering suits mayRise mayFall
-    pull moved limitAt admit evidence scaled seated start startEntry startSeat startValue pivot solved reduced relation
-    divisor divisorSize small problem present
-    bit badLimitWord refusal first problemTests tooFew badSize badLength badCoefficient badKind badLimit tooShort
-    checked accepted showsCan showsCannot atLeast
-    atMost fair column surplus lowest someBelow allBelow foldBelow sumBy tableFrom matrix gcd gcdTurns within outside
+unfolding cases limitCases timeCases comesOut wanted answer answerFrom wordsOf ending conflict crossed run bound choose step
+    leaving broken under over entering suits mayRise mayFall pull moved limitAt admit evidence scaled seated
+    start startEntry startSeat startValue pivot solved reduced relation divisor divisorSize small problem present bit
+    refusal first problemTests tooFew badSize badLength badCoefficient badKind badLimit badLimitWord tooShort
+    checked accepted showsCan showsCannot atLeast atMost fair column surplus
+    timeRefusal timeTests badTimeSize badWordCount badEnd badStrict badRowLength noRoom
+    timesAnswer timesOf cycleWords canMeet distances passes look settled isBadCycle timeEdges
+    lowest someBelow allBelow foldBelow sumBy tableFrom matrix gcd gcdTurns within outside
 all-right = refl

@@ -34,3 +34,4 @@ pub mod Only
 pub mod Range
 pub mod AllRight
 pub mod Entries
+pub mod Times

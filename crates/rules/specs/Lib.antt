@@ -8,4 +8,12 @@ pub mod Step
 pub mod Run
 pub mod Answer
 pub mod Evidence
+pub mod Walks
+pub mod Passes
+pub mod Cycle
+pub mod TimeWords
+pub mod Times
+pub mod Expected
+pub mod LimitCases
+pub mod TimeCases
 pub mod Cases

@@ -9,7 +9,7 @@ use Rattle.whole.proofs.RingLaws.{*ℤ-idl, *ℤ-distribl, *ℤ-distrib
 use Rattle.whole.proofs.Reify.{reify}
 use Rattle.whole.proofs.Nonneg.{of-le, of-lt, slk}
 use Rattle.whole.proofs.Tools.{le-at, lt-at}
-use Rattle.whole.proofs.Order.{true→lt, false→le, lt→true, le→false, ≤ℤ-trans, <ℤ→≤ℤ, times-up, times-up-strict, times-down, times-down-strict}
+use Rattle.whole.proofs.Order.{true→lt, false→le, lt→true, le→false, ≤ℤ-trans, ≤ℤ-antisym, <ℤ→≤ℤ, times-up, times-up-strict, times-down, times-down-strict}
 use Rattle.whole.proofs.Values.{Laws}
 
 -- with the order turned round all laws hold again
@@ -25,6 +25,7 @@ turned-laws L = record {
   scale-times = L .scale-times;
   less-asym = λ x y h. L .less-asym y x h;
   le-trans = λ x y z p q. L .le-trans z y x q p;
+  le-antisym = λ x y p q. L .le-antisym x y q p;
   less-plus = λ x y z. L .less-plus y x z;
   less-up = λ a x y h. L .less-up a y x h;
   less-down = λ a x y h. L .less-down a y x h;
@@ -63,6 +64,7 @@ whole-laws = record {
   scale-times = *ℤ-assoc;
   less-asym = λ x y h. le→false {a = x} {b = y} (<ℤ→≤ℤ (true→lt {a = x} {b = y} h));
   le-trans = λ x y z p q. le→false {a = x} {b = z} (≤ℤ-trans (false→le {a = x} {b = y} p) (false→le {a = y} {b = z} q));
+  le-antisym = λ x y p q. ≤ℤ-antisym (false→le {a = x} {b = y} p) (false→le {a = y} {b = x} q);
   less-plus = shift;
   less-up = scale-up;
   less-down = scale-down;

@@ -1,10 +1,12 @@
--- What is asked of the operations on values, and what follows from it: thirteen laws, chains of orders, multiples by sign, and sums.
+-- What is asked of the operations on values, and what follows from it: fourteen laws, chains of orders, multiples by sign, and sums.
 -- The order laws are equations on `less`, so that an order turned round computes.
 --   weaken, le-le, lt-le-trans, le-lt-trans, plus-mono, up, down, -strict    orders
+--   le-or-lt, plus-le, plus-lt                                               two cases; one value added to both
+--   gain-le, gain-lt                                                         what is added, where the sum is not less, or less
 --   total-same, total-plus, scale-total, total-swap, total-zero, total-one   sums
 --   total-le, total-lt                                                       sums in order
 use mathlib.Core.Path.{_≡_, refl, sym, _∙_, ap}
-use mathlib.Core.Logic.{_≢_}
+use mathlib.Core.Logic.{_≢_, _⊎_, inl, inr}
 use mathlib.Core.Bool.{Bool, true, false}
 use Prim.Native.Nat.{ℕ, zero, suc, _+_, _<_}
 use native.Mathlib.Omega.{arith}
@@ -26,6 +28,7 @@ pub record Laws {X : Type 0} (𝓥 : Values X) : Type 0 where
   pub scale-times : (a b : ℤ) (x : X) → 𝓥 .scale (a *ℤ b) x ≡ 𝓥 .scale a (𝓥 .scale b x)
   pub less-asym : (x y : X) → Lt 𝓥 x y → Le 𝓥 x y
   pub le-trans : (x y z : X) → Le 𝓥 x y → Le 𝓥 y z → Le 𝓥 x z
+  pub le-antisym : (x y : X) → Le 𝓥 x y → Le 𝓥 y x → x ≡ y
   pub less-plus : (x y z : X) → 𝓥 .less (𝓥 .plus x z) (𝓥 .plus y z) ≡ 𝓥 .less x y
   pub less-up : (a : ℤ) (x y : X) → pos 0 <ℤ a → 𝓥 .less (𝓥 .scale a x) (𝓥 .scale a y) ≡ 𝓥 .less x y
   pub less-down : (a : ℤ) (x y : X) → a <ℤ pos 0 → 𝓥 .less (𝓥 .scale a x) (𝓥 .scale a y) ≡ 𝓥 .less y x
@@ -66,6 +69,19 @@ module _ {X : Type 0} {𝓥 : Values X} (L : Laws 𝓥) where
       go true e = e
       go false e = true-false q (L .le-trans z x y e p)
 
+  pub le-or-lt : (x y : X) → Le 𝓥 x y ⊎ Lt 𝓥 y x
+  le-or-lt x y = go (less y x) refl
+    where
+      go : (b : Bool) → less y x ≡ b → Le 𝓥 x y ⊎ Lt 𝓥 y x
+      go true e = inr e
+      go false e = inl e
+
+  pub plus-le : {x y : X} (z : X) → Le 𝓥 x y → Le 𝓥 (plus x z) (plus y z)
+  plus-le {x} {y} z p = L .less-plus y x z ∙ p
+
+  pub plus-lt : {x y : X} (z : X) → Lt 𝓥 x y → Lt 𝓥 (plus x z) (plus y z)
+  plus-lt {x} {y} z p = L .less-plus x y z ∙ p
+
   less-plus-left : (x y z : X) → less (plus z x) (plus z y) ≡ less x y
   less-plus-left x y z = rw (L .plus-comm z x, L .plus-comm z y) (L .less-plus x y z)
 
@@ -98,6 +114,13 @@ module _ {X : Type 0} {𝓥 : Values X} (L : Laws 𝓥) where
 
   pub nil-plus : (x : X) → plus nil x ≡ x
   nil-plus x = L .plus-comm nil x ∙ L .plus-nil x
+
+  -- what is added, by what comes of it
+  pub gain-le : (x y : X) → Le 𝓥 x (plus x y) → Le 𝓥 nil y
+  gain-le x y p = sym (less-plus-left y nil x) ∙ ap (λ z. less (plus x y) z) (L .plus-nil x) ∙ p
+
+  pub gain-lt : (x y : X) → Lt 𝓥 (plus x y) x → Lt 𝓥 y nil
+  gain-lt x y p = sym (less-plus-left y nil x) ∙ ap (λ z. less (plus x y) z) (L .plus-nil x) ∙ p
 
   -- ---- sums
 

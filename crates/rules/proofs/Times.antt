@@ -1,0 +1,10 @@
+pub mod Still
+pub mod Traced
+pub mod Falling
+pub mod Trail
+pub mod Closed
+pub mod Decide
+pub mod Refused
+pub mod Means
+pub mod Only
+pub mod Tested

@@ -1,0 +1,126 @@
+-- docs/RULES.md, "Time rows", the table of refusals, line by line: what each test means, and that the refusal is the first that applies.
+--   timesTable                    the lines of the table: the test, its number, its meaning
+--   times-refusal-exactly         the refusal is k exactly where no earlier line's meaning holds and line k's does, and 0 where none does
+--   times-accepted-exactly        it is 0 exactly for accepted words with room enough
+--   accepted-ends, n-few, ..      what accepted words hold, as facts about their sizes and their edges
+use mathlib.Core.Path.{_≡_, refl}
+use mathlib.Core.List.{List, [], _∷_}
+use mathlib.Core.Logic.{_↔_, _≢_, _⊎_}
+use Prim.Native.Nat.{ℕ, _+_, _*_, _-_, _≤_, _<_}
+use native.Mathlib.Omega.{arith}
+use lib.IntN.{ℤ, pos, natAbs, _-ℤ_}
+use lib.ListN.{length}
+use Rattle.whole.specs.Numbers.{Within}
+use Rattle.whole.proofs.Sizes.{within--}
+use Rattle.whole.proofs.Tells.{Tells, tells-eq, tells-lt, tells-not, tells-or, tells-outside, tells-some, tells-within}
+use Rattle.whole.proofs.Tests.{above, under}
+use Rattle.rules.specs.Sizes.{mostVertices, mostTimeRows, largestLength}
+use Rattle.rules.specs.Problem.{word, nOf, mOf}
+use Rattle.rules.specs.Walks.{Ends}
+use Rattle.rules.specs.TimeWords.{fromWord, toWord, strictWord, lengthWord, timesLength, badTimeSize, badWordCount, badEnd, badStrict, badRowLength, noRoom, timeTests, timeRefusal, AcceptedTimes, timeEdges}
+use Rattle.rules.proofs.First.{AllFine, First, Test, first-exactly, first-fine, line}
+use Rattle.rules.proofs.Refused.{OutOfRange, InRange, few-tells}
+
+module _ (ws : List ℤ) where
+  pub size-tells : Tells (badTimeSize ws) (OutOfRange 1 mostVertices (word ws 0) ⊎ OutOfRange 0 mostTimeRows (word ws 1))
+      (InRange 1 mostVertices (word ws 0) × InRange 0 mostTimeRows (word ws 1))
+  unfolding badTimeSize
+  size-tells = tells-or (tells-outside 1 mostVertices (word ws 0)) (tells-outside 0 mostTimeRows (word ws 1))
+
+  pub count-tells : Tells (badWordCount ws) (length ws ≢ 2 + 4 * mOf ws) (length ws ≡ 2 + 4 * mOf ws)
+  unfolding badWordCount
+  count-tells = tells-not (tells-eq (length ws) (2 + 4 * mOf ws))
+
+  -- of one row
+  pub end-tells : (i : ℕ) → Tells (badEnd ws i) (OutOfRange 0 (nOf ws - 1) (fromWord ws i) ⊎ OutOfRange 0 (nOf ws - 1) (toWord ws i))
+      (InRange 0 (nOf ws - 1) (fromWord ws i) × InRange 0 (nOf ws - 1) (toWord ws i))
+  unfolding badEnd
+  end-tells i = tells-or (tells-outside 0 (nOf ws - 1) (fromWord ws i)) (tells-outside 0 (nOf ws - 1) (toWord ws i))
+
+  pub strict-tells : (i : ℕ) → Tells (badStrict ws i) (OutOfRange 0 1 (strictWord ws i)) (InRange 0 1 (strictWord ws i))
+  unfolding badStrict
+  strict-tells i = tells-outside 0 1 (strictWord ws i)
+
+  pub span-tells : (i : ℕ) → Tells (badRowLength ws i) (¬ Within (lengthWord ws i) largestLength) (Within (lengthWord ws i) largestLength)
+  unfolding badRowLength
+  span-tells i = tells-not (tells-within largestLength (lengthWord ws i))
+
+  pub room-tells : (room : ℕ) → Tells (noRoom ws room) (room < timesLength ws) (timesLength ws ≤ room)
+  unfolding noRoom
+  room-tells room = tells-lt room (timesLength ws)
+
+-- ---- the table
+
+abbrev pub timesTable : List ℤ → ℕ → List Test
+timesTable ws room =
+    line 11 (few-tells ws) ∷ line 12 (size-tells ws) ∷ line 13 (count-tells ws)
+    ∷ line 14 (tells-some (mOf ws) (badEnd ws) (λ i h. end-tells ws i))
+    ∷ line 15 (tells-some (mOf ws) (badStrict ws) (λ i h. strict-tells ws i))
+    ∷ line 16 (tells-some (mOf ws) (badRowLength ws) (λ i h. span-tells ws i))
+    ∷ line 17 (room-tells ws room) ∷ []
+
+pub times-refusal-exactly : (ws : List ℤ) (room k : ℕ) → (timeRefusal ws room ≡ k) ↔ First (timesTable ws room) k
+unfolding timeRefusal timeTests
+times-refusal-exactly ws room k = first-exactly (timesTable ws room) k
+
+fine-accepted : (ws : List ℤ) (room : ℕ) → AllFine (timesTable ws room) → AcceptedTimes ws room
+fine-accepted ws room (few, (size, (exact, (ends, (stricts, (lengths, (fits, end))))))) = record {
+  enough = few;
+  n-least = size .0 .0;
+  n-most = size .0 .1;
+  m-least = size .1 .0;
+  m-most = size .1 .1;
+  exact = exact;
+  from-least = λ i h. ends i h .0 .0;
+  from-most = λ i h. ends i h .0 .1;
+  to-least = λ i h. ends i h .1 .0;
+  to-most = λ i h. ends i h .1 .1;
+  strict-least = λ i h. stricts i h .0;
+  strict-most = λ i h. stricts i h .1;
+  lengths = lengths;
+  roomy = fits;
+}
+
+accepted-fine : (ws : List ℤ) (room : ℕ) → AcceptedTimes ws room → AllFine (timesTable ws room)
+accepted-fine ws room A = (
+  A .enough,
+  (
+    ((A .n-least, A .n-most), (A .m-least, A .m-most)),
+    (
+      A .exact,
+      (
+        λ i h. ((A .from-least i h, A .from-most i h), (A .to-least i h, A .to-most i h)),
+        ((λ i h. (A .strict-least i h, A .strict-most i h)), (A .lengths, (A .roomy, tt))),
+      ),
+    ),
+  ),
+)
+
+pub times-accepted-exactly : (ws : List ℤ) (room : ℕ) → (timeRefusal ws room ≡ 0) ↔ AcceptedTimes ws room
+unfolding timeRefusal timeTests
+times-accepted-exactly ws room = let r = first-fine (timesTable ws room) (omega arith) in
+    (λ e. fine-accepted ws room (r .0 e), λ A. r .1 (accepted-fine ws room A))
+
+-- ---- what accepted words hold
+
+module _ {ws : List ℤ} {room : ℕ} (A : AcceptedTimes ws room) where
+  pub n-some : 1 ≤ nOf ws
+  n-some = above 1 (word ws 0) (A .n-least)
+
+  pub n-few : nOf ws ≤ mostVertices
+  n-few = under mostVertices 1 (word ws 0) (A .n-least) (A .n-most)
+
+  pub m-few : mOf ws ≤ mostTimeRows
+  m-few = under mostTimeRows 0 (word ws 1) (A .m-least) (A .m-most)
+
+  pub accepted-ends : Ends (timeEdges ws)
+  unfolding timeEdges
+  accepted-ends = record {
+    tail-in = λ i h. let k : natAbs (fromWord ws i) ≤ nOf ws - 1 = under (nOf ws - 1) 0 _ (A .from-least i h) (A .from-most i h) in omega (arith, n-some);
+    head-in = λ i h. let k : natAbs (toWord ws i) ≤ nOf ws - 1 = under (nOf ws - 1) 0 _ (A .to-least i h) (A .to-most i h) in omega (arith, n-some);
+  }
+
+  -- a strict row may be one longer
+  pub size-within : (i : ℕ) → i < mOf ws → Within (timeEdges ws .size i) (largestLength + 1)
+  unfolding timeEdges
+  size-within i h = within-- {b = strictWord ws i} (A .lengths i h) (record { within = under 1 0 (strictWord ws i) (A .strict-least i h) (A .strict-most i h) })

@@ -1,0 +1,114 @@
+-- docs/RULES.md, "Runs worked by hand": cases A to I and the edges, as words and what is expected of them.
+use mathlib.Core.List.{List, [], _∷_, _++_}
+use Prim.Native.Nat.{ℕ}
+use lib.IntN.{ℤ, pos}
+use lib.ListN.{replicate}
+use Rattle.rules.specs.Expected.{Case, answers, minus, refused}
+
+-- ---- how words are written
+
+-- the limits of one variable: kind, lower, upper
+abbrev free : List ℤ
+free = pos 0 ∷ pos 0 ∷ pos 0 ∷ []
+
+abbrev atLeast : ℤ → List ℤ
+atLeast l = pos 1 ∷ l ∷ pos 0 ∷ []
+
+abbrev atMost : ℤ → List ℤ
+atMost u = pos 2 ∷ pos 0 ∷ u ∷ []
+
+abbrev between : ℤ → ℤ → List ℤ
+between l u = pos 3 ∷ l ∷ u ∷ []
+
+-- n and m, or a row of two coefficients
+abbrev two : ℤ → ℤ → List ℤ
+two a b = a ∷ b ∷ []
+
+abbrev zeros : ℕ → List ℤ
+zeros k = replicate k (pos 0)
+
+abbrev gives : List ℤ → List ℤ → Case
+gives ws a = record { words = ws; expected = answers a }
+
+abbrev turnedAway : List ℤ → ℕ → Case
+turnedAway ws k = record { words = ws; expected = refused k }
+
+-- ---- the cases
+
+-- x+y>=2, 2x-y>=0, -x+2y>=1: can, 2 pivots, over 3: 3 3 6 3 3
+abbrev caseA : Case
+caseA = gives
+    (two (pos 2) (pos 3) ++ two (pos 1) (pos 1) ++ two (pos 2) (minus 1) ++ two (minus 1) (pos 2)
+    ++ free ++ free ++ atLeast (pos 2) ++ atLeast (pos 0) ++ atLeast (pos 1))
+    (pos 1 ∷ pos 2 ∷ pos 3 ∷ pos 3 ∷ pos 3 ∷ pos 6 ∷ pos 3 ∷ pos 3 ∷ zeros 5)
+
+-- x+y>=0, -2x+y>=2, -10x+y>=-5: can, 2, over 3: -2 2 0 6 22
+abbrev caseB : Case
+caseB = gives
+    (two (pos 2) (pos 3) ++ two (pos 1) (pos 1) ++ two (minus 2) (pos 1) ++ two (minus 10) (pos 1)
+    ++ free ++ free ++ atLeast (pos 0) ++ atLeast (pos 2) ++ atLeast (minus 5))
+    (pos 1 ∷ pos 2 ∷ pos 3 ∷ minus 2 ∷ pos 2 ∷ pos 0 ∷ pos 6 ∷ pos 22 ∷ zeros 5)
+
+-- x+y>=0, -x-2y>=2, -x+y>=1: cannot, 2, row lowers 3 2 1
+abbrev caseC : Case
+caseC = gives
+    (two (pos 2) (pos 3) ++ two (pos 1) (pos 1) ++ two (minus 1) (minus 2) ++ two (minus 1) (pos 1)
+    ++ free ++ free ++ atLeast (pos 0) ++ atLeast (pos 2) ++ atLeast (pos 1))
+    (pos 2 ∷ pos 2 ∷ pos 0 ∷ pos 0 ∷ pos 0 ∷ pos 3 ∷ pos 2 ∷ pos 1 ∷ zeros 5)
+
+-- -1<=x1<=0, -4<=x2<=0, x1+2x2 in -5..-4, 2x1+x2 in -7..1: can, 2, over 2: -2 -3 -8 -7
+abbrev caseD : Case
+caseD = gives
+    (two (pos 2) (pos 2) ++ two (pos 1) (pos 2) ++ two (pos 2) (pos 1)
+    ++ between (minus 1) (pos 0) ++ between (minus 4) (pos 0) ++ between (minus 5) (minus 4) ++ between (minus 7) (pos 1))
+    (pos 1 ∷ pos 2 ∷ pos 2 ∷ minus 2 ∷ minus 3 ∷ minus 8 ∷ minus 7 ∷ zeros 4)
+
+-- -x+y<=1, y<=4, -x-y<=-6, 3x-y<=7, all as rows: can, 2, over 4: 13 11 -2 11 -24 28
+abbrev caseE : Case
+caseE = gives
+    (two (pos 2) (pos 4) ++ two (minus 1) (pos 1) ++ two (pos 0) (pos 1) ++ two (minus 1) (minus 1) ++ two (pos 3) (minus 1)
+    ++ free ++ free ++ atMost (pos 1) ++ atMost (pos 4) ++ atMost (minus 6) ++ atMost (pos 7))
+    (pos 1 ∷ pos 2 ∷ pos 4 ∷ pos 13 ∷ pos 11 ∷ minus 2 ∷ pos 11 ∷ minus 24 ∷ pos 28 ∷ zeros 6)
+
+-- x>=2, y>=2 as limits, row x+y<=3: cannot, 0, lowers of x and y 1, upper of the row 1
+abbrev caseF : Case
+caseF = gives
+    (two (pos 2) (pos 1) ++ two (pos 1) (pos 1) ++ atLeast (pos 2) ++ atLeast (pos 2) ++ atMost (pos 3))
+    (pos 2 ∷ pos 0 ∷ pos 0 ∷ pos 1 ∷ pos 1 ∷ pos 0 ∷ pos 0 ∷ pos 0 ∷ pos 1 ∷ [])
+
+-- n 1, m 0, lower 1, upper 0: cannot, 0, lower 1, upper 1
+abbrev caseG : Case
+caseG = gives (two (pos 1) (pos 0) ++ between (pos 1) (pos 0)) (pos 2 ∷ pos 0 ∷ pos 0 ∷ pos 1 ∷ pos 1 ∷ [])
+
+-- n 1, m 0, kind 0: can, 0, over 1: 0
+abbrev caseH : Case
+caseH = gives (two (pos 1) (pos 0) ++ free) (pos 1 ∷ pos 0 ∷ pos 1 ∷ pos 0 ∷ pos 0 ∷ [])
+
+-- one row 0x >= 1: cannot, 0, row lower 1
+abbrev caseI : Case
+caseI = gives (two (pos 1) (pos 1) ++ (pos 0 ∷ []) ++ free ++ atLeast (pos 1)) (pos 2 ∷ pos 0 ∷ pos 0 ∷ pos 0 ∷ pos 1 ∷ pos 0 ∷ pos 0 ∷ [])
+
+-- ---- the edges
+
+-- one variable, one row with coefficient c, and limits of the row
+abbrev oneRow : ℤ → List ℤ → List ℤ
+oneRow c limits = two (pos 1) (pos 1) ++ (c ∷ []) ++ free ++ limits
+
+abbrev edges : List Case
+edges =
+    -- a coefficient of 1,000 and a limit of 30,000 pass; 1,001 and 30,001 do not
+    gives (oneRow (pos 1000) (atMost (pos 30000))) (pos 1 ∷ pos 0 ∷ pos 1 ∷ zeros 4)
+    ∷ turnedAway (oneRow (pos 1001) free) 4
+    ∷ turnedAway (oneRow (pos 1) (atMost (pos 30001))) 6
+    -- n 9, n 0
+    ∷ turnedAway (two (pos 9) (pos 0) ++ zeros 27) 2
+    ∷ turnedAway (two (pos 0) (pos 0)) 2
+    -- m 16 passes
+    ∷ gives (two (pos 1) (pos 16) ++ zeros 67) (pos 1 ∷ pos 0 ∷ pos 1 ∷ zeros 34)
+    -- kind 1 with an upper word; kind 7 together with a coefficient of 1,001
+    ∷ turnedAway (oneRow (pos 1) (pos 1 ∷ pos 0 ∷ pos 5 ∷ [])) 6
+    ∷ turnedAway (oneRow (pos 1001) (pos 7 ∷ pos 0 ∷ pos 0 ∷ [])) 4
+    ∷ []
+
+unfoldable pub limitCases : List Case
+limitCases = caseA ∷ caseB ∷ caseC ∷ caseD ∷ caseE ∷ caseF ∷ caseG ∷ caseH ∷ caseI ∷ edges
