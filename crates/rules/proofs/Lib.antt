@@ -35,3 +35,4 @@ pub mod Range
 pub mod AllRight
 pub mod Entries
 pub mod Times
+pub mod Text

@@ -2,6 +2,7 @@
 --   problemTable, solverTable    the lines of the table: the test, its number, its meaning
 --   refusal-exactly              the refusal is k exactly where no earlier line's meaning holds and line k's does, and 0 where none does
 --   problem-refusal-exactly      the same of refusals 1 to 6
+--   limit-tells, ..-tells       what each test says
 --   accepted-exactly             refusals 1 to 6 give 0 exactly for accepted words, with any most rows
 --   answered-exactly             the refusal is 0 exactly for accepted words with room enough
 use mathlib.Core.Bool.{Bool, false, true}
@@ -32,7 +33,7 @@ abbrev pub BadLimit : Bool → ℤ → Type 0
 BadLimit true z = ¬ Within z largestLimit
 BadLimit false z = z ≢ pos 0
 
-limit-tells : (b : Bool) (z : ℤ) → Tells (badLimitWord b z) (BadLimit b z) (FineLimit b z)
+pub limit-tells : (b : Bool) (z : ℤ) → Tells (badLimitWord b z) (BadLimit b z) (FineLimit b z)
 unfolding badLimitWord
 limit-tells true z = tells-not (tells-within largestLimit z)
 limit-tells false z = tells-not (tells-eqZ z (pos 0))

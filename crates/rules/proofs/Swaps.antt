@@ -19,7 +19,7 @@ pub record Swap {X : Type 0} (before after : ℕ → Option X) (l e : ℕ) (x : 
   pub now-basic : after e ≡ none
   pub others : (v : ℕ) → v ≢ l → v ≢ e → after v ≡ before v
 
-none-some : {X : Type 0} {o : Option X} {x : X} → o ≡ none → o ≡ some x → ⊥
+pub none-some : {X : Type 0} {o : Option X} {x : X} → o ≡ none → o ≡ some x → ⊥
 none-some {x} p q = Option·none-ne-some x (sym p ∙ q)
 
 is-seated : {X : Type 0} (o : Option X) → (o ≡ none) ⊎ ((x : X) × (o ≡ some x))

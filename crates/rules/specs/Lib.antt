@@ -17,3 +17,6 @@ pub mod Expected
 pub mod LimitCases
 pub mod TimeCases
 pub mod Cases
+pub mod Bytes
+pub mod Text
+pub mod Program

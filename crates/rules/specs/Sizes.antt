@@ -39,3 +39,29 @@ mostTimeRows = 256
 
 abbrev pub largestLength : ℕ
 largestLength = 30000
+
+-- ---- the program, in bytes
+
+-- of input: 202 words, the most that a problem has, are four bytes each
+abbrev pub mostBytes : ℕ
+mostBytes = 808
+
+-- a number of 64 bits: a sign and 19 digits
+abbrev pub mostDecimal : ℕ
+mostDecimal = 20
+
+-- the line of the pivots: its name, a number and a newline
+abbrev pub mostPivotsLine : ℕ
+mostPivotsLine = 7 + mostDecimal + 1
+
+-- the line of a numerator: a variable of two digits, a space, a number and a newline
+abbrev pub mostValueLine : ℕ
+mostValueLine = 2 + 1 + mostDecimal + 1
+
+-- the two lines of a variable's multipliers: two digits, " lower " or " upper ", a number and a newline
+abbrev pub mostMultiplierLines : ℕ
+mostMultiplierLines = 2 * (2 + 7 + mostDecimal + 1)
+
+-- a whole text: "cannot", the pivots, and two lines for each variable: 1,475
+abbrev pub mostText : ℕ
+mostText = 7 + mostPivotsLine + mostVariables * mostMultiplierLines

@@ -85,7 +85,7 @@ pub record AcceptedTimes (ws : List ℤ) (room : ℕ) : Type 0 where
 -- ---- what they mean
 
 -- row i is an edge from x to y of length c; a strict row is read as c - 1
-unfoldable pub timeEdges : List ℤ → Edges ℤ
+abbrev pub timeEdges : List ℤ → Edges ℤ
 timeEdges ws = record {
   vertices = nOf ws;
   count = mOf ws;

@@ -1,7 +1,7 @@
-// Two small functions whose proofs show how the tools of `whole` meet code: a 64-bit expression that fits, and a loop over a divisor.
+// A small function whose proof shows how the tools of `whole` meet code: a 64-bit expression that fits. A loop to copy is
+// `divisor::common_of`, Euclid's steps.
 ghost use mathlib.Core.Path.{_≡_};
 ghost use lib.IntN.{_*ℤ_, _-ℤ_};
-ghost use Rattle.whole.specs.Divisors.{gcd};
 ghost use Rattle.whole.specs.Numbers.{Within};
 
 // Two products of numbers that a tableau may hold, and their difference: it fits 64 bits, as three products would not.
@@ -10,18 +10,4 @@ pub fn cross(a: i64, b: i64, c: i64, d: i64) -> i64
     ensures { λ r. ⌜ r ≡ a *ℤ b -ℤ c *ℤ d ⌝ }
 {
     a * b - c * d
-}
-
-// Euclid's steps.
-pub fn divisor(a: u64, b: u64) -> u64
-    ensures { λ r. ⌜ r ≡ gcd a b ⌝ }
-{
-    let mut x = a;
-    let mut y = b;
-    while y != 0 {
-        let r = x % y;
-        x = y;
-        y = r;
-    }
-    x
 }

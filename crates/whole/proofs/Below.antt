@@ -2,12 +2,15 @@
 --   lowest-none, lowest-some (Found), lowest-is    nothing found; what is found is first; and back
 --   lowest-passes, none-passes                     the lowest number that passes a test
 --   all-each, all-of, all-not, all-fails           the test passes at each number, or fails at one
+--   all-more                                       .. and at one number more
 --   some-none, some-at, some-of                    the test fails at each, or passes at one
+--   all-start, all-more, some-start, some-more     for a loop: nothing passed yet, one number more
 use mathlib.Core.Path.{_≡_, refl, _∙_}
 use mathlib.Core.Bool.{Bool, true, false, cond}
 use mathlib.Core.Logic.{_↔_}
 use mathlib.Core.Option.{Option, none, some, Option·none-ne-some, Option·some-ne-none}
 use Prim.Native.Nat.{ℕ, zero, suc, _+_, _<_}
+use native.Mathlib.Numerals.{add-one}
 use native.Mathlib.Omega.{arith}
 use native.Mathlib.Decide.{ℕ-discrete}
 use Rattle.whole.proofs.Bools.{true-false}
@@ -108,6 +111,23 @@ all-not k v f h e = go (allBelow k f) refl
     go true q = true-false (all-each k f q v h) e
     go false q = refl
 
+pub all-same : (k : ℕ) (f g : ℕ → Bool) → ((v : ℕ) → v < k → f v ≡ g v) → allBelow k f ≡ allBelow k g
+unfolding allBelow
+all-same zero f g h = refl
+all-same (suc k) f g h = go (allBelow k f) refl (all-same k f g (λ v p. h v (omega arith)))
+  where
+    go : (b : Bool) → allBelow k f ≡ b → allBelow k f ≡ allBelow k g → allBelow (suc k) f ≡ allBelow (suc k) g
+    go true q e = rw (q, ← e, q, allBelow) (h k (omega arith))
+    go false q e = rw (q, ← e, q, allBelow) refl
+
+pub all-start : (f : ℕ → Bool) → allBelow 0 f ≡ true
+unfolding allBelow
+all-start f = refl
+
+pub all-more : (k : ℕ) (f : ℕ → Bool) → allBelow k f ≡ true → f k ≡ true → allBelow (k + 1) f ≡ true
+unfolding allBelow
+all-more k f e h = rw (add-one, e, allBelow) h
+
 pub all-fails : (k : ℕ) (f : ℕ → Bool) → allBelow k f ≡ false → (v : ℕ) × (v < k) × (f v ≡ false)
 unfolding allBelow
 all-fails zero f e = true-false refl e
@@ -148,3 +168,11 @@ pub some-empty : (k : ℕ) (f : ℕ → Bool) → ((v : ℕ) → v < k → f v �
 unfolding someBelow
 some-empty zero f h = refl
 some-empty (suc k) f h = let e = some-empty k f (λ v p. h v (omega arith)) in rw (e, someBelow) (h k (omega arith))
+
+pub some-start : (f : ℕ → Bool) → someBelow 0 f ≡ false
+unfolding someBelow
+some-start f = refl
+
+pub some-more : (k : ℕ) (f : ℕ → Bool) → someBelow k f ≡ false → f k ≡ false → someBelow (k + 1) f ≡ false
+unfolding someBelow
+some-more k f e h = rw (add-one, e, someBelow) h

@@ -2,6 +2,7 @@
 --   zero-one, true-false             contradictions
 --   T→true, true→T                   between T and an equation
 --   and-true, and-of, or-false, ..   parts of a test
+--   same-tests                       two tests that pass together
 use mathlib.Core.Path.{_≡_, refl, sym, _∙_, ap}
 use mathlib.Core.Logic.{_⊎_, inl, inr}
 use mathlib.Core.Bool.{Bool, true, false, cond, not, _&&_, _||_}
@@ -60,3 +61,9 @@ not-true false e = refl
 pub not-false : (a : Bool) → not a ≡ false → a ≡ true
 not-false true e = refl
 not-false false e = true-false refl e
+
+-- two tests that pass together
+pub same-tests : (a b : Bool) → (a ≡ true → b ≡ true) → (b ≡ true → a ≡ true) → a ≡ b
+same-tests true b f g = sym (f refl)
+same-tests false true f g = g refl
+same-tests false false f g = refl

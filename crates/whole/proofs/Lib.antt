@@ -20,3 +20,6 @@ pub mod Division
 pub mod Sizes
 pub mod Uses
 pub mod Tells
+pub mod Places
+pub mod Turns
+pub mod Stores

@@ -2,17 +2,19 @@
 --   length-prefix, set-prefix, prefix-all      `take i s ++ drop i t`: s written over t
 --   front, front-next, front-set, front-all    a list mapped in place
 --   set-table                                  `table k f ++ drop k l`: a list filled by a function
+--   filled-start, filled-more, filled-all      an array filled by a function: nothing, one element more, all of it
+--   filled-same                                .. by functions that are equal there
 use Prim.Native.Nat.{ℕ, zero, suc, _+_, _≤_, _<_, min, suc-le-suc}
 use native.Mathlib.Nat.{le-of-suc-le-suc}
 use native.Mathlib.Numerals.{add-one}
 use native.Mathlib.Omega.{arith}
-use mathlib.Core.Path.{_≡_, refl, ap, sym, _∙_}
+use mathlib.Core.Path.{_≡_, refl, ap, ap₂, sym, _∙_}
 use mathlib.Core.List.{List, [], _∷_, _++_, map}
-use mathlib.Core.List.{append-assoc}
-use lib.ListN.{length, take, drop, set, getD, length-append, length-take, length-drop}
+use mathlib.Core.List.{append-assoc, append-nil}
+use lib.ListN.{length, take, drop, set, getD, replicate, length-append, length-take, length-drop, length-replicate}
 use lib.Seq.{drop-cons, set-at}
-use Rattle.whole.specs.Tables.{table}
-use Rattle.whole.proofs.Tables.{table-length, table-last}
+use Rattle.whole.specs.Tables.{table, tableFrom, filled}
+use Rattle.whole.proofs.Tables.{table-length, table-last, table-same}
 
 module _ {A : Type 0} where
   pub length-prefix : (s t : List A) (i : ℕ) → i ≤ length s → length s ≤ length t → length (take i s ++ drop i t) ≡ length t
@@ -70,3 +72,27 @@ module _ {A : Type 0} (f : ℕ → A) (d : A) (l : List A) where
   set-table k h = rw (add-one, drop-cons l k d h)
       (set-at (table k f) (getD l k d) (drop (suc k) l) (f k) k (table-length k f)
       ∙ sym (ap (λ t. t ++ drop (suc k) l) (table-last k f) ∙ append-assoc (table k f) (f k ∷ []) (drop (suc k) l)))
+
+-- An array that a loop fills by a function, from the front.
+module _ {A : Type 0} (size : ℕ) (rest : A) (f : ℕ → A) where
+  pub filled-start : replicate size rest ≡ filled size rest 0 f
+  unfolding filled tableFrom
+  filled-start = refl
+
+  pub filled-more : {l : List A} {a : A} (k : ℕ) → k < size → l ≡ filled size rest k f → a ≡ f k →
+      set l k a ≡ filled size rest (k + 1) f
+  unfolding filled
+  filled-more k h e q =
+      ap₂ (λ m b. set m k b) e q ∙ set-table f rest (replicate size rest) k (rw (length-replicate size rest) h)
+
+  pub filled-all : filled size rest size f ≡ table size f
+  unfolding filled
+  filled-all = ap (λ l. table size f ++ l) (drop-all size) ∙ append-nil (table size f)
+    where
+      drop-all : (n : ℕ) → drop n (replicate n rest) ≡ []
+      drop-all zero = refl
+      drop-all (suc n) = drop-all n
+
+  pub filled-same : (k : ℕ) (g : ℕ → A) → ((i : ℕ) → i < k → f i ≡ g i) → filled size rest k f ≡ filled size rest k g
+  unfolding filled
+  filled-same k g h = ap (λ l. l ++ drop k (replicate size rest)) (table-same k f g h)

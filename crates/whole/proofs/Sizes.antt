@@ -4,16 +4,22 @@
 --   fits-by h tt, fits-abs         it fits the width, from a bound that is written out, or any
 --   quot-fits, divisor-pos         a quotient by a positive number fits; that divisor's bits are not 0
 --   abs-neg, abs-*, abs-+          the size of a negation, a product, a sum
+--   product-nonzero                a product of numbers other than 0 is not 0
+--   all-within-filled              every number of a filled array, where what fills it is
 use mathlib.Core.Path.{_≡_, refl, sym, _∙_, ap, ap₂, subst}
 use mathlib.Core.Logic.{_≢_}
 use mathlib.Core.Bool.{Bool, true, false, not, cond}
 use Prim.Native.Nat.{ℕ, zero, suc, _+_, _*_, _-_, _^_, _/_, _≤_, _<_}
 use native.Mathlib.Omega.{arith}
-use native.Mathlib.Nat.{mul-le-mul, lt-of-le-of-lt, le-of-eq, div-le-self, le-refl}
+use native.Mathlib.Decide.{decLt}
+use native.Mathlib.Nat.{mul-pos, mul-le-mul, lt-of-le-of-lt, le-of-eq, div-le-self, le-refl}
 use lib.Dec.{T, ltb, ltb→lt, nltb→le, lit<, leb→le, le→leb}
 use lib.Signed.{mag, quotZ, leZ, _<ℤ_, _≤ℤ_}
 use lib.IntN.{ℤ, pos, negsuc, negℤ, natAbs, subℕ, _+ℤ_, _-ℤ_, _*ℤ_}
-use Rattle.whole.specs.Numbers.{Within}
+use lib.ListN.{getD}
+use Rattle.whole.specs.Numbers.{Within, AllWithin}
+use Rattle.whole.specs.Tables.{filled}
+use Rattle.whole.proofs.Tables.{filled-in, filled-out}
 use mir.Syntax.{Width, w8, w16, w32, w64, w128}
 use mir.Val.{SFits, hbits, bits, ofZ}
 
@@ -126,3 +132,16 @@ within-hi {z} {n} h = record { le = hi′ z n (h .within) }
 
 pub within-lo : {z : ℤ} {n : ℕ} → Within z n → negℤ (pos n) ≤ℤ z
 within-lo {z} {n} h = record { le = lo′ z n (h .within) }
+
+pub product-nonzero : {a b : ℤ} → a ≢ pos 0 → b ≢ pos 0 → a *ℤ b ≢ pos 0
+product-nonzero {a} {b} m n e =
+    let z : natAbs a * natAbs b ≡ 0 = sym (abs-* a b) ∙ ap natAbs e in
+    let h : 0 < natAbs a * natAbs b = mul-pos (size-pos a m) (size-pos b n) in
+    let y : ⊥ = omega arith in absurd y
+
+pub all-within-filled : {n : ℕ} (size k : ℕ) (f : ℕ → ℤ) → ((i : ℕ) → i < k → Within (f i) n) → AllWithin (filled size (pos 0) k f) n
+all-within-filled {n} size k f h = record { each = λ i. go i (decLt i k) }
+  where
+    go : (i : ℕ) → Dec (i < k) → Within (getD (filled size (pos 0) k f) i (pos 0)) n
+    go i (yes l) = rw (filled-in size (pos 0) k f i l) (h i l)
+    go i (no l) = rw (filled-out size (pos 0) k f i (omega arith)) (record { within = omega arith })

@@ -1,5 +1,5 @@
 -- Sums of whole numbers over the numbers below k: the laws of `total` at ℤ, and what only ℤ has.
---   sum-none, sum-more, sum-head   no term; the last, the first term taken off
+--   sum-none, sum-more, sum-head   no term; the last, the first term taken off; sum-step for a loop
 --   sum-same, sum-plus, sum-times  equal terms; sum of sums; a factor
 --   sum-swap, sum-zero, sum-one    two sums swapped; all terms 0; all but one
 --   sum-split                      one index taken out
@@ -13,6 +13,7 @@ use mathlib.Core.Logic.{_≢_}
 use mathlib.Core.Bool.{Bool, true, false}
 use mathlib.Core.List.{List, [], _∷_}
 use Prim.Native.Nat.{ℕ, zero, suc, _+_, _*_, _≤_, _<_}
+use native.Mathlib.Numerals.{add-one}
 use native.Mathlib.Omega.{arith}
 use native.Mathlib.Nat.{le-refl, mul-le-mul, suc-inj, add-zero, add-suc}
 use lib.Dec.{T, eqb, eqb→eq, eqb-refl}
@@ -36,6 +37,10 @@ sum-none f = refl
 pub sum-more : (n : ℕ) (f : ℕ → ℤ) → sum (suc n) f ≡ sum n f +ℤ f n
 unfolding sumBy
 sum-more n f = refl
+
+-- .. for a loop
+pub sum-step : (n : ℕ) (f : ℕ → ℤ) → sum (n + 1) f ≡ sum n f +ℤ f n
+sum-step n f = rw add-one (sum-more n f)
 
 pub sum-same : (k : ℕ) (f g : ℕ → ℤ) → ((i : ℕ) → i < k → f i ≡ g i) → sum k f ≡ sum k g
 sum-same = total-same whole-laws

@@ -4,14 +4,17 @@
 --   table-same, table-split  equal functions; a table in two parts
 --   table-last               the last element taken off
 --   filled-in, filled-out    what a filled array holds, and past what was filled; filled-length
+--   filled-each              what holds of each element of a filled array
+--   table-all                a list as the table of its elements
 use mathlib.Core.Path.{_≡_, refl, sym, _∙_, ap, ap₂}
 use mathlib.Core.List.{List, [], _∷_, _++_}
 use Prim.Native.Nat.{ℕ, zero, suc, _+_, _-_, _≤_, _<_}
+use native.Mathlib.Decide.{decLt}
 use native.Mathlib.Omega.{arith}
 use native.Mathlib.Nat.{add-zero}
 use lib.IntN.{ℤ, pos}
 use lib.ListN.{length, drop, getD, replicate, length-append, length-drop, length-replicate, List·getD-append}
-use lib.Seq.{getD-append-add, getD-drop}
+use lib.Seq.{ext-getD, getD-append-add, getD-drop}
 use Rattle.whole.specs.Tables.{table, tableFrom, matrix, filled}
 
 pub tableFrom-at : {A : Type 0} (a k : ℕ) (f : ℕ → A) (d : A) (i : ℕ) → i < k → getD (tableFrom a k f) i d ≡ f (a + i)
@@ -87,3 +90,15 @@ module _ {A : Type 0} (size : ℕ) (rest : A) (e : ℕ) (f : ℕ → A) where
   pub filled-length : e ≤ size → length (filled size rest e f) ≡ size
   unfolding filled
   filled-length h = simp (length-append, length-drop, table-length, length-replicate) (omega arith)
+
+  pub filled-each : (Q : A → Type 0) → Q rest → ((k : ℕ) → k < e → Q (f k)) → (k : ℕ) → Q (getD (filled size rest e f) k rest)
+  filled-each Q r h k = go (decLt k e)
+    where
+      go : Dec (k < e) → Q (getD (filled size rest e f) k rest)
+      go (yes l) = rw (filled-in k l) (h k l)
+      go (no l) = rw (filled-out k (omega arith)) r
+
+-- a list as the table of its elements
+pub table-all : {A : Type 0} (l : List A) (d : A) → table (length l) (λ i. getD l i d) ≡ l
+table-all l d = ext-getD d (table (length l) (λ i. getD l i d)) l (table-length (length l) (λ i. getD l i d))
+    (λ i h. table-at (length l) (λ i. getD l i d) d i (rw table-length at h))

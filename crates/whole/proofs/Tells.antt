@@ -4,6 +4,8 @@
 --   tells-and, tells-or, tells-all, -some    two tests, and one for each number below k
 --   tells-present, tells-missing             a test of something that may be missing
 --   tells-lt, -eq, -ltZ, -eqZ, -within, -outside    the plain tests of numbers
+--   within-under, within-over                       a number within n, tested on one side and then on the other
+--   outside-within, bits-eq                  a test of both sides is one of the size; one of bits is one of numbers
 use mathlib.Core.Bool.{Bool, false, not, true, _&&_, _||_}
 use mathlib.Core.Logic.{inl, inr, _≢_, _⊎_}
 use mathlib.Core.Option.{Option, Option·none-ne-some, none, some}
@@ -11,11 +13,16 @@ use mathlib.Core.Path.{ap, refl, sym, _∙_, _≡_}
 use Prim.Native.Nat.{ℕ, _<_, _≤_}
 use native.Mathlib.Omega.{arith}
 use lib.Dec.{eqb, eqb-refl, eqb→eq, leb, leb→le, le→leb, ltb, ltb→lt, nltb→le}
-use lib.IntN.{natAbs, negsuc, pos, pos-ne-negsuc, ℤ}
-use lib.Signed.{<ℤ-irrefl, <ℤ-≤ℤ-trans, ltZ, _<ℤ_, _≤ℤ_}
+use lib.IntN.{natAbs, negsuc, negℤ, pos, pos-ne-negsuc, ℤ}
+use lib.Signed.{<ℤ-irrefl, <ℤ-≤ℤ-trans, clashℤ, leZ, ltZ, _<ℤ_, _≤ℤ_}
+use mir.Facts.{toZ-ofZ}
+use mir.Syntax.{Width}
+use mir.Val.{SFits, ofZ, toZ}
 use Rattle.whole.proofs.Below.{all-each, all-fails, some-at, some-none}
 use Rattle.whole.proofs.Bools.{T→true, and-false, and-true, not-false, not-true, or-false, or-true, true-false}
 use Rattle.whole.proofs.Order.{false→le, true→lt}
+use Rattle.whole.proofs.Sizes.{within-hi, within-lo, within-of}
+use Rattle.whole.proofs.Tests.{leZ-false, leZ-true}
 use Rattle.whole.specs.Below.{allBelow, someBelow}
 use Rattle.whole.specs.Numbers.{Within, eqZ, outside, within}
 
@@ -173,3 +180,38 @@ pub tells-outside : (lo hi : ℕ) (z : ℤ) →
     Tells (outside lo hi z) ((z <ℤ pos lo) ⊎ (pos hi <ℤ z)) ((pos lo ≤ℤ z) × (z ≤ℤ pos hi))
 unfolding outside
 tells-outside lo hi z = tells-or (tells-ltZ z (pos lo)) (tells-ltZ (pos hi) z)
+
+-- a number within n, tested on one side and then on the other
+module _ (n : ℕ) (z : ℤ) where
+  pub within-under : z <ℤ negℤ (pos n) → within n z ≡ false
+  within-under h = tells-false (tells-within n z) (λ w. clashℤ h (within-lo w))
+
+  pub within-over : negℤ (pos n) ≤ℤ z → leZ z (pos n) ≡ within n z
+  within-over h = go (leZ z (pos n)) refl
+    where
+      go : (b : Bool) → leZ z (pos n) ≡ b → leZ z (pos n) ≡ within n z
+      go true q = q ∙ sym (tells-true (tells-within n z) (within-of h (leZ-true q)))
+      go false q = q ∙ sym (tells-false (tells-within n z) (λ w. clashℤ (leZ-false {a = z} {b = pos n} q) (within-hi w)))
+
+-- outside -k and k is not within k
+pub outside-within : (k : ℕ) (z : ℤ) → (ltZ z (negℤ (pos k)) || ltZ (pos k) z) ≡ not (within k z)
+outside-within k z = go (within k z) refl
+  where
+    test : Tells (ltZ z (negℤ (pos k)) || ltZ (pos k) z) ((z <ℤ negℤ (pos k)) ⊎ (pos k <ℤ z)) ((negℤ (pos k) ≤ℤ z) × (z ≤ℤ pos k))
+    test = tells-or (tells-ltZ z (negℤ (pos k))) (tells-ltZ (pos k) z)
+
+    go : (b : Bool) → within k z ≡ b → (ltZ z (negℤ (pos k)) || ltZ (pos k) z) ≡ not b
+    go true e = let h = tells-within k z .if-true e in tells-false test (within-lo h, within-hi h)
+    go false e = not-false _ (by-no (ltZ z (negℤ (pos k)) || ltZ (pos k) z) refl)
+      where
+        by-no : (c : Bool) → (ltZ z (negℤ (pos k)) || ltZ (pos k) z) ≡ c → not (ltZ z (negℤ (pos k)) || ltZ (pos k) z) ≡ false
+        by-no true q = rw q refl
+        by-no false q = let h = test .if-false q in absurd (tells-within k z .if-false e (within-of (h .0) (h .1)))
+
+-- a test of two signed locals for equality is one of their bits
+pub bits-eq : (w : Width) {a b : ℤ} → SFits w a → SFits w b → eqb (ofZ w a) (ofZ w b) ≡ eqZ a b
+bits-eq w {a} {b} f g = go (eqZ a b) refl
+  where
+    go : (t : Bool) → eqZ a b ≡ t → eqb (ofZ w a) (ofZ w b) ≡ t
+    go true e = tells-true (tells-eq (ofZ w a) (ofZ w b)) (ap (ofZ w) (tells-eqZ a b .if-true e))
+    go false e = tells-false (tells-eq (ofZ w a) (ofZ w b)) (λ q. tells-eqZ a b .if-false e (sym (toZ-ofZ f) ∙ ap (toZ w) q ∙ toZ-ofZ g))

@@ -1,13 +1,19 @@
 -- Tests of whole numbers: signs, equality, and ranges. Each bound belongs to its range.
 use mathlib.Core.Bool.{Bool, true, false, _||_}
+use mathlib.Core.List.{List}
 use Prim.Native.Nat.{ℕ, zero, suc, _≤_}
 use lib.IntN.{ℤ, pos, negsuc, natAbs}
+use lib.ListN.{getD}
 use lib.Dec.{leb, eqb}
 use lib.Signed.{ltZ}
 
 -- z is from -n to n, as a fact; a record, so that the number and its bound can be inferred
 pub record Within (z : ℤ) (n : ℕ) : Type 0 where
   pub within : natAbs z ≤ n
+
+-- .. of each number of a list
+pub record AllWithin (l : List ℤ) (n : ℕ) : Type 0 where
+  pub each : (k : ℕ) → Within (getD l k (pos 0)) n
 
 -- .. and as a test
 unfoldable pub within : ℕ → ℤ → Bool

@@ -1,6 +1,7 @@
 -- The checker's number, exactly: 1 to 6 by the problem, 7 for an answer too short, 8 accepted, 9 not; nothing else.
 --   Checks, checks, checks-only    each number with the facts that it stands for; `checked` is it, and no other is
 --   checkerTable, checked-exactly  line by line: k where no earlier line's meaning holds and line k's does
+--   checked-by-problem, checked-by-answer       the number from the problem's refusal, and else from the two tests of the answer
 --   checked-refused, -short, -accepted, -not    each number exactly when its facts hold
 --   checked-same                   word 1 and the words past 3 + 2N never matter
 --   check-only                     what is allowed to come out is one number
@@ -80,16 +81,16 @@ pub data Checks (ws a : List ℤ) : ℕ → Type 0 where
   wrong : problemRefusal ws ≡ 0 → answerLength ws ≤ length a → ¬ Shown (problem ws) a → Checks ws a 9
 
 module _ (ws a : List ℤ) where
-  by-problem : (k : ℕ) → problemRefusal ws ≡ suc k → checked ws a ≡ suc k
+  pub checked-by-problem : (k : ℕ) → problemRefusal ws ≡ suc k → checked ws a ≡ suc k
   unfolding checked problemRefusal
-  by-problem k e =
+  checked-by-problem k e =
       first-kept (problemTests mostRows ws)
       ((tooShort ws (length a), 7) ∷ (accepted (problem ws) a, 8) ∷ (true, 9) ∷ []) k e
 
-  by-answer : problemRefusal ws ≡ 0 →
+  pub checked-by-answer : problemRefusal ws ≡ 0 →
       checked ws a ≡ cond (tooShort ws (length a)) 7 (cond (accepted (problem ws) a) 8 9)
   unfolding checked problemRefusal
-  by-answer e =
+  checked-by-answer e =
       first-passed 6 (problemTests mostRows ws)
       ((tooShort ws (length a), 7) ∷ (accepted (problem ws) a, 8) ∷ (true, 9) ∷ []) (numbered ws) e
       ∙ first-three (tooShort ws (length a)) (accepted (problem ws) a)
@@ -108,8 +109,8 @@ module _ (ws a : List ℤ) where
       judged e false false p q = wrong e (room-tells ws (length a) .if-false p) (shown-tells (problem ws) a .if-false q)
 
       go : (r : ℕ) → problemRefusal ws ≡ r → Checks ws a (checked ws a)
-      go zero e = rw (by-answer e) (judged e (tooShort ws (length a)) (accepted (problem ws) a) refl refl)
-      go (suc k) e = rw (by-problem k e) (refused k (omega (arith, most-six)) e)
+      go zero e = rw (checked-by-answer e) (judged e (tooShort ws (length a)) (accepted (problem ws) a) refl refl)
+      go (suc k) e = rw (checked-by-problem k e) (refused k (omega (arith, most-six)) e)
 
   -- two numbers with their facts are the same number
   one-number : {r t : ℕ} → Checks ws a r → Checks ws a t → r ≡ t

@@ -49,8 +49,9 @@ module _ {X : Type 0} {𝓥 : Values X} (L : Laws 𝓥) (E : Edges X) (ends : En
   -- ---- the looks of the definition, with the row that bettered each vertex last
 
   record Held (b i : ℕ) (ds : List X) : Type 0 where
+    time : ℕ → ℕ
     last : ℕ → ℕ
-    traced : Traced 𝓥 E b i (distance 𝓥 E ds) last
+    traced : Traced 𝓥 E b i time (distance 𝓥 E ds) last
     long : length ds ≡ E .vertices
 
   held-look : (b i : ℕ) (ds : List X) → i < E .count → Held b i ds → Held b (suc i) (look 𝓥 E i ds)
@@ -65,12 +66,13 @@ module _ {X : Type 0} {𝓥 : Values X} (L : Laws 𝓥) (E : Edges X) (ends : En
 
       go : (c : Bool) → betters 𝓥 E (distance 𝓥 E ds) i ≡ c → Held b (suc i) (cond c (set ds y d) ds)
       go true e = record {
+        time = put (s .time) y (suc (b + i));
         last = put (s .last) y i;
-        traced = traced-taken L E b (distance 𝓥 E ds) (s .last) i (s .traced) h e (distance 𝓥 E (set ds y d)) (put (s .last) y i)
+        traced = traced-taken L E b (s .time) (distance 𝓥 E ds) (s .last) i (s .traced) h e (distance 𝓥 E (set ds y d)) (put (s .last) y i)
             (set-put ds y d (𝓥 .nil) (omega (arith, ends .head-in i h, s .long))) (put-put (s .last) y i);
         long = length-set ds y d ∙ s .long;
       }
-      go false e = record { last = s .last; traced = traced-kept L E b (distance 𝓥 E ds) (s .last) i (s .traced) h e; long = s .long }
+      go false e = record { time = s .time; last = s .last; traced = traced-kept L E b (s .time) (distance 𝓥 E ds) (s .last) i (s .traced) h e; long = s .long }
 
   held-looks : (b : ℕ) (ds : List X) → Held b 0 ds → (i : ℕ) → i ≤ E .count → Held b i (looks 𝓥 E i ds)
   unfolding foldBelow
@@ -81,15 +83,17 @@ module _ {X : Type 0} {𝓥 : Values X} (L : Laws 𝓥) (E : Edges X) (ends : En
   held : (k : ℕ) → Held (E .count * k) 0 (passes 𝓥 E k)
   unfolding passes
   held zero = record {
+    time = λ v. 0;
     last = λ v. 0;
-    traced = subst (λ b. Traced 𝓥 E b 0 (distance 𝓥 E (replicate (E .vertices) (𝓥 .nil))) (λ v. 0)) (sym (mul-zero (E .count)))
+    traced = subst (λ b. Traced 𝓥 E b 0 (λ v. 0) (distance 𝓥 E (replicate (E .vertices) (𝓥 .nil))) (λ v. 0)) (sym (mul-zero (E .count)))
         (traced-start L E _ _ (λ v. replicate-at (E .vertices) v (𝓥 .nil)));
     long = length-replicate (E .vertices) (𝓥 .nil);
   }
   held (suc k) = let s = held-looks (E .count * k) (passes 𝓥 E k) (held k) (E .count) (omega arith) in
       record {
+        time = s .time;
         last = s .last;
-        traced = subst (λ b. Traced 𝓥 E b 0 (distance 𝓥 E (passes 𝓥 E (suc k))) (s .last)) (sym (mul-suc (E .count) k)) (traced-pass L E _ _ _ (s .traced));
+        traced = subst (λ b. Traced 𝓥 E b 0 (s .time) (distance 𝓥 E (passes 𝓥 E (suc k))) (s .last)) (sym (mul-suc (E .count) k)) (traced-pass L E _ _ _ _ (s .traced));
         long = s .long;
       }
 
@@ -116,40 +120,40 @@ module _ {X : Type 0} {𝓥 : Values X} (L : Laws 𝓥) (E : Edges X) (ends : En
 
     Back : ℕ → Type 0
     Back j = (path seen : List ℕ) (here : ℕ) → length path ≡ suc k → length seen ≡ E .vertices →
-        Trail 𝓥 E (s .traced .time) D (suc k) path seen here j → (rows : List ℕ) × BadCycle 𝓥 E rows
+        Trail 𝓥 E (s .time) D (suc k) path seen here j → (rows : List ℕ) × BadCycle 𝓥 E rows
 
     back : (j : ℕ) → Back j
     unfolding Back
     back zero path seen here p w r = go (row seen here) refl
       where
         go : (m : ℕ) → row seen here ≡ m → (rows : List ℕ) × BadCycle 𝓥 E rows
-        go (suc q) e = (slice 0 (suc q) path, trail-cycle L E (s .traced .time) D (suc k) path seen here 0 r q e (omega arith))
-        go zero e = let z : 0 < 0 = trail-left E ends _ _ D (s .last) (s .traced) (suc k) path seen here 0 r e high in absurd (omega arith)
+        go (suc q) e = (slice 0 (suc q) path, trail-cycle L E (s .time) D (suc k) path seen here 0 r q e (omega arith))
+        go zero e = let z : 0 < 0 = trail-left E ends _ _ (s .time) D (s .last) (s .traced) (suc k) path seen here 0 r e high in absurd (omega arith)
     back (suc j) path seen here p w r = go (back j) (row seen here) refl
       where
         go : Back j → (m : ℕ) → row seen here ≡ m → (rows : List ℕ) × BadCycle 𝓥 E rows
-        go ih (suc q) e = (slice (suc j) (suc q) path, trail-cycle L E (s .traced .time) D (suc k) path seen here (suc j) r q e (omega arith))
+        go ih (suc q) e = (slice (suc j) (suc q) path, trail-cycle L E (s .time) D (suc k) path seen here (suc j) r q e (omega arith))
         go ih zero e =
             ih (set path j (s .last here)) (set seen here (suc j)) (E .tail (s .last here))
             (length-set path j (s .last here) ∙ p) (length-set seen here (suc j) ∙ w)
-            (trail-more E ends _ _ D (s .last) (s .traced) (suc k) path seen here j r e (omega (arith, r .most)) (omega (arith, r .vertex)))
+            (trail-more E ends _ _ (s .time) D (s .last) (s .traced) (suc k) path seen here j r e (omega (arith, r .most)) (omega (arith, r .vertex)))
 
-    late-cycle : (v : ℕ) → v < E .vertices → E .count * k < s .traced .time v → (rows : List ℕ) × BadCycle 𝓥 E rows
+    late-cycle : (v : ℕ) → v < E .vertices → E .count * k < s .time v → (rows : List ℕ) × BadCycle 𝓥 E rows
     unfolding Back
     late-cycle v h l =
         back (suc k) (replicate (suc k) 0) (replicate (E .vertices) 0) v (length-replicate {A = ℕ} (suc k) 0) (length-replicate {A = ℕ} (E .vertices) 0)
-        (trail-start E ends _ _ D (s .last) (s .traced) (suc k) (replicate (suc k) 0) v (E .vertices) h
-        (λ q e. let z : k ≡ q = omega arith in subst (λ x. E .count * x < s .traced .time v) z l))
+        (trail-start E ends _ _ (s .time) D (s .last) (s .traced) (suc k) (replicate (suc k) 0) v (E .vertices) h
+        (λ q e. let z : k ≡ q = omega arith in subst (λ x. E .count * x < s .time v) z l))
 
     late : ℕ → Bool
-    late v = ltb (E .count * k) (s .traced .time v)
+    late v = ltb (E .count * k) (s .time v)
 
     early-still : someBelow (E .vertices) late ≡ false → Still 𝓥 E D
     unfolding late
-    early-still e = traced-still L E (E .count * k) D (s .last) (s .traced) (λ v. go v (decLt v (E .vertices)) (decLt 0 (s .traced .time v)))
+    early-still e = traced-still L E (E .count * k) (s .time) D (s .last) (s .traced) (λ v. go v (decLt v (E .vertices)) (decLt 0 (s .time v)))
       where
-        go : (v : ℕ) → Dec (v < E .vertices) → Dec (0 < s .traced .time v) → s .traced .time v ≤ E .count * k
-        go v (yes h) p = ltb-false (E .count * k) (s .traced .time v) (some-none (E .vertices) late e v h)
+        go : (v : ℕ) → Dec (v < E .vertices) → Dec (0 < s .time v) → s .time v ≤ E .count * k
+        go v (yes h) p = ltb-false (E .count * k) (s .time v) (some-none (E .vertices) late e v h)
         go v (no n) (yes p) =
             let o = s .traced .bettered v p in
             let h : E .head (s .last v) < E .vertices = ends .head-in (s .last v) (o .listed) in
@@ -161,7 +165,7 @@ module _ {X : Type 0} {𝓥 : Values X} (L : Laws 𝓥) (E : Edges X) (ends : En
     unsettled-cycle e = go (either (someBelow (E .vertices) late))
       where
         go : (someBelow (E .vertices) late ≡ true) ⊎ (someBelow (E .vertices) late ≡ false) → (rows : List ℕ) × BadCycle 𝓥 E rows
-        go (inl f) = let w = some-at (E .vertices) late f in late-cycle (w .0) (w .1) (ltb-true (E .count * k) (s .traced .time (w .0)) (w .2))
+        go (inl f) = let w = some-at (E .vertices) late f in late-cycle (w .0) (w .1) (ltb-true (E .count * k) (s .time (w .0)) (w .2))
         go (inr f) = true-false (still-settled 𝓥 E _ (early-still f)) e
 
   -- ---- the two answers
@@ -201,7 +205,7 @@ module _ {X : Type 0} {𝓥 : Values X} (L : Laws 𝓥) (E : Edges X) (ends : En
       go (inr e) = let c = cannot-cycle e in absurd (n (bad-closes L E (c .0) (c .1)))
 
   -- distances that were come by in any other way
-  module _ (b i : ℕ) (D : ℕ → X) (last : ℕ → ℕ) (t : Traced 𝓥 E b i D last) (s : Still 𝓥 E D) where
+  module _ (b i : ℕ) (time : ℕ → ℕ) (D : ℕ → X) (last : ℕ → ℕ) (t : Traced 𝓥 E b i time D last) (s : Still 𝓥 E D) where
     pub still-can : canMeet 𝓥 E ≡ true
     still-can = open-can (still-open L E D s)
 

@@ -78,12 +78,10 @@ module _ {ws : List ℤ} {room : ℕ} (A : AcceptedTimes ws room) where
   times-shortest e v = subst (Shortest whole E v) (sym (negℤ-negℤ _)) (can-shortest whole-laws E ends e v)
 
   still-meets : (D : ℕ → ℤ) → Still whole E D → MeetsRows ws (λ v. negℤ (D v))
-  unfolding timeEdges
   still-meets D s i h = row-read (strictWord ws i) _ (lengthWord ws i) (strict-is i h)
       (turned (D (E .tail i)) (D (E .head i)) (E .size i) (false→le (s i h)))
 
   meets-still : (t : ℕ → ℤ) → MeetsRows ws t → Still whole E (λ v. negℤ (t v))
-  unfolding timeEdges
   meets-still t m i h = le→false {a = negℤ (t (E .head i))} {b = negℤ (t (E .tail i)) +ℤ E .size i}
       (turned-back (t (E .tail i)) (t (E .head i)) (E .size i) (row-reads (strictWord ws i) _ (lengthWord ws i) (strict-is i h) (m i h)))
 

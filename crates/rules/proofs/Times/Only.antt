@@ -73,11 +73,11 @@ times-only ws before r q a c x y = (same, go r refl (either (canMeet whole (time
 -- ---- the output's length, and what is past the answer
 
 times-long : {ws : List ℤ} {room : ℕ} → AcceptedTimes ws room → length (timesOf ws) ≡ nOf ws
-unfolding timesOf timeEdges
+unfolding timesOf
 times-long {ws} A = length-map (distances whole (timeEdges ws)) negℤ ∙ distances-long whole-laws (timeEdges ws) (accepted-ends A)
 
 cycle-long : {ws : List ℤ} {room : ℕ} → AcceptedTimes ws room → (rows : List ℕ) → BadCycle whole (timeEdges ws) rows → length (cycleWords (nOf ws) rows) ≡ nOf ws
-unfolding cycleWords timeEdges
+unfolding cycleWords
 cycle-long {ws} A rows b = simp (length-append, length-map, length-replicate) (omega (arith, cycle-short (timeEdges ws) rows (accepted-ends A) (b .cycle)))
 
 pub answer-long : {ws : List ℤ} {room : ℕ} → AcceptedTimes ws room → (rows : List ℕ) →

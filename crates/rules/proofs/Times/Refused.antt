@@ -114,7 +114,6 @@ module _ {ws : List ℤ} {room : ℕ} (A : AcceptedTimes ws room) where
   m-few = under mostTimeRows 0 (word ws 1) (A .m-least) (A .m-most)
 
   pub accepted-ends : Ends (timeEdges ws)
-  unfolding timeEdges
   accepted-ends = record {
     tail-in = λ i h. let k : natAbs (fromWord ws i) ≤ nOf ws - 1 = under (nOf ws - 1) 0 _ (A .from-least i h) (A .from-most i h) in omega (arith, n-some);
     head-in = λ i h. let k : natAbs (toWord ws i) ≤ nOf ws - 1 = under (nOf ws - 1) 0 _ (A .to-least i h) (A .to-most i h) in omega (arith, n-some);
@@ -122,5 +121,4 @@ module _ {ws : List ℤ} {room : ℕ} (A : AcceptedTimes ws room) where
 
   -- a strict row may be one longer
   pub size-within : (i : ℕ) → i < mOf ws → Within (timeEdges ws .size i) (largestLength + 1)
-  unfolding timeEdges
   size-within i h = within-- {b = strictWord ws i} (A .lengths i h) (record { within = under 1 0 (strictWord ws i) (A .strict-least i h) (A .strict-most i h) })

@@ -1,5 +1,5 @@
 -- What looking at rows keeps, in whatever arrays distances are held: walks have the distances, and the row that bettered a vertex last is known.
--- `Traced b i D last` stands after b looks, a whole number of passes, and those at the rows below i.
+-- `Traced b i time D last` stands after b looks, a whole number of passes, and those at the rows below i.
 --   traced-start, traced-kept, traced-taken, traced-pass   no look; a row that betters nothing, or its head; the next pass begins
 --   traced-still                                           a pass that bettered nothing leaves distances that no row betters
 use mathlib.Core.Path.{_≡_, refl, sym, _∙_, ap, subst, subst₂}
@@ -33,7 +33,7 @@ put-put f y a = record {
 }
 
 module _ {X : Type 0} (𝓥 : Values X) (E : Edges X) where
-  -- row i bettered v last. `time` is for each vertex the number of the look, from 1, that bettered it last, or 0
+  -- row i bettered v last. `time` has for each vertex the number of the look, from 1, that bettered it last, or 0
   pub record Bettered (time : ℕ → ℕ) (D : ℕ → X) (v i : ℕ) : Type 0 where
     pub listed : i < E .count
     pub leads : E .head i ≡ v
@@ -43,10 +43,9 @@ module _ {X : Type 0} (𝓥 : Values X) (E : Edges X) where
     pub most : Le 𝓥 (through 𝓥 E D i) (D v)
     pub since : time v ≤ time (E .tail i) → Lt 𝓥 (through 𝓥 E D i) (D v)
 
-  pub record Traced (b i : ℕ) (D : ℕ → X) (last : ℕ → ℕ) : Type 0 where
+  pub record Traced (b i : ℕ) (time : ℕ → ℕ) (D : ℕ → X) (last : ℕ → ℕ) : Type 0 where
     pub walk : (v : ℕ) → (u : ℕ) × (k : ℕ) × Walk 𝓥 E u k v (D v)
     pub low : (v : ℕ) → Le 𝓥 (D v) (𝓥 .nil)
-    pub time : ℕ → ℕ
     pub recent : (v : ℕ) → time v ≤ b + i
     pub bettered : (v : ℕ) → 0 < time v → Bettered time D v (last v)
     -- a row betters nothing unless its tail was bettered since it was looked at, in this pass or in the one before
@@ -56,33 +55,31 @@ module _ {X : Type 0} (𝓥 : Values X) (E : Edges X) where
 module _ {X : Type 0} {𝓥 : Values X} (L : Laws 𝓥) (E : Edges X) where
   open Values 𝓥 using (nil, plus)
 
-  pub traced-start : (D : ℕ → X) (last : ℕ → ℕ) → ((v : ℕ) → D v ≡ nil) → Traced 𝓥 E 0 0 D last
+  pub traced-start : (D : ℕ → X) (last : ℕ → ℕ) → ((v : ℕ) → D v ≡ nil) → Traced 𝓥 E 0 0 (λ v. 0) D last
   traced-start D last e = record {
     walk = λ v. (v, 0, subst (Walk 𝓥 E v 0 v) (sym (e v)) stay);
     low = λ v. same-le L (e v);
-    time = λ v. 0;
     recent = λ v. omega arith;
     bettered = λ v h. let z : ⊥ = omega arith in absurd z;
     looked = λ j h. let z : ⊥ = omega arith in absurd z;
     unlooked = λ j h c k. let z : ⊥ = omega arith in absurd z;
   }
 
-  module _ (b : ℕ) (D : ℕ → X) (last : ℕ → ℕ) where
-    pub traced-pass : Traced 𝓥 E b (E .count) D last → Traced 𝓥 E (b + E .count) 0 D last
+  module _ (b : ℕ) (time : ℕ → ℕ) (D : ℕ → X) (last : ℕ → ℕ) where
+    pub traced-pass : Traced 𝓥 E b (E .count) time D last → Traced 𝓥 E (b + E .count) 0 time D last
     traced-pass t = record {
       walk = t .walk;
       low = t .low;
-      time = t .time;
       recent = λ v. omega (arith, t .recent v);
       bettered = t .bettered;
       looked = λ j h. let z : ⊥ = omega arith in absurd z;
       unlooked = λ j h c k. t .looked j c c (omega arith);
     }
 
-    pub traced-still : (t : Traced 𝓥 E b (E .count) D last) → ((v : ℕ) → t .time v ≤ b) → Still 𝓥 E D
-    traced-still t h j c = t .looked j c c (let q : t .time (E .tail j) ≤ b = h (E .tail j) in omega arith)
+    pub traced-still : Traced 𝓥 E b (E .count) time D last → ((v : ℕ) → time v ≤ b) → Still 𝓥 E D
+    traced-still t h j c = t .looked j c c (let q : time (E .tail j) ≤ b = h (E .tail j) in omega arith)
 
-    module _ (i : ℕ) (t : Traced 𝓥 E b i D last) (listed : i < E .count) where
+    module _ (i : ℕ) (t : Traced 𝓥 E b i time D last) (listed : i < E .count) where
       abbrev y : ℕ
       y = E .head i
 
@@ -92,35 +89,33 @@ module _ {X : Type 0} {𝓥 : Values X} (L : Laws 𝓥) (E : Edges X) where
       abbrev d : X
       d = through 𝓥 E D i
 
-      pub traced-kept : Le 𝓥 (D y) d → Traced 𝓥 E b (suc i) D last
+      pub traced-kept : Le 𝓥 (D y) d → Traced 𝓥 E b (suc i) time D last
       traced-kept h = record {
         walk = t .walk;
         low = t .low;
-        time = t .time;
-        recent = λ v. let q : t .time v ≤ b + i = t .recent v in omega arith;
+        recent = λ v. let q : time v ≤ b + i = t .recent v in omega arith;
         bettered = t .bettered;
         looked = λ j l c k. now j l c k (ℕ-discrete j i);
         unlooked = λ j l c k. t .unlooked j (omega arith) c k;
       }
         where
-          now : (j : ℕ) → j < suc i → j < E .count → t .time (E .tail j) ≤ b + j → Dec (j ≡ i) → Le 𝓥 (D (E .head j)) (through 𝓥 E D j)
+          now : (j : ℕ) → j < suc i → j < E .count → time (E .tail j) ≤ b + j → Dec (j ≡ i) → Le 𝓥 (D (E .head j)) (through 𝓥 E D j)
           now j l c k (yes e) = subst (λ q. Le 𝓥 (D (E .head q)) (through 𝓥 E D q)) (sym e) h
           now j l c k (no n) = t .looked j (omega arith) c k
 
       -- the row betters its head
       module _ (h : Lt 𝓥 d (D y)) (D′ : ℕ → X) (last′ : ℕ → ℕ) (p : Put D D′ y d) (q : Put last last′ y i) where
-        time′ : ℕ → ℕ
-        time′ = put (t .time) y (suc (b + i))
+        abbrev time′ : ℕ → ℕ
+        time′ = put time y (suc (b + i))
 
-        now : Put (t .time) time′ y (suc (b + i))
-        unfolding time′
-        now = put-put (t .time) y (suc (b + i))
+        now : Put time time′ y (suc (b + i))
+        now = put-put time y (suc (b + i))
 
-        later : (v : ℕ) → t .time v ≤ time′ v
+        later : (v : ℕ) → time v ≤ time′ v
         later v = go (ℕ-discrete v y)
           where
-            go : Dec (v ≡ y) → t .time v ≤ time′ v
-            go (yes e) = subst (λ u. t .time u ≤ time′ u) (sym e) (omega (arith, t .recent y, now .here))
+            go : Dec (v ≡ y) → time v ≤ time′ v
+            go (yes e) = subst (λ u. time u ≤ time′ u) (sym e) (omega (arith, t .recent y, now .here))
             go (no n) = omega (arith, now .there v n)
 
         falls : (v : ℕ) → Le 𝓥 (D′ v) (D v)
@@ -141,10 +136,10 @@ module _ {X : Type 0} {𝓥 : Values X} (L : Laws 𝓥) (E : Edges X) where
         offers-same j n = ap (λ z. plus z (E .size j)) (p .there (E .tail j) n)
 
         -- the tail was bettered since the row was looked at
-        fresh : suc (b + i) ≤ t .time x + E .count
-        fresh = go (decLe (t .time x + E .count) (b + i))
+        fresh : suc (b + i) ≤ time x + E .count
+        fresh = go (decLe (time x + E .count) (b + i))
           where
-            go : Dec (t .time x + E .count ≤ b + i) → suc (b + i) ≤ t .time x + E .count
+            go : Dec (time x + E .count ≤ b + i) → suc (b + i) ≤ time x + E .count
             go (yes k) = true-false h (t .unlooked i (omega arith) listed k)
             go (no n) = omega arith
 
@@ -152,7 +147,7 @@ module _ {X : Type 0} {𝓥 : Values X} (L : Laws 𝓥) (E : Edges X) where
         at-y = record {
           listed = listed;
           leads = refl;
-          soon = let k : t .time x ≤ time′ x = later x in omega (arith, fresh, now .here);
+          soon = let k : time x ≤ time′ x = later x in omega (arith, fresh, now .here);
           most = le-le L (offers i) (same-le L (sym (p .here)));
           since = since;
         }
@@ -164,7 +159,7 @@ module _ {X : Type 0} {𝓥 : Values X} (L : Laws 𝓥) (E : Edges X) where
                 go (yes e) = lt-le-trans L (offers-less i e) (same-le L (sym (p .here)))
                 go (no n) = let z : ⊥ = omega (arith, now .here, now .there x n, t .recent x) in absurd z
 
-        off-y : (v : ℕ) → v ≢ y → 0 < t .time v → Bettered 𝓥 E time′ D′ v (last v)
+        off-y : (v : ℕ) → v ≢ y → 0 < time v → Bettered 𝓥 E time′ D′ v (last v)
         off-y v n l = record {
           listed = o .listed;
           leads = o .leads;
@@ -173,7 +168,7 @@ module _ {X : Type 0} {𝓥 : Values X} (L : Laws 𝓥) (E : Edges X) where
           since = since;
         }
           where
-            o : Bettered 𝓥 E (t .time) D v (last v)
+            o : Bettered 𝓥 E time D v (last v)
             o = t .bettered v l
 
             since : time′ v ≤ time′ (E .tail (last v)) → Lt 𝓥 (through 𝓥 E D′ (last v)) (D′ v)
@@ -213,11 +208,10 @@ module _ {X : Type 0} {𝓥 : Values X} (L : Laws 𝓥) (E : Edges X) where
             (w .0, suc (w .1), subst₂ (Walk 𝓥 E (w .0) (suc (w .1))) (sym e) (sym (ap D′ e ∙ p .here)) (on i listed (w .2)))
         walk′ v (no n) = let w = t .walk v in (w .0, w .1, subst (Walk 𝓥 E (w .0) (w .1) v) (sym (p .there v n)) (w .2))
 
-        pub traced-taken : Traced 𝓥 E b (suc i) D′ last′
+        pub traced-taken : Traced 𝓥 E b (suc i) (put time y (suc (b + i))) D′ last′
         traced-taken = record {
           walk = λ v. walk′ v (ℕ-discrete v y);
           low = λ v. le-le L (falls v) (t .low v);
-          time = time′;
           recent = λ v. recent v (ℕ-discrete v y);
           bettered = λ v l. bettered′ v l (ℕ-discrete v y);
           looked = looked′;

@@ -37,11 +37,12 @@ zeros n u = go (decLt u n)
     go (yes h) = getD-replicate n u 0 0 h
     go (no h) = List·getD-eq-default (replicate n 0) 0 (omega (arith, length-replicate {A = ℕ} n 0))
 
-module _ {X : Type 0} {𝓥 : Values X} (E : Edges X) (ends : Ends E) (b i : ℕ) (D : ℕ → X) (last : ℕ → ℕ) (t : Traced 𝓥 E b i D last) (top : ℕ) where
+module _ {X : Type 0} {𝓥 : Values X} (E : Edges X) (ends : Ends E) (b i : ℕ) (time : ℕ → ℕ) (D : ℕ → X) (last : ℕ → ℕ)
+    (t : Traced 𝓥 E b i time D last) (top : ℕ) where
   abbrev At : List ℕ → List ℕ → ℕ → ℕ → Type 0
-  At path seen here j = Trail 𝓥 E (t .time) D top path seen here j
+  At path seen here j = Trail 𝓥 E time D top path seen here j
 
-  pub trail-start : (path : List ℕ) (v n : ℕ) → v < E .vertices → ((q : ℕ) → suc q ≡ top → E .count * q < t .time v) → At path (replicate n 0) v top
+  pub trail-start : (path : List ℕ) (v n : ℕ) → v < E .vertices → ((q : ℕ) → suc q ≡ top → E .count * q < time v) → At path (replicate n 0) v top
   trail-start path v n h l = record {
     most = omega arith;
     vertex = h;
@@ -93,7 +94,7 @@ module _ {X : Type 0} {𝓥 : Values X} (E : Edges X) (ends : Ends E) (b i : ℕ
     abbrev seen′ : List ℕ
     seen′ = set seen here (suc j)
 
-    o : Bettered 𝓥 E (t .time) D here i′
+    o : Bettered 𝓥 E time D here i′
     o = t .bettered here (omega (arith, r .late j refl))
 
     at-j : row path′ j ≡ i′
@@ -120,7 +121,7 @@ module _ {X : Type 0} {𝓥 : Values X} (E : Edges X) (ends : Ends E) (b i : ℕ
     old-mark u n = getD-set-other seen here u (suc j) 0 n
 
     Brings : ℕ → ℕ → Type 0
-    Brings q x = Bettered 𝓥 E (t .time) D (E .head x) x
+    Brings q x = Bettered 𝓥 E time D (E .head x) x
 
     Marked : ℕ → ℕ → Type 0
     Marked q x = row seen′ (E .head x) ≡ suc q
@@ -151,9 +152,9 @@ module _ {X : Type 0} {𝓥 : Values X} (E : Edges X) (ends : Ends E) (b i : ℕ
     trail-more = record {
       most = omega (arith, r .most);
       vertex = ends .tail-in i′ (o .listed);
-      late = λ q e. let k : E .count * j < t .time here = r .late j refl in
+      late = λ q e. let k : E .count * j < time here = r .late j refl in
           omega (arith, o .soon, ap (λ s. E .count * s) e, mul-suc (E .count) q);
-      brings = each Brings (subst (λ u. Bettered 𝓥 E (t .time) D u i′) (sym (o .leads)) o) (r .brings);
+      brings = each Brings (subst (λ u. Bettered 𝓥 E time D u i′) (sym (o .leads)) o) (r .brings);
       linked = link;
       starts = λ m. ap (E .tail) at-j;
       marked = each Marked (ap (row seen′) (o .leads) ∙ new-mark)

@@ -1,13 +1,13 @@
--- `samples::divisor` meets its contract. The invariant: Euclid's step keeps the divisor. The measure is the second number, which the
--- remainder is below. Assumes nothing.
+-- `divisor::common_of` meets its contract. The invariant: Euclid's step keeps the divisor. The measure is the second
+-- number, which becomes a remainder by itself. Assumes nothing.
 use Prim.Native.Nat.{_<_}
 use mathlib.Core.Path.{_≡_, refl, sym, _∙_, ap}
 use native.Mathlib.Nat.{mod-lt}
 use native.Mathlib.Omega.{arith}
 use Rattle.whole.specs.Divisors.{gcd}
 use Rattle.whole.proofs.Divisors.{gcd-zero, gcd-step}
-use Rattle.samples.proofs.divisor.Statement.{statement}
-use Rattle.samples.proofs.divisor.Tie as tie
+use Rattle.divisor.proofs.common_of.Statement.{statement}
+use Rattle.divisor.proofs.common_of.Tie as tie
 
 abbrev Inv-loop : tie.InvT-loop
 Inv-loop a b x₀ y₀ x y = gcd x y ≡ gcd a b
@@ -32,7 +32,8 @@ loop-again c = sym (gcd-step (c .before .loop .x) (c .before .loop .y) (above c)
 
 returns : tie.Need-returns Inv-loop μ-loop
 returns c =
-    sym (gcd-zero (c .before .loop .x)) ∙ ap (gcd (c .before .loop .x)) (sym (c .loop-test .left)) ∙ c .before .loop .inv
+    sym (gcd-zero (c .before .loop .x)) ∙ ap (gcd (c .before .loop .x)) (sym (c .loop-test .left))
+    ∙ c .before .loop .inv
 
-pub divisor-spec : {M : Type 1} → statement M
-divisor-spec = tie.close (tie.spec Inv-loop μ-loop loop-holds rem-r loop-less loop-again returns)
+pub common-of-spec : {M : Type 1} → statement M
+common-of-spec = tie.close (tie.spec Inv-loop μ-loop loop-holds rem-r loop-less loop-again returns)

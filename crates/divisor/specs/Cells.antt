@@ -1,0 +1,33 @@
+-- The live cells of an array, which are its first: their greatest common divisor with a number, and their quotients.
+use Prim.Native.Nat.{ℕ}
+use mathlib.Core.List.{List}
+use mathlib.Core.Logic.{_≢_}
+use lib.IntN.{ℤ, pos, natAbs}
+use lib.ListN.{getD}
+use lib.Signed.{quotZ}
+use Rattle.whole.specs.Below.{foldBelow}
+use Rattle.whole.specs.Divisors.{gcd}
+use Rattle.whole.specs.Tables.{filled}
+
+-- how many cells the array has
+abbrev pub mostCells : ℕ
+mostCells = 128
+
+-- the largest size of a signed number of 64 bits whose opposite is one too
+abbrev pub largestSize : ℕ
+largestSize = 9223372036854775807
+
+-- a number that may divide
+pub record Divides (by : ℤ) : Type 0 where
+  pub nonzero : by ≢ pos 0
+
+-- the greatest common divisor of a number and the first k cells
+unfoldable pub divisorBelow : ℕ → List ℤ → ℤ → ℕ
+divisorBelow k l common = foldBelow k (λ i g. gcd (natAbs (getD l i (pos 0))) g) (natAbs common)
+
+abbrev pub quotients : List ℤ → ℤ → ℕ → ℤ
+quotients l by k = quotZ (getD l k (pos 0)) by
+
+-- the first k cells divided, the others 0
+abbrev pub quotientCells : ℕ → List ℤ → ℤ → List ℤ
+quotientCells k l by = filled mostCells (pos 0) k (quotients l by)

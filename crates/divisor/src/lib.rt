@@ -1,0 +1,62 @@
+// Greatest common divisors, of two numbers and of the live cells of an array, and exact division of those cells.
+ghost use mathlib.Core.Path.{_≡_};
+ghost use Prim.Native.Nat.{_≤_};
+ghost use lib.IntN.{natAbs};
+ghost use Rattle.whole.specs.Divisors.{gcd};
+ghost use Rattle.whole.specs.Numbers.{Within, AllWithin};
+ghost use Rattle.divisor.specs.Cells.{mostCells, largestSize, Divides, divisorBelow, quotientCells};
+
+// How many cells an array has; the first of them are live, the others are not looked at.
+pub const MOST_CELLS: usize = 128;
+
+// The size of a number that is not the least one.
+pub fn size(a: i64) -> u64
+    requires { ⌜ Within a largestSize ⌝ }
+    ensures { λ r. ⌜ r ≡ natAbs a ⌝ }
+{
+    if a < 0 { (-a) as u64 } else { a as u64 }
+}
+
+// Euclid's steps: the second number falls at each turn.
+pub fn common_of(a: u64, b: u64) -> u64
+    ensures { λ r. ⌜ r ≡ gcd a b ⌝ }
+{
+    let mut x = a;
+    let mut y = b;
+    while y != 0 {
+        let r = x % y;
+        x = y;
+        y = r;
+    }
+    x
+}
+
+// The greatest common divisor of a number and the live cells.
+pub fn divisor_of(cells: &[i64; MOST_CELLS], live: usize, common: i64) -> u64
+    requires { ⌜ live ≤ mostCells ⌝ }
+    requires { ⌜ Within common largestSize ⌝ }
+    requires { ⌜ AllWithin (now cells) largestSize ⌝ }
+    ensures { λ r. ⌜ r ≡ divisorBelow live (now (cells .entry)) common ⌝ }
+{
+    let mut g = size(common);
+    for k in 0..live {
+        let e = cells[k];
+        g = common_of(size(e), g);
+    }
+    g
+}
+
+// Each live cell divided, exactly where the divisor is a common one; the others are 0.
+pub fn divided(cells: &[i64; MOST_CELLS], live: usize, by: i64) -> [i64; MOST_CELLS]
+    requires { ⌜ live ≤ mostCells ⌝ }
+    requires { ⌜ Divides by ⌝ }
+    requires { ⌜ AllWithin (now cells) largestSize ⌝ }
+    ensures { λ r. ⌜ r ≡ quotientCells live (now (cells .entry)) by ⌝ }
+{
+    let mut out = [0i64; MOST_CELLS];
+    for k in 0..live {
+        let e = cells[k];
+        out[k] = e / by;
+    }
+    out
+}

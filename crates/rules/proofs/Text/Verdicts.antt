@@ -1,0 +1,35 @@
+-- Which text an answer has, by its verdict, and a multiplier's line, by whether it is 0.
+--   multiplier-none, multiplier-some        no line, or the variable's
+--   answer-can, answer-cannot, answer-range the text of verdict 1, of verdict 2, and of every other
+use mathlib.Core.Path.{_≡_, refl}
+use mathlib.Core.List.{List, []}
+use Prim.Native.Nat.{ℕ, zero, suc}
+use lib.IntN.{ℤ, pos, negsuc}
+use Rattle.whole.proofs.Tells.{tells-eqZ, tells-false}
+use Rattle.rules.specs.Problem.{word}
+use Rattle.rules.specs.Text.{variableLine, multiplierLine, canText, cannotText, rangeText, answerText}
+
+module _ (v : ℕ) (between : List ℕ) where
+  pub multiplier-none : (z : ℤ) → z ≡ pos 0 → multiplierLine v between z ≡ []
+  unfolding multiplierLine
+  multiplier-none z e = rw e refl
+
+  pub multiplier-some : (z : ℤ) → (z ≡ pos 0 → ⊥) → multiplierLine v between z ≡ variableLine v between z
+  unfolding multiplierLine
+  multiplier-some (pos zero) h = absurd (h refl)
+  multiplier-some (pos (suc n)) h = refl
+  multiplier-some (negsuc k) h = refl
+
+module _ (ws : List ℤ) (N : ℕ) where
+  pub answer-can : word ws 0 ≡ pos 1 → answerText ws N ≡ canText ws N
+  unfolding answerText
+  answer-can e = rw e refl
+
+  pub answer-cannot : word ws 0 ≡ pos 2 → answerText ws N ≡ cannotText ws N
+  unfolding answerText
+  answer-cannot e = rw e refl
+
+  pub answer-range : (word ws 0 ≡ pos 1 → ⊥) → (word ws 0 ≡ pos 2 → ⊥) → answerText ws N ≡ rangeText ws
+  unfolding answerText
+  answer-range p q =
+      rw (tells-false (tells-eqZ (word ws 0) (pos 1)) p, tells-false (tells-eqZ (word ws 0) (pos 2)) q) refl
