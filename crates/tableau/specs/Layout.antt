@@ -1,10 +1,12 @@
--- Where the entry of a row place and a column place lies in the flat array, and back: by rows. Nothing else in the tree says it.
+-- Where the entry of a row place and a column place lies in the flat array, and back: by rows. Beside this file only
+-- src/layout.rt says so, and proofs/Laws/Layout.antt uses it.
 use Prim.Native.Nat.{ℕ, _+_, _*_, _/_, _%_}
+use Rattle.divisor.specs.Cells.{mostCells}
 use Rattle.rules.specs.Sizes.{mostColumns}
 
 -- how many cells the array has
 abbrev pub mostEntries : ℕ
-mostEntries = 128
+mostEntries = mostCells
 
 unfoldable pub flat : ℕ → ℕ → ℕ
 flat i j = i * mostColumns + j

@@ -1,6 +1,7 @@
 -- The parts of the struct by place and by variable.
 use Prim.Native.Nat.{ℕ}
-use mathlib.Core.Bool.{Bool, false}
+use mathlib.Core.Bool.{false}
+use mathlib.Core.List.{List}
 use mathlib.Core.Option.{Option}
 use lib.IntN.{ℤ, pos}
 use lib.ListN.{getD}
@@ -25,12 +26,16 @@ column j = record { 0 = j }
 abbrev pub nowhere : Seat
 nowhere = record { basic = false; row = row 0; column = column 0 }
 
--- the number at flat place k, and at a row place and a column place
+-- the number at a row place and a column place of an array of entries
+abbrev pub entryIn : List ℤ → ℕ → ℕ → ℤ
+entryIn l i j = getD l (flat i j) (pos 0)
+
+-- .. of the tableau, and the number at flat place k
+abbrev pub cellAt : Tableau → ℕ → ℕ → ℤ
+cellAt t i j = entryIn (t .entries) i j
+
 abbrev pub cell : Tableau → ℕ → ℤ
 cell t k = getD (t .entries) k (pos 0)
-
-abbrev pub cellAt : Tableau → ℕ → ℕ → ℤ
-cellAt t i j = cell t (flat i j)
 
 -- the variable in a row place and in a column place, and the value there
 abbrev pub basicAt : Tableau → ℕ → ℕ

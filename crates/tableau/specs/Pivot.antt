@@ -5,20 +5,20 @@ use mathlib.Core.List.{List}
 use mathlib.Core.Logic.{_≢_}
 use lib.Dec.{eqb}
 use lib.ListN.{getD, set}
-use lib.IntN.{ℤ, pos, negℤ, natAbs, _*ℤ_, _-ℤ_}
+use lib.IntN.{ℤ, pos, negℤ, _*ℤ_, _-ℤ_}
 use lib.Signed.{quotZ}
-use Rattle.whole.specs.Below.{allBelow, foldBelow}
-use Rattle.whole.specs.Divisors.{gcd}
+use Rattle.whole.specs.Below.{allBelow}
 use Rattle.whole.specs.Numbers.{Within, within, isNeg}
 use Rattle.whole.specs.Tables.{filled}
+use Rattle.divisor.specs.Cells.{divisorBelow, quotientCells}
 use Rattle.rules.specs.Sizes.{mostColumns, mostRows, mostVariables, largestNumber}
 use Rattle.tableau.specs.declared.Variable.{Variable}
 use Rattle.tableau.specs.declared.Tableau.{Tableau}
 use Rattle.tableau.specs.Layout.{mostEntries, rowAt, columnAt, live}
-use Rattle.tableau.specs.Parts.{variable, row, column, cell, cellAt, basicAt, nonbasicAt}
+use Rattle.tableau.specs.Parts.{variable, row, column, entryIn, cell, cellAt, basicAt, nonbasicAt}
 
--- ---- one entry before reduction: p is the pivot, D the common number, a the entry, b its row's entry in the entering column,
--- c the leaving row's entry in its column
+-- ---- one entry before reduction: `own` is the entry, `beside` stands in its row and the entering column, `above` in
+-- its column and the leaving row
 
 -- by whether it is in the leaving row and in the entering column
 abbrev pub mixedOf : Bool → Bool → ℤ → ℤ → ℤ → ℤ → ℤ → ℤ
@@ -40,35 +40,23 @@ pub record Cells (t : Tableau) : Type 0 where
   pub cell-within : (k : ℕ) → Within (cell t k) largestNumber
 
 -- the number of row place i and column place j after the pivot of row place p and column place q
-unfoldable pub mixedCell : Tableau → ℕ → ℕ → ℕ → ℕ → ℤ
-mixedCell t p q i j = mixedOf (eqb i p) (eqb j q) (t .common) (cellAt t p q) (cellAt t i j) (cellAt t i q) (cellAt t p j)
+unfoldable pub mixedCell : ℤ → List ℤ → ℕ → ℕ → ℕ → ℕ → ℤ
+mixedCell common l p q i j =
+    mixedOf (eqb i p) (eqb j q) common (entryIn l p q) (entryIn l i j) (entryIn l i q) (entryIn l p j)
 
 -- .. and at flat place k
-abbrev pub mixedAt : Tableau → ℕ → ℕ → ℕ → ℤ
-mixedAt t p q k = mixedCell t p q (rowAt k) (columnAt k)
+abbrev pub mixedAt : ℤ → List ℤ → ℕ → ℕ → ℕ → ℤ
+mixedAt common l p q k = mixedCell common l p q (rowAt k) (columnAt k)
 
-abbrev pub mixedEntries : Tableau → ℕ → ℕ → List ℤ
-mixedEntries t p q = filled mostEntries (pos 0) (live (t .rows) (t .columns)) (mixedAt t p q)
+-- the first k cells after the pivot, the others 0
+abbrev pub mixedEntries : ℕ → ℤ → List ℤ → ℕ → ℕ → List ℤ
+mixedEntries k common l p q = filled mostEntries (pos 0) k (mixedAt common l p q)
 
 -- ---- reduction
-
--- the greatest common divisor of a number and the first k cells
-unfoldable pub divisorBelow : ℕ → List ℤ → ℤ → ℕ
-divisorBelow k l common = foldBelow k (λ i g. gcd (natAbs (getD l i (pos 0))) g) (natAbs common)
 
 -- a divisor with the sign of the common number
 unfoldable pub signedBy : ℤ → ℕ → ℤ
 signedBy common g = cond (isNeg common) (negℤ (pos g)) (pos g)
-
-abbrev pub quotients : List ℤ → ℤ → ℕ → ℤ
-quotients l by k = quotZ (getD l k (pos 0)) by
-
-abbrev pub quotientEntries : ℕ → List ℤ → ℤ → List ℤ
-quotientEntries k l by = filled mostEntries (pos 0) k (quotients l by)
-
--- a number that divides
-pub record Divides (by : ℤ) : Type 0 where
-  pub nonzero : by ≢ pos 0
 
 -- ---- the range test
 
@@ -109,10 +97,10 @@ withNumbers t c l = record {
 unfoldable pub pivotedAt : Tableau → ℕ → ℕ → Tableau
 pivotedAt t p q =
     let e : ℕ = live (t .rows) (t .columns) in
-    let l : List ℤ = mixedEntries t p q in
+    let l : List ℤ = mixedEntries e (t .common) (t .entries) p q in
     let c : ℤ = cellAt t p q *ℤ t .common in
     let by : ℤ = signedBy c (divisorBelow e l c) in
-    withNumbers t (quotZ c by) (quotientEntries e l by)
+    withNumbers t (quotZ c by) (quotientCells e l by)
 
 -- the variables of row place p and column place q change places, and the one that leaves gets the value x
 unfoldable pub swappedAt : Tableau → ℕ → ℕ → ℤ → Tableau

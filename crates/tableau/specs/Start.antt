@@ -1,6 +1,8 @@
--- The tableau by place at the start of a run: docs/RULES.md, "The run". Problem variable j sits in column place j, row i's variable in row place i.
+-- The tableau by place at the start of a run: docs/RULES.md, "The run". Problem variable j sits in column place j, row
+-- i's variable in row place i.
 use Prim.Native.Nat.{ℕ, _+_, _-_}
 use mathlib.Core.Bool.{Bool, true, false, cond, not}
+use mathlib.Core.List.{List}
 use mathlib.Core.Option.{Option, none, some}
 use lib.Dec.{ltb}
 use lib.IntN.{ℤ, pos}
@@ -9,14 +11,35 @@ use Rattle.whole.specs.Values.{whole}
 use Rattle.rules.specs.Sizes.{mostColumns, mostRows, mostVariables}
 use Rattle.rules.specs.Problem.{Problem, vars}
 use Rattle.rules.specs.Step.{seated, startValue}
+use Rattle.tableau.specs.declared.Variable.{Variable}
+use Rattle.tableau.specs.declared.Seat.{Seat}
 use Rattle.tableau.specs.declared.Limits.{Limits}
 use Rattle.tableau.specs.declared.Tableau.{Tableau}
 use Rattle.tableau.specs.Layout.{mostEntries, rowAt, columnAt, live}
-use Rattle.tableau.specs.Parts.{variable, row, column}
+use Rattle.tableau.specs.Parts.{variable, row, column, lowerOf, upperOf}
 
--- a column place that is not used has 0
-abbrev pub startCell : Problem ℤ → ℕ → ℤ
-startCell P k = cond (ltb (columnAt k) (P .n)) (P .coefficient (rowAt k) (columnAt k)) (pos 0)
+-- the number of a row place and a column place; where one of them is not used it is 0
+unfoldable pub startCell : Problem ℤ → ℕ → ℕ → ℤ
+startCell P i j = cond (ltb i (P .m)) (cond (ltb j (P .n)) (P .coefficient i j) (pos 0)) (pos 0)
+
+abbrev pub startEntries : Problem ℤ → List ℤ
+startEntries P = filled mostEntries (pos 0) (live (P .m) (P .n)) (λ k. startCell P (rowAt k) (columnAt k))
+
+-- ---- places, for n columns in use
+
+abbrev pub startBasic : ℕ → List Variable
+startBasic n = table mostRows (λ i. variable (n + i))
+
+abbrev pub startNonbasic : List Variable
+startNonbasic = table mostColumns variable
+
+abbrev pub seatFor : ℕ → ℕ → Seat
+seatFor n v = record { basic = not (ltb v n); row = row (v - n); column = column v }
+
+abbrev pub startSeats : ℕ → List Seat
+startSeats n = table mostVariables (seatFor n)
+
+-- ---- limits and values
 
 abbrev pub isPresent : Option ℤ → Bool
 isPresent none = false
@@ -30,15 +53,24 @@ limitsFor P = record {
   upper = filled mostVariables (pos 0) (vars P) (λ v. seated whole (P .upper v));
 }
 
+abbrev pub startValues : Problem ℤ → List ℤ
+startValues P = filled mostColumns (pos 0) (P .n) (λ j. startValue whole (P .lower j) (P .upper j))
+
+-- the same from limits at hand
+abbrev pub valuesFor : Limits → ℕ → List ℤ
+valuesFor l n = filled mostColumns (pos 0) n (λ j. startValue whole (lowerOf l j) (upperOf l j))
+
+-- ---- the whole
+
 unfoldable pub startTableau : Problem ℤ → Tableau
 startTableau P = record {
   rows = P .m;
   columns = P .n;
   common = pos 1;
-  entries = filled mostEntries (pos 0) (live (P .m) (P .n)) (startCell P);
-  basic = table mostRows (λ i. variable (P .n + i));
-  nonbasic = table mostColumns (λ j. variable j);
-  values = filled mostColumns (pos 0) (P .n) (λ j. startValue whole (P .lower j) (P .upper j));
-  seats = table mostVariables (λ v. record { basic = not (ltb v (P .n)); row = row (v - P .n); column = column v });
+  entries = startEntries P;
+  basic = startBasic (P .n);
+  nonbasic = startNonbasic;
+  values = startValues P;
+  seats = startSeats (P .n);
   limits = limitsFor P;
 }

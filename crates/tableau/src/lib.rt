@@ -1,4 +1,7 @@
 // The tableau by place: D times each basic variable is a whole-number sum over the nonbasic ones. D is `common`.
+pub mod layout;
+pub mod pivot;
+pub mod range;
 
 // A variable's number, and the two kinds of place: none stands for another.
 pub struct Variable(pub usize);
@@ -14,7 +17,7 @@ pub struct Seat {
     pub column: ColumnPlace,
 }
 
-// The limits of every variable: whether there is one, and which. The number of a missing limit is 0, and nothing reads it.
+// The limits of every variable: whether there is one, and which. The number of a missing limit is 0; nothing reads it.
 pub struct Limits {
     pub lowers: [bool; Tableau::MOST_VARIABLES],
     pub lower: [i64; Tableau::MOST_VARIABLES],
@@ -42,7 +45,7 @@ impl Tableau {
 
     pub const MOST_VARIABLES: usize = 24;
 
-    pub const MOST_ENTRIES: usize = 128;
+    pub const MOST_ENTRIES: usize = divisor::MOST_CELLS;
 
     pub const LARGEST_COEFFICIENT: i32 = 1000;
 
@@ -50,3 +53,6 @@ impl Tableau {
 
     pub const LARGEST_NUMBER: i64 = 2147483647;
 }
+
+pub mod judge;
+pub mod read;

@@ -1,0 +1,17 @@
+-- Laws that this crate's proofs, and those of its callers, cite.
+pub mod Layout
+pub mod Ranges
+pub mod Mixes
+pub mod Reductions
+pub mod Places
+pub mod Kinds
+pub mod Turns
+pub mod Solved
+pub mod Moves
+pub mod Smalls
+pub mod Steps
+pub mod Only
+pub mod Judged
+pub mod Reading
+pub mod Fitting
+pub mod Started

@@ -1,0 +1,92 @@
+-- The range test by place, of any tableau that stands for a state: it is the state's, and what passes it is in range.
+--   small-is       the test of the live cells is the test of the whole tableau by variable
+--   cells-small    what passes the test may stand in a tableau
+use Prim.Native.Nat.{ℕ, _<_}
+use native.Mathlib.Omega.{arith}
+use native.Mathlib.Decide.{decLt}
+use mathlib.Core.Path.{_≡_, refl, ap, sym, _∙_}
+use mathlib.Core.Bool.{Bool, true}
+use lib.IntN.{ℤ, pos}
+use Rattle.whole.specs.Below.{allBelow}
+use Rattle.whole.specs.Numbers.{Within, within}
+use Rattle.whole.specs.Values.{whole}
+use Rattle.whole.proofs.Below.{all-each, all-of}
+use Rattle.whole.proofs.Bools.{and-true, and-of, same-tests}
+use Rattle.whole.proofs.Tells.{tells-within}
+use Rattle.rules.specs.Problem.{Problem, vars}
+use Rattle.rules.specs.Sizes.{largestNumber}
+use Rattle.rules.specs.Step.{State}
+use Rattle.rules.specs.Tableau.{entry, small}
+use Rattle.rules.proofs.Sound.{Rowed}
+use Rattle.tableau.specs.declared.Tableau.{Tableau}
+use Rattle.tableau.specs.Layout.{flat, rowAt, columnAt}
+use Rattle.tableau.specs.Parts.{cell, basicAt, nonbasicAt}
+use Rattle.tableau.specs.Pivot.{inRange, smallBelow, Cells}
+use Rattle.tableau.specs.Stands.{Stands}
+use Rattle.tableau.proofs.Laws.Kinds.{Kind, none-there, own, cell-there, kind}
+use Rattle.tableau.proofs.Laws.Layout.{flat-back, past-live, Spot, used, unused, spot}
+use Rattle.tableau.proofs.Laws.Reductions.{end, live-place}
+
+zero-in : inRange (pos 0) ≡ true
+unfolding within
+zero-in = refl
+
+module _ {P : Problem ℤ} {t : Tableau} {s : State ℤ} (St : Stands P t s) where
+  abbrev N : ℕ
+  N = vars P
+
+  abbrev fine : ℕ → Bool
+  fine k = inRange (cell t k)
+
+  -- the entry at a live place in use
+  cell-used : (k : ℕ) → rowAt k < P .m → columnAt k < P .n →
+      cell t k ≡ entry (s .tableau) (basicAt t (rowAt k)) (nonbasicAt t (columnAt k))
+  cell-used k a b = ap (cell t) (sym (flat-back k)) ∙ St .numbers .cell-is (rowAt k) (columnAt k) a b
+
+  pub small-is : Rowed whole P s → smallBelow (end t) (t .entries) (t .common) ≡ small N (s .tableau)
+  unfolding smallBelow small
+  small-is R = same-tests _ _ to back
+    where
+      to : smallBelow (end t) (t .entries) (t .common) ≡ true → small N (s .tableau) ≡ true
+      to e =
+          let z = and-true _ _ e in
+          and-of (ap inRange (sym (St .numbers .common-is)) ∙ z .0)
+          (all-of N _ (λ v h. all-of N _ (λ u k. each v u h k (z .0) (z .1))))
+        where
+          each : (v u : ℕ) → v < N → u < N → inRange (t .common) ≡ true → allBelow (end t) fine ≡ true →
+              inRange (entry (s .tableau) v u) ≡ true
+          each v u h k c a = go (kind P t s R (St .placed) v u h k)
+            where
+              go : Kind P t s v u → inRange (entry (s .tableau) v u) ≡ true
+              go (none-there z) = rw z zero-in
+              go (own z) = rw (z, ← St .numbers .common-is) c
+              go (cell-there i j l m f d) =
+                  rw (← f, ← d, ← St .numbers .cell-is i j l m)
+                  (all-each (end t) fine a (flat i j) (live-place (St .sized) i j l m))
+
+      back : small N (s .tableau) ≡ true → smallBelow (end t) (t .entries) (t .common) ≡ true
+      back e =
+          let z = and-true _ _ e in
+          and-of (ap inRange (St .numbers .common-is) ∙ z .0)
+          (all-of (end t) fine (λ k h. each k (z .1) (spot (P .m) (P .n) k)))
+        where
+          each : (k : ℕ) → allBelow N (λ v. allBelow N (λ u. within largestNumber (entry (s .tableau) v u))) ≡ true →
+              Spot (P .m) (P .n) k → fine k ≡ true
+          each k a (used l m) = rw (cell-used k l m)
+              (all-each N _ (all-each N _ a (basicAt t (rowAt k)) (St .placed .in-row (rowAt k) l .variable-in))
+              (nonbasicAt t (columnAt k)) (St .placed .in-column (columnAt k) m .variable-in))
+          each k a (unused o) = rw (St .numbers .unused k o) zero-in
+
+  pub cells-small : smallBelow (end t) (t .entries) (t .common) ≡ true → Cells t
+  unfolding smallBelow
+  cells-small e = let z = and-true _ _ e in
+      record {
+        common-within = tells-within largestNumber (t .common) .if-true (z .0);
+        cell-within = λ k. go k (z .1) (decLt k (end t));
+      }
+    where
+      go : (k : ℕ) → allBelow (end t) fine ≡ true → Dec (k < end t) → Within (cell t k) largestNumber
+      go k a (yes h) = tells-within largestNumber (cell t k) .if-true (all-each (end t) fine a k h)
+      go k a (no h) = rw (St .numbers .unused k
+          (rw (← St .sized .rows-is, ← St .sized .columns-is) (past-live (t .rows) (t .columns) k (omega arith))))
+          (record { within = omega arith })

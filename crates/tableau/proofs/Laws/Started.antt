@@ -1,0 +1,164 @@
+-- The tableau by place at the start of a run stands for the start of the rules.
+--   stands-start    sizes, places, numbers and limits
+use mathlib.Core.Bool.{cond, not}
+use mathlib.Core.Logic.{_⊎_}
+use mathlib.Core.Option.{none, some}
+use mathlib.Core.Path.{ap, ap₂, refl, sym, _∙_, _≡_}
+use Prim.Native.Nat.{ℕ, _+_, _-_, _<_, _≤_}
+use native.Mathlib.Decide.{decLt}
+use native.Mathlib.Omega.{arith}
+use borrow.Author.Tests.{le-ltb, lt-ltb}
+use lib.IntN.{pos, ℤ}
+use Rattle.whole.proofs.Tables.{filled-in, filled-length, filled-out, table-at, table-length}
+use Rattle.whole.specs.Values.{whole}
+use Rattle.rules.proofs.Started.{at-start, basic-row, common-one, seat-start, seated-problem}
+use Rattle.rules.specs.Problem.{Problem, vars}
+use Rattle.rules.specs.Sizes.{mostColumns, mostRows, mostVariables}
+use Rattle.rules.specs.Step.{same, seat, start, startEntry, startSeat, startValue}
+use Rattle.rules.specs.Tableau.{entry}
+use Rattle.tableau.proofs.Laws.Fitting.{Fitting, serves-start}
+use Rattle.tableau.proofs.Laws.Layout.{column-flat, flat-live, row-flat}
+use Rattle.tableau.proofs.Laws.Reading.{cell-unused, cell-used}
+use Rattle.tableau.specs.Layout.{columnAt, flat, live, mostEntries, rowAt}
+use Rattle.tableau.specs.Parts.{basicAt, cell, cellAt, columnOf, nonbasicAt, nowhere}
+use Rattle.tableau.specs.Parts.{rowOf, seatAt, valueAt, variable}
+use Rattle.tableau.specs.Stands.{HasColumn, HasRow, InColumn, InRow, Stands}
+use Rattle.tableau.specs.Start.{seatFor, startCell, startTableau}
+use Rattle.tableau.specs.declared.Seat.{Seat}
+use Rattle.tableau.specs.declared.Tableau.{Tableau}
+use Rattle.tableau.specs.declared.Variable.{Variable}
+
+module _ (P : Problem ℤ) (F : Fitting P) where
+  abbrev t : Tableau
+  t = startTableau P
+
+  -- ---- places
+
+  basic-is : (i : ℕ) → i < mostRows → basicAt t i ≡ P .n + i
+  unfolding startTableau
+  basic-is i h = ap (λ (v : Variable). v .0) (table-at mostRows (λ i. variable (P .n + i)) (variable 0) i h)
+
+  nonbasic-is : (j : ℕ) → j < mostColumns → nonbasicAt t j ≡ j
+  unfolding startTableau
+  nonbasic-is j h = ap (λ (v : Variable). v .0) (table-at mostColumns variable (variable 0) j h)
+
+  value-is : (j : ℕ) → j < P .n → valueAt t j ≡ startValue whole (P .lower j) (P .upper j)
+  unfolding startTableau
+  value-is j h = filled-in mostColumns (pos 0) (P .n) (λ j. startValue whole (P .lower j) (P .upper j)) j h
+
+  seat-is : (v : ℕ) → v < mostVariables → seatAt t v ≡ seatFor (P .n) v
+  unfolding startTableau
+  seat-is v h = table-at mostVariables (seatFor (P .n)) nowhere v h
+
+  seat-basic : (v : ℕ) → P .n ≤ v → startSeat whole P v ≡ none
+  unfolding startSeat
+  seat-basic v h = ap (λ b. cond b (some (startValue whole (P .lower v) (P .upper v))) none) (le-ltb v (P .n) h)
+
+  seat-nonbasic : (v : ℕ) → v < P .n → startSeat whole P v ≡ some (startValue whole (P .lower v) (P .upper v))
+  unfolding startSeat
+  seat-nonbasic v h = ap (λ b. cond b (some (startValue whole (P .lower v) (P .upper v))) none) (lt-ltb v (P .n) h)
+
+  take-off : (i : ℕ) → P .n + i - P .n ≡ i
+  take-off i = omega arith
+
+  rows-start : (i : ℕ) → i < P .m → InRow P t (start whole P) i
+  rows-start i h = let q = F .few-rows in let p = F .few-columns in
+      let b : basicAt t i ≡ P .n + i = basic-is i (omega arith) in
+      record {
+        variable-in = rw b (omega arith);
+        is-basic = rw b (seat-start whole P (P .n + i) (omega arith) ∙ seat-basic (P .n + i) (omega arith));
+        back = rw b (ap (λ (s : Seat). s .row .0) (seat-is (P .n + i) (omega arith)) ∙ take-off i);
+      }
+
+  columns-start : (j : ℕ) → j < P .n → InColumn P t (start whole P) j
+  columns-start j h = let p = F .few-columns in
+      let b : nonbasicAt t j ≡ j = nonbasic-is j (omega arith) in
+      record {
+        variable-in = rw b (omega arith);
+        is-seated = ap (seat (start whole P)) b ∙ seat-start whole P j (omega arith) ∙ seat-nonbasic j h
+            ∙ ap some (sym (value-is j h));
+        back = ap (columnOf t) b ∙ ap (λ (s : Seat). s .column .0) (seat-is j (omega arith));
+      }
+
+  has-row-start : (v : ℕ) → v < vars P → seat (start whole P) v ≡ none → HasRow P t v
+  has-row-start v h e = let q = F .few-rows in let p = F .few-columns in
+      let k : P .n ≤ v = basic-row whole P v (sym (seat-start whole P v h) ∙ e) in
+      let a : seatAt t v ≡ seatFor (P .n) v = seat-is v (omega arith) in
+      let b : rowOf t v ≡ v - P .n = ap (λ (s : Seat). s .row .0) a in
+      record {
+        flag = ap (λ (s : Seat). s .basic) a ∙ ap not (le-ltb v (P .n) k);
+        in-rows = rw b (omega arith);
+        holds = ap (basicAt t) b ∙ basic-is (v - P .n) (omega arith)
+            ∙ (let z : P .n + (v - P .n) ≡ v = omega arith in z);
+      }
+
+  has-column-start : (v : ℕ) (x : ℤ) → v < vars P → seat (start whole P) v ≡ some x → HasColumn P t v
+  has-column-start v x h e = let q = F .few-rows in let p = F .few-columns in
+      let k : v < P .n = seated-problem whole P v x (sym (seat-start whole P v h) ∙ e) .0 in
+      let a : seatAt t v ≡ seatFor (P .n) v = seat-is v (omega arith) in
+      let b : columnOf t v ≡ v = ap (λ (s : Seat). s .column .0) a in
+      record {
+        flag = ap (λ (s : Seat). s .basic) a ∙ ap not (lt-ltb v (P .n) k);
+        in-columns = rw b k;
+        holds = ap (nonbasicAt t) b ∙ nonbasic-is v (omega arith);
+      }
+
+  -- ---- entries
+
+  abbrev cell-for : ℕ → ℤ
+  cell-for k = startCell P (rowAt k) (columnAt k)
+
+  cell-live : (k : ℕ) → k < live (P .m) (P .n) → cell t k ≡ cell-for k
+  unfolding startTableau
+  cell-live k h = filled-in mostEntries (pos 0) (live (P .m) (P .n)) cell-for k h
+
+  cell-past : (k : ℕ) → live (P .m) (P .n) ≤ k → cell t k ≡ pos 0
+  unfolding startTableau
+  cell-past k h = filled-out mostEntries (pos 0) (live (P .m) (P .n)) cell-for k h
+
+  entry-start : (i j : ℕ) → i < P .m → j < P .n → entry (start whole P .tableau) (P .n + i) j ≡ P .coefficient i j
+  unfolding startEntry
+  entry-start i j h k = at-start whole P (P .n + i) j (omega arith) (omega arith)
+      ∙ ap₂ (λ a b. cond a (same (P .n + i) j) (cond b (P .coefficient (P .n + i - P .n) j) (pos 0)))
+      (le-ltb (P .n + i) (P .n) (omega arith)) (lt-ltb j (P .n) k)
+      ∙ ap (λ r. P .coefficient r j) (take-off i)
+
+  cell-is-start : (i j : ℕ) → i < P .m → j < P .n →
+      cellAt t i j ≡ entry (start whole P .tableau) (basicAt t i) (nonbasicAt t j)
+  cell-is-start i j h k = let q = F .few-rows in let p = F .few-columns in
+      cell-live (flat i j) (flat-live (P .m) (P .n) q p i j h k)
+      ∙ ap₂ (startCell P) (row-flat i j (omega arith) (omega arith)) (column-flat i j (omega arith) (omega arith))
+      ∙ cell-used P i j h k ∙ sym (entry-start i j h k)
+      ∙ sym (ap₂ (entry (start whole P .tableau)) (basic-is i (omega arith)) (nonbasic-is j (omega arith)))
+
+  unused-start : (k : ℕ) → (P .m ≤ rowAt k) ⊎ (P .n ≤ columnAt k) → cell t k ≡ pos 0
+  unused-start k h = go (decLt k (live (P .m) (P .n)))
+    where
+      go : Dec (k < live (P .m) (P .n)) → cell t k ≡ pos 0
+      go (yes l) = cell-live k l ∙ cell-unused P (rowAt k) (columnAt k) h
+      go (no l) = cell-past k (omega arith)
+
+  -- ---- the whole
+
+  pub stands-start : Stands P t (start whole P)
+  unfolding startTableau
+  stands-start = record {
+    sized = record {
+      rows-is = refl;
+      columns-is = refl;
+      few-rows = F .few-rows;
+      few-columns = F .few-columns;
+      basic-long = table-length mostRows (λ i. variable (P .n + i));
+      nonbasic-long = table-length mostColumns variable;
+      values-long = filled-length mostColumns (pos 0) (P .n) _ (F .few-columns);
+      seats-long = table-length mostVariables (seatFor (P .n));
+    };
+    placed = record {
+      in-row = rows-start;
+      in-column = columns-start;
+      has-row = has-row-start;
+      has-column = has-column-start;
+    };
+    numbers = record { common-is = sym (common-one whole P); cell-is = cell-is-start; unused = unused-start };
+    serves = serves-start P F;
+  }

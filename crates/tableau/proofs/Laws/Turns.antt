@@ -1,0 +1,135 @@
+-- A pivot that the rules choose, by place: where the leaving and the entering variable sit, and who sits where then.
+--   Turn                                     a tableau, the state it stands for, and what leaves and enters there
+--   nextAt                                   the tableau by place afterwards
+--   leaving-row, entering-column, pivot-is   the places of the pivot, and its entry
+--   pivot-nonzero, common-nonzero            neither is 0
+--   placed-next, sized-next                  the places afterwards
+--   basic-left, basic-stays, nonbasic-entered, nonbasic-stays    each place afterwards
+use Prim.Native.Nat.{ℕ, _<_}
+use native.Mathlib.Nat.{lt-of-lt-of-le}
+use mathlib.Core.Path.{_≡_, sym, ap₂, _∙_}
+use mathlib.Core.Logic.{_≢_}
+use lib.IntN.{ℤ, pos}
+use lib.Signed.{<ℤ-irrefl}
+use Rattle.whole.specs.Values.{whole}
+use Rattle.whole.proofs.Order.{nonzero-ne}
+use Rattle.rules.specs.Problem.{Problem}
+use Rattle.rules.specs.Sizes.{mostRows, mostColumns}
+use Rattle.rules.specs.Tableau.{entry}
+use Rattle.rules.specs.Step.{State, Leaving, seat, moved, limitAt}
+use Rattle.rules.proofs.Enters.{Entered, swap}
+use Rattle.rules.proofs.Leaves.{Left}
+use Rattle.rules.proofs.Pivoted as pivoted
+use Rattle.rules.proofs.Sound.{Rowed}
+use Rattle.rules.proofs.Swaps.{Swap}
+use Rattle.tableau.specs.declared.Tableau.{Tableau}
+use Rattle.tableau.specs.Parts.{cellAt, basicAt, nonbasicAt, rowOf, columnOf}
+use Rattle.tableau.specs.Pivot.{pivotedAt, swappedAt}
+use Rattle.tableau.specs.Stands.{HasRow, HasColumn, Sized, Placed, Stands}
+use Rattle.tableau.proofs.Laws.Places.{basic-here, basic-other, nonbasic-here, nonbasic-other, placed-after}
+use Rattle.tableau.proofs.Laws.Places.{sized-after, placed-with, sized-with}
+
+-- t stands for s, whose rows hold; r leaves there and w enters
+pub record Turn (P : Problem ℤ) (t : Tableau) (s : State ℤ) (r : Leaving) (w : ℕ) : Type 0 where
+  pub stands : Stands P t s
+  pub rowed : Rowed whole P s
+  pub left : Left whole P s r
+  pub entered : Entered whole P s r w
+
+-- the places of the leaving and the entering variable
+abbrev pub rowPlace : Tableau → Leaving → ℕ
+rowPlace t r = rowOf t (r .variable)
+
+abbrev pub columnPlace : Tableau → ℕ → ℕ
+columnPlace t w = columnOf t w
+
+abbrev pub turnedAt : Tableau → Leaving → ℕ → Tableau
+turnedAt t r w = pivotedAt t (rowPlace t r) (columnPlace t w)
+
+-- after the pivot the two variables change places, and the leaving one gets the limit that it violates
+abbrev pub nextAt : Problem ℤ → Tableau → Leaving → ℕ → Tableau
+nextAt P t r w = swappedAt (turnedAt t r w) (rowPlace t r) (columnPlace t w) (limitAt whole P r)
+
+module _ {P : Problem ℤ} {t : Tableau} {s : State ℤ} {r : Leaving} {w : ℕ} (M : Turn P t s r w) where
+  abbrev p : ℕ
+  p = rowPlace t r
+
+  abbrev q : ℕ
+  q = columnPlace t w
+
+  abbrev x : ℤ
+  x = limitAt whole P r
+
+  abbrev turned : Tableau
+  turned = turnedAt t r w
+
+  abbrev next : Tableau
+  next = nextAt P t r w
+
+  pub leaving-row : HasRow P t (r .variable)
+  leaving-row = M .stands .placed .has-row (r .variable) (M .left .variable) (M .left .was-basic)
+
+  pub entering-column : HasColumn P t w
+  entering-column = M .stands .placed .has-column w (M .entered .value) (M .entered .variable) (M .entered .was-seated)
+
+  pub row-in-range : p < mostRows
+  row-in-range = lt-of-lt-of-le (leaving-row .in-rows) (M .stands .sized .few-rows)
+
+  pub column-in-range : q < mostColumns
+  column-in-range = lt-of-lt-of-le (entering-column .in-columns) (M .stands .sized .few-columns)
+
+  pub pivot-is : cellAt t p q ≡ entry (s .tableau) (r .variable) w
+  pivot-is = M .stands .numbers .cell-is p q (leaving-row .in-rows) (entering-column .in-columns)
+      ∙ ap₂ (entry (s .tableau)) (leaving-row .holds) (entering-column .holds)
+
+  pub pivot-nonzero : cellAt t p q ≢ pos 0
+  pivot-nonzero e = nonzero-ne (entry (s .tableau) (r .variable) w)
+      (pivoted.pivot-nonzero whole P (r .side) w (entry (s .tableau) (r .variable) w) (M .entered .value)
+      (M .entered .suits)) (sym pivot-is ∙ e)
+
+  pub common-nonzero : t .common ≢ pos 0
+  common-nonzero e = <ℤ-irrefl (rw (sym (M .stands .numbers .common-is) ∙ e) at (M .rowed .positive))
+
+  -- ---- the places after the pivot, and after the exchange
+
+  placed-turned : Placed P turned s
+  unfolding pivotedAt
+  placed-turned = placed-with P t _ _ s (M .stands .placed)
+
+  sized-turned : Sized P turned
+  unfolding pivotedAt
+  sized-turned = sized-with P t _ _ (M .stands .sized)
+
+  r-there : basicAt turned p ≡ r .variable
+  unfolding pivotedAt
+  r-there = leaving-row .holds
+
+  w-there : nonbasicAt turned q ≡ w
+  unfolding pivotedAt
+  w-there = entering-column .holds
+
+  exchange : Swap (seat s) (seat (moved whole P s r w)) (r .variable) w x
+  exchange = swap whole P s r w (M .rowed .seats-many) (M .left) (M .entered)
+
+  pub placed-next : Placed P next (moved whole P s r w)
+  placed-next = placed-after turned p q (r .variable) w x r-there w-there P s (moved whole P s r w)
+      sized-turned placed-turned exchange (leaving-row .in-rows) (entering-column .in-columns)
+
+  pub sized-next : Sized P next
+  sized-next = sized-after turned p q (r .variable) w x r-there w-there P s (moved whole P s r w)
+      sized-turned placed-turned exchange (leaving-row .in-rows) (entering-column .in-columns)
+
+  pub basic-left : basicAt next p ≡ w
+  basic-left = basic-here turned p q (r .variable) w x r-there w-there (rw (sized-turned .basic-long) row-in-range)
+
+  pub basic-stays : (i : ℕ) → i ≢ p → basicAt next i ≡ basicAt t i
+  unfolding pivotedAt
+  basic-stays i n = basic-other turned p q (r .variable) w x r-there w-there i n
+
+  pub nonbasic-entered : nonbasicAt next q ≡ r .variable
+  nonbasic-entered = nonbasic-here turned p q (r .variable) w x r-there w-there
+      (rw (sized-turned .nonbasic-long) column-in-range)
+
+  pub nonbasic-stays : (j : ℕ) → j ≢ q → nonbasicAt next j ≡ nonbasicAt t j
+  unfolding pivotedAt
+  nonbasic-stays j n = nonbasic-other turned p q (r .variable) w x r-there w-there j n

@@ -1,0 +1,2 @@
+-- The laws behind the tableau by place. Assumes nothing.
+pub mod Laws

@@ -1,0 +1,30 @@
+-- `tableau::read::seat_for` meets its contract. Assumes nothing.
+use mathlib.Core.Path.{_≡_, sym, ap, ap₂}
+use mathlib.Core.Bool.{Bool, not}
+use Prim.Native.Nat.{ℕ, _-_}
+use native.Mathlib.Omega.{arith}
+use borrow.Author.Tests.{lt-ltb, le-ltb}
+use Rattle.tableau.specs.declared.Seat.{Seat}
+use Rattle.tableau.specs.Parts.{row, column}
+use Rattle.tableau.proofs.read.seat_for.Statement.{statement}
+use Rattle.tableau.proofs.read.seat_for.Tie as tie
+
+-- the seat of v in its column, by its flag and its row
+abbrev seat : ℕ → Bool → ℕ → Seat
+seat v b i = record { basic = not b; row = row i; column = column v }
+
+returns : tie.Need-returns
+returns c =
+    let v = c .before .args .v in
+    let n = c .before .args .columns in
+    let z : v - n ≡ 0 = omega arith in
+    sym (ap₂ (seat v) (lt-ltb v n (c .if1 .taken)) z)
+
+returns-2 : tie.Need-returns-2
+returns-2 c =
+    let v = c .before .args .v in
+    let n = c .before .args .columns in
+    sym (ap (λ b. seat v b (v - n)) (le-ltb v n (c .if1 .left)))
+
+pub seat-for-spec : {M : Type 1} → statement M
+seat-for-spec = tie.close (tie.spec returns returns-2)
