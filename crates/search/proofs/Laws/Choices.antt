@@ -1,0 +1,84 @@
+-- The search by place, turn by turn.
+--   no-breach, some-breach           a breach as the side that it is on
+--   broken-.., enters-..             what a variable answers that the search comes to
+--   next-within, -stuck, -pivot      what the search comes to
+use mathlib.Core.Path.{_≡_, refl, sym, ap, ap₂, _∙_}
+use mathlib.Core.Bool.{Bool, true, false, cond}
+use mathlib.Core.Option.{Option, none, some}
+use Prim.Native.Nat.{ℕ}
+use Rattle.whole.proofs.Bools.{true-false}
+use Rattle.rules.specs.Step.{Side, below, above, leaves}
+use Rattle.tableau.specs.declared.Tableau.{Tableau}
+use Rattle.tableau.specs.Parts.{seatAt, rowOf}
+use Rattle.search.specs.declared.Next.the-variants as variants
+use Rattle.search.specs.Sides.{sideBy, rising, asBreach}
+use Rattle.search.specs.Search.{
+  sideAt,
+  tagged,
+  brokenAt,
+  leavingAt,
+  fitting,
+  enteringOf,
+  enteringAt,
+  moveBy,
+  nextBy,
+  nextAt,
+}
+
+rising-by : (b : Bool) → rising (sideBy b) ≡ b
+rising-by true = refl
+rising-by false = refl
+
+pub no-breach : (o : Option Side) → asBreach o .violated ≡ false → o ≡ none
+no-breach none e = refl
+no-breach (some σ) e = true-false refl e
+
+pub some-breach : (o : Option Side) → asBreach o .violated ≡ true → o ≡ some (sideBy (asBreach o .rises))
+some-breach none e = true-false e refl
+some-breach (some below) e = refl
+some-breach (some above) e = refl
+
+module _ (t : Tableau) where
+  pub broken-seated : (v : ℕ) → seatAt t v .basic ≡ false → brokenAt t v ≡ none
+  unfolding brokenAt
+  broken-seated v e = ap (λ b. cond b (tagged v (sideAt t v)) none) e
+
+  pub broken-within : (v : ℕ) → seatAt t v .basic ≡ true → sideAt t v ≡ none → brokenAt t v ≡ none
+  unfolding brokenAt
+  broken-within v e f = ap₂ (λ b o. cond b (tagged v o) none) e f
+
+  pub broken-outside : (v : ℕ) (σ : Side) → seatAt t v .basic ≡ true → sideAt t v ≡ some σ →
+      brokenAt t v ≡ some (leaves v σ)
+  unfolding brokenAt
+  broken-outside v σ e f = ap₂ (λ b o. cond b (tagged v o) none) e f
+
+  module _ (i : ℕ) (σ : Side) (w : ℕ) where
+    pub enters-basic : seatAt t w .basic ≡ true → enteringOf t i σ w ≡ none
+    unfolding enteringOf
+    enters-basic e = ap (λ b. cond b none (cond (fitting t i σ w) (some w) none)) e
+
+    pub enters-not : seatAt t w .basic ≡ false → fitting t i σ w ≡ false → enteringOf t i σ w ≡ none
+    unfolding enteringOf
+    enters-not e f = ap₂ (λ b g. cond b none (cond g (some w) none)) e f
+
+    pub enters-here : seatAt t w .basic ≡ false → fitting t i σ w ≡ true → enteringOf t i σ w ≡ some w
+    unfolding enteringOf
+    enters-here e f = ap₂ (λ b g. cond b none (cond g (some w) none)) e f
+
+  pub next-within : leavingAt t ≡ none → variants.Within ≡ nextAt t
+  unfolding nextAt nextBy
+  next-within e = sym (ap (nextBy t) e)
+
+  module _ (v : ℕ) (b : Bool) (e : leavingAt t ≡ some (leaves v (sideBy b))) where
+    pub next-stuck : enteringAt t (rowOf t v) (sideBy b) ≡ none →
+        variants.Stuck (record { row = seatAt t v .row; rises = b }) ≡ nextAt t
+    unfolding nextAt nextBy moveBy
+    next-stuck f = ap (λ a. variants.Stuck (record { row = seatAt t v .row; rises = a })) (sym (rising-by b))
+        ∙ sym (ap (nextBy t) e ∙ ap (moveBy t (leaves v (sideBy b))) f)
+
+    pub next-pivot : (w : ℕ) → enteringAt t (rowOf t v) (sideBy b) ≡ some w →
+        variants.Pivot (record { row = seatAt t v .row; column = seatAt t w .column; rises = b }) ≡ nextAt t
+    unfolding nextAt nextBy moveBy
+    next-pivot w f =
+        ap (λ a. variants.Pivot (record { row = seatAt t v .row; column = seatAt t w .column; rises = a })) (sym (rising-by b))
+        ∙ sym (ap (nextBy t) e ∙ ap (moveBy t (leaves v (sideBy b))) f)

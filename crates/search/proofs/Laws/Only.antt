@@ -1,0 +1,23 @@
+-- Two results that a promise of this crate's public functions allows are equal: NAME-only for each.
+-- The contracts themselves are compared: κs are lifetimes, x the arguments, e what lent words hold at the exit.
+use mathlib.Core.Path.{_≡_, sym, _∙_}
+use Rattle.search.proofs.row_value.Reads as row-value
+use Rattle.search.proofs.next_step.Reads as next-step
+use Rattle.search.proofs.sides.limits_of.Reads as limits-of
+use Rattle.search.proofs.sides.breach_of.Reads as breach-of
+use Rattle.search.proofs.sides.suits.Reads as suits
+
+pub row-value-only : (κs : _) (x : _) (a b : _) (e : _) → row-value.Post κs x a e → row-value.Post κs x b e → a ≡ b
+row-value-only κs x a b e h k = h ∙ sym k
+
+pub next-step-only : (κs : _) (x : _) (a b : _) (e : _) → next-step.Post κs x a e → next-step.Post κs x b e → a ≡ b
+next-step-only κs x a b e h k = h ∙ sym k
+
+pub limits-of-only : (κs : _) (x : _) (a b : _) (e : _) → limits-of.Post κs x a e → limits-of.Post κs x b e → a ≡ b
+limits-of-only κs x a b e h k = h ∙ sym k
+
+pub breach-of-only : (κs : _) (x : _) (a b : _) (e : _) → breach-of.Post κs x a e → breach-of.Post κs x b e → a ≡ b
+breach-of-only κs x a b e h k = h ∙ sym k
+
+pub suits-only : (κs : _) (x : _) (a b : _) (e : _) → suits.Post κs x a e → suits.Post κs x b e → a ≡ b
+suits-only κs x a b e h k = h ∙ sym k

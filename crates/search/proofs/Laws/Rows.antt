@@ -1,0 +1,83 @@
+-- The sum of a row is D times the value of its basic variable, and what a search needs holds of a tableau that stands for a
+-- state.
+--   row-is, searchable
+use mathlib.Core.Bool.{false, true}
+use mathlib.Core.Logic.{inl, inr, _⊎_}
+use mathlib.Core.Option.{Option, none, some}
+use mathlib.Core.Path.{_≡_, refl, sym, ap, ap₂, _∙_}
+use Prim.Native.Nat.{ℕ, _+_, _<_}
+use native.Mathlib.Omega.{arith}
+use lib.IntN.{ℤ, pos, zero-*ℤ, _*ℤ_}
+use Rattle.whole.specs.Sums.{sum}
+use Rattle.whole.specs.Values.{whole}
+use Rattle.whole.proofs.Bools.{true-false}
+use Rattle.whole.proofs.Places.{sum-places}
+use Rattle.whole.proofs.Sums.{sum-same}
+use Rattle.rules.specs.Problem.{Problem, vars}
+use Rattle.rules.specs.Sizes.{mostColumns, mostRows}
+use Rattle.rules.specs.Step.{State, scaled, seat, seated}
+use Rattle.rules.specs.Tableau.{entry}
+use Rattle.rules.proofs.Sound.{Rowed}
+use Rattle.tableau.specs.declared.Tableau.{Tableau}
+use Rattle.tableau.specs.Parts.{cellAt, nonbasicAt, valueAt, seatAt, rowOf, columnOf}
+use Rattle.tableau.specs.Stands.{HasRow, Ranged, Stands}
+use Rattle.search.specs.Search.{rowSum, Searchable}
+
+module _ (P : Problem ℤ) (t : Tableau) (s : State ℤ) (St : Stands P t s) where
+  -- D times the value of a basic variable is the sum of its row
+  module _ (R : Rowed whole P s) (v : ℕ) (h : v < vars P) (e : seat s v ≡ none) where
+    its-row : HasRow P t v
+    its-row = St .placed .has-row v h e
+
+    term : ℕ → ℤ
+    term u = entry (s .tableau) v u *ℤ seated whole (seat s u)
+
+    term-is : (j : ℕ) → j < P .n → cellAt t (rowOf t v) j *ℤ valueAt t j ≡ term (nonbasicAt t j)
+    unfolding term seated
+    term-is j k = ap₂ (λ a b. a *ℤ b)
+        (St .numbers .cell-is (rowOf t v) j (its-row .in-rows) k
+        ∙ ap (λ u. entry (s .tableau) u (nonbasicAt t j)) (its-row .holds))
+        (sym (ap (seated whole) (St .placed .in-column j k .is-seated)))
+
+    placed : (u : ℕ) → u < vars P → ((j : ℕ) × (j < P .n) × (nonbasicAt t j ≡ u)) ⊎ (term u ≡ pos 0)
+    unfolding term
+    placed u k = go (seat s u) refl
+      where
+        go : (o : Option ℤ) → seat s u ≡ o → ((j : ℕ) × (j < P .n) × (nonbasicAt t j ≡ u)) ⊎ (term u ≡ pos 0)
+        go none f = inr (ap (λ z. z *ℤ seated whole (seat s u)) (R .basic-zero v u h k f)
+            ∙ zero-*ℤ (seated whole (seat s u)))
+        go (some x) f = let a = St .placed .has-column u x k f in inl (columnOf t u, a .in-columns, a .holds)
+
+    pub row-is : rowSum (t .entries) (t .values) (rowOf t v) (t .columns) ≡ scaled whole P s v
+    unfolding rowSum scaled term
+    row-is = ap (λ n. sum n (λ j. cellAt t (rowOf t v) j *ℤ valueAt t j)) (St .sized .columns-is)
+        ∙ sum-same (P .n) (λ j. cellAt t (rowOf t v) j *ℤ valueAt t j) (λ j. term (nonbasicAt t j)) term-is
+        ∙ sym (sum-places (vars P) (P .n) term (nonbasicAt t) (λ j k. St .placed .in-column j k .variable-in)
+        (λ i j a b z. sym (St .placed .in-column i a .back) ∙ ap (columnOf t) z ∙ St .placed .in-column j b .back)
+        placed)
+
+  in-vars : (v : ℕ) → v < t .rows + t .columns → v < vars P
+  in-vars v h = let a : t .rows ≡ P .m = St .sized .rows-is in let b : t .columns ≡ P .n = St .sized .columns-is in
+      omega arith
+
+  pub searchable : Ranged t → Searchable t
+  searchable G = record {
+    few-rows = rw (St .sized .rows-is) (St .sized .few-rows);
+    few-columns = rw (St .sized .columns-is) (St .sized .few-columns);
+    cells = G .cells;
+    values-within = G .values-within;
+    lowers-within = St .serves .lowers-within;
+    uppers-within = St .serves .uppers-within;
+    row-seats = λ v h e. in-a-row v (in-vars v h) e (seat s v) refl;
+    column-seats = λ v h e. in-a-column v (in-vars v h) e (seat s v) refl;
+  }
+    where
+      in-a-row : (v : ℕ) → v < vars P → seatAt t v .basic ≡ true → (o : Option ℤ) → seat s v ≡ o → rowOf t v < mostRows
+      in-a-row v h e none f = let a = St .placed .has-row v h f .in-rows in let b = St .sized .few-rows in omega arith
+      in-a-row v h e (some x) f = true-false e (St .placed .has-column v x h f .flag)
+
+      in-a-column : (v : ℕ) → v < vars P → seatAt t v .basic ≡ false → (o : Option ℤ) → seat s v ≡ o →
+          columnOf t v < mostColumns
+      in-a-column v h e none f = true-false (St .placed .has-row v h f .flag) e
+      in-a-column v h e (some x) f =
+          let a = St .placed .has-column v x h f .in-columns in let b = St .sized .few-columns in omega arith

@@ -1,0 +1,138 @@
+-- The search by place is the rules': of a tableau that stands for a state, the same variable leaves, and the same enters.
+--   all-vars                                as many variables as rows and columns
+--   leaving-is, entering-is                 by variable
+--   next-none, next-blocked, next-chosen    none leaves, none enters, or a row and a column
+use mathlib.Core.Bool.{Bool, cond, false, true}
+use mathlib.Core.Option.{Option, none, some}
+use mathlib.Core.Path.{_≡_, refl, sym, ap, ap₂, _∙_}
+use Prim.Native.Nat.{ℕ, _+_, _<_}
+use native.Mathlib.Nat.{add-comm}
+use lib.IntN.{ℤ}
+use Rattle.whole.specs.Below.{lowest}
+use Rattle.whole.specs.Values.{whole}
+use Rattle.whole.proofs.Turns.{lowest-same}
+use Rattle.rules.specs.Problem.{Problem, vars}
+use Rattle.rules.specs.Step.{
+  Leaving,
+  State,
+  above,
+  below,
+  broken,
+  common,
+  entering,
+  leaves,
+  leaving,
+  over,
+  pull,
+  scaled,
+  seat,
+  suits,
+  under,
+}
+use Rattle.rules.specs.Tableau.{entry}
+use Rattle.rules.proofs.Leaves.{Left, left}
+use Rattle.rules.proofs.Sound.{Rowed}
+use Rattle.tableau.specs.declared.Tableau.{Tableau}
+use Rattle.tableau.specs.Parts.{cellAt, valueAt, seatAt, rowOf, columnOf}
+use Rattle.tableau.specs.Stands.{HasRow, Stands}
+use Rattle.search.specs.declared.Next.the-variants as variants
+use Rattle.search.specs.Sides.{sideFrom, sideOf}
+use Rattle.search.specs.Search.{
+  sideAt,
+  tagged,
+  brokenAt,
+  leavingAt,
+  fitting,
+  enteringOf,
+  enteringAt,
+  blockedAt,
+  choiceAt,
+  moveBy,
+  nextBy,
+  nextAt,
+}
+use Rattle.search.proofs.Laws.Choices.{enters-basic}
+use Rattle.search.proofs.Laws.Rows.{row-is}
+
+-- the two ways to write the side
+by-tests : (v : ℕ) (a b : Bool) →
+    tagged v (sideFrom a b) ≡ elim a [ true ↦ some (leaves v below) | false ↦ elim b [ true ↦ some (leaves v above) | false ↦ none ] ]
+by-tests v true b = refl
+by-tests v false true = refl
+by-tests v false false = refl
+
+none-suits : (w : ℕ) (l u : Option ℤ) (a : ℤ) → none ≡ cond (suits whole a none l u) (some w) none
+unfolding suits
+none-suits w l u a = refl
+
+module _ (P : Problem ℤ) (t : Tableau) (s : State ℤ) (St : Stands P t s) (R : Rowed whole P s) where
+  pub all-vars : t .rows + t .columns ≡ vars P
+  all-vars = ap₂ (λ a b. a + b) (St .sized .rows-is) (St .sized .columns-is) ∙ add-comm (P .m) (P .n)
+
+  side-is : (v : ℕ) → v < vars P → seat s v ≡ none →
+      sideAt t v ≡ sideFrom (under whole (common s) (scaled whole P s v) (P .lower v)) (over whole (common s) (scaled whole P s v) (P .upper v))
+  unfolding sideOf
+  side-is v h e = rw (St .serves .lower-is v h, St .serves .upper-is v h, ← row-is P t s St R v h e, ← St .numbers .common-is) refl
+
+  broken-is : (v : ℕ) → v < vars P → brokenAt t v ≡ broken whole P s v (seat s v)
+  unfolding brokenAt broken
+  broken-is v h = go (seat s v) refl
+    where
+      go : (o : Option ℤ) → seat s v ≡ o → cond (seatAt t v .basic) (tagged v (sideAt t v)) none ≡ broken whole P s v o
+      go none e = ap₂ (λ b o. cond b (tagged v o) none) (St .placed .has-row v h e .flag) (side-is v h e)
+          ∙ by-tests v (under whole (common s) (scaled whole P s v) (P .lower v)) (over whole (common s) (scaled whole P s v) (P .upper v))
+      go (some x) e = ap (λ b. cond b (tagged v (sideAt t v)) none) (St .placed .has-column v x h e .flag)
+
+  pub leaving-is : leavingAt t ≡ leaving whole P s
+  unfolding leavingAt leaving
+  leaving-is = ap (λ k. lowest k (brokenAt t)) all-vars ∙ lowest-same (brokenAt t) (λ v. broken whole P s v (seat s v)) (vars P) broken-is
+
+  module _ (r : Leaving) (L : Left whole P s r) where
+    its : HasRow P t (r .variable)
+    its = St .placed .has-row (r .variable) (L .variable) (L .was-basic)
+
+    abbrev test : ℕ → Option ℤ → Bool
+    test w o = suits whole (pull (r .side) (entry (s .tableau) (r .variable) w)) o (P .lower w) (P .upper w)
+
+    fitting-is : (w : ℕ) (x : ℤ) → w < vars P → seat s w ≡ some x → fitting t (rowOf t (r .variable)) (r .side) w ≡ test w (some x)
+    fitting-is w x h e =
+        let a = St .placed .has-column w x h e in
+        let k : cellAt t (rowOf t (r .variable)) (columnOf t w) ≡ entry (s .tableau) (r .variable) w =
+        St .numbers .cell-is (rowOf t (r .variable)) (columnOf t w) (its .in-rows) (a .in-columns)
+        ∙ ap₂ (entry (s .tableau)) (its .holds) (a .holds) in
+        let y : some (valueAt t (columnOf t w)) ≡ some x =
+        sym (St .placed .in-column (columnOf t w) (a .in-columns) .is-seated) ∙ ap (seat s) (a .holds) ∙ e in
+        rw (k, y, St .serves .lower-is w h, St .serves .upper-is w h) refl
+
+    entering-one : (w : ℕ) → w < vars P → enteringOf t (rowOf t (r .variable)) (r .side) w ≡ cond (test w (seat s w)) (some w) none
+    unfolding enteringOf
+    entering-one w h = go (seat s w) refl
+      where
+        go : (o : Option ℤ) → seat s w ≡ o → enteringOf t (rowOf t (r .variable)) (r .side) w ≡ cond (test w o) (some w) none
+        go none e = enters-basic t (rowOf t (r .variable)) (r .side) w (St .placed .has-row w h e .flag)
+            ∙ none-suits w (P .lower w) (P .upper w) (pull (r .side) (entry (s .tableau) (r .variable) w))
+        go (some x) e = ap₂ (λ b g. cond b none (cond g (some w) none)) (St .placed .has-column w x h e .flag) (fitting-is w x h e)
+
+    pub entering-is : enteringAt t (rowOf t (r .variable)) (r .side) ≡ entering whole P s r
+    unfolding enteringAt entering
+    entering-is = ap (λ k. lowest k (enteringOf t (rowOf t (r .variable)) (r .side))) all-vars
+        ∙ lowest-same (enteringOf t (rowOf t (r .variable)) (r .side)) (λ w. cond (test w (seat s w)) (some w) none) (vars P) entering-one
+
+  -- ---- what the search comes to, by the choices of the rules
+
+  pub next-none : leaving whole P s ≡ none → nextAt t ≡ variants.Within
+  unfolding nextAt nextBy
+  next-none e = ap (nextBy t) (leaving-is ∙ e)
+
+  module _ (r : Leaving) (e : leaving whole P s ≡ some r) where
+    by-row : nextAt t ≡ moveBy t r (entering whole P s r)
+    unfolding nextAt nextBy
+    by-row = ap (nextBy t) (leaving-is ∙ e) ∙ ap (moveBy t r) (entering-is r (left whole P s r e))
+
+    pub next-blocked : entering whole P s r ≡ none → nextAt t ≡ variants.Stuck (blockedAt t r)
+    unfolding moveBy
+    next-blocked f = by-row ∙ ap (moveBy t r) f
+
+    pub next-chosen : (w : ℕ) → entering whole P s r ≡ some w → nextAt t ≡ variants.Pivot (choiceAt t r w)
+    unfolding moveBy
+    next-chosen w f = by-row ∙ ap (moveBy t r) f

@@ -1,0 +1,2 @@
+-- The laws behind the search. Assumes nothing.
+pub mod Laws

@@ -1,0 +1,91 @@
+-- The search for the next pivot, by place: docs/RULES.md, "The run", over the struct. Both searches go by the variables' numbers.
+use mathlib.Core.Path.{_≡_}
+use mathlib.Core.Bool.{Bool, true, false, cond}
+use mathlib.Core.List.{List}
+use mathlib.Core.Option.{Option, none, some}
+use Prim.Native.Nat.{ℕ, _+_, _≤_, _<_}
+use lib.IntN.{ℤ, pos, _*ℤ_}
+use lib.ListN.{getD}
+use Rattle.whole.specs.Below.{lowest}
+use Rattle.whole.specs.Numbers.{Within}
+use Rattle.whole.specs.Sums.{sum}
+use Rattle.whole.specs.Values.{whole}
+use Rattle.rules.specs.Sizes.{mostColumns, mostRows, largestLimit}
+use Rattle.rules.specs.Step.{Side, Leaving, leaves, pull, suits}
+use Rattle.tableau.specs.declared.Tableau.{Tableau}
+use Rattle.tableau.specs.Layout.{flat}
+use Rattle.tableau.specs.Parts.{cellAt, valueAt, seatAt, rowOf, columnOf, lowerOf, upperOf}
+use Rattle.tableau.specs.Pivot.{Cells}
+use Rattle.search.specs.declared.sides.LimitPair.{LimitPair}
+use Rattle.search.specs.declared.Blocked.{Blocked}
+use Rattle.search.specs.declared.Choice.{Choice}
+use Rattle.search.specs.declared.Next.{Next}
+use Rattle.search.specs.declared.Next.the-variants as variants
+use Rattle.search.specs.Sides.{sideOf, rising, suitsOf}
+
+-- D times the value of the basic variable of row place i, from entries and values
+unfoldable pub rowSum : List ℤ → List ℤ → ℕ → ℕ → ℤ
+rowSum l x i n = sum n (λ j. getD l (flat i j) (pos 0) *ℤ getD x j (pos 0))
+
+-- ---- the leaving variable
+
+-- the side on which variable v is outside, if it is basic
+abbrev pub sideAt : Tableau → ℕ → Option Side
+sideAt t v = sideOf (t .common) (rowSum (t .entries) (t .values) (rowOf t v) (t .columns)) (lowerOf (t .limits) v) (upperOf (t .limits) v)
+
+abbrev pub tagged : ℕ → Option Side → Option Leaving
+tagged v none = none
+tagged v (some σ) = some (leaves v σ)
+
+unfoldable pub brokenAt : Tableau → ℕ → Option Leaving
+brokenAt t v = cond (seatAt t v .basic) (tagged v (sideAt t v)) none
+
+unfoldable pub leavingAt : Tableau → Option Leaving
+leavingAt t = lowest (t .rows + t .columns) (brokenAt t)
+
+-- ---- the entering variable
+
+-- the nonbasic variable of column place j, with these limits, can move the basic variable of row place i the right way
+unfoldable pub movesAt : List ℤ → List ℤ → ℕ → ℕ → Bool → LimitPair → Bool
+movesAt l x i j rises p = suitsOf rises (getD l (flat i j) (pos 0)) (getD x j (pos 0)) p
+
+-- variable w can move the basic variable of row place i the right way, if it is nonbasic
+abbrev pub fitting : Tableau → ℕ → Side → ℕ → Bool
+fitting t i σ w =
+    suits whole (pull σ (cellAt t i (columnOf t w))) (some (valueAt t (columnOf t w))) (lowerOf (t .limits) w) (upperOf (t .limits) w)
+
+unfoldable pub enteringOf : Tableau → ℕ → Side → ℕ → Option ℕ
+enteringOf t i σ w = cond (seatAt t w .basic) none (cond (fitting t i σ w) (some w) none)
+
+unfoldable pub enteringAt : Tableau → ℕ → Side → Option ℕ
+enteringAt t i σ = lowest (t .rows + t .columns) (enteringOf t i σ)
+
+-- ---- both
+
+abbrev pub blockedAt : Tableau → Leaving → Blocked
+blockedAt t r = record { row = seatAt t (r .variable) .row; rises = rising (r .side) }
+
+abbrev pub choiceAt : Tableau → Leaving → ℕ → Choice
+choiceAt t r w = record { row = seatAt t (r .variable) .row; column = seatAt t w .column; rises = rising (r .side) }
+
+unfoldable pub moveBy : Tableau → Leaving → Option ℕ → Next
+moveBy t r none = variants.Stuck (blockedAt t r)
+moveBy t r (some w) = variants.Pivot (choiceAt t r w)
+
+unfoldable pub nextBy : Tableau → Option Leaving → Next
+nextBy t none = variants.Within
+nextBy t (some r) = moveBy t r (enteringAt t (rowOf t (r .variable)) (r .side))
+
+unfoldable pub nextAt : Tableau → Next
+nextAt t = nextBy t (leavingAt t)
+
+-- what the search needs: sizes, ranges, and that seats are places
+pub record Searchable (t : Tableau) : Type 0 where
+  pub few-rows : t .rows ≤ mostRows
+  pub few-columns : t .columns ≤ mostColumns
+  pub cells : Cells t
+  pub values-within : (j : ℕ) → Within (valueAt t j) largestLimit
+  pub lowers-within : (v : ℕ) → Within (getD (t .limits .lower) v (pos 0)) largestLimit
+  pub uppers-within : (v : ℕ) → Within (getD (t .limits .upper) v (pos 0)) largestLimit
+  pub row-seats : (v : ℕ) → v < t .rows + t .columns → seatAt t v .basic ≡ true → rowOf t v < mostRows
+  pub column-seats : (v : ℕ) → v < t .rows + t .columns → seatAt t v .basic ≡ false → columnOf t v < mostColumns

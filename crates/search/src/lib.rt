@@ -1,0 +1,138 @@
+// The search for the next pivot: the lowest-numbered basic variable outside its limits, and the lowest-numbered nonbasic
+// one that can move it.
+ghost use mathlib.Core.Path.{_≡_};
+ghost use Prim.Native.Nat.{ℕ, _≤_, _<_};
+ghost use lib.IntN.{ℤ, pos};
+ghost use lib.ListN.{getD};
+ghost use Rattle.whole.specs.Numbers.{Within};
+ghost use Rattle.rules.specs.Sizes.{mostColumns, mostRows, largestNumber, largestLimit};
+ghost use Rattle.search.specs.Search.{rowSum, movesAt, Searchable, nextAt};
+use sides::LimitPair;
+use tableau::ColumnPlace;
+use tableau::RowPlace;
+use tableau::Seat;
+use tableau::Tableau;
+use tableau::layout;
+
+pub mod sides;
+
+// The row and the column of a pivot, and whether the leaving variable must rise.
+pub struct Choice {
+    pub row: RowPlace,
+    pub column: ColumnPlace,
+    pub rises: bool,
+}
+
+// The row of a variable outside its limits that nothing can move.
+pub struct Blocked {
+    pub row: RowPlace,
+    pub rises: bool,
+}
+
+// What a search comes to: every variable is within its limits, one is outside and stuck, or a pivot moves it.
+pub enum Next {
+    Within,
+    Stuck(Blocked),
+    Pivot(Choice),
+}
+
+// D times the value of the basic variable of a row.
+pub fn row_value<'a>(
+    entries: &'a [i64; Tableau::MOST_ENTRIES],
+    values: &'a [i64; Tableau::MOST_COLUMNS],
+    columns: usize,
+    row: RowPlace,
+) -> i64
+    requires { ⌜ (columns ≤ mostColumns) × (row .0 < mostRows) ⌝ }
+    requires { ⌜ ((k : ℕ) → Within (getD (now entries) k (pos 0)) largestNumber) ⌝ }
+    requires { ⌜ ((j : ℕ) → Within (getD (now values) j (pos 0)) largestLimit) ⌝ }
+    ensures { λ r. ⌜ r ≡ rowSum (now (entries .entry)) (now (values .entry)) (row .0) columns ⌝ }
+{
+    let mut sum = 0i64;
+    for j in 0..columns {
+        let k = layout::place(row, ColumnPlace(j));
+        let e = entries[k];
+        let x = values[j];
+        sum = sum + e * x;
+    }
+    sum
+}
+
+// Whether the nonbasic variable of a column can move the basic variable of a row the right way.
+fn can_move<'a>(
+    entries: &'a [i64; Tableau::MOST_ENTRIES],
+    values: &'a [i64; Tableau::MOST_COLUMNS],
+    row: RowPlace,
+    column: ColumnPlace,
+    rises: bool,
+    limits: LimitPair,
+) -> bool
+    requires { ⌜ (row .0 < mostRows) × (column .0 < mostColumns) ⌝ }
+    ensures { λ r. ⌜ r ≡ movesAt (now (entries .entry)) (now (values .entry)) (row .0) (column .0) rises limits ⌝ }
+{
+    let k = layout::place(row, column);
+    let e = entries[k];
+    let j = column.0;
+    let x = values[j];
+    sides::suits(rises, e, x, limits)
+}
+
+// The search runs over the basic variables, and for the first one outside its limits over the nonbasic ones, both in order
+// of their numbers.
+pub fn next_step(t: Tableau) -> Next
+    requires { ⌜ Searchable t ⌝ }
+    ensures { λ r. ⌜ r ≡ nextAt t ⌝ }
+{
+    let end = t.rows + t.columns;
+    let columns = t.columns;
+    let common = t.common;
+    let limits = t.limits;
+    let mut v = 0usize;
+    let found = 'search: loop {
+        if v >= end {
+            break 'search Next::Within;
+        }
+        let seat = t.seats[v];
+        if !seat.basic {
+            v += 1;
+            continue 'search;
+        }
+        let row = seat.row;
+        let value = row_value(&t.entries, &t.values, columns, row);
+        let own = sides::limits_of(
+            &limits.lowers,
+            &limits.lower,
+            &limits.uppers,
+            &limits.upper,
+            v,
+        );
+        let outside = sides::breach_of(common, value, own);
+        if !outside.violated {
+            v += 1;
+            continue 'search;
+        }
+        let rises = outside.rises;
+        let mut w = 0usize;
+        while w < end {
+            let other = t.seats[w];
+            if other.basic {
+                w += 1;
+                continue;
+            }
+            let column = other.column;
+            let its = sides::limits_of(
+                &limits.lowers,
+                &limits.lower,
+                &limits.uppers,
+                &limits.upper,
+                w,
+            );
+            if can_move(&t.entries, &t.values, row, column, rises, its) {
+                break 'search Next::Pivot(Choice { row, column, rises });
+            }
+            w += 1;
+        }
+        break 'search Next::Stuck(Blocked { row, rises });
+    };
+    found
+}
