@@ -1,0 +1,12 @@
+-- Laws that the proofs cite. Assumes nothing.
+pub mod Pulls
+pub mod Writes
+pub mod Pivots
+pub mod Stepped
+pub mod Steps
+pub mod Runs
+pub mod Halves
+pub mod Crossings
+pub mod Told
+pub mod Refusals
+pub mod Only

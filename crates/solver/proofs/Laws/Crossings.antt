@@ -1,0 +1,66 @@
+-- Crossed limits by place are those of the problem, and the answer that they give.
+--   crossing-at, crossing-none    what the search for crossed limits says of the problem
+--   crossing-told                 the words of the answer
+use mathlib.Core.Bool.{cond}
+use mathlib.Core.List.{_∷_, _++_}
+use mathlib.Core.Option.{Option, none, some}
+use mathlib.Core.Path.{_≡_, ap, ap₂, refl, sym, _∙_}
+use Prim.Native.Nat.{ℕ, _+_, _<_}
+use native.Mathlib.Omega.{arith}
+use lib.IntN.{ℤ, pos}
+use Rattle.whole.specs.Below.{lowest}
+use Rattle.whole.specs.Tables.{table}
+use Rattle.whole.specs.Values.{whole}
+use Rattle.whole.proofs.Bools.{zero-one}
+use Rattle.whole.proofs.Turns.{lowest-same}
+use Rattle.rules.specs.Answer.{answerFrom}
+use Rattle.rules.specs.Problem.{Problem, vars}
+use Rattle.rules.specs.Run.{conflict, crossed}
+use Rattle.rules.specs.Sizes.{mostVariables}
+use Rattle.rules.specs.Step.{State, same}
+use Rattle.rules.proofs.AnswerIs.{answer-crossed, crosses-exactly}
+use Rattle.rules.proofs.Sound.{Rowed}
+use Rattle.tableau.specs.declared.Tableau.{Tableau}
+use Rattle.tableau.specs.declared.Variable.{Variable}
+use Rattle.tableau.specs.Stands.{Stands}
+use Rattle.search.proofs.Laws.Searches.{all-vars}
+use Rattle.solver.specs.declared.answer.Verdict.the-variants as verdicts
+use Rattle.solver.specs.declared.conflict.Crossed.{Crossed}
+use Rattle.solver.specs.declared.conflict.Crossed.the-variants as crossings
+use Rattle.solver.specs.Answer.{numberOf, wordsAt}
+use Rattle.solver.specs.Conflict.{conflictAt, crossedFrom, crossesAt}
+use Rattle.solver.specs.Multipliers.{unitAt}
+use Rattle.solver.proofs.Laws.Halves.{units-are}
+
+module _ {P : Problem ℤ} {t : Tableau} {s : State ℤ} (St : Stands P t s) (R : Rowed whole P s) where
+  conflict-is : conflictAt (t .limits) (t .rows + t .columns) ≡ crossedFrom (conflict whole P)
+  unfolding conflictAt conflict crossesAt
+  conflict-is = ap (λ k. crossedFrom (lowest k (crossesAt (t .limits)))) (all-vars P t s St R)
+      ∙ ap crossedFrom (lowest-same (crossesAt (t .limits)) _ (vars P)
+      (λ v h. ap₂ (λ l u. cond (crossed whole l u) (some v) none) (sym (St .serves .lower-is v h)) (sym (St .serves .upper-is v h))))
+
+  pub crossing-at : (x : Variable) → conflictAt (t .limits) (t .rows + t .columns) ≡ crossings.At x → conflict whole P ≡ some (x .0)
+  unfolding crossedFrom
+  crossing-at x e = go (conflict whole P) refl
+    where
+      go : (o : Option ℕ) → conflict whole P ≡ o → conflict whole P ≡ some (x .0)
+      go none q = let f = sym conflict-is ∙ e in let g = rw q at f in let k : _≡_ {A = ℕ} 0 1 = cc in zero-one k
+      go (some v) q = let f = sym conflict-is ∙ e in let g = rw q at f in let k : v ≡ x .0 = cc in q ∙ ap some k
+
+  pub crossing-none : conflictAt (t .limits) (t .rows + t .columns) ≡ crossings.Nowhere → conflict whole P ≡ none
+  unfolding crossedFrom
+  crossing-none e = go (conflict whole P) refl
+    where
+      go : (o : Option ℕ) → conflict whole P ≡ o → conflict whole P ≡ none
+      go none q = q
+      go (some v) q = let f = sym conflict-is ∙ e in let g = rw q at f in let k : _≡_ {A = ℕ} 0 1 = cc in zero-one k
+
+  pub crossing-in : (v : ℕ) → conflict whole P ≡ some v → v < mostVariables
+  crossing-in v e = let h = crosses-exactly whole P v .0 e .0 in let a = St .sized .few-rows in let b = St .sized .few-columns in omega arith
+
+  pub crossing-told : (v : ℕ) → conflict whole P ≡ some v →
+      wordsAt verdicts.Cannot 0 (pos 0) (t .rows + t .columns) (unitAt v) (unitAt v) ≡ answerFrom P s
+  unfolding wordsAt numberOf
+  crossing-told v e =
+      ap (λ N. wordsAt verdicts.Cannot 0 (pos 0) N (unitAt v) (unitAt v)) (all-vars P t s St R)
+      ∙ ap (λ l. pos 2 ∷ pos 0 ∷ pos 0 ∷ l ++ l) (units-are (vars P) v (crossing-in v e)) ∙ sym (answer-crossed P s v e)

@@ -1,0 +1,70 @@
+-- The chosen pivot by place is the move of the state: what it needs holds, and what it gives stands for the moved state.
+--   movable, stands-moved, fitting-is, ranged-moved
+use mathlib.Core.Bool.{true}
+use mathlib.Core.Option.{some}
+use mathlib.Core.Path.{_≡_, ap, refl, sym, _∙_}
+use Prim.Native.Nat.{ℕ}
+use native.Mathlib.Omega.{arith}
+use lib.IntN.{ℤ, pos}
+use lib.ListN.{getD}
+use Rattle.whole.specs.Values.{whole}
+use Rattle.rules.specs.Problem.{Problem, vars}
+use Rattle.rules.specs.Step.{Leaving, Side, State, above, below, entering, leaving, limitAt, moved}
+use Rattle.rules.specs.Tableau.{small}
+use Rattle.rules.proofs.Enters.{entered}
+use Rattle.rules.proofs.Leaves.{left}
+use Rattle.rules.proofs.Pivoted.{rowed-moved}
+use Rattle.rules.proofs.Sound.{Rowed}
+use Rattle.tableau.specs.declared.Limits.{Limits}
+use Rattle.tableau.specs.declared.Tableau.{Tableau}
+use Rattle.tableau.specs.Parts.{basicAt, columnOf, rowOf}
+use Rattle.tableau.specs.Pivot.{Cells, pivotedAt, swappedAt}
+use Rattle.tableau.specs.Stands.{Ranged, Stands}
+use Rattle.tableau.proofs.Laws.Moves.{stands-next}
+use Rattle.tableau.proofs.Laws.Smalls.{small-is}
+use Rattle.tableau.proofs.Laws.Steps.{limit-is, limitNumber, pivotable, ranged-next, swappable}
+use Rattle.tableau.proofs.Laws.Turns as turns
+use Rattle.tableau.proofs.Laws.Turns.{Turn, leaving-row}
+use Rattle.search.specs.Sides.{rising}
+use Rattle.search.specs.Search.{choiceAt}
+use Rattle.solver.specs.Step.{Movable, fitting, limitOf, movedAt}
+
+limit-by : (σ : Side) (l : Limits) (v : ℕ) →
+    limitOf (rising σ) (getD (l .lower) v (pos 0)) (getD (l .upper) v (pos 0)) ≡ limitNumber σ l v
+limit-by below l v = refl
+limit-by above l v = refl
+
+module _ {P : Problem ℤ} {t : Tableau} {s : State ℤ} (St : Stands P t s) (R : Rowed whole P s) (r : Leaving) (w : ℕ)
+    (e : leaving whole P s ≡ some r) (f : entering whole P s r ≡ some w) where
+  turn : Turn P t s r w
+  turn = record { stands = St; rowed = R; left = left whole P s r e; entered = entered whole P s r w f }
+
+  abbrev next : Tableau
+  next = movedAt t (choiceAt t r w)
+
+  abbrev p : ℕ
+  p = rowOf t (r .variable)
+
+  abbrev q : ℕ
+  q = columnOf t w
+
+  pub movable : Cells t → Movable t (choiceAt t r w)
+  unfolding pivotedAt
+  movable c = record { pivotable = pivotable turn c; swappable = swappable turn; leaving-seat = swappable turn .leaving-seat }
+
+  moved-is : next ≡ turns.nextAt P t r w
+  unfolding movedAt
+  moved-is =
+      ap (λ v. swappedAt (pivotedAt t p q) p q
+      (limitOf (rising (r .side)) (getD (t .limits .lower) v (pos 0)) (getD (t .limits .upper) v (pos 0))))
+      (leaving-row turn .holds)
+      ∙ ap (swappedAt (pivotedAt t p q) p q) (limit-by (r .side) (t .limits) (r .variable) ∙ limit-is turn)
+
+  pub stands-moved : Stands P next (moved whole P s r w)
+  stands-moved = rw moved-is (stands-next turn)
+
+  pub fitting-is : fitting next ≡ small (vars P) (moved whole P s r w .tableau)
+  fitting-is = small-is stands-moved (rowed-moved whole P s R r w (turn .left) (turn .entered))
+
+  pub ranged-moved : Ranged t → fitting next ≡ true → Ranged next
+  ranged-moved g h = rw moved-is (ranged-next turn g (rw moved-is at h))

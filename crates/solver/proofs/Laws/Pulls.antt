@@ -1,0 +1,34 @@
+-- The pull of a blocked row by place: its size.
+--   pull-within
+use mathlib.Core.Bool.{Bool, false, true}
+use Prim.Native.Nat.{ℕ}
+use native.Mathlib.Omega.{arith}
+use lib.Dec.{eqb}
+use lib.IntN.{ℤ, pos}
+use Rattle.whole.specs.Numbers.{Within}
+use Rattle.whole.proofs.Sizes.{within-neg}
+use Rattle.rules.specs.Sizes.{largestNumber}
+use Rattle.rules.specs.Step.{Side, above, below, pull}
+use Rattle.tableau.specs.declared.Tableau.{Tableau}
+use Rattle.tableau.specs.Layout.{flat}
+use Rattle.tableau.specs.Parts.{seatAt}
+use Rattle.tableau.specs.Pivot.{Cells}
+use Rattle.search.specs.declared.Blocked.{Blocked}
+use Rattle.search.specs.Sides.{sideBy}
+use Rattle.solver.specs.Multipliers.{pullAt, pullOf, relationFrom}
+
+pulled-within : {n : ℕ} (σ : Side) (z : ℤ) → Within z n → Within (pull σ z) n
+unfolding pull
+pulled-within below z h = h
+pulled-within above z h = within-neg h
+
+relation-within : {n : ℕ} (b own : Bool) (d a : ℤ) → Within d n → Within a n → Within (relationFrom b own d a) n
+relation-within true true d a h k = within-neg h
+relation-within true false d a h k = record { within = omega arith }
+relation-within false own d a h k = k
+
+pub pull-within : (t : Tableau) (b : Blocked) (v : ℕ) → Cells t → Within (pullAt t b v) largestNumber
+unfolding pullOf
+pull-within t b v C = pulled-within (sideBy (b .rises)) _
+    (relation-within (seatAt t v .basic) (eqb (seatAt t v .row .0) (b .row .0)) (t .common) _ (C .common-within)
+    (C .cell-within (flat (b .row .0) (seatAt t v .column .0))))

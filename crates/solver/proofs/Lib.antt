@@ -1,0 +1,2 @@
+-- The laws behind the run and its answer. Assumes nothing.
+pub mod Laws

@@ -1,0 +1,82 @@
+-- `solver::conflict::conflict_of` meets its contract. The loop's invariant: the limits of no variable passed cross. The
+-- measure is the variables that are left. Assumes nothing.
+use mathlib.Core.Bool.{Bool, cond}
+use mathlib.Core.Option.{none, some}
+use mathlib.Core.Path.{_≡_, ap, sym, _∙_}
+use Prim.Native.Nat.{ℕ, _-_, _≤_}
+use native.Mathlib.Omega.{arith}
+use Rattle.whole.specs.Below.{lowest}
+use Rattle.whole.proofs.Turns.{lowest-start, lowest-more, lowest-here}
+use Rattle.tableau.specs.declared.Limits.{Limits}
+use Rattle.solver.specs.Conflict.{crossesAt, crossedFrom, conflictAt}
+use Rattle.solver.proofs.conflict.conflict_of.Statement.{statement}
+use Rattle.solver.proofs.conflict.conflict_of.Tie as tie
+
+abbrev Inv-loop : tie.InvT-loop
+Inv-loop variables limits v₀ v = (v ≤ variables) × (lowest v (crossesAt limits) ≡ none)
+
+abbrev μ-loop : tie.MeasureT-loop
+μ-loop variables limits v₀ v = variables - v
+
+loop-holds : tie.Need-loop-holds Inv-loop μ-loop
+loop-holds c = (omega arith, lowest-start (crossesAt (c .args .t1)))
+
+limits-of-requires : tie.Need-limits-of-requires Inv-loop μ-loop
+limits-of-requires c κs = omega arith
+
+is-crossed-requires : tie.Need-is-crossed-requires Inv-loop μ-loop
+is-crossed-requires c κs = tt
+
+-- what the test says of a variable
+module _ (c : tie.After-is-crossed Inv-loop μ-loop) where
+  abbrev head : tie.At-loop Inv-loop μ-loop
+  head = c .before .before .before .before .before .before .before .before
+
+  abbrev limits : Limits
+  limits = head .before .args .t1
+
+  abbrev number : ℕ
+  number = head .loop .v
+
+  crossed-is : crossesAt limits number ≡ cond (c .is-crossed .result) (some number) none
+  unfolding crossesAt
+  crossed-is = ap (λ b. cond b (some number) none) (sym (simp (c .before .limits-of .ensures) at (c .is-crossed .ensures)))
+
+  crossed-by : {b : Bool} → c .is-crossed .result ≡ b → crossesAt limits number ≡ cond b (some number) none
+  crossed-by e = crossed-is ∙ ap (λ b. cond b (some number) none) e
+
+returns : tie.Need-returns Inv-loop μ-loop
+unfolding conflictAt crossedFrom
+returns c = let o = c .before in
+    sym (ap crossedFrom (lowest-here (crossesAt (limits o)) (head o .before .args .variables) (number o) (number o)
+    (omega arith) (head o .loop .inv .1) (crossed-by o (c .if1 .taken))))
+
+add-v : tie.Need-add-v Inv-loop μ-loop
+add-v c = omega arith
+
+loop-less : tie.Need-loop-less Inv-loop μ-loop
+loop-less c = omega arith
+
+loop-again : tie.Need-loop-again Inv-loop μ-loop
+loop-again c = let o = c .before in
+    (omega arith, lowest-more (crossesAt (limits o)) (number o) (head o .loop .inv .1) (crossed-by o (c .if1 .left)))
+
+returns-2 : tie.Need-returns-2 Inv-loop μ-loop
+unfolding conflictAt crossedFrom
+returns-2 c = let s = c .before .before .args in let e : s .variables ≡ c .before .loop .v = omega arith in
+    sym (ap crossedFrom (ap (λ k. lowest k (crossesAt (s .t1))) e ∙ c .before .loop .inv .1))
+
+pub conflict-of-spec : {M : Type 1} → statement M
+conflict-of-spec =
+    tie.close
+    (tie.spec
+    Inv-loop
+    μ-loop
+    loop-holds
+    limits-of-requires
+    is-crossed-requires
+    returns
+    add-v
+    loop-less
+    loop-again
+    returns-2)

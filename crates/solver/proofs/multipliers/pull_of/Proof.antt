@@ -1,0 +1,111 @@
+-- `solver::multipliers::pull_of` meets its contract. Assumes nothing.
+use mathlib.Core.Bool.{Bool, true, false}
+use mathlib.Core.Path.{_≡_, ap, ap₂, refl, sym, _∙_}
+use Prim.Native.Nat.{_<_}
+use native.Mathlib.Omega.{arith}
+use borrow.Author.Needs.{needs, sfits-of}
+use borrow.Author.Tests.{eq-eqb, ne-eqb, not-false, not-true}
+use lib.Dec.{eqb}
+use lib.IntN.{ℤ, negℤ, pos, +ℤ-idl}
+use lib.ListN.{getD}
+use mir.Facts.{toZ-ofZ}
+use mir.Syntax.{w64}
+use mir.Val.{SFits}
+use Rattle.whole.proofs.Sizes.{fits-by, within-neg}
+use Rattle.rules.specs.Step.{pull}
+use Rattle.tableau.specs.Layout.{flat, mostEntries}
+use Rattle.tableau.proofs.Laws.Layout.{flat-in}
+use Rattle.search.specs.Sides.{sideBy}
+use Rattle.solver.specs.Multipliers.{pullOf, relationFrom}
+use Rattle.solver.proofs.multipliers.pull_of.Statement.{statement}
+use Rattle.solver.proofs.multipliers.pull_of.Tie as tie
+
+-- the relation by the two tests, of the parameters
+abbrev relation : tie.Start → Bool → Bool → ℤ
+relation s basic own = let a = s .args in
+    pull (sideBy (a .blocked .rises)) (relationFrom basic own (a .common)
+    (getD (a .entries .now) (flat (a .blocked .row .0) (a .seat .column .0)) (pos 0)))
+
+pull-zero : (b : Bool) → pull (sideBy b) (pos 0) ≡ pos 0
+unfolding pull
+pull-zero true = refl
+pull-zero false = refl
+
+place-requires : tie.Need-place-requires
+place-requires c κs = let p = c .before .before .before .pre in (p .in-rows, p .in-columns (not-true _ (c .if1 .taken)))
+
+place-in : (c : tie.After-place) → c .place .result < mostEntries
+place-in c = let s = c .before .before .before .before in
+    rw (c .place .ensures) (flat-in (s .args .blocked .row .0) (s .args .seat .column .0) (s .pre .in-rows)
+    (s .pre .in-columns (not-true _ (c .before .if1 .taken))))
+
+mul-e : tie.Need-mul-e
+mul-e c = let z = place-in c in omega arith
+
+element-copy-out-e : tie.Need-element-copy-out-e
+element-copy-out-e c = let z = place-in c in omega arith
+
+fit-entry : (c : tie.After-e) → SFits w64 (getD (c .before .before .before .before .before .args .entries .now) (c .before .place .result) (pos 0))
+fit-entry c = sfits-of (c .e .given)
+
+turned-requires : tie.Need-turned-requires
+turned-requires c κs = simp (toZ-ofZ (fit-entry c)) (c .before .before .before .before .before .pre .entries-within (c .before .place .result))
+
+-- the seat's variable is not basic
+free-is : (c : tie.Then1) → c .before .before .before .args .seat .basic ≡ false
+free-is c = not-true _ (c .if1 .taken)
+
+fit-turned : (c : tie.After-turned) → SFits w64 (c .turned .result)
+fit-turned c = search needs
+
+returns : tie.Need-returns
+unfolding pullOf
+returns c = let s = c .before .before .before .before .before .before in
+    toZ-ofZ (fit-turned c) ∙ (simp (toZ-ofZ (fit-entry (c .before))) at (c .turned .ensures))
+    ∙ ap (λ k. pull (sideBy (s .args .blocked .rises)) (getD (s .args .entries .now) k (pos 0))) (c .before .before .place .ensures)
+    ∙ sym (ap (λ b. relation s b (eqb (s .args .seat .row .0) (s .args .blocked .row .0))) (free-is (c .before .before .before)))
+
+fit-common : (c : tie.Start) → SFits w64 (negℤ (c .args .common))
+fit-common c = fits-by (within-neg (c .pre .common-within)) tt
+
+sub-turned : tie.Need-sub-turned
+sub-turned c = let s = c .before .before .before .before .before .before .before in simp (toZ-ofZ (s .fits .common), +ℤ-idl) (fit-common s)
+
+turned-requires-2 : tie.Need-turned-requires-2
+turned-requires-2 c κs = let s = c .before .before .before .before .before .before .before in
+    simp (toZ-ofZ (s .fits .common), +ℤ-idl, toZ-ofZ (fit-common s)) (within-neg (s .pre .common-within))
+
+fit-own : (c : tie.After-turned2) → SFits w64 (c .turned2 .result)
+fit-own c = search needs
+
+-- the seat's variable is basic
+basic-is : (c : tie.Else1) → c .before .before .before .args .seat .basic ≡ true
+basic-is c = not-false _ (c .if1 .left)
+
+returns-2 : tie.Need-returns-2
+unfolding pullOf
+returns-2 c = let s = c .before .before .before .before .before .before .before .before in
+    toZ-ofZ (fit-own c) ∙ (simp (toZ-ofZ (s .fits .common), +ℤ-idl, toZ-ofZ (fit-common s)) at (c .turned2 .ensures))
+    ∙ sym (ap₂ (relation s) (basic-is (c .before .before .before .before .before))
+    (eq-eqb (s .args .seat .row .0) (s .args .blocked .row .0) (c .before .if2 .taken)))
+
+returns-3 : tie.Need-returns-3
+unfolding pullOf
+returns-3 c = let s = c .before .before .before .before .before .before .before in
+    sym (ap₂ (relation s) (basic-is (c .before .before .before .before))
+    (ne-eqb (s .args .seat .row .0) (s .args .blocked .row .0) (c .if2 .left))
+    ∙ pull-zero (s .args .blocked .rises))
+
+pub pull-of-spec : {M : Type 1} → statement M
+pull-of-spec =
+    tie.close
+    (tie.spec
+    place-requires
+    mul-e
+    element-copy-out-e
+    turned-requires
+    returns
+    sub-turned
+    turned-requires-2
+    returns-2
+    returns-3)

@@ -1,0 +1,19 @@
+-- `solver::multipliers::unit` meets its contract. Assumes nothing.
+use borrow.Author.Needs.{needs}
+use mathlib.Core.Path.{refl}
+use Rattle.solver.specs.Multipliers.{unitAt}
+use Rattle.solver.proofs.multipliers.unit.Statement.{statement}
+use Rattle.solver.proofs.multipliers.unit.Tie as tie
+
+mul-ones : tie.Need-mul-ones
+mul-ones c = search needs
+
+array-set-of-ones : tie.Need-array-set-of-ones
+array-set-of-ones c = search needs
+
+returns : tie.Need-returns
+unfolding unitAt
+returns c = refl
+
+pub unit-spec : {M : Type 1} → statement M
+unit-spec = tie.close (tie.spec mul-ones array-set-of-ones returns)

@@ -1,0 +1,132 @@
+-- `solver::solve` meets its contract: the refusal of the problem, or 7, or the answer of the rules. Assumes nothing.
+use mathlib.Core.List.{List}
+use mathlib.Core.Path.{_≡_, sym, _∙_}
+use Prim.Native.Nat.{_≤_}
+use native.Mathlib.Omega.{arith}
+use borrow.Author.Needs.{needs}
+use lib.IntN.{ℤ}
+use lib.ListN.{length}
+use Rattle.whole.proofs.Order.{≤ℤ-trans}
+use Rattle.rules.specs.Problem.{answerLength, mOf, nOf}
+use Rattle.rules.specs.Refusal.{Accepted, problemRefusal}
+use Rattle.rules.specs.Sizes.{mostColumns, mostRows}
+use Rattle.rules.proofs.Ranges.{m-few, n-few}
+use Rattle.solver.proofs.Laws.Refusals.{
+  accepted-of,
+  answered-is,
+  begun-start,
+  refusal-none,
+  refusal-problem,
+  refusal-short,
+  start-many,
+  written-refused,
+}
+use Rattle.solver.proofs.solve.Statement.{statement}
+use Rattle.solver.proofs.solve.Tie as tie
+
+judge-requires : tie.Need-judge-requires
+judge-requires c κs = search needs
+
+returns : tie.Need-returns
+returns c = let s = c .before .before .args in let k = c .before .judge .result in
+    let e : k ≡ problemRefusal (s .words .now) = c .before .judge .ensures in (
+      e ∙ refusal-problem (s .words .now) (length (s .out .now)) (λ z. c .if1 .taken (e ∙ z)),
+      written-refused k (s .words .now) (s .out .now) (c .if1 .taken),
+    )
+
+-- the words are a problem
+module _ (c : tie.Else1) where
+  abbrev words-at : List ℤ
+  words-at = c .before .before .args .words .now
+
+  not-refused : problemRefusal words-at ≡ 0
+  not-refused = sym (c .before .judge .ensures) ∙ c .if1 .left
+
+  fine : Accepted mostRows words-at
+  fine = accepted-of words-at not-refused
+
+count-at-requires : tie.Need-count-at-requires
+count-at-requires c κs = (let z = fine c .enough in omega arith, ≤ℤ-trans (record { le = tt }) (fine c .n-least))
+
+count-at-requires-2 : tie.Need-count-at-requires-2
+count-at-requires-2 c κs = let a = fine (c .before) in (let z = a .enough in omega arith, a .m-least)
+
+-- n and m
+module _ (c : tie.After-count-at2) where
+  abbrev accepted : tie.Else1
+  accepted = c .before .before
+
+  columns-are : c .before .count-at .result ≡ nOf (words-at accepted)
+  columns-are = c .before .count-at .ensures
+
+  rows-are : c .count-at2 .result ≡ mOf (words-at accepted)
+  rows-are = c .count-at2 .ensures
+
+  few-columns : c .before .count-at .result ≤ mostColumns
+  few-columns = rw columns-are (n-few (fine accepted))
+
+  few-rows : c .count-at2 .result ≤ mostRows
+  few-rows = rw rows-are (m-few (fine accepted))
+
+add-variables : tie.Need-add-variables
+add-variables c = let a = few-columns c in let b = few-rows c in omega arith
+
+mul-if2 : tie.Need-mul-if2
+mul-if2 c = let a = few-columns c in let b = few-rows c in omega arith
+
+add-if2 : tie.Need-add-if2
+add-if2 c = let a = few-columns c in let b = few-rows c in omega arith
+
+returns-2 : tie.Need-returns-2
+returns-2 c = let o = c .before in let ws = words-at (accepted o) in let l = o .before .before .before .before .args .out .now in (
+  refusal-short ws (length l) (not-refused (accepted o)) (omega (arith, columns-are o, rows-are o, c .if2 .taken)),
+  written-refused 7 ws l (λ z. omega arith),
+)
+
+new-requires : tie.Need-new-requires
+new-requires c κs = not-refused (c .before .before .before)
+
+-- the answer fits
+module _ (c : tie.Else2) where
+  abbrev counted : tie.After-count-at2
+  counted = c .before
+
+  abbrev ws : List ℤ
+  ws = words-at (accepted counted)
+
+  room : answerLength ws ≤ length (c .before .before .before .before .before .args .out .now)
+  room = omega (arith, columns-are counted, rows-are counted, c .if2 .left)
+
+check-requires : tie.Need-check-requires
+check-requires c κs = let o = c .before in let d = o .before in let f = not-refused (accepted (counted d)) in (
+  begun-start (ws d) (o .new .result) (o .new .ensures) f,
+  (let a = room d in let b = start-many (ws d) (o .new .result) (o .new .ensures) f in omega arith),
+)
+
+same-length : tie.Need-same-length
+same-length c = search needs
+
+returns-3 : tie.Need-returns-3
+returns-3 c = let o = c .before .before .before in let d = o .before in let f = not-refused (accepted (counted d)) in
+    let l = d .before .before .before .before .before .args .out .now in (
+      refusal-none (ws d) (length l) f (room d),
+      c .before .check .ensures (begun-start (ws d) (o .new .result) (o .new .ensures) f)
+          ∙ answered-is (ws d) (o .new .result) (o .new .ensures) f l,
+    )
+
+pub solve-spec : {M : Type 1} → statement M
+solve-spec =
+    tie.close
+    (tie.spec
+    judge-requires
+    returns
+    count-at-requires
+    count-at-requires-2
+    add-variables
+    mul-if2
+    add-if2
+    returns-2
+    new-requires
+    check-requires
+    same-length
+    returns-3)

@@ -1,0 +1,50 @@
+-- The multipliers of "cannot", by place: docs/RULES.md, "The run", the sentences on verdict 2.
+use mathlib.Core.Bool.{Bool, true, false, cond}
+use mathlib.Core.List.{List}
+use Prim.Native.Nat.{ℕ, _+_, _<_}
+use mathlib.Core.Path.{_≡_}
+use lib.Dec.{eqb}
+use lib.IntN.{ℤ, pos, negℤ}
+use lib.ListN.{getD, replicate, set}
+use Rattle.whole.specs.Numbers.{Within}
+use Rattle.whole.specs.Tables.{filled}
+use Rattle.rules.specs.Sizes.{mostColumns, mostRows, mostVariables, largestNumber}
+use Rattle.rules.specs.Step.{pull, positive}
+use Rattle.tableau.specs.declared.Seat.{Seat}
+use Rattle.tableau.specs.declared.Tableau.{Tableau}
+use Rattle.tableau.specs.Layout.{flat}
+use Rattle.tableau.specs.Parts.{seatAt}
+use Rattle.search.specs.declared.Blocked.{Blocked}
+use Rattle.search.specs.Sides.{sideBy}
+use Rattle.solver.specs.declared.multipliers.Multipliers.{Multipliers}
+
+-- 1 at variable v, 0 elsewhere
+unfoldable pub unitAt : ℕ → List ℤ
+unitAt v = set (replicate mostVariables (pos 0)) v (pos 1)
+
+-- the row as an equation "the sum is 0", at the variable of a seat: its entry, minus D at the row's own variable, 0 at the other basic ones
+abbrev pub relationFrom : Bool → Bool → ℤ → ℤ → ℤ
+relationFrom true true common entry = negℤ common
+relationFrom true false common entry = pos 0
+relationFrom false own common entry = entry
+
+-- .. turned to rise
+unfoldable pub pullOf : List ℤ → ℤ → Blocked → Seat → ℤ
+pullOf l common b x = pull (sideBy (b .rises))
+    (relationFrom (x .basic) (eqb (x .row .0) (b .row .0)) common (getD l (flat (b .row .0) (x .column .0)) (pos 0)))
+
+abbrev pub pullAt : Tableau → Blocked → ℕ → ℤ
+pullAt t b v = pullOf (t .entries) (t .common) b (seatAt t v)
+
+unfoldable pub multipliersAt : Tableau → Blocked → Multipliers
+multipliersAt t b = record {
+  lower = filled mostVariables (pos 0) (t .rows + t .columns) (λ v. positive (negℤ (pullAt t b v)));
+  upper = filled mostVariables (pos 0) (t .rows + t .columns) (λ v. positive (pullAt t b v));
+}
+
+-- a row place, and a seat that is a column place where it is not basic
+pub record Blockable (l : List ℤ) (common : ℤ) (i : ℕ) (x : Seat) : Type 0 where
+  pub common-within : Within common largestNumber
+  pub entries-within : (k : ℕ) → Within (getD l k (pos 0)) largestNumber
+  pub in-rows : i < mostRows
+  pub in-columns : x .basic ≡ false → x .column .0 < mostColumns

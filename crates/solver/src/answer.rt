@@ -1,0 +1,97 @@
+// The words of an answer: verdict, count of pivots, denominator, and two words for each variable.
+ghost use mathlib.Core.Path.{_≡_};
+ghost use Prim.Native.Nat.{ℕ, _+_, _*_, _≤_, _<_};
+ghost use lib.IntN.{ℤ, pos};
+ghost use lib.ListN.{length};
+ghost use Rattle.rules.specs.Sizes.{mostVariables};
+ghost use Rattle.search.specs.Search.{Searchable};
+ghost use Rattle.solver.specs.Answer.{numberOf, Numerable, numeratorOf, numeratorsAt};
+ghost use Rattle.solver.specs.Answer.{copiedAt, mostCount, wordsAt, laidOver};
+use tableau::Seat;
+use tableau::Tableau;
+
+pub enum Verdict {
+    Can,
+    Cannot,
+    Range,
+}
+
+// The number of a verdict in an answer.
+fn number_of(verdict: Verdict) -> i64
+    ensures { λ r. ⌜ r ≡ numberOf verdict ⌝ }
+{
+    match verdict {
+        Verdict::Can => 1,
+        Verdict::Cannot => 2,
+        Verdict::Range => 3,
+    }
+}
+
+// D times the value of the variable of a seat.
+fn numerator_of<'a>(
+    entries: &'a [i64; Tableau::MOST_ENTRIES],
+    values: &'a [i64; Tableau::MOST_COLUMNS],
+    columns: usize,
+    common: i64,
+    seat: Seat,
+) -> i64
+    requires { ⌜ Numerable (now entries) (now values) columns common seat ⌝ }
+    ensures { λ r. ⌜ r ≡ numeratorOf (now (entries .entry)) (now (values .entry)) columns common seat ⌝ }
+{
+    if seat.basic {
+        return search::row_value(entries, values, columns, seat.row);
+    }
+    let column = seat.column;
+    let j = column.0;
+    let x = values[j];
+    common * x
+}
+
+// The numerators of all variables, over D.
+pub fn numerators_of(t: Tableau) -> [i64; Tableau::MOST_VARIABLES]
+    requires { ⌜ Searchable t ⌝ }
+    ensures { λ r. ⌜ r ≡ numeratorsAt t ⌝ }
+{
+    let variables = t.rows + t.columns;
+    let columns = t.columns;
+    let common = t.common;
+    let mut numerators = [0i64; Tableau::MOST_VARIABLES];
+    for v in 0..variables {
+        let seat = t.seats[v];
+        numerators[v] = numerator_of(&t.entries, &t.values, columns, common, seat);
+    }
+    numerators
+}
+
+// The first words of an array, from a place of the output on; nothing else is touched.
+fn copy_at(out: &mut [i64], at: usize, many: usize, from: &[i64; Tableau::MOST_VARIABLES])
+    requires { ⌜ (at + many ≤ length (now out)) × (many ≤ mostVariables) ⌝ }
+    ensures { λ r. ⌜ now (out .exit) ≡ copiedAt (now (out .entry)) at many (now (from .entry)) ⌝ }
+{
+    for v in 0..many {
+        let x = from[v];
+        let k = at + v;
+        out[k] = x;
+    }
+}
+
+// The whole answer.
+pub fn write<'a>(
+    out: &mut [i64],
+    verdict: Verdict,
+    count: usize,
+    denominator: i64,
+    variables: usize,
+    lower: &'a [i64; Tableau::MOST_VARIABLES],
+    upper: &'a [i64; Tableau::MOST_VARIABLES],
+)
+    requires { ⌜ (3 + 2 * variables ≤ length (now out)) × (variables ≤ mostVariables) × (count < mostCount) ⌝ }
+    ensures { λ r. ⌜ now (out .exit) ≡ laidOver variables (now (out .entry))
+        (wordsAt verdict count denominator variables (now (lower .entry)) (now (upper .entry))) ⌝ }
+{
+    out[0] = number_of(verdict);
+    out[1] = count as i64;
+    out[2] = denominator;
+    copy_at(out, 3, variables, lower);
+    copy_at(out, 3 + variables, variables, upper);
+}

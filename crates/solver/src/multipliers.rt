@@ -1,0 +1,95 @@
+// The two multiplier vectors of "cannot": from a row whose variable is outside its limits and cannot be moved, or from
+// crossed limits.
+ghost use mathlib.Core.Path.{_≡_};
+ghost use Prim.Native.Nat.{_<_};
+ghost use lib.IntN.{ℤ};
+ghost use Rattle.whole.specs.Numbers.{Within};
+ghost use Rattle.rules.specs.Sizes.{mostRows, mostVariables, largestNumber};
+ghost use Rattle.rules.specs.Step as step;
+ghost use Rattle.rules.specs.Step.{pull};
+ghost use Rattle.search.specs.Sides.{sideBy};
+ghost use Rattle.search.specs.Search.{Searchable};
+ghost use Rattle.solver.specs.Multipliers.{Blockable, unitAt, pullOf, multipliersAt};
+use search::Blocked;
+use tableau::RowPlace;
+use tableau::Seat;
+use tableau::Tableau;
+use tableau::Variable;
+use tableau::layout;
+
+// One multiplier for the lower and one for the upper limit of each variable.
+pub struct Multipliers {
+    pub lower: [i64; Tableau::MOST_VARIABLES],
+    pub upper: [i64; Tableau::MOST_VARIABLES],
+}
+
+// 1 at a variable, 0 elsewhere.
+pub fn unit(variable: Variable) -> [i64; Tableau::MOST_VARIABLES]
+    requires { ⌜ variable .0 < mostVariables ⌝ }
+    ensures { λ r. ⌜ r ≡ unitAt (variable .0) ⌝ }
+{
+    let mut ones = [0i64; Tableau::MOST_VARIABLES];
+    let v = variable.0;
+    ones[v] = 1;
+    ones
+}
+
+// A number where it is above 0, else 0.
+fn positive(z: i64) -> i64
+    ensures { λ r. ⌜ r ≡ step.positive z ⌝ }
+{
+    if 0 < z {
+        return z;
+    }
+    0
+}
+
+// An entry, with its sign swapped where the row's variable must fall.
+fn turned(rises: bool, entry: i64) -> i64
+    requires { ⌜ Within entry largestNumber ⌝ }
+    ensures { λ r. ⌜ r ≡ pull (sideBy rises) entry ⌝ }
+{
+    if rises {
+        return entry;
+    }
+    -entry
+}
+
+// The row as an equation "the sum is 0", turned to rise, at the variable of a seat: minus D at the row's own variable, 0 at
+// the other basic ones.
+fn pull_of(entries: &[i64; Tableau::MOST_ENTRIES], common: i64, blocked: Blocked, seat: Seat) -> i64
+    requires { ⌜ Blockable (now entries) common (blocked .row .0) seat ⌝ }
+    ensures { λ r. ⌜ r ≡ pullOf (now (entries .entry)) common blocked seat ⌝ }
+{
+    let row = blocked.row;
+    if !seat.basic {
+        let k = layout::place(row, seat.column);
+        let e = entries[k];
+        return turned(blocked.rises, e);
+    }
+    let own = seat.row;
+    if own.0 == row.0 {
+        return turned(blocked.rises, -common);
+    }
+    0
+}
+
+// The violated limit gets D; an entry's size goes to the upper limit of a variable that would have had to increase, and to
+// the lower limit of one that would have had to decrease; all other multipliers are 0.
+pub fn multipliers_of(t: Tableau, blocked: Blocked) -> Multipliers
+    requires { ⌜ Searchable t ⌝ }
+    requires { ⌜ blocked .row .0 < mostRows ⌝ }
+    ensures { λ r. ⌜ r ≡ multipliersAt t blocked ⌝ }
+{
+    let variables = t.rows + t.columns;
+    let common = t.common;
+    let mut lower = [0i64; Tableau::MOST_VARIABLES];
+    let mut upper = [0i64; Tableau::MOST_VARIABLES];
+    for v in 0..variables {
+        let seat = t.seats[v];
+        let y = pull_of(&t.entries, common, blocked, seat);
+        lower[v] = positive(-y);
+        upper[v] = positive(y);
+    }
+    Multipliers { lower, upper }
+}
