@@ -1,0 +1,4 @@
+pub mod Weights
+pub mod Shown
+pub mod Read
+pub mod Checks

@@ -1,0 +1,157 @@
+-- `evidence::can::row_sum` meets its contract. The invariant: the sum is that of the columns passed, and is within so many times the
+-- largest coefficient times the largest numerator. The measure is the columns left. Assumes nothing.
+use mathlib.Core.Path.{_≡_, refl, ap, sym, _∙_}
+use Prim.Native.Nat.{ℕ, _+_, _*_, _-_, _≤_, _<_}
+use native.Mathlib.Omega.{arith}
+use borrow.Author.Needs.{needs, sfits-of}
+use lib.Dec.{lit≤}
+use lib.IntN.{ℤ, pos, _+ℤ_, _*ℤ_}
+use lib.ListN.{getD}
+use mir.Facts.{toZ-ofZ}
+use mir.Syntax.{w64}
+use mir.Val.{SFits, toZ}
+use Rattle.whole.specs.Numbers.{Within}
+use Rattle.whole.specs.Sums.{sum, sumBy}
+use Rattle.whole.proofs.Sizes.{within-*, within-+, within-le, fits-by}
+use Rattle.whole.proofs.Sums.{sum-step, sum-within}
+use Rattle.rules.specs.Sizes.{largestCoefficient, largestNumerator, mostColumns, mostRows}
+use Rattle.rules.specs.Evidence.{lowerPart}
+use Rattle.tableau.specs.Layout.{flat}
+use Rattle.tableau.proofs.Laws.Layout.{flat-in}
+use Rattle.evidence.specs.Reads.{rowSumAt}
+use Rattle.evidence.proofs.can.row_sum.Statement.{statement}
+use Rattle.evidence.proofs.can.row_sum.Tie as tie
+use Rattle.evidence.proofs.can.row_sum.Reads as reads
+use Rattle.evidence.proofs.can.row_sum.Lts as lts
+
+abbrev Inv-loop : tie.InvT-loop
+Inv-loop entries answer row columns sum₀ j₀ sum j = (j ≤ columns) × (toZ w64 sum ≡ rowSumAt entries answer j (row .0))
+
+abbrev μ-loop : tie.MeasureT-loop
+μ-loop entries answer row columns sum₀ j₀ sum j = columns - j
+
+loop-holds : tie.Need-loop-holds Inv-loop μ-loop
+unfolding rowSumAt sumBy
+loop-holds c = (omega arith, refl)
+
+place-requires : tie.Need-place-requires Inv-loop μ-loop
+place-requires c κs = (omega arith, omega arith)
+
+add-at : tie.Need-add-at Inv-loop μ-loop
+add-at c = omega arith
+
+-- the flat place
+module _ (c : tie.After-place Inv-loop μ-loop) where
+  abbrev row : ℕ
+  row = c .before .before .before .args .row .0
+
+  abbrev turn : ℕ
+  turn = c .before .before .loop .j
+
+  place-in : c .place .result < 128
+  place-in = rw (c .place .ensures) (flat-in row turn (omega arith) (omega arith))
+
+mul-e : tie.Need-mul-e Inv-loop μ-loop
+mul-e c = let h = place-in c in omega arith
+
+element-copy-out-e : tie.Need-element-copy-out-e Inv-loop μ-loop
+element-copy-out-e c = let h = place-in c in omega arith
+
+mul-x : tie.Need-mul-x Inv-loop μ-loop
+mul-x c = omega arith
+
+shared-slice-copy-out-x : tie.Need-shared-slice-copy-out-x Inv-loop μ-loop
+shared-slice-copy-out-x c = omega arith
+
+module _ (c : tie.After-x Inv-loop μ-loop) where
+  abbrev start : tie.Start Inv-loop μ-loop
+  start = c .before .before .before .before .before
+
+  abbrev j : ℕ
+  j = c .before .before .before .before .loop .j
+
+  abbrev term : ℕ → ℤ
+  term k = getD (start .args .entries .now) (flat (start .args .row .0) k) (pos 0) *ℤ lowerPart (start .args .answer .now) k
+
+  abbrev old : ℤ
+  old = rowSumAt (start .args .entries .now) (start .args .answer .now) j (start .args .row .0)
+
+  abbrev read : ℤ
+  read = getD (start .args .entries .now) (c .before .before .place .result) (pos 0)
+
+  abbrev value : ℤ
+  value = lowerPart (start .args .answer .now) j
+
+  fit-entry : SFits w64 read
+  fit-entry = sfits-of (c .before .e .given)
+
+  fit-value : SFits w64 value
+  fit-value = sfits-of (c .x .given)
+
+  term-is : read *ℤ value ≡ term j
+  term-is = ap (λ (k : ℕ). getD (start .args .entries .now) k (pos 0) *ℤ value) (c .before .before .place .ensures)
+
+  within-term : (k : ℕ) → k < start .args .columns → Within (term k) (largestCoefficient * largestNumerator)
+  within-term k h = within-* (start .pre .1 .0 (flat (start .args .row .0) k)) (start .pre .1 .1 k h)
+
+  fit-term : SFits w64 (read *ℤ value)
+  fit-term = rw term-is (fits-by (within-term j (omega arith)) tt)
+
+  more : old +ℤ read *ℤ value ≡ rowSumAt (start .args .entries .now) (start .args .answer .now) (j + 1) (start .args .row .0)
+  unfolding rowSumAt
+  more = ap (λ (z : ℤ). old +ℤ z) term-is ∙ sym (sum-step j term)
+
+  fit-sum : SFits w64 (old +ℤ read *ℤ value)
+  unfolding rowSumAt
+  fit-sum = rw more (fits-by (within-le (sum-within (j + 1) (λ k h. within-term k (omega arith))) bound) tt)
+    where
+      bound : (j + 1) * (largestCoefficient * largestNumerator) ≤ mostColumns * (largestCoefficient * largestNumerator)
+      bound = omega arith
+
+mul-sum : tie.Need-mul-sum Inv-loop μ-loop
+mul-sum c = simp (toZ-ofZ (fit-entry c), toZ-ofZ (fit-value c)) (fit-term c)
+
+add-sum : tie.Need-add-sum Inv-loop μ-loop
+add-sum c =
+    simp (toZ-ofZ (fit-entry c), toZ-ofZ (fit-value c), toZ-ofZ (fit-term c), c .before .before .before .before .loop .inv .1)
+    (fit-sum c)
+
+add-j : tie.Need-add-j Inv-loop μ-loop
+add-j c = omega arith
+
+loop-less : tie.Need-loop-less Inv-loop μ-loop
+loop-less c = omega arith
+
+loop-again : tie.Need-loop-again Inv-loop μ-loop
+loop-again c = (
+  omega arith,
+  simp (toZ-ofZ (fit-entry c), toZ-ofZ (fit-value c), toZ-ofZ (fit-term c), c .before .before .before .before .loop .inv .1, toZ-ofZ (fit-sum c))
+      (more c),
+)
+
+all : (c : tie.After-loop Inv-loop μ-loop) → c .before .loop .j ≡ c .before .before .args .columns
+all c = omega arith
+
+returns : tie.Need-returns Inv-loop μ-loop
+returns c = let o = c .before .before .args in
+    c .before .loop .inv .1 ∙ ap (λ (k : ℕ). rowSumAt (o .entries .now) (o .answer .now) k (o .row .0)) (all c)
+
+pub row-sum-spec : {M : Type 1} → statement M
+row-sum-spec =
+    tie.close
+    (tie.spec
+    Inv-loop
+    μ-loop
+    loop-holds
+    place-requires
+    add-at
+    mul-e
+    element-copy-out-e
+    mul-x
+    shared-slice-copy-out-x
+    mul-sum
+    add-sum
+    add-j
+    loop-less
+    loop-again
+    returns)

@@ -1,0 +1,168 @@
+// Verdict 1: numerators over one denominator that meet every row and every limit.
+ghost use mathlib.Core.Path.{_≡_};
+ghost use mathlib.Core.Bool.{_&&_};
+ghost use Prim.Native.Nat.{ℕ, _+_, _*_, _≤_, _<_};
+ghost use lib.IntN.{ℤ, pos, _*ℤ_};
+ghost use lib.ListN.{length, getD};
+ghost use Rattle.whole.specs.Below.{allBelow};
+ghost use Rattle.whole.specs.Numbers.{Within, within, eqZ};
+ghost use Rattle.whole.specs.Sums.{sum};
+ghost use Rattle.rules.specs.Sizes.{mostRows, mostColumns, mostVariables, largestCoefficient, largestLimit, largestNumber, largestNumerator};
+ghost use Rattle.rules.specs.Limit.{present};
+ghost use Rattle.rules.specs.Evidence.{lowerPart, upperPart, atLeast, atMost, showsCan};
+ghost use Rattle.tableau.specs.Layout.{flat};
+ghost use Rattle.evidence.specs.Reads.{problemOf, Readable, rowSumAt, limitsHold, Limited};
+use crate::parts::is_outside;
+use tableau::Limits;
+use tableau::RowPlace;
+use tableau::Tableau;
+
+const LARGEST_NUMERATOR: i64 = 515396075280000;
+
+// Each numerator is within its range.
+fn numerators_fit(answer: &[i64], variables: usize) -> bool
+    requires { ⌜ (variables ≤ mostVariables) × (3 + variables ≤ length (now answer)) ⌝ }
+    ensures { λ r. ⌜ r ≡ allBelow variables (λ v. within largestNumerator (lowerPart (now (answer .entry)) v)) ⌝ }
+{
+    let mut v = 0;
+    while v < variables {
+        let at = 3 + v;
+        if is_outside(answer[at], -LARGEST_NUMERATOR, LARGEST_NUMERATOR) {
+            return false;
+        }
+        v += 1;
+    }
+    true
+}
+
+// The sum of a row over the numerators of the problem's variables.
+fn row_sum(entries: &[i64; 128], answer: &[i64], row: RowPlace, columns: usize) -> i64
+    requires { ⌜ (row .0 < mostRows) × (columns ≤ mostColumns) × (3 + columns ≤ length (now answer)) ⌝ }
+    requires { ⌜ ((k : ℕ) → Within (getD (now entries) k (pos 0)) largestCoefficient) ⌝ }
+    requires { ⌜ ((v : ℕ) → v < columns → Within (lowerPart (now answer) v) largestNumerator) ⌝ }
+    ensures { λ r. ⌜ r ≡ rowSumAt (now (entries .entry)) (now (answer .entry)) columns (row .0) ⌝ }
+{
+    let mut sum = 0i64;
+    for j in 0..columns {
+        let k = tableau::layout::place(row, tableau::ColumnPlace(j));
+        let at = 3 + j;
+        let e = entries[k];
+        let x = answer[at];
+        sum = sum + e * x;
+    }
+    sum
+}
+
+// The numerator of each row's variable equals its row's sum.
+fn rows_hold(entries: &[i64; 128], answer: &[i64], rows: usize, columns: usize) -> bool
+    requires { ⌜ (rows ≤ mostRows) × (columns ≤ mostColumns) × (3 + (columns + rows) ≤ length (now answer)) ⌝ }
+    requires { ⌜ ((k : ℕ) → Within (getD (now entries) k (pos 0)) largestCoefficient) ⌝ }
+    requires { ⌜ ((v : ℕ) → v < columns → Within (lowerPart (now answer) v) largestNumerator) ⌝ }
+    ensures { λ r. ⌜ r ≡ allBelow rows (λ i. eqZ (lowerPart (now (answer .entry)) (columns + i)) (rowSumAt (now (entries .entry)) (now (answer .entry)) columns i)) ⌝ }
+{
+    let mut i = 0;
+    while i < rows {
+        let at = 3 + (columns + i);
+        let x = answer[at];
+        if x != row_sum(entries, answer, RowPlace(i), columns) {
+            return false;
+        }
+        i += 1;
+    }
+    true
+}
+
+// A numerator over a denominator against a limit that may be missing.
+fn at_least(denominator: i64, x: i64, lowers: bool, lower: i64) -> bool
+    requires { ⌜ (Within denominator largestNumber) × (Within lower largestLimit) ⌝ }
+    ensures { λ r. ⌜ r ≡ atLeast (present lowers lower) denominator x ⌝ }
+{
+    if lowers {
+        return denominator * lower <= x;
+    }
+    true
+}
+
+fn at_most(denominator: i64, x: i64, uppers: bool, upper: i64) -> bool
+    requires { ⌜ (Within denominator largestNumber) × (Within upper largestLimit) ⌝ }
+    ensures { λ r. ⌜ r ≡ atMost (present uppers upper) denominator x ⌝ }
+{
+    if uppers {
+        return x <= denominator * upper;
+    }
+    true
+}
+
+fn between(denominator: i64, x: i64, lowers: bool, lower: i64, uppers: bool, upper: i64) -> bool
+    requires { ⌜ (Within denominator largestNumber) × (Within lower largestLimit) × (Within upper largestLimit) ⌝ }
+    ensures { λ r. ⌜ r ≡ (atLeast (present lowers lower) denominator x && atMost (present uppers upper) denominator x) ⌝ }
+{
+    if !at_least(denominator, x, lowers, lower) {
+        return false;
+    }
+    at_most(denominator, x, uppers, upper)
+}
+
+// Every present limit holds.
+fn limits_hold(limits: Limits, answer: &[i64], variables: usize, denominator: i64) -> bool
+    requires { ⌜ (variables ≤ mostVariables) × (3 + variables ≤ length (now answer)) × (Within denominator largestNumber) ⌝ }
+    requires { ⌜ Limited limits ⌝ }
+    ensures { λ r. ⌜ r ≡ limitsHold limits (now (answer .entry)) variables denominator ⌝ }
+{
+    let mut v = 0;
+    while v < variables {
+        let at = 3 + v;
+        let x = answer[at];
+        if !between(
+            denominator,
+            x,
+            limits.lowers[v],
+            limits.lower[v],
+            limits.uppers[v],
+            limits.upper[v],
+        ) {
+            return false;
+        }
+        v += 1;
+    }
+    true
+}
+
+// The second half of the answer is 0.
+fn rest_is_zero(answer: &[i64], variables: usize) -> bool
+    requires { ⌜ (variables ≤ mostVariables) × (3 + 2 * variables ≤ length (now answer)) ⌝ }
+    ensures { λ r. ⌜ r ≡ allBelow variables (λ v. eqZ (upperPart variables (now (answer .entry)) v) (pos 0)) ⌝ }
+{
+    let mut v = 0;
+    while v < variables {
+        let at = 3 + variables + v;
+        if answer[at] != 0 {
+            return false;
+        }
+        v += 1;
+    }
+    true
+}
+
+// The words are right and within the ranges for verdict 1.
+pub fn shows_can(t: Tableau, answer: &[i64]) -> bool
+    requires { ⌜ Readable t (now answer) ⌝ }
+    ensures { λ r. ⌜ r ≡ showsCan (problemOf t) (now (answer .entry)) ⌝ }
+{
+    let variables = t.columns + t.rows;
+    let denominator = answer[2];
+    if is_outside(denominator, 1, Tableau::LARGEST_NUMBER) {
+        return false;
+    }
+    if !numerators_fit(answer, variables) {
+        return false;
+    }
+    if !rows_hold(&t.entries, answer, t.rows, t.columns) {
+        return false;
+    }
+    let limits = t.limits;
+    if !limits_hold(limits, answer, variables, denominator) {
+        return false;
+    }
+    rest_is_zero(answer, variables)
+}
