@@ -1,0 +1,5 @@
+pub mod Numbers
+pub mod Passing
+pub mod Tracing
+pub mod Words
+pub mod Answers

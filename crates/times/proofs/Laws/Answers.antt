@@ -1,0 +1,100 @@
+-- The two answers: what was written is what `times` promises for accepted words.
+--   timed-refused      a refusal
+--   timed-met          settled distances, and their times written
+--   closed-gathering   the rows of a cycle are small numbers
+--   timed-unmet        a bad cycle, and its rows written
+use mathlib.Core.Path.{_≡_, refl, sym, _∙_, ap, ap₂}
+use mathlib.Core.Bool.{true, false}
+use mathlib.Core.List.{List, [], _∷_, _++_, map}
+use Prim.Native.Nat.{ℕ, zero, suc, _+_, _-_, _≤_, _<_}
+use native.Mathlib.Omega.{arith}
+use lib.IntN.{ℤ, pos}
+use lib.ListN.{length, take, drop}
+use lib.Seq.{length-slice}
+use Rattle.whole.specs.Values.{whole}
+use Rattle.whole.proofs.Bools.{true-false}
+use Rattle.whole.proofs.Instances.{whole-laws}
+use Rattle.rules.specs.Sizes.{mostVertices}
+use Rattle.rules.specs.Problem.{nOf, mOf}
+use Rattle.rules.specs.Passes.{canMeet}
+use Rattle.rules.specs.TimeWords.{timesLength, timeRefusal, AcceptedTimes, timeEdges}
+use Rattle.rules.specs.Times.{cycleWords, timesWritten, Timed}
+use Rattle.rules.proofs.Times.Closed.{slice-at}
+use Rattle.rules.proofs.Times.Decide.{cycle-short, bad-cannot}
+use Rattle.rules.proofs.Times.Only.{answer-can, answer-cannot}
+use Rattle.rules.proofs.Times.Refused.{n-few, m-few, accepted-ends, times-accepted-exactly}
+use Rattle.times.specs.declared.length.Length.{Length}
+use Rattle.times.specs.declared.cycle.Way.{Way}
+use Rattle.times.specs.Lengths.{timeOf}
+use Rattle.times.specs.Steps.{Fine, Settled, Closed, Gathering, rowsOf}
+use Rattle.times.proofs.Laws.Words.{times-are, words-take}
+
+-- a refusal keeps the output
+pub timed-refused : (ws before : List ℤ) (r : ℕ) → r ≡ timeRefusal ws (length before) → (r ≡ 0 → ⊥) → Timed ws before r before
+unfolding timesWritten
+timed-refused ws before zero e n = absurd (n refl)
+timed-refused ws before (suc r) e n = record { refused = e; rows = []; written = refl; named = λ z. absurd (n z) }
+
+-- the steps ask for accepted words, whatever the room
+pub fine-of : {ws : List ℤ} {room : ℕ} → AcceptedTimes ws room → Fine ws
+fine-of A = record {
+  enough = A .enough;
+  n-least = A .n-least;
+  n-most = A .n-most;
+  m-least = A .m-least;
+  m-most = A .m-most;
+  exact = A .exact;
+  from-least = A .from-least;
+  from-most = A .from-most;
+  to-least = A .to-least;
+  to-most = A .to-most;
+  strict-least = A .strict-least;
+  strict-most = A .strict-most;
+  lengths = A .lengths;
+  roomy = omega arith;
+}
+
+module _ (ws before : List ℤ) (A : AcceptedTimes ws (length before)) where
+  unrefused : 0 ≡ timeRefusal ws (length before)
+  unrefused = sym (times-accepted-exactly ws (length before) .1 A)
+
+  pub timed-met : (best : List Length) (after : List ℤ) (n : ℕ) → n ≡ nOf ws → Settled ws best →
+      after ≡ pos 1 ∷ pos n ∷ take n (map timeOf best) ++ drop (2 + n) before → Timed ws before 0 after
+  unfolding timesWritten
+  timed-met best after n e s w = record {
+    refused = unrefused;
+    rows = [];
+    written = w ∙ ap (λ k. pos 1 ∷ pos k ∷ take k (map timeOf best) ++ drop (2 + k) before) e
+        ∙ ap (λ t. pos 1 ∷ pos (nOf ws) ∷ t ++ drop (timesLength ws) before) (times-are ws (fine-of A) best s)
+        ∙ ap (λ t. t ++ drop (timesLength ws) before) (sym (answer-can ws [] (s .can)));
+    named = λ z f. true-false (s .can) f;
+  }
+
+  module _ (w : Way) (long : length (w .path) ≡ mostVertices) (c : Closed ws w) where
+    rows-long : length (rowsOf w) ≡ w .to - w .from
+    rows-long = length-slice (w .from) (w .to) (w .path) (omega (arith, c .in-path))
+
+    pub closed-gathering : Gathering w
+    closed-gathering = record {
+      in-order = c .in-order;
+      in-path = c .in-path;
+      listed = λ k h. rw (sym (slice-at (w .from) (w .to) k (w .path) h)) (omega (arith, c .bad .cycle .listed k (omega (arith, rows-long)), m-few A));
+    }
+
+    pub timed-unmet : (after : List ℤ) (n : ℕ) → n ≡ nOf ws →
+        after ≡ pos 2 ∷ pos (w .to - w .from) ∷ take n (cycleWords mostVertices (rowsOf w)) ++ drop (2 + n) before → Timed ws before 0 after
+    unfolding timesWritten
+    timed-unmet after n e f = record {
+      refused = unrefused;
+      rows = rowsOf w;
+      written = f ∙ ap₂ (λ k q. pos 2 ∷ pos q ∷ take k (cycleWords mostVertices (rowsOf w)) ++ drop (2 + k) before) e (sym rows-long)
+          ∙ ap (λ t. pos 2 ∷ pos (length (rowsOf w)) ∷ t ++ drop (timesLength ws) before) (words-take (rowsOf w) (nOf ws) short (n-few A))
+          ∙ ap (λ t. t ++ drop (timesLength ws) before) (sym (answer-cannot ws (rowsOf w) cannot));
+      named = λ z g. c .bad;
+    }
+      where
+        short : length (rowsOf w) ≤ nOf ws
+        short = cycle-short (timeEdges ws) (rowsOf w) (accepted-ends A) (c .bad .cycle)
+
+        cannot : canMeet whole (timeEdges ws) ≡ false
+        cannot = bad-cannot whole-laws (timeEdges ws) (accepted-ends A) (rowsOf w) (c .bad)

@@ -1,0 +1,54 @@
+// Time rows x - y <= c: times that meet them all, or a cycle of rows that no times meet. docs/RULES.md, "Time rows".
+//   judge     refusals 11 to 17
+//   length    what is added and compared along walks
+//   rows      accepted words as edges
+//   passes    distances, pass by pass
+//   cycle     the way back to a cycle
+//   answer    the answer's words
+ghost use mathlib.Core.Path.{_≡_};
+ghost use Prim.Native.Nat.{ℕ};
+ghost use lib.IntN.{ℤ};
+ghost use lib.ListN as lists;
+ghost use Rattle.rules.specs.TimeWords.{AcceptedTimes};
+ghost use Rattle.rules.specs.Times.{Timed};
+
+mod answer;
+mod cycle;
+mod judge;
+mod length;
+mod passes;
+mod rows;
+
+// The times where the passes settle; else the cycle that the way back closes.
+fn solve(rows: &[i32], out: &mut [i64])
+    requires { ⌜ AcceptedTimes (now rows) (lists.length (now out)) ⌝ }
+    ensures { λ r. ⌜ Timed (now (rows .entry)) (now (out .entry)) 0 (now (out .exit)) ⌝ }
+{
+    let n = rows::count_at(rows, 0);
+    let m = rows::count_at(rows, 1);
+    let p = passes::settle(rows, n, m);
+    let found = p.found;
+    match found {
+        passes::Found::Nothing => {
+            let best = p.best;
+            answer::write(1, n, answer::times_of(best), n, out);
+        }
+        passes::Found::At(v) => {
+            let last = p.last;
+            let way = cycle::way_back(rows, n, last, v);
+            answer::write(2, way.to - way.from, answer::gathered(way), n, out);
+        }
+    }
+}
+
+// Times that meet all rows, or a cycle that cannot be met. Returns 0, or the number of the refusal that applies.
+pub fn times(rows: &[i32], out: &mut [i64]) -> u32
+    ensures { λ r. ⌜ Timed (now (rows .entry)) (now (out .entry)) r (now (out .exit)) ⌝ }
+{
+    let refusal = judge::judge(rows, out.len());
+    if refusal != 0 {
+        return refusal;
+    }
+    solve(rows, out);
+    0
+}
