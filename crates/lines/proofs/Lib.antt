@@ -1,0 +1,3 @@
+-- Laws of texts in a lent slice. Nothing is assumed.
+pub mod Texts
+pub mod Replies

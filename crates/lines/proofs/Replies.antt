@@ -1,0 +1,101 @@
+-- What the program prints for words, from what the solver answers with room for 51 words: no problem wants more.
+--   room-enough, fine-words             an accepted problem has room; the solver's 0 is the problem's 0
+--   reply-refused, reply-answered       the text by the solver's number
+--   written-long                        the output holds all of the answer
+--   program-refused, program-replied    the same for bytes
+--   words-few, words-front              how many words there are, and where they stand
+--   printed-same                        a text that is another is printed as it
+--   vars-few                            as many variables as the writer takes
+use mathlib.Core.List.{List, [], _∷_, _++_}
+use mathlib.Core.Logic.{_≢_}
+use mathlib.Core.Path.{_≡_, ap, refl, sym, _∙_}
+use Prim.Native.Nat.{ℕ, zero, suc, _*_, _+_, _/_, _<_, _≤_}
+use native.Mathlib.Omega.{arith}
+use lib.IntN.{ℤ, pos}
+use lib.ListN.{drop, length, take, length-append, List·getD-append}
+use Rattle.rules.specs.Answer.{answer, written}
+use Rattle.rules.specs.Problem.{answerLength, varsOf, word}
+use Rattle.rules.specs.Bytes.{countRefusal, wordsFrom}
+use Rattle.rules.specs.Program.{programText, replyAfter, replyTo}
+use Rattle.rules.specs.Refusal.{Accepted, problemRefusal, refusal}
+use Rattle.rules.specs.Sizes.{mostRows, mostVariables}
+use Rattle.rules.specs.Text.{answerText, refusalText}
+use Rattle.rules.proofs.Ranges.{m-few, n-few}
+use Rattle.rules.proofs.Shape.{answer-shaped}
+use Rattle.rules.proofs.Text.Counts.{count-fine}
+use Rattle.rules.proofs.Text.Words.{words-length}
+use Rattle.rules.proofs.Text.Same.{answer-text-same}
+use Rattle.lines.specs.Printed.{Printed}
+use Rattle.lines.specs.declared.Written.{Written}
+use Rattle.solver.proofs.Laws.Refusals.{accepted-of, refusal-none, refusal-problem}
+
+pub printed-same : {text other before after : List ℕ} {r : Written} → text ≡ other → Printed text before after r →
+    Printed other before after r
+printed-same e p = record { short = rw (← e) (p .short); answer = rw (← e) (p .answer); bytes = rw (← e) (p .bytes) }
+
+module _ (ws : List ℤ) where
+  pub vars-few : problemRefusal ws ≡ 0 → varsOf ws ≤ mostVariables
+  vars-few e = let n = n-few (accepted-of ws e) in let m = m-few (accepted-of ws e) in omega arith
+
+  pub room-enough : problemRefusal ws ≡ 0 → answerLength ws ≤ 51
+  room-enough e = let h = vars-few e in omega arith
+
+  pub fine-words : (r : ℕ) → r ≡ refusal ws 51 → r ≡ 0 → problemRefusal ws ≡ 0
+  fine-words r e z = go (problemRefusal ws) refl
+    where
+      go : (k : ℕ) → problemRefusal ws ≡ k → problemRefusal ws ≡ 0
+      go zero q = q
+      go (suc k) q = let n : problemRefusal ws ≢ 0 = λ f. let y : suc k ≡ 0 = sym q ∙ f in omega arith in
+          refusal-problem ws 51 n ∙ sym e ∙ z
+
+  pub reply-refused : (r : ℕ) → r ≡ refusal ws 51 → r ≢ 0 → refusalText r ≡ replyTo (problemRefusal ws) ws
+  unfolding replyTo
+  reply-refused r e n = go (problemRefusal ws) refl
+    where
+      go : (k : ℕ) → problemRefusal ws ≡ k → refusalText r ≡ replyTo (problemRefusal ws) ws
+      go zero q = absurd (n (e ∙ sym (refusal-none ws 51 q (room-enough q))))
+      go (suc k) q =
+          let f : problemRefusal ws ≢ 0 = λ f. let y : suc k ≡ 0 = sym q ∙ f in omega arith in
+          ap refusalText (e ∙ sym (refusal-problem ws 51 f) ∙ q) ∙ sym (ap (λ j. replyTo j ws) q)
+
+  -- ---- the answer
+
+  pub written-long : (before : List ℤ) → answerLength ws ≤ length (written 0 ws before)
+  unfolding written
+  written-long before = simp length-append (let h = answer-shaped ws .many in omega arith)
+
+  pub reply-answered : (before : List ℤ) → problemRefusal ws ≡ 0 →
+      answerText (written 0 ws before) (varsOf ws) ≡ replyTo (problemRefusal ws) ws
+  unfolding written replyTo
+  reply-answered before e =
+      answer-text-same (answer ws ++ drop (answerLength ws) before) (answer ws) (varsOf ws)
+      (λ i h. List·getD-append (answer ws) (drop (answerLength ws) before) (pos 0) i (rw (answer-shaped ws .many) h))
+      ∙ sym (ap (λ k. replyTo k ws) e)
+
+-- ---- the program: bytes first
+
+module _ (bs : List ℕ) where
+  pub program-refused : (r : ℕ) → r ≡ countRefusal (length bs) → r ≢ 0 → refusalText r ≡ programText bs
+  unfolding programText replyAfter
+  program-refused r e n = go (countRefusal (length bs)) refl
+    where
+      go : (k : ℕ) → countRefusal (length bs) ≡ k → refusalText r ≡ replyAfter (countRefusal (length bs)) (wordsFrom bs)
+      go zero q = absurd (n (e ∙ q))
+      go (suc k) q = ap refusalText (e ∙ q) ∙ sym (ap (λ j. replyAfter j (wordsFrom bs)) q)
+
+  pub words-few : countRefusal (length bs) ≡ 0 → length bs / 4 ≤ 202
+  words-few e = let h = count-fine (length bs) .0 e in omega arith
+
+  pub program-replied : countRefusal (length bs) ≡ 0 → replyTo (problemRefusal (wordsFrom bs)) (wordsFrom bs) ≡ programText bs
+  unfolding programText replyAfter
+  program-replied e = sym (ap (λ j. replyAfter j (wordsFrom bs)) e)
+
+  -- the words at the front of an array that they were put into
+  pub words-front : (rest : List ℤ) (k : ℕ) → k ≡ length bs / 4 → take k (wordsFrom bs ++ rest) ≡ wordsFrom bs
+  words-front rest k e = take-append-all (wordsFrom bs) rest k (e ∙ sym (words-length bs))
+    where
+      take-append-all : (s t : List ℤ) (i : ℕ) → i ≡ length s → take i (s ++ t) ≡ s
+      take-append-all [] t zero q = refl
+      take-append-all [] t (suc i) q = let z : ⊥ = omega arith in absurd z
+      take-append-all (a ∷ s) t zero q = let z : ⊥ = omega arith in absurd z
+      take-append-all (a ∷ s) t (suc i) q = ap (λ l. a ∷ l) (take-append-all s t i (omega arith))

@@ -1,0 +1,106 @@
+-- Texts put one behind the other.
+--   put-none, put-then       no text; two texts are one
+--   put-length               the slice is as long as before
+--   room-left, room-right    where there is room for both, there is room for each
+--   lines-start, -more          the same for the lines of the variables below a number
+--   printed-none, -all, -only   a whole text in a slice, or none of it; bytes-fit, that it is there
+use mathlib.Core.Path.{_≡_, refl, sym, _∙_, ap, ap₂}
+use mathlib.Core.Bool.{Bool, true, false, cond}
+use mathlib.Core.List.{List, [], _++_}
+use Prim.Native.Nat.{ℕ, _+_, _*_, _≤_, _<_}
+use native.Mathlib.Nat.{mul-suc}
+use native.Mathlib.Numerals.{add-one}
+use native.Mathlib.Omega.{arith}
+use borrow.Author.Tests.{le-leb, lt-leb}
+use lib.Dec.{leb}
+use lib.ListN.{length, drop, length-append}
+use lib.Seq.{sets, length-sets}
+use Rattle.whole.proofs.Stores.{sets-then, sets-front}
+use Rattle.rules.specs.Sizes.{mostText}
+use Rattle.rules.specs.Text.{linesBelow, printed}
+use Rattle.rules.proofs.Text.Lengths.{lines-longer}
+use Rattle.lines.specs.Put.{Put, PutShort, Room}
+use Rattle.lines.specs.Printed.{Printed, answered}
+use Rattle.lines.specs.declared.Written.{Written}
+use Rattle.lines.specs.declared.Written.the-variants.{Bytes, TooShort}
+
+pub put-none : (before : List ℕ) (at : ℕ) → Put before at [] before at
+put-none before at = record { bytes = refl; place = omega arith }
+
+module _ {l m n s t : List ℕ} {i j k : ℕ} where
+  pub put-then : Put l i s m j → Put m j t n k → Put l i (s ++ t) n k
+  put-then p q = record {
+    bytes = q .bytes ∙ ap₂ (λ a b. sets a b t) (p .bytes) (p .place) ∙ sym (sets-then s t l i);
+    place = omega (arith, length-append s t, p .place, q .place);
+  }
+
+pub put-length : {l m s : List ℕ} {i j : ℕ} → Put l i s m j → length m ≡ length l
+put-length {l} {m} {s} {i} p = ap length (p .bytes) ∙ length-sets l i s
+
+module _ (s t : List ℕ) {i : ℕ} (r : Room i (s ++ t)) where
+  pub room-left : Room i s
+  room-left = record { room = omega (arith, length-append s t) }
+
+  pub room-right : {l m : List ℕ} {j : ℕ} → Put l i s m j → Room j t
+  room-right p = record { room = omega (arith, length-append s t, p .place) }
+
+-- ---- the lines of the variables, one after the other, of at most b bytes each
+
+module _ (f : ℕ → List ℕ) (b : ℕ) where
+  pub lines-start : (l : List ℕ) (i : ℕ) → PutShort (b * 0) l i (linesBelow 0 f) l i
+  unfolding linesBelow
+  lines-start l i = record { put = put-none l i; short = omega arith }
+
+  pub lines-more :
+      {l m n : List ℕ} {i j k : ℕ} (v : ℕ) → PutShort (b * v) l i (linesBelow v f) m j → PutShort b m j (f v) n k
+      → PutShort (b * (v + 1)) l i (linesBelow (v + 1) f) n k
+  unfolding linesBelow
+  lines-more v p q = record {
+    put = rw add-one (put-then (p .put) (q .put));
+    short = omega (arith, lines-longer v f, add-one v, mul-suc b v, p .short, q .short);
+  }
+
+-- ---- a whole text, once it is measured by putting it into another slice
+
+module _ {text before l m : List ℕ} {n : ℕ} (measured : PutShort mostText l 0 text m n) where
+  pub printed-none : length before < n → Printed text before before TooShort
+  unfolding printed answered
+  printed-none h =
+      let e : leb (length text) (length before) ≡ false =
+      lt-leb (length text) (length before) (omega (arith, measured .put .place)) in
+      record { short = measured .short; answer = rw e refl; bytes = rw e refl }
+
+  pub printed-all :
+      {after : List ℕ} {k : ℕ} → n ≤ length before → Put before 0 text after k → Printed text before after (Bytes n)
+  unfolding printed answered
+  printed-all h p =
+      let fits : length text ≤ length before = omega (arith, measured .put .place) in
+      let size : n ≡ length text = omega (arith, measured .put .place) in
+      record {
+        short = measured .short;
+        answer = rw (le-leb (length text) (length before) fits) (ap Bytes size);
+        bytes = rw (le-leb (length text) (length before) fits) (p .bytes ∙ sets-front text before fits);
+      }
+
+-- the text and the slice leave nothing open
+pub printed-only :
+    {text before a b : List ℕ} {r s : Written} → Printed text before a r → Printed text before b s → (a ≡ b) × (r ≡ s)
+printed-only p q = (p .bytes ∙ sym (q .bytes), p .answer ∙ sym (q .answer))
+
+-- the bytes that are said to be there are there
+pub bytes-fit : {text before after : List ℕ} {r : Written} {n : ℕ} → Printed text before after r → r ≡ Bytes n → n ≤ length after
+unfolding answered printed
+bytes-fit {text} {before} {after} {r} {n} p e = go (leb (length text) (length before)) refl
+  where
+    zero-one : _≡_ {A = ℕ} 0 1 → n ≤ length after
+    zero-one z = let y : ⊥ = omega arith in absurd y
+
+    go : (b : Bool) → leb (length text) (length before) ≡ b → n ≤ length after
+    go true q =
+        let told : Bytes (length text) ≡ Bytes n = sym (ap (λ c. cond c (Bytes (length text)) TooShort) q) ∙ sym (p .answer) ∙ e in
+        let same : length text ≡ n = cc in
+        let kept : after ≡ text ++ drop (length text) before = p .bytes ∙ ap (λ c. cond c (text ++ drop (length text) before) before) q in
+        rw kept (simp length-append (omega arith))
+    go false q =
+        let told : TooShort ≡ Bytes n = sym (ap (λ c. cond c (Bytes (length text)) TooShort) q) ∙ sym (p .answer) ∙ e in
+        let z : _≡_ {A = ℕ} 0 1 = cc in zero-one z

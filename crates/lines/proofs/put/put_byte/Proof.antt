@@ -1,0 +1,26 @@
+-- `lines::put::put_byte` meets its contract: a byte past the end is dropped. Assumes nothing.
+use borrow.Author.Needs.{needs}
+use mathlib.Core.Path.{refl, sym}
+use lib.Seq.{set-out}
+use Rattle.lines.proofs.put.put_byte.Statement.{statement}
+use Rattle.lines.proofs.put.put_byte.Tie as tie
+
+add-next : tie.Need-add-next
+add-next c = search needs
+
+returns : tie.Need-returns
+returns c =
+    let args = c .before .args in
+    record { bytes = sym (set-out (args .out .now) (args .at) (args .byte) (c .if1 .taken)); place = refl }
+
+slice-write-out : tie.Need-slice-write-out
+slice-write-out c = search needs
+
+same-length : tie.Need-same-length
+same-length c = search needs
+
+returns-2 : tie.Need-returns-2
+returns-2 c = search needs
+
+pub put-byte-spec : {M : Type 1} → statement M
+put-byte-spec = tie.close (tie.spec add-next returns slice-write-out same-length returns-2)

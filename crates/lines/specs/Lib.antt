@@ -1,0 +1,3 @@
+-- What the contracts of `lines` say of a lent slice of bytes.
+pub mod Put
+pub mod Printed

@@ -1,0 +1,96 @@
+// The whole text of an answer or of a refusal, put at the front of a lent slice.
+use crate::line::put_line;
+use crate::line::put_multipliers;
+use crate::line::put_value;
+use crate::put::put_text;
+ghost use Prim.Native.Nat.{_+_, _*_, _≤_};
+ghost use lib.ListN.{length};
+ghost use Rattle.rules.specs.Sizes.{mostVariables, mostPivotsLine, mostValueLine, mostMultiplierLines, mostText};
+ghost use Rattle.rules.specs.Text.{linesBelow, headLines, valueLine, multiplierLines};
+ghost use Rattle.rules.specs.Text.{canText, cannotText, answerText, refusalText};
+ghost use Rattle.lines.specs.Put.{PutShort};
+
+// The numerators, by variable.
+fn put_values(out: &mut [u8], at: usize, answer: &[i64], variables: usize) -> usize
+    requires { ⌜ (variables ≤ mostVariables) × (3 + variables ≤ length (now answer)) × (at ≤ mostText) ⌝ }
+    ensures { λ r.
+        ⌜ PutShort (mostValueLine * variables) (now (out .entry)) at
+        (linesBelow variables (valueLine (now (answer .entry)))) (now (out .exit)) r ⌝ }
+{
+    let mut next = at;
+    for v in 0..variables {
+        next = put_value(out, next, answer, v);
+    }
+    next
+}
+
+// The multipliers, by variable.
+fn put_evidence(out: &mut [u8], at: usize, answer: &[i64], variables: usize) -> usize
+    requires { ⌜ (variables ≤ mostVariables) × (3 + 2 * variables ≤ length (now answer)) × (at ≤ mostText) ⌝ }
+    ensures { λ r.
+        ⌜ PutShort (mostMultiplierLines * variables) (now (out .entry)) at
+        (linesBelow variables (multiplierLines (now (answer .entry)) variables)) (now (out .exit)) r ⌝ }
+{
+    let mut next = at;
+    for v in 0..variables {
+        next = put_multipliers(out, next, answer, variables, v);
+    }
+    next
+}
+
+// The verdict's line and the pivots, at the front.
+fn put_head(out: &mut [u8], verdict: &[u8], answer: &[i64]) -> usize
+    requires { ⌜ (3 ≤ length (now answer)) × (length (now verdict) ≤ mostText) ⌝ }
+    ensures { λ r.
+        ⌜ PutShort (length (now (verdict .entry)) + mostPivotsLine) (now (out .entry)) 0
+        (headLines (now (verdict .entry)) (now (answer .entry))) (now (out .exit)) r ⌝ }
+{
+    let pivots = answer[1];
+    let next = put_text(out, 0, verdict);
+    put_line(out, next, b"pivots ", pivots)
+}
+
+// Verdict 1.
+fn put_can(out: &mut [u8], answer: &[i64], variables: usize) -> usize
+    requires { ⌜ (variables ≤ mostVariables) × (3 + 2 * variables ≤ length (now answer)) ⌝ }
+    ensures { λ r.
+        ⌜ PutShort mostText (now (out .entry)) 0 (canText (now (answer .entry)) variables) (now (out .exit)) r ⌝ }
+{
+    let common = answer[2];
+    let next = put_head(out, b"can\n", answer);
+    let last = put_line(out, next, b"over ", common);
+    put_values(out, last, answer, variables)
+}
+
+// Verdict 2.
+fn put_cannot(out: &mut [u8], answer: &[i64], variables: usize) -> usize
+    requires { ⌜ (variables ≤ mostVariables) × (3 + 2 * variables ≤ length (now answer)) ⌝ }
+    ensures { λ r.
+        ⌜ PutShort mostText (now (out .entry)) 0 (cannotText (now (answer .entry)) variables) (now (out .exit)) r ⌝ }
+{
+    let next = put_head(out, b"cannot\n", answer);
+    put_evidence(out, next, answer, variables)
+}
+
+// The text that the verdict asks for.
+pub fn put_answer(out: &mut [u8], answer: &[i64], variables: usize) -> usize
+    requires { ⌜ (variables ≤ mostVariables) × (3 + 2 * variables ≤ length (now answer)) ⌝ }
+    ensures { λ r.
+        ⌜ PutShort mostText (now (out .entry)) 0 (answerText (now (answer .entry)) variables) (now (out .exit)) r ⌝ }
+{
+    let verdict = answer[0];
+    if verdict == 1 {
+        return put_can(out, answer, variables);
+    }
+    if verdict == 2 {
+        return put_cannot(out, answer, variables);
+    }
+    put_head(out, b"range\n", answer)
+}
+
+// The line of a refusal.
+pub fn put_refusal(out: &mut [u8], number: u32) -> usize
+    ensures { λ r. ⌜ PutShort mostText (now (out .entry)) 0 (refusalText number) (now (out .exit)) r ⌝ }
+{
+    put_line(out, 0, b"refused ", number as i64)
+}

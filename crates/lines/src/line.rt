@@ -1,0 +1,72 @@
+// One line, put at a place of a lent slice.
+use crate::put::put_byte;
+use crate::put::put_digits;
+use crate::put::put_number;
+use crate::put::put_text;
+ghost use Prim.Native.Nat.{_+_, _^_, _<_};
+ghost use lib.ListN.{length};
+ghost use Rattle.rules.specs.Sizes.{mostVariables, mostValueLine, mostMultiplierLines};
+ghost use Rattle.rules.specs.Text.{line, variableLine, multiplierLine, valueLine, multiplierLines};
+ghost use Rattle.lines.specs.Put.{Put, PutShort, Room};
+
+// A name and a number.
+pub fn put_line(out: &mut [u8], at: usize, name: &[u8], n: i64) -> usize
+    requires { ⌜ Room at (line (now name) n) ⌝ }
+    ensures { λ r. ⌜ Put (now (out .entry)) at (line (now (name .entry)) n) (now (out .exit)) r ⌝ }
+{
+    let named = put_text(out, at, name);
+    let told = put_number(out, named, n);
+    put_byte(out, told, b'\n')
+}
+
+// A variable, what stands between, and a number.
+fn put_variable(out: &mut [u8], at: usize, variable: usize, between: &[u8], n: i64) -> usize
+    requires { ⌜ Room at (variableLine variable (now between) n) ⌝ }
+    ensures { λ r. ⌜ Put (now (out .entry)) at (variableLine variable (now (between .entry)) n) (now (out .exit)) r ⌝ }
+{
+    let next = put_digits(out, at, variable as u64);
+    put_line(out, next, between, n)
+}
+
+// A multiplier of 0 has no line.
+fn put_multiplier(out: &mut [u8], at: usize, variable: usize, between: &[u8], n: i64) -> usize
+    requires { ⌜ Room at (multiplierLine variable (now between) n) ⌝ }
+    ensures { λ r.
+        ⌜ Put (now (out .entry)) at (multiplierLine variable (now (between .entry)) n) (now (out .exit)) r ⌝ }
+{
+    if n == 0 {
+        return at;
+    }
+    put_variable(out, at, variable, between, n)
+}
+
+// The numerator of a variable.
+pub fn put_value(out: &mut [u8], at: usize, answer: &[i64], variable: usize) -> usize
+    requires { ⌜ (3 + variable < length (now answer)) × (variable < mostVariables) × (at + mostValueLine < 2 ^ 64) ⌝ }
+    ensures { λ r.
+        ⌜ PutShort mostValueLine (now (out .entry)) at
+        (valueLine (now (answer .entry)) variable) (now (out .exit)) r ⌝ }
+{
+    let n = answer[3 + variable];
+    put_variable(out, at, variable, b" ", n)
+}
+
+// The two multipliers of a variable, the lower limit's first.
+pub fn put_multipliers(
+    out: &mut [u8],
+    at: usize,
+    answer: &[i64],
+    variables: usize,
+    variable: usize,
+) -> usize
+    requires { ⌜ (3 + variables + variable < length (now answer)) × (variable < mostVariables)
+        × (at + mostMultiplierLines < 2 ^ 64) ⌝ }
+    ensures { λ r.
+        ⌜ PutShort mostMultiplierLines (now (out .entry)) at
+        (multiplierLines (now (answer .entry)) variables variable) (now (out .exit)) r ⌝ }
+{
+    let lower = answer[3 + variable];
+    let upper = answer[3 + variables + variable];
+    let next = put_multiplier(out, at, variable, b" lower ", lower);
+    put_multiplier(out, next, variable, b" upper ", upper)
+}
