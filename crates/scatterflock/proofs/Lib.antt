@@ -1,0 +1,2 @@
+-- Laws over the promises of the C face. Nothing is assumed.
+pub mod Accepted

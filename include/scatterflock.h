@@ -1,0 +1,90 @@
+/*
+ * Scatterflock: exact answers about limits and times, from proved code.
+ *
+ * libscatterflock.a (x86-64) has the three functions below. docs/RULES.md
+ * says what the words mean; docs/formats has whole examples.
+ *
+ * What the caller owes, of every call:
+ *
+ *   - each pointer is aligned for its type and valid for its count: that many
+ *     words can be read through it and, where it is not const, written;
+ *   - no pointer is null, not even where its count is 0 (any aligned address
+ *     will do there: nothing is read or written through it);
+ *   - the words that may be written do not overlap the words that are read,
+ *     and nobody else writes any of them, or reads what may be written, until
+ *     the call returns;
+ *   - there is room on the stack: 64 KiB is more than any of the three uses.
+ *
+ * Nothing else is owed. Any words at all may be handed in, of any count: words
+ * that are no problem are refused with a number. The functions use no heap,
+ * keep nothing between calls, call nothing but memcpy and memset, may run at
+ * once in any number of threads, and always return.
+ */
+#ifndef SCATTERFLOCK_H
+#define SCATTERFLOCK_H
+
+#include <stddef.h>
+#include <stdint.h>
+
+#ifdef __cplusplus
+extern "C" {
+#endif
+
+/*
+ * Answers a limit problem of n variables and m rows.
+ *
+ * Returns 0 when it is answered. Then out[0] is 1 (can), 2 (cannot) or 3 (out
+ * of range), out[1] the number of pivots, and the first 3 + 2 (n + m) words
+ * are the answer of the rules: for "can" a denominator and numerators that
+ * meet every row and limit, for "cannot" multipliers that show that no
+ * fractions do. Words past those keep what they had.
+ *
+ * Returns 1 to 7 when the words or the room for the answer are refused: 1
+ * fewer than two words, 2 n or m out of range, 3 another count of words, 4 a
+ * coefficient out of range, 5 a kind that is none, 6 a limit out of range or a
+ * number where a limit is missing, 7 out_count below 3 + 2 (n + m). It is the
+ * first that applies, and every word of out keeps what it had.
+ *
+ * The result and every word of out follow from the words alone: there is no
+ * other that the promise allows.
+ */
+uint32_t scatterflock_solve(const int32_t *words, size_t word_count,
+                            int64_t *out, size_t out_count);
+
+/*
+ * Judges an answer to a limit problem, whoever gave it.
+ *
+ * Returns 8 exactly if the answer is right: with answer[0] = 1 the values meet
+ * every row and limit, with answer[0] = 2 the multipliers show that no
+ * fractions can. Returns 9 if it is not, 1 to 6 if the problem is refused as
+ * in scatterflock_solve, 7 if answer_count is below 3 + 2 (n + m). answer[1]
+ * and words past 3 + 2 (n + m) never matter. Nothing is written. What
+ * scatterflock_solve answers with 1 or 2 gets 8.
+ */
+uint32_t scatterflock_check(const int32_t *words, size_t word_count,
+                            const int64_t *answer, size_t answer_count);
+
+/*
+ * Answers time rows over n vertices.
+ *
+ * Returns 0 when they are answered. Then either out[0] is 1, out[1] is n and
+ * the next n words are times that meet every row; or out[0] is 2, out[1] is k,
+ * the next k words are the numbers of rows that lead round and sum below 0, so
+ * that no whole times meet all rows, and zeros follow up to word 2 + n. Words
+ * past 2 + n keep what they had. Which such rows are named is the one thing
+ * that the promise leaves open.
+ *
+ * Returns 11 to 17 when the words or the room are refused: 11 fewer than two
+ * words, 12 n or m out of range, 13 another count of words, 14 a vertex that
+ * is none, 15 a strict word that is not 0 or 1, 16 a length out of range, 17
+ * out_count below 2 + n. It is the first that applies, and every word of out
+ * keeps what it had.
+ */
+uint32_t scatterflock_times(const int32_t *words, size_t word_count,
+                            int64_t *out, size_t out_count);
+
+#ifdef __cplusplus
+}
+#endif
+
+#endif
