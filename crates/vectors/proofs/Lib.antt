@@ -1,0 +1,2 @@
+-- A law of signed numbers that the proofs share. Nothing is assumed.
+pub mod Mirror

@@ -1,0 +1,27 @@
+-- Minus one less a number: it turns what is below 0 into what is not, and back, within the same bits.
+--   mirror-below   of a number below 0 it is one less than the size
+--   mirror-fits    it fits where the number does
+use borrow.Author.Tests.{le-ltb}
+use mathlib.Core.Path.{_≡_, refl, sym, subst, ap}
+use Prim.Native.Nat.{ℕ, zero, suc, _+_, _-_, _^_, _<_}
+use native.Mathlib.Omega.{arith}
+use lib.Dec.{ltb→lt}
+use lib.IntN.{ℤ, pos, negsuc, _-ℤ_}
+use lib.Signed.{mag, _<ℤ_}
+use mir.Syntax.{Width}
+use mir.Val.{SFits, hbits}
+
+mirror-negsuc : (k : ℕ) → negsuc 0 -ℤ negsuc k ≡ pos k
+mirror-negsuc k = rw (le-ltb (suc k) 1 (omega arith)) (ap pos (let z : suc k - 1 ≡ k = omega arith in z))
+
+pub mirror-below : (z : ℤ) → z <ℤ pos 0 → negsuc 0 -ℤ z ≡ pos (mag z)
+mirror-below (pos n) h = absurd (omega (arith, ltb→lt n 0 (h .lt)))
+mirror-below (negsuc k) h = mirror-negsuc k
+
+mirror-size : (z : ℤ) → mag (negsuc 0 -ℤ z) ≡ mag z
+mirror-size (pos zero) = refl
+mirror-size (pos (suc k)) = let z : suc (0 + k) ≡ suc k = omega arith in z
+mirror-size (negsuc k) = ap mag (mirror-negsuc k)
+
+pub mirror-fits : {w : Width} (z : ℤ) → SFits w z → SFits w (negsuc 0 -ℤ z)
+mirror-fits {w} z f = record { sfits = subst (λ n. n < 2 ^ hbits w) (sym (mirror-size z)) (f .sfits) }

@@ -1,0 +1,63 @@
+// The test program. It reads calls of the entry points from standard input, makes each, and prints a line for it: the
+// number that was returned, a colon, and the words of the output after the call.
+mod cycle;
+mod input;
+mod print;
+
+const MOST_CALLS: usize = 100000;
+
+const MOST_WORDS: usize = 1040;
+
+const MOST_OUT: usize = 72;
+
+fn line(number: u32, out: &[i64]) {
+    io::print_decimal(1, number as u64);
+    io::write_all(1, b":");
+    print::words(out, 0);
+    io::write_all(1, b"\n");
+}
+
+fn line_of_times(number: u32, out: &[i64]) {
+    if cycle::is_told(number, out) {
+        io::write_all(1, b"0:");
+        cycle::words(out);
+        io::write_all(1, b"\n");
+        return;
+    }
+    line(number, out);
+}
+
+// Makes the call and prints its line.
+fn call(entry: usize, words: &[i32], out: &mut [i64]) {
+    if entry == 0 {
+        let number = solver::solve(words, out);
+        line(number, out);
+        return;
+    }
+    if entry == 1 {
+        let number = evidence::check(words, out);
+        line(number, out);
+        return;
+    }
+    let number = times::times(words, out);
+    line_of_times(number, out);
+}
+
+// Reads one call.
+fn next() {
+    let entry = input::count(2);
+    let mut words = [0i32; MOST_WORDS];
+    let word_count = input::count(MOST_WORDS);
+    input::words(&mut words, word_count);
+    let mut out = [0i64; MOST_OUT];
+    let out_count = input::count(MOST_OUT);
+    input::wide_words(&mut out, out_count);
+    call(entry, &words[..word_count], &mut out[..out_count]);
+}
+
+fn main() {
+    let calls = input::count(MOST_CALLS);
+    for i in 0..calls {
+        next();
+    }
+}

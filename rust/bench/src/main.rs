@@ -1,0 +1,40 @@
+//! How long each implementation takes, in one process and interleaved.
+//!
+//! Every contender goes over the same few problems, one after another, then
+//! over the next few, many rounds long; the least times are added up and
+//! divided by the number of problems. A problem is lent as words and answered
+//! into an output that is lent too, so judging the words is part of what is
+//! measured, and making them is not. The checker is measured on the answers of
+//! the first contender.
+//!
+//! `SEED=.. cargo run --release -p bench` measures other problems.
+
+mod contenders;
+mod measure;
+mod sets;
+mod table;
+
+use contenders::{CONTENDERS, MISSING};
+
+const SEED: u64 = 1;
+
+fn main() {
+    let seed = problems::random::seed_or(SEED);
+    println!("SEED={seed}, ns a problem, least of {} rounds", measure::ROUNDS);
+    if let Some(why) = MISSING {
+        println!("{why}");
+    }
+    table::heading(&CONTENDERS);
+    for set in sets::limits(seed) {
+        let times = measure::solve(&CONTENDERS, &set);
+        table::line("solve", set.name, &times, &set.pivots());
+    }
+    for set in sets::limits(seed) {
+        let times = measure::check(&CONTENDERS, &set);
+        table::line("check", set.name, &times, "");
+    }
+    for set in sets::times(seed) {
+        let times = measure::times(&CONTENDERS, &set);
+        table::line("times", set.name, &times, "");
+    }
+}

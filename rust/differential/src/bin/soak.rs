@@ -1,0 +1,37 @@
+//! `soak COUNT` compares so many limit problems and a quarter as many time
+//! rows, in parts, each with a seed of its own that is printed before it.
+//! `SEED=.. soak COUNT` goes through the same parts again.
+
+use differential::report;
+use std::process::ExitCode;
+
+/// Problems of one part.
+const PART: u64 = 100_000;
+
+fn main() -> ExitCode {
+    let Some(count) = std::env::args().nth(1).and_then(|count| count.parse().ok()) else {
+        eprintln!("soak COUNT: how many problems");
+        return ExitCode::FAILURE;
+    };
+    match soak(problems::random::seed(), count) {
+        Ok(()) => ExitCode::SUCCESS,
+        Err(difference) => {
+            println!("{difference}");
+            ExitCode::FAILURE
+        }
+    }
+}
+
+fn soak(first: u64, count: u64) -> Result<(), String> {
+    let mut left = count;
+    let mut seed = first;
+    while left > 0 {
+        let part = left.min(PART);
+        println!("SEED={seed}");
+        println!("limits: {}", report::limits(seed, part)?);
+        println!("times: {}", report::times(seed, part.div_ceil(4))?);
+        left -= part;
+        seed += 1;
+    }
+    Ok(())
+}

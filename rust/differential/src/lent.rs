@@ -1,0 +1,46 @@
+//! An output to lend, with words around it that nobody may touch.
+
+use problems::random::Random;
+
+const GUARD: usize = 4;
+
+/// A function that reads lent words and writes a lent output.
+pub type Function = fn(&[i32], &mut [i64]) -> u32;
+
+/// An output before it is lent: words that no answer has, all different.
+pub fn fresh(random: &mut Random, length: usize) -> Vec<i64> {
+    let first = random.bits() as i64 | i64::MIN;
+    (0..length as i64).map(|place| first.wrapping_add(place) | i64::MIN).collect()
+}
+
+/// What a function returned and what it left of the output. An error says
+/// that it wrote where nothing was lent, or changed the words that it read.
+pub fn lent(
+    function: Function,
+    words: &[i32],
+    before: &[i64],
+) -> Result<(u32, Vec<i64>), &'static str> {
+    let read = words.to_vec();
+    let guard = [i64::MIN + 7; GUARD];
+    let mut all = [&guard, before, &guard].concat();
+    let number = function(&read, &mut all[GUARD..GUARD + before.len()]);
+    if read != words {
+        return Err("the words that were read have changed");
+    }
+    let out = all[GUARD..GUARD + before.len()].to_vec();
+    if all[..GUARD] != guard || all[GUARD + before.len()..] != guard {
+        return Err("words beside the output have changed");
+    }
+    Ok((number, out))
+}
+
+/// A length for an output that needs so many words: mostly longer, often just
+/// enough, at times too short.
+pub fn length(random: &mut Random, needed: usize) -> usize {
+    match random.below(20) {
+        0 => random.below(needed),
+        1 => needed - 1,
+        2..=7 => needed,
+        _ => needed + random.size(1, 9),
+    }
+}

@@ -1,0 +1,70 @@
+//! One limit problem through the solver and the checker.
+
+use crate::lent::{fresh, length, lent};
+use problems::evidence::bent;
+use problems::limits::Family;
+use problems::random::Random;
+use scatterflock::raw;
+
+/// How many bent answers each answered problem is checked with.
+const BENT: usize = 3;
+
+/// What became of a problem: the solver's number and verdict, and what the
+/// checker said of the answer and of each bent one.
+pub struct Outcome {
+    /// 0, or the refusal.
+    pub number: u32,
+    /// 1 to 3, or 0 where the problem was refused.
+    pub verdict: i64,
+    /// The checker's numbers.
+    pub checks: Vec<u32>,
+}
+
+/// Compares one problem of the family. An error says what differs.
+pub fn compare(random: &mut Random, family: Family) -> Result<Outcome, String> {
+    let words = family.words(random);
+    compare_words(random, &words).map_err(|what| format!("{what}: {words:?}"))
+}
+
+fn compare_words(random: &mut Random, words: &[i32]) -> Result<Outcome, String> {
+    let length = length(random, needed(words));
+    let before = fresh(random, length);
+    let expected = lent(reference::solve, words, &before)?;
+    let found = lent(raw::solve, words, &before)?;
+    if found != expected {
+        return Err(format!("solve gives {found:?}, the reference {expected:?}"));
+    }
+    let (number, out) = expected;
+    let mut answers = vec![out.clone()];
+    if number == 0 {
+        answers.extend((0..BENT).map(|_| bent(random, words, &out[..needed(words)])));
+    }
+    let checks = answers.iter().map(|answer| compare_check(words, answer));
+    let checks = checks.collect::<Result<Vec<u32>, String>>()?;
+    let verdict = if number == 0 { out[0] } else { 0 };
+    if (verdict == 1 || verdict == 2) && checks[0] != 8 {
+        return Err(format!("the checker does not accept the solver's {out:?}"));
+    }
+    Ok(Outcome { number, verdict, checks })
+}
+
+/// The words that an answer needs; of words without a meaning, some number.
+fn needed(words: &[i32]) -> usize {
+    match words {
+        [n @ 1..=8, m @ 0..=16, ..] => 3 + 2 * (n + m) as usize,
+        _ => 51,
+    }
+}
+
+fn compare_check(words: &[i32], answer: &[i64]) -> Result<u32, String> {
+    let (read_words, read_answer) = (words.to_vec(), answer.to_vec());
+    let found = raw::check(&read_words, &read_answer);
+    if read_words != words || read_answer != answer {
+        return Err(format!("check has changed what it read, answer {answer:?}"));
+    }
+    let expected = reference::check(words, answer);
+    if found != expected {
+        return Err(format!("check gives {found}, the reference {expected}, answer {answer:?}"));
+    }
+    Ok(found)
+}

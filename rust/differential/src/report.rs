@@ -1,0 +1,75 @@
+//! Many problems, counted.
+
+use crate::{limits, times};
+use problems::random::Random;
+use std::collections::BTreeMap;
+use std::fmt;
+
+/// How often each outcome came.
+#[derive(Debug, Default)]
+pub struct Report {
+    /// How many problems were compared.
+    pub problems: u64,
+    /// By verdict or refusal.
+    pub outcomes: BTreeMap<String, u64>,
+    /// By what the checker said.
+    pub checks: BTreeMap<u32, u64>,
+}
+
+/// Compares so many limit problems, the families in turn. An error says which
+/// problem of which seed differs, and how.
+pub fn limits(seed: u64, problems: u64) -> Result<Report, String> {
+    let mut report = Report::default();
+    for problem in 0..problems {
+        let family = in_turn(&problems::limits::Family::ALL, problem);
+        let outcome = limits::compare(&mut Random::of_problem(seed, problem), family)
+            .map_err(|what| format!("SEED={seed}, problem {problem}, {family:?}: {what}"))?;
+        report.count(outcome.number, ["", "can", "cannot", "range"], outcome.verdict);
+        for check in outcome.checks {
+            *report.checks.entry(check).or_default() += 1;
+        }
+    }
+    Ok(report)
+}
+
+/// Compares so many time rows, the families in turn.
+pub fn times(seed: u64, problems: u64) -> Result<Report, String> {
+    let mut report = Report::default();
+    for problem in 0..problems {
+        let family = in_turn(&problems::times::Family::ALL, problem);
+        let outcome = times::compare(&mut Random::of_problem(seed, problem), family)
+            .map_err(|what| format!("SEED={seed}, problem {problem}, {family:?}: {what}"))?;
+        report.count(outcome.number, ["", "times", "cycle", ""], outcome.verdict);
+    }
+    Ok(report)
+}
+
+fn in_turn<T: Copy>(families: &[T], problem: u64) -> T {
+    families[problem as usize % families.len()]
+}
+
+impl Report {
+    fn count(&mut self, number: u32, names: [&str; 4], verdict: i64) {
+        let name = match number {
+            0 => names[verdict as usize].to_string(),
+            refusal => format!("refused {refusal}"),
+        };
+        self.problems += 1;
+        *self.outcomes.entry(name).or_default() += 1;
+    }
+
+    /// How many problems had this outcome.
+    pub fn of(&self, outcome: &str) -> u64 {
+        self.outcomes.get(outcome).copied().unwrap_or(0)
+    }
+}
+
+impl fmt::Display for Report {
+    fn fmt(&self, to: &mut fmt::Formatter) -> fmt::Result {
+        write!(to, "{} problems, no difference: {:?}", self.problems, self.outcomes)?;
+        if !self.checks.is_empty() {
+            write!(to, ", checks {:?}", self.checks)?;
+        }
+        Ok(())
+    }
+}

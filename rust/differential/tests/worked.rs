@@ -1,0 +1,42 @@
+//! The worked cases and the published problems through the archive, in
+//! outputs of every length from none to a few words more than needed.
+
+use problems::published::published;
+use problems::worked;
+use scatterflock::raw;
+
+const KEPT: i64 = -123_456_789;
+
+#[test]
+fn cases_a_to_i_and_the_published_problems() {
+    for case in worked::limits().into_iter().chain(published()) {
+        let needed = case.answer.len();
+        for length in 0..needed + 3 {
+            let mut out = vec![KEPT; length];
+            let number = raw::solve(&case.words, &mut out);
+            if length < needed {
+                assert_eq!((number, out), (7, vec![KEPT; length]), "{}", case.name);
+            } else {
+                let expected = [&case.answer[..], &vec![KEPT; length - needed]].concat();
+                assert_eq!((number, out), (0, expected), "{}", case.name);
+            }
+        }
+    }
+}
+
+#[test]
+fn cases_j_to_l() {
+    for case in worked::times() {
+        let needed = 2 + case.words[0] as usize;
+        for length in 0..needed + 3 {
+            let mut out = vec![KEPT; length];
+            let number = raw::times(&case.words, &mut out);
+            if length < needed {
+                assert_eq!((number, out), (17, vec![KEPT; length]), "{}", case.name);
+            } else {
+                assert!(number == 0 && case.answer.is(&out[..needed]), "{}", case.name);
+                assert_eq!(out[needed..], vec![KEPT; length - needed], "{}", case.name);
+            }
+        }
+    }
+}

@@ -1,0 +1,48 @@
+//! The files of the repository that are made and never written by hand.
+//!
+//! - `shown`: `problems/*.words`, the example inputs of the program
+//! - `vectors`: what the test program `vectors` is asked, on its standard
+//!   input, and what `reference` answers, in its file `stdout`
+
+pub mod shown;
+pub mod vectors;
+
+use std::path::PathBuf;
+
+/// A file and what stands in it.
+pub struct Made {
+    /// Where, from the top of the repository.
+    pub path: String,
+    /// Its bytes.
+    pub bytes: Vec<u8>,
+}
+
+impl Made {
+    /// Where it is on this machine.
+    pub fn place(&self) -> PathBuf {
+        top().join(&self.path)
+    }
+}
+
+/// The top of the repository.
+pub fn top() -> PathBuf {
+    PathBuf::from(env!("CARGO_MANIFEST_DIR")).join("../..")
+}
+
+/// All of them.
+pub fn made() -> Vec<Made> {
+    let vectors = vectors::all();
+    let mut made: Vec<Made> = shown::all()
+        .into_iter()
+        .map(|shown| Made {
+            path: format!("problems/{}.words", shown.name),
+            bytes: shown.words.iter().flat_map(|word| word.to_le_bytes()).collect(),
+        })
+        .collect();
+    made.push(Made { path: "crates/vectors/stdin".to_string(), bytes: vectors::asked(&vectors) });
+    made.push(Made {
+        path: "crates/vectors/stdout".to_string(),
+        bytes: vectors::answered(&vectors).into_bytes(),
+    });
+    made
+}

@@ -1,0 +1,91 @@
+//! The example inputs of the program: cases A to I and a few ovens.
+
+use problems::draft::{at_least, at_most, between, Draft, FREE};
+use problems::worked;
+
+/// A problem with the name of its file.
+pub struct Shown {
+    /// The file's name, without an ending.
+    pub name: String,
+    /// The problem.
+    pub words: Vec<i32>,
+}
+
+/// All of them.
+pub fn all() -> Vec<Shown> {
+    let cases = worked::limits()
+        .into_iter()
+        .map(|case| Shown { name: case.name.to_lowercase(), words: case.words });
+    let ovens = [
+        ("oven-ramp", ramp(180)),
+        ("oven-steep", ramp(260)),
+        ("oven-shares", shares()),
+        ("oven-eight", eight()),
+        ("oven-tiny-shares", tiny_shares()),
+    ];
+    let ovens = ovens
+        .into_iter()
+        .map(|(name, draft)| Shown { name: name.to_string(), words: draft.words() });
+    cases.chain(ovens).collect()
+}
+
+/// The step from each zone to the next.
+fn steps(zones: usize) -> Vec<Vec<i32>> {
+    (1..zones)
+        .map(|zone| (0..zones).map(|z| i32::from(z == zone) - i32::from(z + 1 == zone)).collect())
+        .collect()
+}
+
+/// Four zones, the first from 20 to 60 degrees, the last at least so warm, and
+/// no step over 50.
+fn ramp(last: i32) -> Draft {
+    let limits = [between(20, 60), FREE, FREE, at_least(last)];
+    let limits = limits.into_iter().chain([between(-50, 50); 3]).collect();
+    Draft { n: 4, rows: steps(4), limits }
+}
+
+/// Three zones that heat each other: what each heater gives reaches the zones
+/// beside it by a share.
+fn shares() -> Draft {
+    let rows: [&[i32]; 4] = [&[7, 2, 0], &[2, 7, 2], &[0, 2, 7], &[1, 1, 1]];
+    let heaters = [between(0, 300); 3];
+    let zones = [between(1_000, 1_000), at_least(1_200), between(1_000, 1_000), at_most(450)];
+    Draft::new(3, &rows, &[&heaters[..], &zones].concat())
+}
+
+/// Eight zones with 16 rows: seven steps, six bends, and three sums of power.
+fn eight() -> Draft {
+    let mut rows = steps(8);
+    let mut limits = vec![between(20, 40)];
+    limits.extend([between(20, 400); 6]);
+    limits.push(at_least(300));
+    limits.extend([between(0, 45); 7]);
+    for zone in 2..8 {
+        rows.push((0..8).map(|z| bend(zone, z)).collect());
+        limits.push(between(-15, 15));
+    }
+    rows.push(vec![3, 2, 1, 0, 0, 0, 0, 0]);
+    limits.push(at_most(400));
+    rows.push(vec![0, 0, 0, 2, 3, 2, 0, 0]);
+    limits.push(at_least(900));
+    rows.push(vec![0, 0, 0, 0, 0, 1, 2, 3]);
+    limits.push(at_most(1_700));
+    Draft { n: 8, rows, limits }
+}
+
+/// How much a zone counts where the slope may change but little.
+fn bend(zone: usize, other: usize) -> i32 {
+    match zone.checked_sub(other) {
+        Some(0 | 2) => 1,
+        Some(1) => -2,
+        _ => 0,
+    }
+}
+
+/// Each heater gives the next zone a thousandth of what it gives its own. The
+/// first must get something, and the last heater must be off.
+fn tiny_shares() -> Draft {
+    let rows: [&[i32]; 3] = [&[-1, 1_000, 0, 0], &[0, -1, 1_000, 0], &[0, 0, -1, 1_000]];
+    let limits = [at_least(1), FREE, FREE, at_most(0), at_least(0), at_least(0), at_least(0)];
+    Draft::new(4, &rows, &limits)
+}

@@ -1,0 +1,193 @@
+//! Calls of `solve`: the worked cases, the published problems, every refusal
+//! with its neighbour that passes, and runs that end out of range.
+
+use super::{Entry, Vector, KEPT};
+use problems::draft::{at_least, at_most, between, Draft, FREE};
+use problems::limits::Family;
+use problems::published::published;
+use problems::random::Random;
+use problems::worked;
+
+/// All of them.
+pub fn all() -> Vec<Vector> {
+    let mut vectors = cases();
+    vectors.extend(sizes());
+    vectors.extend(coefficients());
+    vectors.extend(kinds_and_limits());
+    vectors.extend(orders());
+    vectors.extend(no_rows());
+    vectors.extend(crossed());
+    vectors.extend(ranges());
+    vectors
+}
+
+fn solve(name: impl Into<String>, words: Vec<i32>, room: usize) -> Vector {
+    Vector { name: name.into(), entry: Entry::Solve, words, out: vec![KEPT; room] }
+}
+
+/// A call with as much room as any answer needs.
+fn roomy(name: impl Into<String>, words: Vec<i32>) -> Vector {
+    solve(name, words, 52)
+}
+
+/// Cases A to I and the published problems: room exactly enough, one word too
+/// little, and two too many.
+fn cases() -> Vec<Vector> {
+    let all = worked::limits().into_iter().chain(published());
+    all.flat_map(|case| {
+        let needed = case.answer.len();
+        [(0, "room enough"), (-1, "one word too little"), (2, "two words more")].map(
+            |(more, room)| {
+                let name = format!("{}, {room}", case.name);
+                solve(name, case.words.clone(), (needed as i32 + more) as usize)
+            },
+        )
+    })
+    .collect()
+}
+
+/// A problem of n variables and m rows in which nothing is limited.
+fn blank(n: usize, m: usize) -> Draft {
+    Draft { n, rows: vec![vec![1; n]; m], limits: vec![FREE; n + m] }
+}
+
+fn sizes() -> Vec<Vector> {
+    let mut vectors = vec![
+        roomy("no words", vec![]),
+        roomy("one word", vec![1]),
+        roomy("two words, the limits missing", vec![1, 0]),
+        roomy("n 8, m 16", blank(8, 16).words()),
+        solve("n 8, m 16, one word too little", blank(8, 16).words(), 50),
+        solve("no room at all", blank(1, 0).words(), 0),
+    ];
+    for (n, m) in [(0, 0), (9, 0), (-1, 0), (1, 17), (1, -1), (i32::MIN, 0), (8, i32::MAX)] {
+        let mut words = blank(1, 0).words();
+        words[..2].copy_from_slice(&[n, m]);
+        vectors.push(roomy(format!("n {n}, m {m}"), words));
+    }
+    vectors.push(roomy("n 9 with its own length", blank(9, 1).words()));
+    vectors.push(roomy("m 17 with its own length", blank(1, 17).words()));
+    let whole = blank(2, 3).words();
+    vectors.push(roomy("one word short", whole[..whole.len() - 1].to_vec()));
+    vectors.push(roomy("one word long", [&whole[..], &[0]].concat()));
+    vectors
+}
+
+fn coefficients() -> Vec<Vector> {
+    let mut vectors = Vec::new();
+    for place in [0, 5] {
+        for coefficient in [1_000, 1_001, -1_000, -1_001, i32::MAX, i32::MIN] {
+            let mut words = blank(2, 3).words();
+            words[2 + place] = coefficient;
+            vectors.push(roomy(format!("coefficient {place} is {coefficient}"), words));
+        }
+    }
+    vectors
+}
+
+fn with_limits(variable: usize, limits: [i32; 3]) -> Vec<i32> {
+    let mut draft = blank(2, 3);
+    draft.limits[variable] = limits;
+    draft.words()
+}
+
+fn kinds_and_limits() -> Vec<Vector> {
+    let tried = [
+        [3, 0, 0],
+        [4, 0, 0],
+        [7, 0, 0],
+        [-1, 0, 0],
+        [i32::MAX, 0, 0],
+        [1, 30_000, 0],
+        [1, 30_001, 0],
+        [1, -30_000, 0],
+        [1, -30_001, 0],
+        [2, 0, 30_000],
+        [2, 0, 30_001],
+        [2, 0, -30_000],
+        [2, 0, -30_001],
+        [3, -30_000, 30_000],
+        [3, -30_000, 30_001],
+        [3, -30_001, 30_000],
+        [3, i32::MIN, i32::MAX],
+        [0, 5, 0],
+        [0, 0, 5],
+        [1, 0, 5],
+        [2, 5, 0],
+        [1, 5, 30_001],
+        [0, 0, -1],
+    ];
+    [0, 4]
+        .into_iter()
+        .flat_map(|variable| {
+            tried.map(|limits| {
+                let name = format!("variable {variable} has {limits:?}");
+                roomy(name, with_limits(variable, limits))
+            })
+        })
+        .collect()
+}
+
+/// Two faults at once: the lower number wins, wherever the faults are.
+fn orders() -> Vec<Vector> {
+    let mut kind_and_coefficient = with_limits(0, [7, 0, 0]);
+    kind_and_coefficient[7] = 1_001;
+    let mut limit_and_kind = with_limits(0, [1, 30_001, 0]);
+    let last = limit_and_kind.len() - 3;
+    limit_and_kind[last] = 4;
+    let mut length_and_coefficient = blank(1, 1).words();
+    length_and_coefficient[2] = 1_001;
+    length_and_coefficient.push(0);
+    vec![
+        roomy("kind 7 and coefficient 1,001", kind_and_coefficient),
+        roomy("limit 30,001 first and kind 4 last", limit_and_kind),
+        roomy("length and coefficient", length_and_coefficient),
+        solve("limit and no room", with_limits(1, [1, 30_001, 0]), 3),
+        solve("n 9 and no room", vec![9, 0], 0),
+    ]
+}
+
+fn no_rows() -> Vec<Vector> {
+    let tried = [FREE, at_least(4), at_least(-4), at_most(4), at_most(-4), between(3, 8)];
+    tried
+        .into_iter()
+        .map(|limits| roomy(format!("no rows, {limits:?}"), Draft::new(1, &[], &[limits]).words()))
+        .collect()
+}
+
+fn crossed() -> Vec<Vector> {
+    let mut vectors = vec![roomy("both limits are 5", with_limits(0, between(5, 5)))];
+    for variable in [0, 1, 2, 4] {
+        let name = format!("variable {variable} is crossed");
+        vectors.push(roomy(name, with_limits(variable, between(6, 5))));
+    }
+    let mut two = blank(2, 3);
+    two.limits[1] = between(1, 0);
+    two.limits[3] = between(30_000, -30_000);
+    vectors.push(roomy("two are crossed", two.words()));
+    vectors
+}
+
+/// The first random problems that end so: out of range at the second pivot, at
+/// a later one, and after many pivots that stay just in range.
+fn ranges() -> Vec<Vector> {
+    let found = |name: &str, wanted: &dyn Fn(&[i64; 52]) -> bool| {
+        let problem = (0..).map(|number| Family::Range.words(&mut Random::of_problem(1, number)));
+        let mut answered = problem.map(|words| {
+            let mut out = [0; 52];
+            reference::solve(&words, &mut out);
+            (words, out)
+        });
+        let (words, _) = answered.find(|(_, out)| wanted(out)).expect("there is one");
+        roomy(name, words)
+    };
+    vec![
+        found("out of range at the second pivot", &|out| out[..2] == [3, 1]),
+        found("out of range at the third pivot", &|out| out[..2] == [3, 2]),
+        found("out of range after 8 pivots or more", &|out| out[0] == 3 && out[1] >= 8),
+        found("a denominator above 1,000,000,000", &|out| out[0] == 1 && out[2] > 1_000_000_000),
+        found("a multiplier above 1,000,000,000", &|out| {
+            out[0] == 2 && out.iter().any(|&word| word > 1_000_000_000)
+        }),
+    ]
+}

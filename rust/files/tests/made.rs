@@ -1,0 +1,35 @@
+//! The made files are those that the lists make, and each example says what
+//! the program prints for it.
+
+use std::fs;
+
+#[test]
+fn the_files_are_the_made_ones() {
+    for made in files::made() {
+        let found = fs::read(made.place()).unwrap_or_default();
+        assert!(found == made.bytes, "{} is stale: tools/vectors makes it again", made.path);
+    }
+}
+
+#[test]
+fn each_example_says_what_is_printed() {
+    for shown in files::shown::all() {
+        let bytes: Vec<u8> = shown.words.iter().flat_map(|word| word.to_le_bytes()).collect();
+        let printed = String::from_utf8(reference::respond(&bytes)).unwrap();
+        let block: String = printed.lines().map(|line| format!("    {line}\n")).collect();
+        let page = files::top().join(format!("problems/{}.md", shown.name));
+        let text = fs::read_to_string(&page).unwrap_or_default();
+        assert!(text.ends_with(&block), "problems/{}.md has to end in\n{block}", shown.name);
+    }
+}
+
+#[test]
+fn every_refusal_and_verdict_is_asked_for() {
+    let vectors = files::vectors::all();
+    let text = files::vectors::answered(&vectors);
+    for number in (0..=9).chain(11..=17) {
+        let asked = text.lines().filter(|line| line.starts_with(&format!("{number}:"))).count();
+        assert!(asked >= 2, "{number} comes {asked} times");
+    }
+    assert_eq!(text.lines().count(), vectors.len());
+}

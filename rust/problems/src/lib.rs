@@ -1,0 +1,21 @@
+//! Problems to test and measure with.
+//!
+//! - `draft`: a limit problem in parts, and its words
+//! - `worked`: the worked cases A to L of docs/RULES.md
+//! - `published`: problems of special interest, with their answers
+//! - `random`: the random numbers that everything below is made of
+//! - `limits`: random limit problems, by family
+//! - `oven`: sparse ones that look like the zones of an oven
+//! - `damage`: words that are nearly right, and words that are not
+//! - `evidence`: answers that are nearly right
+//! - `times`: random time rows, by family
+
+pub mod damage;
+pub mod draft;
+pub mod evidence;
+pub mod limits;
+mod oven;
+pub mod published;
+pub mod random;
+pub mod times;
+pub mod worked;

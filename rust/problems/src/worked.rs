@@ -1,0 +1,155 @@
+//! The worked cases A to L of docs/RULES.md.
+
+use crate::draft::{at_least, at_most, between, Draft, FREE};
+
+/// A limit problem with the words of its answer.
+pub struct Limits {
+    /// The case's letter or title.
+    pub name: &'static str,
+    /// The problem.
+    pub words: Vec<i32>,
+    /// The whole answer.
+    pub answer: Vec<i64>,
+}
+
+/// Time rows with what is right to answer.
+pub struct Times {
+    /// The case's letter.
+    pub name: &'static str,
+    /// The rows.
+    pub words: Vec<i32>,
+    /// The answer.
+    pub answer: TimesAnswer,
+}
+
+/// An answer to time rows.
+pub enum TimesAnswer {
+    /// The time of each vertex.
+    Times(Vec<i64>),
+    /// The one bad cycle there is. An answer may start at any of its rows.
+    Cycle(Vec<i64>),
+}
+
+fn can(name: &'static str, draft: Draft, pivots: i64, over: i64, numerators: &[i64]) -> Limits {
+    let mut answer = vec![1, pivots, over];
+    answer.extend(numerators);
+    answer.extend(vec![0; numerators.len()]);
+    Limits { name, words: draft.words(), answer }
+}
+
+fn cannot(name: &'static str, draft: Draft, pivots: i64, lower: &[i64], upper: &[i64]) -> Limits {
+    let mut answer = vec![2, pivots, 0];
+    answer.extend(lower);
+    answer.extend(upper);
+    Limits { name, words: draft.words(), answer }
+}
+
+/// Cases A to I.
+pub fn limits() -> Vec<Limits> {
+    vec![case_a(), case_b(), case_c(), case_d(), case_e(), case_f(), case_g(), case_h(), case_i()]
+}
+
+/// Case A alone.
+pub fn case_a() -> Limits {
+    let rows: [&[i32]; 3] = [&[1, 1], &[2, -1], &[-1, 2]];
+    let limits = [FREE, FREE, at_least(2), at_least(0), at_least(1)];
+    can("A", Draft::new(2, &rows, &limits), 2, 3, &[3, 3, 6, 3, 3])
+}
+
+fn case_b() -> Limits {
+    let rows: [&[i32]; 3] = [&[1, 1], &[-2, 1], &[-10, 1]];
+    let limits = [FREE, FREE, at_least(0), at_least(2), at_least(-5)];
+    can("B", Draft::new(2, &rows, &limits), 2, 3, &[-2, 2, 0, 6, 22])
+}
+
+fn case_c() -> Limits {
+    let rows: [&[i32]; 3] = [&[1, 1], &[-1, -2], &[-1, 1]];
+    let limits = [FREE, FREE, at_least(0), at_least(2), at_least(1)];
+    cannot("C", Draft::new(2, &rows, &limits), 2, &[0, 0, 3, 2, 1], &[0; 5])
+}
+
+fn case_d() -> Limits {
+    let rows: [&[i32]; 2] = [&[1, 2], &[2, 1]];
+    let limits = [between(-1, 0), between(-4, 0), between(-5, -4), between(-7, 1)];
+    can("D", Draft::new(2, &rows, &limits), 2, 2, &[-2, -3, -8, -7])
+}
+
+fn case_e() -> Limits {
+    let rows: [&[i32]; 4] = [&[-1, 1], &[0, 1], &[-1, -1], &[3, -1]];
+    let limits = [FREE, FREE, at_most(1), at_most(4), at_most(-6), at_most(7)];
+    can("E", Draft::new(2, &rows, &limits), 2, 4, &[13, 11, -2, 11, -24, 28])
+}
+
+fn case_f() -> Limits {
+    let limits = [at_least(2), at_least(2), at_most(3)];
+    cannot("F", Draft::new(2, &[&[1, 1]], &limits), 0, &[1, 1, 0], &[0, 0, 1])
+}
+
+fn case_g() -> Limits {
+    cannot("G", Draft::new(1, &[], &[between(1, 0)]), 0, &[1], &[1])
+}
+
+fn case_h() -> Limits {
+    can("H", Draft::new(1, &[], &[FREE]), 0, 1, &[0])
+}
+
+fn case_i() -> Limits {
+    cannot("I", Draft::new(1, &[&[0]], &[FREE, at_least(1)]), 0, &[0, 1], &[0, 0])
+}
+
+/// Cases J to L.
+pub fn times() -> Vec<Times> {
+    let rows_of_j =
+        [[0, 1, 0, 5], [1, 0, 0, -5], [1, 2, 0, -2], [0, 2, 0, -3], [3, 0, 0, 2], [0, 3, 0, -2]];
+    let mut rows_of_k = rows_of_j.to_vec();
+    rows_of_k.push([2, 3, 0, -1]);
+    vec![
+        Times {
+            name: "J",
+            words: time_words(4, &rows_of_j),
+            answer: TimesAnswer::Times(vec![5, 0, 8, 7]),
+        },
+        Times {
+            name: "K",
+            words: time_words(4, &rows_of_k),
+            answer: TimesAnswer::Cycle(vec![3, 6, 4]),
+        },
+        Times {
+            name: "L",
+            words: time_words(1, &[[0, 0, 1, 0]]),
+            answer: TimesAnswer::Cycle(vec![0]),
+        },
+    ]
+}
+
+/// The words of time rows over n vertices.
+pub fn time_words(n: usize, rows: &[[i32; 4]]) -> Vec<i32> {
+    let mut words = vec![n as i32, rows.len() as i32];
+    words.extend(rows.iter().flatten());
+    words
+}
+
+impl TimesAnswer {
+    /// Whether these 2 + n words give this answer.
+    pub fn is(&self, words: &[i64]) -> bool {
+        match self {
+            TimesAnswer::Times(times) => {
+                words[..2] == [1, times.len() as i64] && words[2..] == times[..]
+            }
+            TimesAnswer::Cycle(cycle) => {
+                let (listed, rest) = words[2..].split_at(cycle.len());
+                words[..2] == [2, cycle.len() as i64]
+                    && is_turned(listed, cycle)
+                    && rest.iter().all(|&word| word == 0)
+            }
+        }
+    }
+}
+
+/// Whether a list is another one, begun at any of its members.
+fn is_turned(list: &[i64], other: &[i64]) -> bool {
+    (0..other.len()).any(|turn| {
+        let (head, tail) = other.split_at(turn);
+        list == [tail, head].concat()
+    })
+}

@@ -1,0 +1,154 @@
+//! Every family gives what it is for: a good share of each verdict, of
+//! refusals where they are meant, and of accepted and rejected evidence.
+
+use problems::evidence::bent;
+use problems::random::{seed, Random};
+use problems::{limits, times};
+use std::collections::BTreeMap;
+
+type Shares = BTreeMap<String, usize>;
+
+fn count(shares: &mut Shares, what: String) {
+    *shares.entry(what).or_default() += 1;
+}
+
+/// So many times of 100.
+fn share(shares: &Shares, what: &str) -> usize {
+    let all: usize = shares.values().sum();
+    100 * shares.get(what).copied().unwrap_or(0) / all
+}
+
+fn verdict(returned: u32, verdict: i64) -> String {
+    match (returned, verdict) {
+        (0, 1) => "can".to_string(),
+        (0, 2) => "cannot".to_string(),
+        (0, _) => "range".to_string(),
+        (number, _) => format!("refused {number}"),
+    }
+}
+
+/// The verdicts of a family, and what the checker says of bent answers.
+fn limit_shares(family: limits::Family, seed: u64) -> (Shares, Shares) {
+    let (mut verdicts, mut evidence) = (Shares::new(), Shares::new());
+    for problem in 0..1_000 {
+        let mut random = Random::of_problem(seed, problem);
+        let words = family.words(&mut random);
+        let mut out = [0; 51];
+        let returned = reference::solve(&words, &mut out);
+        count(&mut verdicts, verdict(returned, out[0]));
+        if returned == 0 {
+            let length = 3 + 2 * (words[0] + words[1]) as usize;
+            let bent = bent(&mut random, &words, &out[..length]);
+            count(&mut evidence, reference::check(&words, &bent).to_string());
+        }
+    }
+    println!("{:11} {verdicts:?}, bent {evidence:?}", family.name());
+    (verdicts, evidence)
+}
+
+/// What a family of limit problems must at least have, in 100.
+fn least_limit_shares(family: limits::Family) -> &'static [(&'static str, usize)] {
+    match family {
+        limits::Family::Range => &[("can", 8), ("cannot", 8), ("range", 12)],
+        limits::Family::AnySize => &[("can", 20), ("cannot", 8), ("range", 1)],
+        limits::Family::Damaged => &[
+            ("can", 4),
+            ("cannot", 4),
+            ("refused 2", 2),
+            ("refused 3", 10),
+            ("refused 4", 4),
+            ("refused 5", 4),
+            ("refused 6", 5),
+        ],
+        limits::Family::Garbage => &[
+            ("can", 5),
+            ("cannot", 5),
+            ("refused 1", 5),
+            ("refused 2", 8),
+            ("refused 3", 5),
+            ("refused 6", 3),
+        ],
+        _ => &[("can", 10), ("cannot", 10)],
+    }
+}
+
+#[test]
+fn limit_families() {
+    let seed = seed();
+    println!("SEED={seed}");
+    for family in limits::Family::ALL {
+        let (verdicts, evidence) = limit_shares(family, seed);
+        for &(what, least) in least_limit_shares(family) {
+            assert!(share(&verdicts, what) >= least, "{family:?}: {what}, SEED={seed}");
+        }
+        for (what, least) in [("7", 1), ("8", 15), ("9", 30)] {
+            assert!(share(&evidence, what) >= least, "{family:?}: bent {what}, SEED={seed}");
+        }
+    }
+}
+
+#[test]
+fn accepted_families_are_accepted() {
+    let seed = seed();
+    for problem in 0..2_000 {
+        let mut random = Random::of_problem(seed, problem);
+        let family = random.pick(&limits::Family::ACCEPTED);
+        let mut out = [0; 51];
+        assert_eq!(reference::solve(&family.words(&mut random), &mut out), 0, "SEED={seed}");
+        let family = random.pick(&times::Family::ACCEPTED);
+        let mut out = [0; 66];
+        assert_eq!(reference::times(&family.words(&mut random), &mut out), 0, "SEED={seed}");
+    }
+}
+
+fn time_shares(family: times::Family, seed: u64) -> Shares {
+    let mut verdicts = Shares::new();
+    for problem in 0..1_500 {
+        let words = family.words(&mut Random::of_problem(seed, problem));
+        let mut out = [0; 66];
+        let returned = reference::times(&words, &mut out);
+        count(&mut verdicts, verdict(returned, out[0]));
+    }
+    println!("{:14} {verdicts:?}", family.name());
+    verdicts
+}
+
+/// What a family of time rows must at least have, in 100.
+fn least_time_shares(family: times::Family) -> &'static [(&'static str, usize)] {
+    match family {
+        times::Family::Small => &[("can", 20), ("cannot", 20)],
+        times::Family::Parallel => &[("can", 20), ("cannot", 5)],
+        times::Family::Infeasible => &[("cannot", 95)],
+        times::Family::BadRing => &[("cannot", 100)],
+        times::Family::Damaged => &[
+            ("can", 5),
+            ("cannot", 3),
+            ("refused 12", 2),
+            ("refused 13", 10),
+            ("refused 14", 8),
+            ("refused 15", 5),
+            ("refused 16", 1),
+        ],
+        times::Family::Garbage => &[
+            ("can", 4),
+            ("cannot", 5),
+            ("refused 11", 5),
+            ("refused 12", 4),
+            ("refused 13", 8),
+            ("refused 14", 6),
+        ],
+        _ => &[("can", 100)],
+    }
+}
+
+#[test]
+fn time_families() {
+    let seed = seed();
+    println!("SEED={seed}");
+    for family in times::Family::ALL {
+        let verdicts = time_shares(family, seed);
+        for &(what, least) in least_time_shares(family) {
+            assert!(share(&verdicts, what) >= least, "{family:?}: {what}, SEED={seed}");
+        }
+    }
+}

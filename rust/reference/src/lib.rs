@@ -1,0 +1,29 @@
+//! The rules of docs/RULES.md once more, written to be read.
+//!
+//! Every other implementation is compared with this one. It was written from
+//! the rules alone and prefers the plainest calculation to the quickest: a
+//! tableau of fractions in lowest terms, whole numbers of 128 bits, and maps
+//! ordered by variable, so that "the lowest" is "the first".
+//!
+//! - `problem`: the words of a limit problem, and refusals 1 to 6
+//! - `fraction`: exact fractions
+//! - `tableau`: basic variables as sums over nonbasic ones, and the exchange
+//! - `run`: the limit solver
+//! - `answer`: how a run ended, and the words that say so
+//! - `evidence`: the checker, which uses nothing of the run
+//! - `times`: time rows, and a judge of anybody's answer to them
+//! - `program`: the text that the program prints
+
+mod answer;
+mod evidence;
+mod fraction;
+mod problem;
+mod program;
+mod run;
+mod tableau;
+mod times;
+
+pub use evidence::check;
+pub use program::respond;
+pub use run::solve;
+pub use times::{times, times_is_right};

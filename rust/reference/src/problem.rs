@@ -1,0 +1,124 @@
+//! The words of a limit problem: which are refused, and what the others say.
+//!
+//! Renders "The limit problem as words" and "Refusal numbers and their order"
+//! of docs/RULES.md.
+
+use std::ops::RangeInclusive;
+
+/// The number of problem variables, n.
+const VARIABLES: RangeInclusive<i32> = 1..=8;
+/// The number of rows, m.
+const ROWS: RangeInclusive<i32> = 0..=16;
+const COEFFICIENTS: RangeInclusive<i32> = -1_000..=1_000;
+const KINDS: RangeInclusive<i32> = 0..=3;
+const LIMITS: RangeInclusive<i32> = -30_000..=30_000;
+
+/// The largest size of a tableau number, and of a multiplier.
+pub const LARGEST_NUMBER: i128 = 2_147_483_647;
+
+/// A variable's number: below n the problem's own, from n on those of rows.
+pub type Variable = usize;
+
+/// What accepted words say.
+#[derive(Debug, Clone, PartialEq, Eq)]
+pub struct Problem {
+    /// The number of problem variables.
+    pub n: usize,
+    /// One list of n coefficients for each row.
+    pub rows: Vec<Vec<i128>>,
+    /// The limits of each of the n + m variables.
+    pub limits: Vec<Limits>,
+}
+
+/// The limits of one variable. `None` is a missing limit.
+#[derive(Debug, Clone, Copy, PartialEq, Eq)]
+pub struct Limits {
+    pub lower: Option<i128>,
+    pub upper: Option<i128>,
+}
+
+impl Problem {
+    /// The number of variables, rows' variables included.
+    pub fn variables(&self) -> usize {
+        self.limits.len()
+    }
+
+    /// How many words an answer has.
+    pub fn answer_length(&self) -> usize {
+        3 + 2 * self.variables()
+    }
+
+    /// The problem of the words, or the number that refuses them.
+    pub fn read(words: &[i32]) -> Result<Problem, u32> {
+        if words.len() < 2 {
+            return Err(1);
+        }
+        if !VARIABLES.contains(&words[0]) || !ROWS.contains(&words[1]) {
+            return Err(2);
+        }
+        let n = words[0] as usize;
+        let m = words[1] as usize;
+        if words.len() != 2 + m * n + 3 * (n + m) {
+            return Err(3);
+        }
+        let (coefficients, limits) = words[2..].split_at(m * n);
+        judge_parts(coefficients, limits)?;
+        Ok(Problem {
+            n,
+            rows: coefficients.chunks(n).map(row).collect(),
+            limits: limits.chunks(3).map(Limits::of).collect(),
+        })
+    }
+}
+
+/// Refusals 4 to 6, each over all words before the next.
+fn judge_parts(coefficients: &[i32], limits: &[i32]) -> Result<(), u32> {
+    if coefficients.iter().any(|word| !COEFFICIENTS.contains(word)) {
+        return Err(4);
+    }
+    if limits.chunks(3).any(|three| !KINDS.contains(&three[0])) {
+        return Err(5);
+    }
+    if limits.chunks(3).any(|three| !limit_words_pass(three)) {
+        return Err(6);
+    }
+    Ok(())
+}
+
+/// Whether a present limit is in range and the word of a missing one is 0.
+fn limit_words_pass(three: &[i32]) -> bool {
+    let passes = |present: bool, word: i32| {
+        if present {
+            LIMITS.contains(&word)
+        } else {
+            word == 0
+        }
+    };
+    passes(has_lower(three[0]), three[1]) && passes(has_upper(three[0]), three[2])
+}
+
+fn has_lower(kind: i32) -> bool {
+    kind == 1 || kind == 3
+}
+
+fn has_upper(kind: i32) -> bool {
+    kind == 2 || kind == 3
+}
+
+fn row(words: &[i32]) -> Vec<i128> {
+    words.iter().map(|&word| i128::from(word)).collect()
+}
+
+impl Limits {
+    fn of(three: &[i32]) -> Limits {
+        Limits {
+            lower: has_lower(three[0]).then_some(i128::from(three[1])),
+            upper: has_upper(three[0]).then_some(i128::from(three[2])),
+        }
+    }
+
+    /// Whether the lower limit is above the upper one.
+    pub fn crossed(&self) -> bool {
+        matches!((self.lower, self.upper), (Some(lower), Some(upper)) if lower > upper)
+    }
+}

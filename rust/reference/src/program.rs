@@ -1,0 +1,61 @@
+//! The program: bytes of a problem in, lines of text out.
+//!
+//! Renders "The program" of docs/RULES.md.
+
+use crate::answer::{Answer, Multipliers, Verdict};
+use crate::problem::Problem;
+use crate::run::run;
+
+const FEWEST_BYTES: usize = 8;
+const MOST_BYTES: usize = 808;
+
+/// Everything that the program prints for these bytes on standard input.
+pub fn respond(input: &[u8]) -> Vec<u8> {
+    let lines = match read(input) {
+        Ok(problem) => answer_lines(&run(&problem)),
+        Err(refusal) => vec![format!("refused {refusal}")],
+    };
+    lines.iter().flat_map(|line| format!("{line}\n").into_bytes()).collect()
+}
+
+/// The number of bytes is judged before any word is.
+fn read(input: &[u8]) -> Result<Problem, u32> {
+    if input.len() < FEWEST_BYTES {
+        return Err(1);
+    }
+    if !input.len().is_multiple_of(4) || input.len() > MOST_BYTES {
+        return Err(3);
+    }
+    let word = |four: &[u8]| i32::from_le_bytes(four.try_into().expect("four bytes"));
+    let words: Vec<i32> = input.chunks(4).map(word).collect();
+    Problem::read(&words)
+}
+
+fn answer_lines(answer: &Answer) -> Vec<String> {
+    let pivots = format!("pivots {}", answer.pivots);
+    match &answer.verdict {
+        Verdict::Can { over, numerators } => {
+            let mut lines = vec!["can".to_string(), pivots, format!("over {over}")];
+            lines.extend(numerators.iter().enumerate().map(|(v, number)| format!("{v} {number}")));
+            lines
+        }
+        Verdict::Cannot(multipliers) => {
+            let mut lines = vec!["cannot".to_string(), pivots];
+            lines.extend(multiplier_lines(multipliers));
+            lines
+        }
+        Verdict::Range => vec!["range".to_string(), pivots],
+    }
+}
+
+fn multiplier_lines(multipliers: &Multipliers) -> Vec<String> {
+    let both = multipliers.lower.iter().zip(&multipliers.upper).enumerate();
+    both.flat_map(|(v, (&lower, &upper))| {
+        [
+            (lower != 0).then(|| format!("{v} lower {lower}")),
+            (upper != 0).then(|| format!("{v} upper {upper}")),
+        ]
+    })
+    .flatten()
+    .collect()
+}

@@ -1,0 +1,194 @@
+//! The limit solver.
+//!
+//! Renders "The run" of docs/RULES.md.
+
+use crate::answer::{Answer, Multipliers, Verdict};
+use crate::fraction::Fraction;
+use crate::problem::{Limits, Problem, Variable};
+use crate::tableau::Tableau;
+use std::collections::BTreeMap;
+
+/// Writes the answer to the problem and returns 0, or returns the number of
+/// the refusal and writes nothing. Words past the answer are not touched.
+pub fn solve(words: &[i32], out: &mut [i64]) -> u32 {
+    let problem = match Problem::read(words) {
+        Ok(problem) => problem,
+        Err(refusal) => return refusal,
+    };
+    let length = problem.answer_length();
+    if out.len() < length {
+        return 7;
+    }
+    let answer = run(&problem);
+    out[..length].copy_from_slice(&answer.words(problem.variables()));
+    0
+}
+
+/// The whole run of a problem.
+pub fn run(problem: &Problem) -> Answer {
+    if let Some(crossed) = problem.limits.iter().position(Limits::crossed) {
+        return Answer { verdict: Verdict::Cannot(conflict_of_one(problem, crossed)), pivots: 0 };
+    }
+    let mut state = State::start(problem);
+    let mut pivots = 0;
+    loop {
+        match state.step() {
+            Step::Moved(next) => state = next,
+            Step::Ended(verdict) => return Answer { verdict, pivots },
+        }
+        pivots += 1;
+    }
+}
+
+/// A variable whose lower limit is above its upper one refutes both.
+fn conflict_of_one(problem: &Problem, crossed: Variable) -> Multipliers {
+    let mut multipliers = Multipliers::none(problem.variables());
+    multipliers.lower[crossed] = 1;
+    multipliers.upper[crossed] = 1;
+    multipliers
+}
+
+/// Which way a variable has to move, or would have to.
+#[derive(Debug, Clone, Copy, PartialEq, Eq)]
+enum Way {
+    Up,
+    Down,
+}
+
+/// A basic variable outside its limits.
+#[derive(Debug, Clone, Copy)]
+struct Violated {
+    variable: Variable,
+    way: Way,
+    limit: i128,
+}
+
+/// What comes after a state.
+enum Step<'a> {
+    Moved(State<'a>),
+    Ended(Verdict),
+}
+
+/// The equations, and what each nonbasic variable sits at.
+struct State<'a> {
+    problem: &'a Problem,
+    tableau: Tableau,
+    values: BTreeMap<Variable, i128>,
+}
+
+impl<'a> State<'a> {
+    fn start(problem: &'a Problem) -> State<'a> {
+        let value = |variable| start_value(&problem.limits[variable]);
+        State {
+            problem,
+            tableau: Tableau::start(problem),
+            values: (0..problem.n).map(|variable| (variable, value(variable))).collect(),
+        }
+    }
+
+    fn step(&self) -> Step<'a> {
+        let Some(violated) = self.lowest_violated() else {
+            return Step::Ended(self.can());
+        };
+        let Some(entering) = self.lowest_suitable(violated) else {
+            return Step::Ended(Verdict::Cannot(self.multipliers(violated)));
+        };
+        let tableau = self.tableau.exchanged(violated.variable, entering);
+        if tableau.out_of_range() {
+            return Step::Ended(Verdict::Range);
+        }
+        let mut values = self.values.clone();
+        values.remove(&entering);
+        values.insert(violated.variable, violated.limit);
+        Step::Moved(State { problem: self.problem, tableau, values })
+    }
+
+    fn lowest_violated(&self) -> Option<Violated> {
+        self.tableau.rows.keys().find_map(|&variable| self.violation(variable))
+    }
+
+    fn violation(&self, variable: Variable) -> Option<Violated> {
+        let value = self.value(variable);
+        let Limits { lower, upper } = self.problem.limits[variable];
+        let violated = |way, limit| Some(Violated { variable, way, limit });
+        match (lower, upper) {
+            (Some(lower), _) if value.below(lower) => violated(Way::Up, lower),
+            (_, Some(upper)) if value.above(upper) => violated(Way::Down, upper),
+            _ => None,
+        }
+    }
+
+    fn lowest_suitable(&self, violated: Violated) -> Option<Variable> {
+        let row = &self.tableau.rows[&violated.variable];
+        row.iter()
+            .find(|(&variable, &entry)| {
+                way_needed(violated.way, entry).is_some_and(|way| self.free(variable, way))
+            })
+            .map(|(&variable, _)| variable)
+    }
+
+    /// Whether a nonbasic variable may still move that way.
+    fn free(&self, variable: Variable, way: Way) -> bool {
+        let value = self.values[&variable];
+        let Limits { lower, upper } = self.problem.limits[variable];
+        match way {
+            Way::Up => upper.is_none_or(|upper| value < upper),
+            Way::Down => lower.is_none_or(|lower| value > lower),
+        }
+    }
+
+    /// A nonbasic variable's value, or the one that a basic variable's row gives.
+    fn value(&self, variable: Variable) -> Fraction {
+        match self.tableau.rows.get(&variable) {
+            None => Fraction::whole(self.values[&variable]),
+            Some(row) => row
+                .iter()
+                .map(|(other, &entry)| entry * Fraction::whole(self.values[other]))
+                .fold(Fraction::whole(0), |sum, term| sum + term),
+        }
+    }
+
+    fn can(&self) -> Verdict {
+        let over = self.tableau.common();
+        let numerator = |variable| self.value(variable).times_multiple(over);
+        Verdict::Can { over, numerators: (0..self.problem.variables()).map(numerator).collect() }
+    }
+
+    /// The evidence when nothing suits: the violated limit against the limits
+    /// that hold every variable of its row in place.
+    fn multipliers(&self, violated: Violated) -> Multipliers {
+        let common = self.tableau.common();
+        let mut multipliers = Multipliers::none(self.problem.variables());
+        match violated.way {
+            Way::Up => multipliers.lower[violated.variable] = common,
+            Way::Down => multipliers.upper[violated.variable] = common,
+        }
+        for (&variable, &entry) in &self.tableau.rows[&violated.variable] {
+            let size = entry.times_multiple(common).abs();
+            match way_needed(violated.way, entry) {
+                Some(Way::Up) => multipliers.upper[variable] = size,
+                Some(Way::Down) => multipliers.lower[variable] = size,
+                None => {}
+            }
+        }
+        multipliers
+    }
+}
+
+/// 0 where the limits allow it, else the limit that is nearest to 0.
+fn start_value(limits: &Limits) -> i128 {
+    match (limits.lower, limits.upper) {
+        (Some(lower), _) if lower > 0 => lower,
+        (_, Some(upper)) if upper < 0 => upper,
+        _ => 0,
+    }
+}
+
+/// Which way a nonbasic variable with this entry moves a basic one that way.
+fn way_needed(basic: Way, entry: Fraction) -> Option<Way> {
+    match (basic, entry.sign()) {
+        (_, 0) => None,
+        (Way::Up, 1) | (Way::Down, -1) => Some(Way::Up),
+        _ => Some(Way::Down),
+    }
+}

@@ -1,0 +1,135 @@
+//! Each refusal of the limit solver and the checker, beside the nearest words
+//! that pass.
+
+use problems::draft::{at_least, at_most, between, Draft, FREE};
+use reference::{check, solve};
+
+/// What the solver returns. Refused, it keeps the output; answered, it writes
+/// a verdict. The checker refuses the same words by the same number.
+fn returned(words: &[i32]) -> u32 {
+    let mut out = [-5; 60];
+    let number = solve(words, &mut out);
+    if number == 0 {
+        assert!((1..=3).contains(&out[0]));
+        assert!(check(words, &out) >= 8);
+    } else {
+        assert_eq!(out, [-5; 60]);
+        assert_eq!(check(words, &out), number);
+    }
+    number
+}
+
+/// n variables and m rows without limits.
+fn free(n: usize, m: usize) -> Vec<i32> {
+    Draft { n, rows: vec![vec![1; n]; m], limits: vec![FREE; n + m] }.words()
+}
+
+fn one_row(coefficient: i32, own: [i32; 3], of_row: [i32; 3]) -> u32 {
+    returned(&Draft::new(1, &[&[coefficient]], &[own, of_row]).words())
+}
+
+#[test]
+fn fewer_than_two_words() {
+    assert_eq!(returned(&[]), 1);
+    assert_eq!(returned(&[1]), 1);
+    assert_eq!(returned(&[i32::MAX]), 1);
+    assert_eq!(returned(&[1, 0]), 3);
+}
+
+#[test]
+fn sizes() {
+    for (n, m) in [(1, 0), (1, 16), (8, 0), (8, 16)] {
+        assert_eq!(returned(&free(n, m)), 0);
+    }
+    for (n, m) in [(9, 0), (1, 17), (9, 17)] {
+        assert_eq!(returned(&free(n, m)), 2);
+    }
+    for start in [[0, 0], [-1, 0], [1, -1], [9, 16], [8, 17], [i32::MIN, 0], [1, i32::MAX]] {
+        assert_eq!(returned(&start), 2);
+    }
+}
+
+#[test]
+fn length() {
+    let mut words = free(8, 16);
+    assert_eq!(words.len(), 202);
+    words.push(0);
+    assert_eq!(returned(&words), 3);
+    words.truncate(201);
+    assert_eq!(returned(&words), 3);
+}
+
+#[test]
+fn coefficients() {
+    for passes in [1_000, -1_000] {
+        assert_eq!(one_row(passes, FREE, FREE), 0);
+    }
+    for refused in [1_001, -1_001, i32::MIN, i32::MAX] {
+        assert_eq!(one_row(refused, FREE, FREE), 4);
+    }
+    let mut last = free(8, 16);
+    last[2 + 8 * 16 - 1] = 1_001;
+    assert_eq!(returned(&last), 4);
+    last[2 + 8 * 16 - 1] = 1_000;
+    assert_eq!(returned(&last), 0);
+}
+
+#[test]
+fn kinds() {
+    for kind in 0..=3 {
+        assert_eq!(one_row(1, [kind, 0, 0], [kind, 0, 0]), 0);
+    }
+    for kind in [-1, 4, 7, i32::MIN, i32::MAX] {
+        assert_eq!(one_row(1, [kind, 0, 0], FREE), 5);
+        assert_eq!(one_row(1, FREE, [kind, 0, 0]), 5);
+    }
+}
+
+#[test]
+fn limits() {
+    for number in [30_000, -30_000] {
+        assert_eq!(one_row(1, at_least(number), FREE), 0);
+        assert_eq!(one_row(1, FREE, at_most(number)), 0);
+        assert_eq!(one_row(1, FREE, between(number, number)), 0);
+    }
+    for number in [30_001, -30_001, i32::MIN, i32::MAX] {
+        assert_eq!(one_row(1, at_least(number), FREE), 6);
+        assert_eq!(one_row(1, FREE, at_most(number)), 6);
+        assert_eq!(one_row(1, FREE, between(0, number)), 6);
+        assert_eq!(one_row(1, FREE, between(number, 0)), 6);
+    }
+}
+
+#[test]
+fn a_missing_limit_has_the_word_zero() {
+    for word in [5, -1, 30_001] {
+        assert_eq!(one_row(1, [1, 3, word], FREE), 6);
+        assert_eq!(one_row(1, [2, word, 3], FREE), 6);
+        assert_eq!(one_row(1, FREE, [0, word, 0]), 6);
+        assert_eq!(one_row(1, FREE, [0, 0, word]), 6);
+    }
+    assert_eq!(one_row(1, [1, 3, 0], [2, 0, 3]), 0);
+}
+
+#[test]
+fn an_earlier_refusal_wins_wherever_it_stands() {
+    assert_eq!(one_row(1_001, [7, 0, 0], FREE), 4);
+    assert_eq!(one_row(1, [1, 30_001, 0], [7, 0, 0]), 5);
+    assert_eq!(returned(&[9, 0, 0]), 2);
+    assert_eq!(returned(&[1, 1, 1_001]), 3);
+}
+
+#[test]
+fn a_short_output_is_refused_last_and_kept() {
+    let words = free(2, 1);
+    for length in 0..9 {
+        let mut out = vec![4; length];
+        assert_eq!(solve(&words, &mut out), 7);
+        assert_eq!(out, vec![4; length]);
+        assert_eq!(check(&words, &out), 7);
+    }
+    assert_eq!(solve(&words, &mut [0; 9]), 0);
+    assert_eq!(check(&words, &[1, 0, 1, 0, 0, 0, 0, 0, 0]), 8);
+    assert_eq!(solve(&[1, 0, 0, 1, 0], &mut []), 6);
+    assert_eq!(check(&[1, 0, 0, 1, 0], &[]), 6);
+}

@@ -1,0 +1,111 @@
+/*
+ * Serves the three functions of the archive over standard input and output,
+ * for a machine that cannot link the archive and can run this program under
+ * an emulator.
+ *
+ * A request is four numbers of 64 bits: the function (0 solve, 1 check,
+ * 2 times), how many 32-bit words there are to read, how many 64-bit words
+ * the output (of check: the answer) has, and 0. Then come those words. The
+ * reply is one number of 64 bits, what the function returned, and all words
+ * of the output. Numbers are little-endian, as the machine's own.
+ *
+ * Both slices lie between guard words. A function that changes a guard, or a
+ * word that it was lent to read, ends the program with a message.
+ */
+#include "../../include/scatterflock.h"
+
+#include <stdio.h>
+#include <stdlib.h>
+#include <string.h>
+
+#define GUARD 4
+#define MOST_WORDS (1 << 20)
+
+static const int32_t WORD_GUARD = -1431655766;
+static const int64_t OUT_GUARD = -6148914691236517206;
+
+static int32_t words[MOST_WORDS + 2 * GUARD], words_before[MOST_WORDS];
+static int64_t out[MOST_WORDS + 2 * GUARD], out_before[MOST_WORDS];
+
+static void stop(const char *what)
+{
+    fprintf(stderr, "served: %s\n", what);
+    exit(1);
+}
+
+static void take(void *to, size_t size)
+{
+    if (size != 0 && fread(to, size, 1, stdin) != 1)
+        stop("a request ends early");
+}
+
+static void give(const void *from, size_t size)
+{
+    if (size != 0 && fwrite(from, size, 1, stdout) != 1)
+        stop("a reply cannot be written");
+}
+
+static void put_guards(size_t word_count, size_t out_count)
+{
+    for (size_t place = 0; place < GUARD; place++) {
+        words[place] = words[GUARD + word_count + place] = WORD_GUARD;
+        out[place] = out[GUARD + out_count + place] = OUT_GUARD;
+    }
+}
+
+static void look_at_guards(size_t word_count, size_t out_count)
+{
+    for (size_t place = 0; place < GUARD; place++) {
+        if (words[place] != WORD_GUARD || words[GUARD + word_count + place] != WORD_GUARD)
+            stop("words beside those to read have changed");
+        if (out[place] != OUT_GUARD || out[GUARD + out_count + place] != OUT_GUARD)
+            stop("words beside the output have changed");
+    }
+}
+
+static uint64_t answer(uint64_t function, size_t word_count, size_t out_count)
+{
+    const int32_t *read = words + GUARD;
+    int64_t *lent = out + GUARD;
+
+    switch (function) {
+    case 0:
+        return scatterflock_solve(read, word_count, lent, out_count);
+    case 1:
+        return scatterflock_check(read, word_count, lent, out_count);
+    case 2:
+        return scatterflock_times(read, word_count, lent, out_count);
+    }
+    stop("there is no such function");
+    return 0;
+}
+
+int main(void)
+{
+    uint64_t request[4];
+
+    while (fread(request, sizeof request, 1, stdin) == 1) {
+        uint64_t number, word_count = request[1], out_count = request[2];
+
+        if (word_count > MOST_WORDS || out_count > MOST_WORDS)
+            stop("a request is too long");
+        put_guards(word_count, out_count);
+        take(words + GUARD, word_count * sizeof *words);
+        take(out + GUARD, out_count * sizeof *out);
+        memcpy(words_before, words + GUARD, word_count * sizeof *words);
+        memcpy(out_before, out + GUARD, out_count * sizeof *out);
+
+        number = answer(request[0], word_count, out_count);
+
+        look_at_guards(word_count, out_count);
+        if (memcmp(words_before, words + GUARD, word_count * sizeof *words) != 0)
+            stop("words that were lent to read have changed");
+        if (request[0] == 1 && memcmp(out_before, out + GUARD, out_count * sizeof *out) != 0)
+            stop("an answer that was lent to read has changed");
+        give(&number, sizeof number);
+        give(out + GUARD, out_count * sizeof *out);
+        if (fflush(stdout) != 0)
+            stop("a reply cannot be written");
+    }
+    return 0;
+}

@@ -1,0 +1,170 @@
+//! Limit problems: answers, their words and their judgement.
+
+use crate::raw;
+use crate::refusal::Refusal;
+use std::fmt;
+
+/// The most words that an answer has: 3, and 2 for each of 24 variables.
+const LONGEST_ANSWER: usize = 51;
+
+/// The answer to a limit problem.
+#[derive(Debug, Clone, PartialEq, Eq, Hash)]
+pub struct Answer {
+    /// How many pivots the run completed.
+    pub pivots: u64,
+    /// How it ended.
+    pub verdict: Verdict,
+}
+
+/// How a run ended. Lists go by variable: the problem's own first, then one
+/// for each row.
+#[derive(Debug, Clone, PartialEq, Eq, Hash)]
+pub enum Verdict {
+    /// All limits hold at these values: each numerator over `over`.
+    Can {
+        /// The denominator of every value, above 0.
+        over: i64,
+        /// The numerator of each variable's value.
+        numerators: Vec<i64>,
+    },
+    /// No values meet all limits: the limits, each so many times, contradict
+    /// each other.
+    Cannot {
+        /// How many times each lower limit counts.
+        lower: Vec<i64>,
+        /// How many times each upper limit counts.
+        upper: Vec<i64>,
+    },
+    /// The run came to a number beyond 2,147,483,647 and says nothing more.
+    OutOfRange,
+}
+
+/// What the checker says of an answer that is long enough.
+#[derive(Debug, Clone, Copy, PartialEq, Eq, Hash)]
+pub enum Judgement {
+    /// The answer is right, whoever gave it.
+    Accepted,
+    /// The answer shows nothing.
+    Rejected,
+}
+
+/// Answers the limit problem of these words.
+///
+/// ```
+/// use scatterflock::{solve, Verdict};
+///
+/// // x and y are at least 2, and their sum is at most 3
+/// let words = [2, 1, 1, 1, 1, 2, 0, 1, 2, 0, 2, 0, 3];
+/// let answer = solve(&words)?;
+/// let expected = Verdict::Cannot { lower: vec![1, 1, 0], upper: vec![0, 0, 1] };
+/// assert_eq!(answer.verdict, expected);
+/// assert_eq!(
+///     answer.to_string(),
+///     "cannot, after 0 pivots: 1 x lower 0, 1 x lower 1, 1 x upper 2"
+/// );
+/// # Ok::<(), scatterflock::Refusal>(())
+/// ```
+pub fn solve(words: &[i32]) -> Result<Answer, Refusal> {
+    let mut out = [0; LONGEST_ANSWER];
+    match raw::solve(words, &mut out) {
+        0 => {
+            let variables = (words[0] + words[1]) as usize;
+            Ok(Answer::read(&out[..3 + 2 * variables]))
+        }
+        number => Err(Refusal::of(number).expect("solve returns 0 to 7")),
+    }
+}
+
+/// Checks an answer's words, anybody's, against the problem's.
+///
+/// ```
+/// use scatterflock::{check, Judgement, Refusal};
+///
+/// // x is at least 5: 6 over 1 will do, 4 over 1 will not
+/// let words = [1, 0, 1, 5, 0];
+/// assert_eq!(check(&words, &[1, 0, 1, 6, 0]), Ok(Judgement::Accepted));
+/// assert_eq!(check(&words, &[1, 0, 1, 4, 0]), Ok(Judgement::Rejected));
+/// assert_eq!(check(&words, &[]), Err(Refusal::Short));
+/// ```
+pub fn check(words: &[i32], answer: &[i64]) -> Result<Judgement, Refusal> {
+    match raw::check(words, answer) {
+        8 => Ok(Judgement::Accepted),
+        9 => Ok(Judgement::Rejected),
+        number => Err(Refusal::of(number).expect("check returns 1 to 9")),
+    }
+}
+
+impl Answer {
+    /// The answer that exactly these words give.
+    fn read(words: &[i64]) -> Answer {
+        let (first, second) = words[3..].split_at((words.len() - 3) / 2);
+        let verdict = match words[0] {
+            1 => Verdict::Can { over: words[2], numerators: first.to_vec() },
+            2 => Verdict::Cannot { lower: first.to_vec(), upper: second.to_vec() },
+            _ => Verdict::OutOfRange,
+        };
+        Answer { pivots: words[1] as u64, verdict }
+    }
+
+    /// The words of the answer, as [`check`] takes them. An answer that is out
+    /// of range is evidence of nothing.
+    pub fn evidence(&self) -> Option<Vec<i64>> {
+        let pivots = self.pivots as i64;
+        match &self.verdict {
+            Verdict::Can { over, numerators } => {
+                Some([&[1, pivots, *over], &numerators[..], &vec![0; numerators.len()]].concat())
+            }
+            Verdict::Cannot { lower, upper } => {
+                Some([&[2, pivots, 0], &lower[..], &upper[..]].concat())
+            }
+            Verdict::OutOfRange => None,
+        }
+    }
+}
+
+impl Verdict {
+    /// The number in docs/RULES.md, 1 to 3.
+    pub fn number(&self) -> i64 {
+        match self {
+            Verdict::Can { .. } => 1,
+            Verdict::Cannot { .. } => 2,
+            Verdict::OutOfRange => 3,
+        }
+    }
+}
+
+/// One line in plain words.
+impl fmt::Display for Answer {
+    fn fmt(&self, to: &mut fmt::Formatter) -> fmt::Result {
+        let pivots = self.pivots;
+        match &self.verdict {
+            Verdict::Can { over, numerators } => {
+                let values: Vec<String> =
+                    numerators.iter().map(|number| format!("{number}/{over}")).collect();
+                write!(to, "can, after {pivots} pivots: {}", values.join(", "))
+            }
+            Verdict::Cannot { lower, upper } => {
+                write!(to, "cannot, after {pivots} pivots: {}", counted(lower, upper).join(", "))
+            }
+            Verdict::OutOfRange => write!(to, "out of range, after {pivots} pivots"),
+        }
+    }
+}
+
+/// Each limit that counts, by variable, the lower one first.
+fn counted(lower: &[i64], upper: &[i64]) -> Vec<String> {
+    let both = lower.iter().zip(upper).enumerate();
+    both.flat_map(|(v, (lower, upper))| [(lower, "lower", v), (upper, "upper", v)])
+        .filter(|(times, _, _)| **times != 0)
+        .map(|(times, side, v)| format!("{times} x {side} {v}"))
+        .collect()
+}
+
+impl fmt::Display for Judgement {
+    fn fmt(&self, to: &mut fmt::Formatter) -> fmt::Result {
+        to.write_str(match self {
+            Judgement::Accepted => "accepted",
+            Judgement::Rejected => "not accepted",
+        })
+    }
+}

@@ -1,0 +1,140 @@
+//! Why words are refused, by number and in words.
+
+use std::error::Error;
+use std::fmt;
+
+/// Why a limit problem, or an answer to it, is refused.
+///
+/// ```
+/// use scatterflock::{solve, Refusal};
+///
+/// let refusal = solve(&[9, 0]).unwrap_err();
+/// assert_eq!(refusal, Refusal::Sizes);
+/// assert_eq!(refusal.number(), 2);
+/// assert_eq!(refusal.to_string(), "there must be 1 to 8 variables and 0 to 16 rows");
+/// ```
+#[derive(Debug, Clone, Copy, PartialEq, Eq, Hash)]
+pub enum Refusal {
+    /// 1: there are not even n and m.
+    FewWords,
+    /// 2: n or m is out of its range.
+    Sizes,
+    /// 3: n and m ask for another number of words.
+    Length,
+    /// 4: a coefficient is out of its range.
+    Coefficient,
+    /// 5: a kind is out of its range.
+    Kind,
+    /// 6: a limit is out of its range, or a missing one has a number.
+    Limit,
+    /// 7: the output, or the answer to check, has too few words.
+    Short,
+}
+
+impl Refusal {
+    /// Every refusal, by number.
+    pub const ALL: [Refusal; 7] = [
+        Refusal::FewWords,
+        Refusal::Sizes,
+        Refusal::Length,
+        Refusal::Coefficient,
+        Refusal::Kind,
+        Refusal::Limit,
+        Refusal::Short,
+    ];
+
+    /// The number in docs/RULES.md, 1 to 7.
+    pub fn number(self) -> u32 {
+        self as u32 + 1
+    }
+
+    /// The refusal of this number.
+    pub fn of(number: u32) -> Option<Refusal> {
+        Refusal::ALL.into_iter().find(|refusal| refusal.number() == number)
+    }
+}
+
+impl fmt::Display for Refusal {
+    fn fmt(&self, to: &mut fmt::Formatter) -> fmt::Result {
+        to.write_str(match self {
+            Refusal::FewWords => "the words end before both sizes are told",
+            Refusal::Sizes => "there must be 1 to 8 variables and 0 to 16 rows",
+            Refusal::Length => "the sizes ask for another number of words",
+            Refusal::Coefficient => "a coefficient is not from -1,000 to 1,000",
+            Refusal::Kind => "a kind of limit is not from 0 to 3",
+            Refusal::Limit => {
+                "a limit is not from -30,000 to 30,000, or a missing one is not written as 0"
+            }
+            Refusal::Short => "there is no room for a whole answer",
+        })
+    }
+}
+
+impl Error for Refusal {}
+
+/// Why time rows are refused.
+///
+/// ```
+/// use scatterflock::{times, TimesRefusal};
+///
+/// let refusal = times(&[1, 1, 0, 1, 0, 0]).unwrap_err();
+/// assert_eq!(refusal, TimesRefusal::Vertex);
+/// assert_eq!(refusal.number(), 14);
+/// assert_eq!(refusal.to_string(), "a row names a vertex that there is not");
+/// ```
+#[derive(Debug, Clone, Copy, PartialEq, Eq, Hash)]
+pub enum TimesRefusal {
+    /// 11: there are not even n and m.
+    FewWords,
+    /// 12: n or m is out of its range.
+    Sizes,
+    /// 13: m asks for another number of words.
+    Length,
+    /// 14: a vertex is not one of the n.
+    Vertex,
+    /// 15: a strict word is neither 0 nor 1.
+    Strict,
+    /// 16: a row's number is out of its range.
+    Bound,
+    /// 17: the output has too few words.
+    Short,
+}
+
+impl TimesRefusal {
+    /// Every refusal, by number.
+    pub const ALL: [TimesRefusal; 7] = [
+        TimesRefusal::FewWords,
+        TimesRefusal::Sizes,
+        TimesRefusal::Length,
+        TimesRefusal::Vertex,
+        TimesRefusal::Strict,
+        TimesRefusal::Bound,
+        TimesRefusal::Short,
+    ];
+
+    /// The number in docs/RULES.md, 11 to 17.
+    pub fn number(self) -> u32 {
+        self as u32 + 11
+    }
+
+    /// The refusal of this number.
+    pub fn of(number: u32) -> Option<TimesRefusal> {
+        TimesRefusal::ALL.into_iter().find(|refusal| refusal.number() == number)
+    }
+}
+
+impl fmt::Display for TimesRefusal {
+    fn fmt(&self, to: &mut fmt::Formatter) -> fmt::Result {
+        to.write_str(match self {
+            TimesRefusal::FewWords => "the words end before both sizes are told",
+            TimesRefusal::Sizes => "there must be 1 to 64 vertices and 0 to 256 rows",
+            TimesRefusal::Length => "the sizes ask for another number of words",
+            TimesRefusal::Vertex => "a row names a vertex that there is not",
+            TimesRefusal::Strict => "a row is neither marked strict by 1 nor not strict by 0",
+            TimesRefusal::Bound => "a row's number is not from -30,000 to 30,000",
+            TimesRefusal::Short => "there is no room for a whole answer",
+        })
+    }
+}
+
+impl Error for TimesRefusal {}

@@ -1,0 +1,75 @@
+//! The definitions against `reference`, on random problems of every family.
+
+use crate::evidence::checked;
+use crate::problem::refusal;
+use crate::run::answer;
+use problems::evidence::bent;
+use problems::limits::Family;
+use problems::random::Random;
+use std::collections::BTreeMap;
+
+/// How many problems had each refusal or verdict, and how many right and bent
+/// answers the checker met with each number.
+#[derive(Debug, Default)]
+pub struct Shares {
+    pub outcomes: BTreeMap<String, u64>,
+    pub checks: BTreeMap<u32, u64>,
+}
+
+/// Compares every word of so many problems. A difference is an error that
+/// says how to make the problem again.
+pub fn compare(seed: u64, problems: u64) -> Result<Shares, String> {
+    let mut shares = Shares::default();
+    for problem in 0..problems {
+        let mut random = Random::of_problem(seed, problem);
+        let family = Family::ALL[problem as usize % Family::ALL.len()];
+        let words = family.words(&mut random);
+        compare_one(&mut random, &words, &mut shares).map_err(|what| {
+            format!("{what} differs: SEED={seed}, problem {problem} ({family:?}): {words:?}")
+        })?;
+    }
+    Ok(shares)
+}
+
+fn compare_one(random: &mut Random, words: &[i32], shares: &mut Shares) -> Result<(), String> {
+    let wide: Vec<i128> = words.iter().map(|&word| i128::from(word)).collect();
+    let length = if random.percent(95) { 51 } else { random.size(0, 51) };
+    let mut out = vec![-1; length];
+    let number = reference::solve(words, &mut out);
+    same("the refusal", refusal(&wide, length), number)?;
+    if number != 0 {
+        *shares.outcomes.entry(format!("refused {number}")).or_default() += 1;
+        return compare_check(words, &wide, &out, shares);
+    }
+    let verdict = ["can", "cannot", "range"][out[0] as usize - 1];
+    *shares.outcomes.entry(verdict.to_string()).or_default() += 1;
+    let expected = answer(&wide);
+    let written: Vec<i128> = out.iter().map(|&word| i128::from(word)).collect();
+    same("the answer", &expected[..], &written[..expected.len()])?;
+    compare_check(words, &wide, &out, shares)?;
+    for _ in 0..3 {
+        let bent = bent(random, words, &out[..expected.len()]);
+        compare_check(words, &wide, &bent, shares)?;
+    }
+    Ok(())
+}
+
+fn compare_check(
+    words: &[i32],
+    wide: &[i128],
+    answer: &[i64],
+    shares: &mut Shares,
+) -> Result<(), String> {
+    let wide_answer: Vec<i128> = answer.iter().map(|&word| i128::from(word)).collect();
+    let number = reference::check(words, answer);
+    *shares.checks.entry(number).or_default() += 1;
+    same("the check", checked(wide, &wide_answer), number)
+}
+
+fn same<T: PartialEq + std::fmt::Debug>(what: &str, one: T, other: T) -> Result<(), String> {
+    if one == other {
+        Ok(())
+    } else {
+        Err(format!("{what}, {one:?} and {other:?},"))
+    }
+}

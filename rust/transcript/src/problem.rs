@@ -1,0 +1,154 @@
+//! The limit problem as words, its refusals in order, and what the words mean.
+
+use crate::base::{some_below, within};
+
+pub const MAX_N: i128 = 8;
+pub const MAX_M: i128 = 16;
+pub const MAX_COEFFICIENT: u128 = 1_000;
+pub const MAX_LIMIT: u128 = 30_000;
+
+/// Word i; a word that is not there is 0.
+pub fn word(ws: &[i128], i: usize) -> i128 {
+    ws.get(i).copied().unwrap_or(0)
+}
+
+fn nat_abs(z: i128) -> usize {
+    z.unsigned_abs() as usize
+}
+
+pub fn n_of(ws: &[i128]) -> usize {
+    nat_abs(word(ws, 0))
+}
+
+pub fn m_of(ws: &[i128]) -> usize {
+    nat_abs(word(ws, 1))
+}
+
+/// All variables: the problem's, then one for each row.
+pub fn vars_of(ws: &[i128]) -> usize {
+    n_of(ws) + m_of(ws)
+}
+
+pub fn kind_place(ws: &[i128], v: usize) -> usize {
+    2 + m_of(ws) * n_of(ws) + 3 * v
+}
+
+pub fn kind(ws: &[i128], v: usize) -> i128 {
+    word(ws, kind_place(ws, v))
+}
+
+pub fn lower_word(ws: &[i128], v: usize) -> i128 {
+    word(ws, kind_place(ws, v) + 1)
+}
+
+pub fn upper_word(ws: &[i128], v: usize) -> i128 {
+    word(ws, kind_place(ws, v) + 2)
+}
+
+pub fn has_lower(k: i128) -> bool {
+    k == 1 || k == 3
+}
+
+pub fn has_upper(k: i128) -> bool {
+    k == 2 || k == 3
+}
+
+pub fn outside(z: i128, lo: i128, hi: i128) -> bool {
+    z < lo || hi < z
+}
+
+pub fn bad_limit_word(present: bool, z: i128) -> bool {
+    if present {
+        !within(MAX_LIMIT, z)
+    } else {
+        z != 0
+    }
+}
+
+pub fn too_few(ws: &[i128]) -> bool {
+    ws.len() < 2
+}
+
+pub fn bad_size(ws: &[i128]) -> bool {
+    outside(word(ws, 0), 1, MAX_N) || outside(word(ws, 1), 0, MAX_M)
+}
+
+pub fn bad_length(ws: &[i128]) -> bool {
+    ws.len() != 2 + m_of(ws) * n_of(ws) + 3 * vars_of(ws)
+}
+
+pub fn bad_coefficient(ws: &[i128]) -> bool {
+    some_below(m_of(ws) * n_of(ws), |i| !within(MAX_COEFFICIENT, word(ws, 2 + i)))
+}
+
+pub fn bad_kind(ws: &[i128]) -> bool {
+    some_below(vars_of(ws), |v| outside(kind(ws, v), 0, 3))
+}
+
+pub fn bad_limit(ws: &[i128]) -> bool {
+    some_below(vars_of(ws), |v| {
+        bad_limit_word(has_lower(kind(ws, v)), lower_word(ws, v))
+            || bad_limit_word(has_upper(kind(ws, v)), upper_word(ws, v))
+    })
+}
+
+pub fn too_short(ws: &[i128], out: usize) -> bool {
+    out < 3 + 2 * vars_of(ws)
+}
+
+/// A test that is only run when no earlier one applied, and its number.
+pub type Test<'a> = (Box<dyn Fn() -> bool + 'a>, u32);
+
+/// The number beside the first test that applies, or 0.
+pub fn first(tests: &[Test]) -> u32 {
+    tests.iter().find(|(applies, _)| applies()).map_or(0, |(_, number)| *number)
+}
+
+/// Refusals 1 to 6: the problem alone.
+pub fn problem_tests(ws: &[i128]) -> Vec<Test<'_>> {
+    vec![
+        (Box::new(|| too_few(ws)), 1),
+        (Box::new(|| bad_size(ws)), 2),
+        (Box::new(|| bad_length(ws)), 3),
+        (Box::new(|| bad_coefficient(ws)), 4),
+        (Box::new(|| bad_kind(ws)), 5),
+        (Box::new(|| bad_limit(ws)), 6),
+    ]
+}
+
+pub fn refusal(ws: &[i128], out: usize) -> u32 {
+    let mut tests = problem_tests(ws);
+    tests.push((Box::new(|| too_short(ws, out)), 7));
+    first(&tests)
+}
+
+/// What the words mean. Limits are values of X.
+pub struct Problem<'a, X> {
+    pub n: usize,
+    pub m: usize,
+    pub coefficient: Box<dyn Fn(usize, usize) -> i128 + 'a>,
+    pub lower: Box<dyn Fn(usize) -> Option<X> + 'a>,
+    pub upper: Box<dyn Fn(usize) -> Option<X> + 'a>,
+}
+
+pub fn vars<X>(p: &Problem<X>) -> usize {
+    p.n + p.m
+}
+
+pub fn present(is: bool, z: i128) -> Option<i128> {
+    if is {
+        Some(z)
+    } else {
+        None
+    }
+}
+
+pub fn problem(ws: &[i128]) -> Problem<'_, i128> {
+    Problem {
+        n: n_of(ws),
+        m: m_of(ws),
+        coefficient: Box::new(|i, j| word(ws, 2 + (i * n_of(ws) + j))),
+        lower: Box::new(|v| present(has_lower(kind(ws, v)), lower_word(ws, v))),
+        upper: Box::new(|v| present(has_upper(kind(ws, v)), upper_word(ws, v))),
+    }
+}
