@@ -4,4 +4,5 @@ pub mod Sides
 pub mod Choices
 pub mod Rows
 pub mod Searches
+pub mod Seen
 pub mod Only

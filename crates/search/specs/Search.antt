@@ -1,7 +1,7 @@
 -- The search for the next pivot, by place: docs/RULES.md, "The run", over the struct. Both searches go by the variables' numbers.
 use mathlib.Core.Path.{_≡_}
 use mathlib.Core.Bool.{Bool, true, false, cond}
-use mathlib.Core.List.{List}
+use mathlib.Core.List.{List, []}
 use mathlib.Core.Option.{Option, none, some}
 use Prim.Native.Nat.{ℕ, _+_, _≤_, _<_}
 use lib.IntN.{ℤ, pos, _*ℤ_}
@@ -12,6 +12,8 @@ use Rattle.whole.specs.Sums.{sum}
 use Rattle.whole.specs.Values.{whole}
 use Rattle.rules.specs.Sizes.{mostColumns, mostRows, largestLimit}
 use Rattle.rules.specs.Step.{Side, Leaving, leaves, pull, suits}
+use Rattle.tableau.specs.declared.Limits.{Limits}
+use Rattle.tableau.specs.declared.Seat.{Seat}
 use Rattle.tableau.specs.declared.Tableau.{Tableau}
 use Rattle.tableau.specs.Layout.{flat}
 use Rattle.tableau.specs.Parts.{cellAt, valueAt, seatAt, rowOf, columnOf, lowerOf, upperOf}
@@ -79,6 +81,20 @@ nextBy t (some r) = moveBy t r (enteringAt t (rowOf t (r .variable)) (r .side))
 unfoldable pub nextAt : Tableau → Next
 nextAt t = nextBy t (leavingAt t)
 
+-- the tableau as the search reads it: which variable is at which place is not asked
+abbrev pub seen : List ℤ → List ℤ → List Seat → Limits → ℤ → ℕ → ℕ → Tableau
+seen entries values seats limits common rows columns = record {
+  rows = rows;
+  columns = columns;
+  common = common;
+  entries = entries;
+  basic = [];
+  nonbasic = [];
+  values = values;
+  seats = seats;
+  limits = limits;
+}
+
 -- what the search needs: sizes, ranges, and that seats are places
 pub record Searchable (t : Tableau) : Type 0 where
   pub few-rows : t .rows ≤ mostRows
@@ -88,4 +104,4 @@ pub record Searchable (t : Tableau) : Type 0 where
   pub lowers-within : (v : ℕ) → Within (getD (t .limits .lower) v (pos 0)) largestLimit
   pub uppers-within : (v : ℕ) → Within (getD (t .limits .upper) v (pos 0)) largestLimit
   pub row-seats : (v : ℕ) → v < t .rows + t .columns → seatAt t v .basic ≡ true → rowOf t v < mostRows
-  pub column-seats : (v : ℕ) → v < t .rows + t .columns → seatAt t v .basic ≡ false → columnOf t v < mostColumns
+  pub column-seats : (v : ℕ) → v < t .rows + t .columns → seatAt t v .basic ≡ false → columnOf t v < t .columns

@@ -6,9 +6,10 @@ ghost use lib.IntN.{ℤ, pos};
 ghost use lib.ListN.{getD};
 ghost use Rattle.whole.specs.Numbers.{Within};
 ghost use Rattle.rules.specs.Sizes.{mostColumns, mostRows, largestNumber, largestLimit};
-ghost use Rattle.search.specs.Search.{rowSum, movesAt, Searchable, nextAt};
+ghost use Rattle.search.specs.Search.{rowSum, movesAt, Searchable, seen, nextAt};
 use sides::LimitPair;
 use tableau::ColumnPlace;
+use tableau::Limits;
 use tableau::RowPlace;
 use tableau::Seat;
 use tableau::Tableau;
@@ -62,12 +63,13 @@ pub fn row_value<'a>(
 fn can_move<'a>(
     entries: &'a [i64; Tableau::MOST_ENTRIES],
     values: &'a [i64; Tableau::MOST_COLUMNS],
+    columns: usize,
     row: RowPlace,
     column: ColumnPlace,
     rises: bool,
     limits: LimitPair,
 ) -> bool
-    requires { ⌜ (row .0 < mostRows) × (column .0 < mostColumns) ⌝ }
+    requires { ⌜ (columns ≤ mostColumns) × (row .0 < mostRows) × (column .0 < columns) ⌝ }
     ensures { λ r. ⌜ r ≡ movesAt (now (entries .entry)) (now (values .entry)) (row .0) (column .0) rises limits ⌝ }
 {
     let k = layout::place(row, column);
@@ -79,26 +81,31 @@ fn can_move<'a>(
 
 // The search runs over the basic variables, and for the first one outside its limits over the nonbasic ones, both in order
 // of their numbers.
-pub fn next_step(t: Tableau) -> Next
-    requires { ⌜ Searchable t ⌝ }
-    ensures { λ r. ⌜ r ≡ nextAt t ⌝ }
+pub fn next_step<'a>(
+    entries: &'a [i64; Tableau::MOST_ENTRIES],
+    values: &'a [i64; Tableau::MOST_COLUMNS],
+    seats: [Seat; Tableau::MOST_VARIABLES],
+    limits: Limits,
+    common: i64,
+    rows: usize,
+    columns: usize,
+) -> Next
+    requires { ⌜ Searchable (seen (now entries) (now values) seats limits common rows columns) ⌝ }
+    ensures { λ r. ⌜ r ≡ nextAt (seen (now (entries .entry)) (now (values .entry)) seats limits common rows columns) ⌝ }
 {
-    let end = t.rows + t.columns;
-    let columns = t.columns;
-    let common = t.common;
-    let limits = t.limits;
+    let end = rows + columns;
     let mut v = 0usize;
     let found = 'search: loop {
         if v >= end {
             break 'search Next::Within;
         }
-        let seat = t.seats[v];
+        let seat = seats[v];
         if !seat.basic {
             v += 1;
             continue 'search;
         }
         let row = seat.row;
-        let value = row_value(&t.entries, &t.values, columns, row);
+        let value = row_value(entries, values, columns, row);
         let own = sides::limits_of(
             &limits.lowers,
             &limits.lower,
@@ -114,7 +121,7 @@ pub fn next_step(t: Tableau) -> Next
         let rises = outside.rises;
         let mut w = 0usize;
         while w < end {
-            let other = t.seats[w];
+            let other = seats[w];
             if other.basic {
                 w += 1;
                 continue;
@@ -127,7 +134,7 @@ pub fn next_step(t: Tableau) -> Next
                 &limits.upper,
                 w,
             );
-            if can_move(&t.entries, &t.values, row, column, rises, its) {
+            if can_move(entries, values, columns, row, column, rises, its) {
                 break 'search Next::Pivot(Choice { row, column, rises });
             }
             w += 1;

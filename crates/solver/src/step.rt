@@ -60,7 +60,18 @@ pub fn step(t: Tableau) -> Stepped
     requires { ⌜ Held t ⌝ }
     ensures { λ r. ⌜ r ≡ steppedAt t ⌝ }
 {
-    let next = search::next_step(t);
+    let seats = t.seats;
+    let limits = t.limits;
+    let common = t.common;
+    let next = search::next_step(
+        &t.entries,
+        &t.values,
+        seats,
+        limits,
+        common,
+        t.rows,
+        t.columns,
+    );
     match next {
         Next::Within => Stepped {
             outcome: Outcome::Ended(End::Can),

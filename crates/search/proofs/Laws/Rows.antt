@@ -14,7 +14,7 @@ use Rattle.whole.proofs.Bools.{true-false}
 use Rattle.whole.proofs.Places.{sum-places}
 use Rattle.whole.proofs.Sums.{sum-same}
 use Rattle.rules.specs.Problem.{Problem, vars}
-use Rattle.rules.specs.Sizes.{mostColumns, mostRows}
+use Rattle.rules.specs.Sizes.{mostRows}
 use Rattle.rules.specs.Step.{State, scaled, seat, seated}
 use Rattle.rules.specs.Tableau.{entry}
 use Rattle.rules.proofs.Sound.{Rowed}
@@ -77,7 +77,6 @@ module _ (P : Problem ℤ) (t : Tableau) (s : State ℤ) (St : Stands P t s) whe
       in-a-row v h e (some x) f = true-false e (St .placed .has-column v x h f .flag)
 
       in-a-column : (v : ℕ) → v < vars P → seatAt t v .basic ≡ false → (o : Option ℤ) → seat s v ≡ o →
-          columnOf t v < mostColumns
+          columnOf t v < t .columns
       in-a-column v h e none f = true-false (St .placed .has-row v h f .flag) e
-      in-a-column v h e (some x) f =
-          let a = St .placed .has-column v x h f .in-columns in let b = St .sized .few-columns in omega arith
+      in-a-column v h e (some x) f = rw (St .sized .columns-is) (St .placed .has-column v x h f .in-columns)

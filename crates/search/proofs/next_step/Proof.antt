@@ -9,7 +9,7 @@ use borrow.Author.Needs.{needs}
 use borrow.Author.Tests.{not-false, not-true}
 use mir.Facts.{toZ-ofZ}
 use mir.Syntax.{w64}
-use mir.Val.{SFits}
+use mir.Val.{SFits, ofZ, toZ}
 use Rattle.whole.specs.Below.{lowest}
 use Rattle.whole.proofs.Turns.{lowest-start, lowest-more, lowest-here}
 use Rattle.rules.specs.Sizes.{mostRows, mostVariables}
@@ -17,7 +17,7 @@ use Rattle.rules.specs.Step.{leaves}
 use Rattle.tableau.specs.declared.Tableau.{Tableau}
 use Rattle.tableau.specs.Parts.{seatAt, rowOf, lowerOf, upperOf}
 use Rattle.search.specs.Sides.{sideOf, asBreach, breachOf, sideBy, suitsOf}
-use Rattle.search.specs.Search.{sideAt, movesAt, fitting, brokenAt, enteringOf, leavingAt, enteringAt}
+use Rattle.search.specs.Search.{sideAt, movesAt, fitting, brokenAt, enteringOf, leavingAt, enteringAt, seen, nextAt}
 use Rattle.search.proofs.Laws.Choices.{
   no-breach,
   some-breach,
@@ -35,29 +35,42 @@ use Rattle.search.proofs.next_step.Statement.{statement}
 use Rattle.search.proofs.next_step.Tie as tie
 
 abbrev Inv-loop : tie.InvT-loop
-Inv-loop t end columns common limits v row value rises w₀ w =
-    (w ≤ end) × (lowest w (enteringOf t (row .0) (sideBy rises)) ≡ none)
+Inv-loop entries values common rows columns seats limits end v row value rises w₀ w = (w ≤ end)
+    × (lowest w (enteringOf (seen entries values seats limits (toZ w64 common) rows columns) (row .0) (sideBy rises)) ≡ none)
 
 abbrev μ-loop : tie.MeasureT-loop
-μ-loop t end columns common limits v row value rises w₀ w = end - w
+μ-loop entries values common rows columns seats limits end v row value rises w₀ w = end - w
 
 abbrev Inv-search : tie.InvT-search
-Inv-search t end columns common limits v₀ v = (v ≤ end) × (lowest v (brokenAt t) ≡ none)
+Inv-search entries values common rows columns seats limits end v₀ v =
+    (v ≤ end) × (lowest v (brokenAt (seen entries values seats limits (toZ w64 common) rows columns)) ≡ none)
 
 abbrev μ-search : tie.MeasureT-search
-μ-search t end columns common limits v₀ v = end - v
+μ-search entries values common rows columns seats limits end v₀ v = end - v
+
+-- the tableau that the search reads, its common number by its bits
+abbrev read : tie.Start Inv-loop μ-loop Inv-search μ-search → Tableau
+read s = let a = s .args in
+    seen (a .entries .now) (a .values .now) (a .t3) (a .t4) (toZ w64 (ofZ w64 (a .common))) (a .rows) (a .columns)
+
+read-is : (s : tie.Start Inv-loop μ-loop Inv-search μ-search) → let a = s .args in
+    nextAt (read s)
+    ≡ nextAt (seen (a .entries .now) (a .values .now) (a .t3) (a .t4) (a .common) (a .rows) (a .columns))
+read-is s = let a = s .args in
+    ap (λ d. nextAt (seen (a .entries .now) (a .values .now) (a .t3) (a .t4) d (a .rows) (a .columns)))
+    (toZ-ofZ (s .fits .common))
 
 add-end : tie.Need-add-end Inv-loop μ-loop Inv-search μ-search
 add-end c = omega arith
 
 search-holds : tie.Need-search-holds Inv-loop μ-loop Inv-search μ-search
-search-holds c = (omega arith, lowest-start (brokenAt (c .before .before .args .t1)))
+search-holds c = (omega arith, lowest-start (brokenAt (read c)))
 
 mul-seat : tie.Need-mul-seat Inv-loop μ-loop Inv-search μ-search
 mul-seat c = omega arith
 
-element-copy-out-seat : tie.Need-element-copy-out-seat Inv-loop μ-loop Inv-search μ-search
-element-copy-out-seat c = omega arith
+array-copy-out-seat : tie.Need-array-copy-out-seat Inv-loop μ-loop Inv-search μ-search
+array-copy-out-seat c = omega arith
 
 add-v : tie.Need-add-v Inv-loop μ-loop Inv-search μ-search
 add-v c = omega arith
@@ -69,10 +82,10 @@ search-less c = omega arith
 
 module _ (c : tie.Else1 Inv-loop μ-loop Inv-search μ-search) where
   abbrev start : tie.Start Inv-loop μ-loop Inv-search μ-search
-  start = c .before .before .before .before
+  start = c .before .before
 
   abbrev old : Tableau
-  old = start .args .t1
+  old = read start
 
   abbrev number : ℕ
   number = c .before .search .v
@@ -102,7 +115,7 @@ module _ (c : tie.Else2 Inv-loop μ-loop Inv-search μ-search) where
   row-small = start outer .pre .row-seats (number outer) (in-range outer) is-basic
 
 row-value-requires : tie.Need-row-value-requires Inv-loop μ-loop Inv-search μ-search
-row-value-requires c κs = let o = c .before .before .before .before in let s = start (outer o) in
+row-value-requires c κs = let o = c .before in let s = start (outer o) in
     ((s .pre .few-columns, row-small o), (s .pre .cells .cell-within, s .pre .values-within))
 
 limits-of-requires : tie.Need-limits-of-requires Inv-loop μ-loop Inv-search μ-search
@@ -111,17 +124,14 @@ limits-of-requires c κs = omega arith
 -- its limits
 module _ (c : tie.After-limits-of Inv-loop μ-loop Inv-search μ-search) where
   abbrev basic-one : tie.Else2 Inv-loop μ-loop Inv-search μ-search
-  basic-one = c .before .before .before .before .before .before .before .before .before .before .before
-
-  fit-common : SFits w64 (old (outer basic-one) .common)
-  fit-common = search needs
+  basic-one = c .before .before .before .before .before .before .before .before
 
   fit-value : SFits w64 (c .before .before .before .before .before .before .row-value .result)
   fit-value = search needs
 
 breach-of-requires : tie.Need-breach-of-requires Inv-loop μ-loop Inv-search μ-search
 breach-of-requires c κs = let o = outer (basic-one c) in
-    simp (toZ-ofZ (fit-common c), c .limits-of .ensures)
+    simp (toZ-ofZ (start o .fits .common), c .limits-of .ensures)
     (start o .pre .cells .common-within, start o .pre .lowers-within (number o), start o .pre .uppers-within (number o))
 
 -- .. and by which it is outside
@@ -132,7 +142,7 @@ module _ (c : tie.After-breach-of Inv-loop μ-loop Inv-search μ-search) where
   breach-is : c .breach-of .result ≡ asBreach (sideAt (old here) (number here))
   unfolding breachOf
   breach-is =
-      (simp (toZ-ofZ (fit-common (c .before)), toZ-ofZ (fit-value (c .before)), c .before .limits-of .ensures)
+      (simp (toZ-ofZ (fit-value (c .before)), c .before .limits-of .ensures)
       at (c .breach-of .ensures))
       ∙ ap (λ x. asBreach (sideOf (old here .common) x (lowerOf (old here .limits) (number here))
       (upperOf (old here .limits) (number here))))
@@ -191,8 +201,8 @@ module _ (c : tie.In-loop Inv-loop μ-loop Inv-search μ-search) where
 mul-other : tie.Need-mul-other Inv-loop μ-loop Inv-search μ-search
 mul-other c = let z = other-few c in omega arith
 
-element-copy-out-other : tie.Need-element-copy-out-other Inv-loop μ-loop Inv-search μ-search
-element-copy-out-other c = let z = other-few c in omega arith
+array-copy-out-other : tie.Need-array-copy-out-other Inv-loop μ-loop Inv-search μ-search
+array-copy-out-other c = let z = other-few c in omega arith
 
 add-w : tie.Need-add-w Inv-loop μ-loop Inv-search μ-search
 add-w c = let z = other-few (c .before .before) in omega arith
@@ -225,27 +235,27 @@ module _ (c : tie.After-limits-of2 Inv-loop μ-loop Inv-search μ-search) where
   is-free = free-one .if4 .left
 
 can-move-requires : tie.Need-can-move-requires Inv-loop μ-loop Inv-search μ-search
-can-move-requires c κs = let a = c .before .before .before in
-    (row-small (basic-one (outside (inner a) .before)), start (it a) .pre .column-seats (other (inner a)) (other-range (inner a)) (is-free a))
+can-move-requires c κs = let p = start (it c) .pre in let n = inner c in
+    (p .few-columns, row-small (basic-one (outside n .before)), p .column-seats (other n) (other-range n) (is-free c))
 
 -- whether it can move the leaving one
 module _ (c : tie.After-can-move Inv-loop μ-loop Inv-search μ-search) where
-  abbrev seen : tie.After-limits-of2 Inv-loop μ-loop Inv-search μ-search
-  seen = c .before .before .before .before
+  abbrev looked : tie.After-limits-of2 Inv-loop μ-loop Inv-search μ-search
+  looked = c .before
 
-  moves-is : let o = it seen in
-      c .can-move .result ≡ fitting (old o) (rowOf (old o) (number o)) (sideBy (rises (inner seen))) (other (inner seen))
+  moves-is : let o = it looked in
+      c .can-move .result ≡ fitting (old o) (rowOf (old o) (number o)) (sideBy (rises (inner looked))) (other (inner looked))
   unfolding movesAt suitsOf
-  moves-is = simp (seen .limits-of2 .ensures) at (c .can-move .ensures)
+  moves-is = simp (looked .limits-of2 .ensures) at (c .can-move .ensures)
 
 add-w-2 : tie.Need-add-w-2 Inv-loop μ-loop Inv-search μ-search
-add-w-2 c = let z = other-few (inner (seen (c .before))) in omega arith
+add-w-2 c = let z = other-few (inner (looked (c .before))) in omega arith
 
 loop-less-2 : tie.Need-loop-less-2 Inv-loop μ-loop Inv-search μ-search
-loop-less-2 c = let z = other-range (inner (seen (c .before))) in omega arith
+loop-less-2 c = let z = other-range (inner (looked (c .before))) in omega arith
 
 loop-again-2 : tie.Need-loop-again-2 Inv-loop μ-loop Inv-search μ-search
-loop-again-2 c = let a = seen (c .before) in let o = it a in let n = inner a in let z = other-range n in (
+loop-again-2 c = let a = looked (c .before) in let o = it a in let n = inner a in let z = other-range n in (
   omega arith,
   lowest-more (enters n) (other n) (none-yet n)
       (enters-not (old o) (rowOf (old o) (number o)) (sideBy (rises n)) (other n) (is-free a) (sym (moves-is (c .before)) ∙ c .if5 .left)),
@@ -255,15 +265,17 @@ loop-again-2 c = let a = seen (c .before) in let o = it a in let n = inner a in 
 
 returns : tie.Need-returns Inv-loop μ-loop Inv-search μ-search
 unfolding leavingAt
-returns c = let t = c .before .before .before .before .args .t1 in let e : t .rows + t .columns ≡ c .before .search .v = omega arith in
+returns c = let t = read (c .before .before) in let e : t .rows + t .columns ≡ c .before .search .v = omega arith in
     next-within t (ap (λ k. lowest k (brokenAt t)) e ∙ c .before .search .inv .1)
+    ∙ read-is (c .before .before)
 
 returns-2 : tie.Need-returns-2 Inv-loop μ-loop Inv-search μ-search
 unfolding enteringAt
-returns-2 c = let a = seen (c .before) in let o = it a in let n = inner a in
+returns-2 c = let a = looked (c .before) in let o = it a in let n = inner a in
     next-pivot (old o) (number o) (rises n) (leaving-here (outside n) (not-false _ (n .before .before .if3 .left))) (other n)
     (lowest-here (enters n) (old o .rows + old o .columns) (other n) (other n) (other-range n) (none-yet n)
     (enters-here (old o) (rowOf (old o) (number o)) (sideBy (rises n)) (other n) (is-free a) (sym (moves-is (c .before)) ∙ c .if5 .taken)))
+    ∙ read-is (start o)
 
 returns-3 : tie.Need-returns-3 Inv-loop μ-loop Inv-search μ-search
 unfolding enteringAt
@@ -271,11 +283,12 @@ returns-3 c = let a = c .before .before .before .before in let o = here a in let
     let e : old o .rows + old o .columns ≡ c .before .loop .w = omega arith in
     next-stuck (old o) (number o) b (leaving-here a (not-false _ (c .before .before .if3 .left)))
     (ap (λ k. lowest k (enteringOf (old o) (rowOf (old o) (number o)) (sideBy b))) e ∙ c .before .loop .inv .1)
+    ∙ read-is (start o)
 
 pub next-step-spec : {M : Type 1} → statement M
 next-step-spec =
     tie.close
-    (tie.spec Inv-loop μ-loop Inv-search μ-search add-end search-holds mul-seat element-copy-out-seat add-v
+    (tie.spec Inv-loop μ-loop Inv-search μ-search add-end search-holds mul-seat array-copy-out-seat add-v
     search-less search-again row-value-requires limits-of-requires breach-of-requires add-v-2 search-less-2
-    search-again-2 loop-holds mul-other element-copy-out-other add-w loop-less loop-again limits-of-requires-2
+    search-again-2 loop-holds mul-other array-copy-out-other add-w loop-less loop-again limits-of-requires-2
     can-move-requires add-w-2 loop-less-2 loop-again-2 returns returns-2 returns-3)

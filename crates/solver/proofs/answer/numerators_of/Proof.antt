@@ -63,7 +63,7 @@ numerator-of-requires c κs = let o = c .before .before .before .before in let p
       entries-within = p .cells .cell-within;
       values-within = p .values-within;
       in-rows = p .row-seats (number o) (in-range o);
-      in-columns = p .column-seats (number o) (in-range o);
+      in-columns = λ e. let z = p .column-seats (number o) (in-range o) e in let k = p .few-columns in omega arith;
     })
 
 module _ (c : tie.After-numerator-of Inv-loop μ-loop) where

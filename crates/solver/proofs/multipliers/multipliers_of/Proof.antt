@@ -70,7 +70,7 @@ pull-of-requires c κs = let o = c .before .before .before in let p = start o .p
       common-within = p .0 .cells .common-within;
       entries-within = p .0 .cells .cell-within;
       in-rows = p .1;
-      in-columns = p .0 .column-seats (number o) (in-range o);
+      in-columns = λ e. let z = p .0 .column-seats (number o) (in-range o) e in let k = p .0 .few-columns in omega arith;
     })
 
 -- the pull of its entry
