@@ -1,5 +1,6 @@
 -- Laws that the proofs cite. Assumes nothing.
 pub mod Pulls
+pub mod Readable
 pub mod Writes
 pub mod Pivots
 pub mod Stepped

@@ -10,7 +10,7 @@ use Rattle.whole.specs.Tables.{table, filled}
 use Rattle.rules.specs.Sizes.{mostColumns, mostRows, mostVariables, largestLimit, largestNumber}
 use Rattle.tableau.specs.declared.Seat.{Seat}
 use Rattle.tableau.specs.declared.Tableau.{Tableau}
-use Rattle.tableau.specs.Parts.{seatAt}
+use Rattle.tableau.specs.Parts.{nowhere}
 use Rattle.search.specs.Search.{rowSum}
 use Rattle.solver.specs.declared.answer.Verdict.{Verdict}
 use Rattle.solver.specs.declared.answer.Verdict.the-variants as verdicts
@@ -30,11 +30,20 @@ unfoldable pub numeratorOf : List ℤ → List ℤ → ℕ → ℤ → Seat → 
 numeratorOf l x columns common s =
     numeratorFrom (s .basic) (rowSum l x (s .row .0) columns) (common *ℤ getD x (s .column .0) (pos 0))
 
-abbrev pub numeratorAt : Tableau → ℕ → ℤ
-numeratorAt t v = numeratorOf (t .entries) (t .values) (t .columns) (t .common) (seatAt t v)
+-- .. of every variable, by the seats
+abbrev pub numeratorIn : List ℤ → List ℤ → List Seat → ℤ → ℕ → ℕ → ℤ
+numeratorIn l x seats common columns v = numeratorOf l x columns common (getD seats v nowhere)
 
-unfoldable pub numeratorsAt : Tableau → List ℤ
-numeratorsAt t = filled mostVariables (pos 0) (t .rows + t .columns) (numeratorAt t)
+unfoldable pub numeratorsIn : List ℤ → List ℤ → List Seat → ℤ → ℕ → ℕ → List ℤ
+numeratorsIn l x seats common rows columns =
+    filled mostVariables (pos 0) (rows + columns) (numeratorIn l x seats common columns)
+
+-- .. and of a tableau
+abbrev pub numeratorAt : Tableau → ℕ → ℤ
+numeratorAt t v = numeratorIn (t .entries) (t .values) (t .seats) (t .common) (t .columns) v
+
+abbrev pub numeratorsAt : Tableau → List ℤ
+numeratorsAt t = numeratorsIn (t .entries) (t .values) (t .seats) (t .common) (t .rows) (t .columns)
 
 -- a seat that is a place, and numbers in range
 pub record Numerable (l x : List ℤ) (columns : ℕ) (common : ℤ) (s : Seat) : Type 0 where
@@ -43,7 +52,7 @@ pub record Numerable (l x : List ℤ) (columns : ℕ) (common : ℤ) (s : Seat) 
   pub entries-within : (k : ℕ) → Within (getD l k (pos 0)) largestNumber
   pub values-within : (j : ℕ) → Within (getD x j (pos 0)) largestLimit
   pub in-rows : s .basic ≡ true → s .row .0 < mostRows
-  pub in-columns : s .basic ≡ false → s .column .0 < mostColumns
+  pub in-columns : s .basic ≡ false → s .column .0 < columns
 
 -- ---- writing
 

@@ -1,7 +1,7 @@
 -- The multipliers of "cannot", by place: docs/RULES.md, "The run", the sentences on verdict 2.
 use mathlib.Core.Bool.{Bool, true, false, cond}
 use mathlib.Core.List.{List}
-use Prim.Native.Nat.{ℕ, _+_, _<_}
+use Prim.Native.Nat.{ℕ, _+_, _≤_, _<_}
 use mathlib.Core.Path.{_≡_}
 use lib.Dec.{eqb}
 use lib.IntN.{ℤ, pos, negℤ}
@@ -13,7 +13,7 @@ use Rattle.rules.specs.Step.{pull, positive}
 use Rattle.tableau.specs.declared.Seat.{Seat}
 use Rattle.tableau.specs.declared.Tableau.{Tableau}
 use Rattle.tableau.specs.Layout.{flat}
-use Rattle.tableau.specs.Parts.{seatAt}
+use Rattle.tableau.specs.Parts.{nowhere}
 use Rattle.search.specs.declared.Blocked.{Blocked}
 use Rattle.search.specs.Sides.{sideBy}
 use Rattle.solver.specs.declared.multipliers.Multipliers.{Multipliers}
@@ -33,18 +33,27 @@ unfoldable pub pullOf : List ℤ → ℤ → Blocked → Seat → ℤ
 pullOf l common b x = pull (sideBy (b .rises))
     (relationFrom (x .basic) (eqb (x .row .0) (b .row .0)) common (getD l (flat (b .row .0) (x .column .0)) (pos 0)))
 
-abbrev pub pullAt : Tableau → Blocked → ℕ → ℤ
-pullAt t b v = pullOf (t .entries) (t .common) b (seatAt t v)
+-- .. at every variable, by the seats
+abbrev pub pullIn : List ℤ → List Seat → ℤ → Blocked → ℕ → ℤ
+pullIn l seats common b v = pullOf l common b (getD seats v nowhere)
 
-unfoldable pub multipliersAt : Tableau → Blocked → Multipliers
-multipliersAt t b = record {
-  lower = filled mostVariables (pos 0) (t .rows + t .columns) (λ v. positive (negℤ (pullAt t b v)));
-  upper = filled mostVariables (pos 0) (t .rows + t .columns) (λ v. positive (pullAt t b v));
+unfoldable pub multipliersIn : List ℤ → List Seat → ℤ → ℕ → ℕ → Blocked → Multipliers
+multipliersIn l seats common rows columns b = record {
+  lower = filled mostVariables (pos 0) (rows + columns) (λ v. positive (negℤ (pullIn l seats common b v)));
+  upper = filled mostVariables (pos 0) (rows + columns) (λ v. positive (pullIn l seats common b v));
 }
 
+-- .. and of a tableau
+abbrev pub pullAt : Tableau → Blocked → ℕ → ℤ
+pullAt t b v = pullIn (t .entries) (t .seats) (t .common) b v
+
+abbrev pub multipliersAt : Tableau → Blocked → Multipliers
+multipliersAt t b = multipliersIn (t .entries) (t .seats) (t .common) (t .rows) (t .columns) b
+
 -- a row place, and a seat that is a column place where it is not basic
-pub record Blockable (l : List ℤ) (common : ℤ) (i : ℕ) (x : Seat) : Type 0 where
+pub record Blockable (l : List ℤ) (columns : ℕ) (common : ℤ) (i : ℕ) (x : Seat) : Type 0 where
+  pub few-columns : columns ≤ mostColumns
   pub common-within : Within common largestNumber
   pub entries-within : (k : ℕ) → Within (getD l k (pos 0)) largestNumber
   pub in-rows : i < mostRows
-  pub in-columns : x .basic ≡ false → x .column .0 < mostColumns
+  pub in-columns : x .basic ≡ false → x .column .0 < columns

@@ -2,10 +2,10 @@
 ghost use mathlib.Core.Path.{_≡_};
 ghost use Prim.Native.Nat.{ℕ, _+_, _*_, _≤_, _<_};
 ghost use lib.IntN.{ℤ, pos};
-ghost use lib.ListN.{length};
-ghost use Rattle.rules.specs.Sizes.{mostVariables};
-ghost use Rattle.search.specs.Search.{Searchable};
-ghost use Rattle.solver.specs.Answer.{numberOf, Numerable, numeratorOf, numeratorsAt};
+ghost use lib.ListN.{getD, length};
+ghost use Rattle.rules.specs.Sizes.{mostColumns, mostRows, mostVariables};
+ghost use Rattle.tableau.specs.Parts.{nowhere};
+ghost use Rattle.solver.specs.Answer.{numberOf, Numerable, numeratorOf, numeratorsIn};
 ghost use Rattle.solver.specs.Answer.{copiedAt, mostCount, wordsAt, laidOver};
 use tableau::Seat;
 use tableau::Tableau;
@@ -48,17 +48,23 @@ fn numerator_of<'a>(
 }
 
 // The numerators of all variables, over D.
-pub fn numerators_of(t: Tableau) -> [i64; Tableau::MOST_VARIABLES]
-    requires { ⌜ Searchable t ⌝ }
-    ensures { λ r. ⌜ r ≡ numeratorsAt t ⌝ }
+pub fn numerators_of<'a>(
+    entries: &'a [i64; Tableau::MOST_ENTRIES],
+    values: &'a [i64; Tableau::MOST_COLUMNS],
+    seats: [Seat; Tableau::MOST_VARIABLES],
+    common: i64,
+    rows: usize,
+    columns: usize,
+) -> [i64; Tableau::MOST_VARIABLES]
+    requires { ⌜ (rows ≤ mostRows) × (columns ≤ mostColumns) ⌝ }
+    requires { ⌜ ((v : ℕ) → v < rows + columns → Numerable (now entries) (now values) columns common (getD seats v nowhere)) ⌝ }
+    ensures { λ r. ⌜ r ≡ numeratorsIn (now (entries .entry)) (now (values .entry)) seats common rows columns ⌝ }
 {
-    let variables = t.rows + t.columns;
-    let columns = t.columns;
-    let common = t.common;
+    let variables = rows + columns;
     let mut numerators = [0i64; Tableau::MOST_VARIABLES];
     for v in 0..variables {
-        let seat = t.seats[v];
-        numerators[v] = numerator_of(&t.entries, &t.values, columns, common, seat);
+        let seat = seats[v];
+        numerators[v] = numerator_of(entries, values, columns, common, seat);
     }
     numerators
 }

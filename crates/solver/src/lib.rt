@@ -32,22 +32,30 @@ fn tell(ending: Ending, variables: usize, out: &mut [i64])
     let last = ending.tableau;
     let count = ending.count;
     let end = ending.end;
+    let seats = last.seats;
+    let common = last.common;
     let zeros = [0i64; Tableau::MOST_VARIABLES];
     match end {
         End::Can => {
-            let numerators = answer::numerators_of(last);
-            answer::write(
-                out,
-                Verdict::Can,
-                count,
-                last.common,
-                variables,
-                &numerators,
-                &zeros,
+            let found = answer::numerators_of(
+                &last.entries,
+                &last.values,
+                seats,
+                common,
+                last.rows,
+                last.columns,
             );
+            answer::write(out, Verdict::Can, count, common, variables, &found, &zeros);
         }
         End::Cannot(blocked) => {
-            let found = multipliers::multipliers_of(last, blocked);
+            let found = multipliers::multipliers_of(
+                &last.entries,
+                seats,
+                common,
+                last.rows,
+                last.columns,
+                blocked,
+            );
             answer::write(
                 out,
                 Verdict::Cannot,

@@ -1,15 +1,16 @@
 // The two multiplier vectors of "cannot": from a row whose variable is outside its limits and cannot be moved, or from
 // crossed limits.
 ghost use mathlib.Core.Path.{_≡_};
-ghost use Prim.Native.Nat.{_<_};
+ghost use Prim.Native.Nat.{ℕ, _+_, _≤_, _<_};
 ghost use lib.IntN.{ℤ};
+ghost use lib.ListN.{getD};
 ghost use Rattle.whole.specs.Numbers.{Within};
-ghost use Rattle.rules.specs.Sizes.{mostRows, mostVariables, largestNumber};
+ghost use Rattle.rules.specs.Sizes.{mostColumns, mostRows, mostVariables, largestNumber};
 ghost use Rattle.rules.specs.Step as step;
 ghost use Rattle.rules.specs.Step.{pull};
+ghost use Rattle.tableau.specs.Parts.{nowhere};
 ghost use Rattle.search.specs.Sides.{sideBy};
-ghost use Rattle.search.specs.Search.{Searchable};
-ghost use Rattle.solver.specs.Multipliers.{Blockable, unitAt, pullOf, multipliersAt};
+ghost use Rattle.solver.specs.Multipliers.{Blockable, unitAt, pullOf, multipliersIn};
 use search::Blocked;
 use tableau::RowPlace;
 use tableau::Seat;
@@ -57,8 +58,14 @@ fn turned(rises: bool, entry: i64) -> i64
 
 // The row as an equation "the sum is 0", turned to rise, at the variable of a seat: minus D at the row's own variable, 0 at
 // the other basic ones.
-fn pull_of(entries: &[i64; Tableau::MOST_ENTRIES], common: i64, blocked: Blocked, seat: Seat) -> i64
-    requires { ⌜ Blockable (now entries) common (blocked .row .0) seat ⌝ }
+fn pull_of(
+    entries: &[i64; Tableau::MOST_ENTRIES],
+    columns: usize,
+    common: i64,
+    blocked: Blocked,
+    seat: Seat,
+) -> i64
+    requires { ⌜ Blockable (now entries) columns common (blocked .row .0) seat ⌝ }
     ensures { λ r. ⌜ r ≡ pullOf (now (entries .entry)) common blocked seat ⌝ }
 {
     let row = blocked.row;
@@ -76,18 +83,24 @@ fn pull_of(entries: &[i64; Tableau::MOST_ENTRIES], common: i64, blocked: Blocked
 
 // The violated limit gets D; an entry's size goes to the upper limit of a variable that would have had to increase, and to
 // the lower limit of one that would have had to decrease; all other multipliers are 0.
-pub fn multipliers_of(t: Tableau, blocked: Blocked) -> Multipliers
-    requires { ⌜ Searchable t ⌝ }
-    requires { ⌜ blocked .row .0 < mostRows ⌝ }
-    ensures { λ r. ⌜ r ≡ multipliersAt t blocked ⌝ }
+pub fn multipliers_of(
+    entries: &[i64; Tableau::MOST_ENTRIES],
+    seats: [Seat; Tableau::MOST_VARIABLES],
+    common: i64,
+    rows: usize,
+    columns: usize,
+    blocked: Blocked,
+) -> Multipliers
+    requires { ⌜ (rows ≤ mostRows) × (columns ≤ mostColumns) ⌝ }
+    requires { ⌜ ((v : ℕ) → v < rows + columns → Blockable (now entries) columns common (blocked .row .0) (getD seats v nowhere)) ⌝ }
+    ensures { λ r. ⌜ r ≡ multipliersIn (now (entries .entry)) seats common rows columns blocked ⌝ }
 {
-    let variables = t.rows + t.columns;
-    let common = t.common;
+    let variables = rows + columns;
     let mut lower = [0i64; Tableau::MOST_VARIABLES];
     let mut upper = [0i64; Tableau::MOST_VARIABLES];
     for v in 0..variables {
-        let seat = t.seats[v];
-        let y = pull_of(&t.entries, common, blocked, seat);
+        let seat = seats[v];
+        let y = pull_of(entries, columns, common, blocked, seat);
         lower[v] = positive(-y);
         upper[v] = positive(y);
     }

@@ -32,8 +32,8 @@ use Rattle.search.specs.Search.{blockedAt, rowSum}
 use Rattle.search.specs.Sides.{rising, sideBy}
 use Rattle.search.proofs.Laws.Rows.{row-is}
 use Rattle.search.proofs.Laws.Searches.{all-vars}
-use Rattle.solver.specs.Answer.{firstOf, numeratorAt, numeratorFrom, numeratorOf, numeratorsAt}
-use Rattle.solver.specs.Multipliers.{multipliersAt, pullAt, pullOf, relationFrom, unitAt}
+use Rattle.solver.specs.Answer.{firstOf, numeratorAt, numeratorFrom, numeratorOf, numeratorsAt, numeratorsIn}
+use Rattle.solver.specs.Multipliers.{multipliersAt, multipliersIn, pullAt, pullOf, relationFrom, unitAt}
 
 -- ---- plain arrays
 
@@ -85,7 +85,7 @@ module _ {P : Problem ℤ} {t : Tableau} {s : State ℤ} (St : Stands P t s) (R 
           ∙ ap₂ (λ d u. d *ℤ u) (St .numbers .common-is) z ∙ sym (seated-scaled whole whole-laws P s R v x h e)
 
   pub numerators-are : firstOf (vars P) (numeratorsAt t) ≡ table (vars P) (scaled whole P s)
-  unfolding numeratorsAt
+  unfolding numeratorsIn
   numerators-are = table-same (vars P) _ (scaled whole P s)
       (λ v h. filled-in mostVariables (pos 0) (t .rows + t .columns) (numeratorAt t) v (in-places v h) ∙ numerator-is v h)
 
@@ -132,7 +132,7 @@ module _ {P : Problem ℤ} {t : Tableau} {s : State ℤ} (St : Stands P t s) (R 
 
     pub lowers-are : firstOf (vars P) (multipliersAt t (blockedAt t r) .lower)
         ≡ table (vars P) (λ v. positive (negℤ (pull (r .side) (relation (s .tableau) own v))))
-    unfolding multipliersAt
+    unfolding multipliersIn
     lowers-are = table-same (vars P) _ _
         (λ v h. filled-in mostVariables (pos 0) (t .rows + t .columns) (λ v. positive (negℤ (pullAt t (blockedAt t r) v))) v
         (in-places v h)
@@ -140,7 +140,7 @@ module _ {P : Problem ℤ} {t : Tableau} {s : State ℤ} (St : Stands P t s) (R 
 
     pub uppers-are : firstOf (vars P) (multipliersAt t (blockedAt t r) .upper)
         ≡ table (vars P) (λ v. positive (pull (r .side) (relation (s .tableau) own v)))
-    unfolding multipliersAt
+    unfolding multipliersIn
     uppers-are = table-same (vars P) _ _
         (λ v h. filled-in mostVariables (pos 0) (t .rows + t .columns) (λ v. positive (pullAt t (blockedAt t r) v)) v
         (in-places v h)

@@ -1,6 +1,7 @@
 -- The pull of a blocked row by place: its size.
 --   pull-within
 use mathlib.Core.Bool.{Bool, false, true}
+use mathlib.Core.List.{List}
 use Prim.Native.Nat.{ℕ}
 use native.Mathlib.Omega.{arith}
 use lib.Dec.{eqb}
@@ -9,13 +10,11 @@ use Rattle.whole.specs.Numbers.{Within}
 use Rattle.whole.proofs.Sizes.{within-neg}
 use Rattle.rules.specs.Sizes.{largestNumber}
 use Rattle.rules.specs.Step.{Side, above, below, pull}
-use Rattle.tableau.specs.declared.Tableau.{Tableau}
+use Rattle.tableau.specs.declared.Seat.{Seat}
 use Rattle.tableau.specs.Layout.{flat}
-use Rattle.tableau.specs.Parts.{seatAt}
-use Rattle.tableau.specs.Pivot.{Cells}
 use Rattle.search.specs.declared.Blocked.{Blocked}
 use Rattle.search.specs.Sides.{sideBy}
-use Rattle.solver.specs.Multipliers.{pullAt, pullOf, relationFrom}
+use Rattle.solver.specs.Multipliers.{Blockable, pullOf, relationFrom}
 
 pulled-within : {n : ℕ} (σ : Side) (z : ℤ) → Within z n → Within (pull σ z) n
 unfolding pull
@@ -27,8 +26,9 @@ relation-within true true d a h k = within-neg h
 relation-within true false d a h k = record { within = omega arith }
 relation-within false own d a h k = k
 
-pub pull-within : (t : Tableau) (b : Blocked) (v : ℕ) → Cells t → Within (pullAt t b v) largestNumber
+pub pull-within : {l : List ℤ} {columns : ℕ} {d : ℤ} (b : Blocked) (x : Seat) → Blockable l columns d (b .row .0) x →
+    Within (pullOf l d b x) largestNumber
 unfolding pullOf
-pull-within t b v C = pulled-within (sideBy (b .rises)) _
-    (relation-within (seatAt t v .basic) (eqb (seatAt t v .row .0) (b .row .0)) (t .common) _ (C .common-within)
-    (C .cell-within (flat (b .row .0) (seatAt t v .column .0))))
+pull-within {d = d} b x B = pulled-within (sideBy (b .rises)) _
+    (relation-within (x .basic) (eqb (x .row .0) (b .row .0)) d _ (B .common-within)
+    (B .entries-within (flat (b .row .0) (x .column .0))))

@@ -27,10 +27,10 @@ returns c = let s = c .before .before .args in
     (s .common *ℤ getD (s .values .now) (s .seat .column .0) (pos 0))) (c .before .if1 .taken))
 
 mul-x : tie.Need-mul-x
-mul-x c = let z = c .before .before .pre .in-columns (c .before .if1 .left) in omega arith
+mul-x c = let p = c .before .before .pre in let z = p .in-columns (c .before .if1 .left) in let k = p .few-columns in omega arith
 
 element-copy-out-x : tie.Need-element-copy-out-x
-element-copy-out-x c = let z = c .before .before .pre .in-columns (c .before .if1 .left) in omega arith
+element-copy-out-x c = let p = c .before .before .pre in let z = p .in-columns (c .before .if1 .left) in let k = p .few-columns in omega arith
 
 module _ (c : tie.After-x) where
   abbrev start : tie.Start

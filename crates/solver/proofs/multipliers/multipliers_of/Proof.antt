@@ -4,30 +4,34 @@ use mathlib.Core.Path.{_≡_, ap, ap₂, sym, _∙_}
 use Prim.Native.Nat.{ℕ, _+_, _-_, _<_, _≤_}
 use native.Mathlib.Omega.{arith}
 use borrow.Author.Needs.{needs}
-use lib.IntN.{negℤ, pos, +ℤ-idl}
+use lib.IntN.{ℤ, negℤ, pos, +ℤ-idl}
+use lib.ListN.{getD}
 use mir.Facts.{toZ-ofZ}
 use mir.Syntax.{w64}
-use mir.Val.{SFits}
+use mir.Val.{SFits, ofZ, toZ}
 use Rattle.whole.specs.Numbers.{Within}
 use Rattle.whole.specs.Tables.{filled}
 use Rattle.whole.proofs.Sizes.{fits-by, within-neg}
 use Rattle.rules.specs.Sizes.{largestNumber, mostVariables}
 use Rattle.rules.specs.Step.{positive}
-use Rattle.tableau.specs.declared.Tableau.{Tableau}
-use Rattle.search.specs.declared.Blocked.{Blocked}
-use Rattle.solver.specs.Multipliers.{multipliersAt, pullAt}
+use Rattle.tableau.specs.Parts.{nowhere}
+use Rattle.solver.specs.Multipliers.{Blockable, multipliersIn, pullIn}
 use Rattle.whole.proofs.Prefix.{filled-start, filled-more}
 use Rattle.solver.proofs.Laws.Pulls.{pull-within}
 use Rattle.solver.proofs.multipliers.multipliers_of.Statement.{statement}
 use Rattle.solver.proofs.multipliers.multipliers_of.Tie as tie
 
 abbrev Inv-loop : tie.InvT-loop
-Inv-loop blocked t variables common lower₀ upper₀ v₀ lower upper v =
-    (v ≤ variables) × (lower ≡ filled mostVariables (pos 0) v (λ v. positive (negℤ (pullAt t blocked v))))
-    × (upper ≡ filled mostVariables (pos 0) v (λ v. positive (pullAt t blocked v)))
+Inv-loop entries common rows columns blocked seats variables lower₀ upper₀ v₀ lower upper v = (v ≤ variables)
+    × (lower ≡ filled mostVariables (pos 0) v (λ v. positive (negℤ (pullIn entries seats (toZ w64 common) blocked v))))
+    × (upper ≡ filled mostVariables (pos 0) v (λ v. positive (pullIn entries seats (toZ w64 common) blocked v)))
 
 abbrev μ-loop : tie.MeasureT-loop
-μ-loop blocked t variables common lower₀ upper₀ v₀ lower upper v = variables - v
+μ-loop entries common rows columns blocked seats variables lower₀ upper₀ v₀ lower upper v = variables - v
+
+-- the pull at a variable, the common number by its bits
+abbrev read : tie.Start Inv-loop μ-loop → ℕ → ℤ
+read s = let a = s .args in pullIn (a .entries .now) (a .t2) (toZ w64 (ofZ w64 (a .common))) (a .blocked)
 
 add-variables : tie.Need-add-variables Inv-loop μ-loop
 add-variables c = omega arith
@@ -38,54 +42,47 @@ loop-holds c = (omega arith, filled-start mostVariables (pos 0) _, filled-start 
 -- at a variable
 module _ (c : tie.In-loop Inv-loop μ-loop) where
   abbrev start : tie.Start Inv-loop μ-loop
-  start = c .before .before .before
+  start = c .before .before
 
-  abbrev old : Tableau
-  old = start .args .t1
-
-  abbrev row-at : Blocked
-  row-at = start .args .blocked
+  abbrev pulls : ℕ → ℤ
+  pulls = read start
 
   abbrev number : ℕ
   number = c .before .loop .v
 
-  in-range : number < old .rows + old .columns
+  in-range : number < start .args .rows + start .args .columns
   in-range = omega arith
 
   few : number < mostVariables
   few = omega arith
 
-  fit-common : SFits w64 (old .common)
-  fit-common = search needs
+  blockable : let a = start .args in
+      Blockable (a .entries .now) (a .columns) (toZ w64 (ofZ w64 (a .common))) (a .blocked .row .0) (getD (a .t2) number nowhere)
+  blockable = simp (toZ-ofZ (start .fits .common)) (start .pre .1 number in-range)
 
 mul-seat : tie.Need-mul-seat Inv-loop μ-loop
 mul-seat c = let z = few c in omega arith
 
-element-copy-out-seat : tie.Need-element-copy-out-seat Inv-loop μ-loop
-element-copy-out-seat c = let z = few c in omega arith
+array-copy-out-seat : tie.Need-array-copy-out-seat Inv-loop μ-loop
+array-copy-out-seat c = let z = few c in omega arith
 
 pull-of-requires : tie.Need-pull-of-requires Inv-loop μ-loop
-pull-of-requires c κs = let o = c .before .before .before in let p = start o .pre in
-    simp (toZ-ofZ (fit-common o)) (record {
-      common-within = p .0 .cells .common-within;
-      entries-within = p .0 .cells .cell-within;
-      in-rows = p .1;
-      in-columns = λ e. let z = p .0 .column-seats (number o) (in-range o) e in let k = p .0 .few-columns in omega arith;
-    })
+pull-of-requires c κs = blockable (c .before)
 
 -- the pull of its entry
 module _ (c : tie.After-pull-of Inv-loop μ-loop) where
   abbrev here : tie.In-loop Inv-loop μ-loop
-  here = c .before .before .before .before
+  here = c .before .before
 
   fit-pull : SFits w64 (c .pull-of .result)
   fit-pull = search needs
 
-  pull-is : c .pull-of .result ≡ pullAt (old here) (row-at here) (number here)
-  pull-is = simp (toZ-ofZ (fit-common here)) at (c .pull-of .ensures)
+  pull-is : c .pull-of .result ≡ pulls here (number here)
+  pull-is = c .pull-of .ensures
 
   pull-small : Within (c .pull-of .result) largestNumber
-  pull-small = rw pull-is (pull-within (old here) (row-at here) (number here) (start here .pre .0 .cells))
+  pull-small = let a = start here .args in
+      rw pull-is (pull-within (a .blocked) (getD (a .t2) (number here) nowhere) (blockable here))
 
   fit-back : SFits w64 (negℤ (c .pull-of .result))
   fit-back = fits-by (within-neg pull-small) tt
@@ -131,29 +128,30 @@ module _ (c : tie.After-positive2 Inv-loop μ-loop) where
   fit-upper : SFits w64 (c .positive2 .result)
   fit-upper = search needs
 
-  lower-is : c .before .positive .result ≡ positive (negℤ (pullAt (old it) (row-at it) (number it)))
+  lower-is : c .before .positive .result ≡ positive (negℤ (pulls it (number it)))
   lower-is = (simp (toZ-ofZ (fit-pull pulled), +ℤ-idl, toZ-ofZ (fit-back pulled)) at (c .before .positive .ensures))
       ∙ ap (λ y. positive (negℤ y)) (pull-is pulled)
 
-  upper-is : c .positive2 .result ≡ positive (pullAt (old it) (row-at it) (number it))
+  upper-is : c .positive2 .result ≡ positive (pulls it (number it))
   upper-is = (simp (toZ-ofZ (fit-pull pulled)) at (c .positive2 .ensures)) ∙ ap (λ y. positive y) (pull-is pulled)
 
 loop-again : tie.Need-loop-again Inv-loop μ-loop
 loop-again c = let o = it c in let z = in-range o in (
   omega arith,
-  filled-more mostVariables (pos 0) (λ v. positive (negℤ (pullAt (old o) (row-at o) v))) (number o) (few o) (o .before .loop .inv .1)
+  filled-more mostVariables (pos 0) (λ v. positive (negℤ (pulls o v))) (number o) (few o) (o .before .loop .inv .1)
       (toZ-ofZ (fit-lower c) ∙ lower-is c),
-  filled-more mostVariables (pos 0) (λ v. positive (pullAt (old o) (row-at o) v)) (number o) (few o) (o .before .loop .inv .2)
+  filled-more mostVariables (pos 0) (λ v. positive (pulls o v)) (number o) (few o) (o .before .loop .inv .2)
       (toZ-ofZ (fit-upper c) ∙ upper-is c),
 )
 
 returns : tie.Need-returns Inv-loop μ-loop
-unfolding multipliersAt
-returns c = let a = c .before .before .before .args in let t = a .t1 in
-    let e : c .before .loop .v ≡ t .rows + t .columns = omega arith in
+unfolding multipliersIn
+returns c = let s = c .before .before in let a = s .args in
+    let e : c .before .loop .v ≡ a .rows + a .columns = omega arith in
     ap₂ (λ l u. record { lower = l; upper = u })
-    (c .before .loop .inv .1 ∙ ap (λ k. filled mostVariables (pos 0) k (λ v. positive (negℤ (pullAt t (a .blocked) v)))) e)
-    (c .before .loop .inv .2 ∙ ap (λ k. filled mostVariables (pos 0) k (λ v. positive (pullAt t (a .blocked) v))) e)
+    (c .before .loop .inv .1 ∙ ap (λ k. filled mostVariables (pos 0) k (λ v. positive (negℤ (read s v)))) e)
+    (c .before .loop .inv .2 ∙ ap (λ k. filled mostVariables (pos 0) k (λ v. positive (read s v))) e)
+    ∙ ap (λ d. multipliersIn (a .entries .now) (a .t2) d (a .rows) (a .columns) (a .blocked)) (toZ-ofZ (s .fits .common))
 
 pub multipliers-of-spec : {M : Type 1} → statement M
 multipliers-of-spec =
@@ -164,7 +162,7 @@ multipliers-of-spec =
     add-variables
     loop-holds
     mul-seat
-    element-copy-out-seat
+    array-copy-out-seat
     pull-of-requires
     sub-positive
     positive-requires

@@ -12,6 +12,7 @@ use mir.Facts.{toZ-ofZ}
 use mir.Syntax.{w64}
 use mir.Val.{SFits}
 use Rattle.whole.proofs.Sizes.{fits-by, within-neg}
+use Rattle.rules.specs.Sizes.{mostColumns}
 use Rattle.rules.specs.Step.{pull}
 use Rattle.tableau.specs.Layout.{flat, mostEntries}
 use Rattle.tableau.proofs.Laws.Layout.{flat-in}
@@ -31,13 +32,17 @@ unfolding pull
 pull-zero true = refl
 pull-zero false = refl
 
+-- the seat's column is one
+in-columns : (c : tie.Then1) → c .before .before .before .args .seat .column .0 < mostColumns
+in-columns c = let p = c .before .before .before .pre in let a = p .in-columns (not-true _ (c .if1 .taken)) in let b = p .few-columns in omega arith
+
 place-requires : tie.Need-place-requires
-place-requires c κs = let p = c .before .before .before .pre in (p .in-rows, p .in-columns (not-true _ (c .if1 .taken)))
+place-requires c κs = (c .before .before .before .pre .in-rows, in-columns c)
 
 place-in : (c : tie.After-place) → c .place .result < mostEntries
 place-in c = let s = c .before .before .before .before in
     rw (c .place .ensures) (flat-in (s .args .blocked .row .0) (s .args .seat .column .0) (s .pre .in-rows)
-    (s .pre .in-columns (not-true _ (c .before .if1 .taken))))
+    (in-columns (c .before)))
 
 mul-e : tie.Need-mul-e
 mul-e c = let z = place-in c in omega arith
