@@ -2,12 +2,12 @@
 use mathlib.Core.List.{List}
 use mathlib.Core.Option.{none}
 use mathlib.Core.Path.{_≡_}
-use Prim.Native.Nat.{ℕ, zero, suc, _<_, _≤_}
+use Prim.Native.Nat.{ℕ, zero, suc, _<_}
 use lib.IntN.{ℤ, pos}
 use Rattle.whole.specs.Values.{whole}
 use Rattle.rules.specs.Problem.{Problem}
 use Rattle.rules.specs.Run.{conflict}
-use Rattle.rules.specs.Sizes.{mostRows, mostVariables}
+use Rattle.rules.specs.Sizes.{mostRows}
 use Rattle.rules.specs.Step.{State}
 use Rattle.rules.proofs.Sound.{Ready}
 use Rattle.tableau.specs.declared.Tableau.{Tableau}
@@ -15,7 +15,6 @@ use Rattle.tableau.specs.Stands.{Ranged, Stands}
 use Rattle.search.specs.declared.Blocked.{Blocked}
 use Rattle.search.specs.Search.{Searchable}
 use Rattle.solver.specs.declared.answer.Verdict.the-variants as verdicts
-use Rattle.solver.specs.declared.run.Ending.{Ending}
 use Rattle.solver.specs.declared.step.End.{End}
 use Rattle.solver.specs.declared.step.End.the-variants as ends
 use Rattle.solver.specs.declared.step.Outcome.the-variants as outcomes
@@ -32,11 +31,11 @@ afterAt t (suc k) = steppedAt (afterAt t k) .tableau
 abbrev pub GoesOn : Tableau → ℕ → Type 0
 GoesOn t k = (i : ℕ) → i < k → steppedAt (afterAt t i) .outcome ≡ outcomes.Goes
 
--- the run: so many steps that go on, and the step that ends it
-pub record Finished (t : Tableau) (r : Ending) : Type 0 where
-  pub goes-on : GoesOn t (r .count)
-  pub ended : steppedAt (afterAt t (r .count)) .outcome ≡ outcomes.Ended (r .end)
-  pub last : r .tableau ≡ afterAt t (r .count)
+-- the run: k steps that go on, the step that ends it, and the last tableau
+pub record Finished (t : Tableau) (e : End) (k : ℕ) (u : Tableau) : Type 0 where
+  pub goes-on : GoesOn t k
+  pub ended : steppedAt (afterAt t k) .outcome ≡ outcomes.Ended e
+  pub last : u ≡ afterAt t k
 
 -- ---- the words of a run that ended
 
@@ -46,11 +45,10 @@ endWords (ends.Cannot b) k t N = wordsAt verdicts.Cannot k (pos 0) N (multiplier
 endWords ends.Range k t N = wordsAt verdicts.Range k (pos 0) N noughts noughts
 
 -- a last tableau that a search could read, and a blocked row that is one
-pub record Tellable (r : Ending) (N : ℕ) : Type 0 where
-  pub searchable : Searchable (r .tableau)
-  pub few : N ≤ mostVariables
-  pub counted : r .count < mostCount
-  pub row-in : (b : Blocked) → r .end ≡ ends.Cannot b → b .row .0 < mostRows
+pub record Tellable (e : End) (k : ℕ) (t : Tableau) : Type 0 where
+  pub searchable : Searchable t
+  pub counted : k < mostCount
+  pub row-in : (b : Blocked) → e ≡ ends.Cannot b → b .row .0 < mostRows
 
 -- ---- where a run may start
 

@@ -5,11 +5,9 @@ ghost use lib.ListN.{length};
 ghost use Rattle.rules.specs.Answer.{answerFrom, written};
 ghost use Rattle.rules.specs.Refusal.{refusal};
 ghost use Rattle.solver.specs.Answer.{laidOver};
-ghost use Rattle.solver.specs.Run.{Begun, Tellable, endWords};
+ghost use Rattle.solver.specs.Run.{Begun};
 use answer::Verdict;
 use conflict::Crossed;
-use run::Ending;
-use step::End;
 use tableau::Tableau;
 use tableau::judge;
 
@@ -21,56 +19,6 @@ pub mod step;
 
 // The refusal of an output that is too short.
 const TOO_SHORT: u32 = 7;
-
-// Writes the answer of a run that ended.
-fn tell(ending: Ending, variables: usize, out: &mut [i64])
-    requires { ⌜ Tellable ending variables ⌝ }
-    requires { ⌜ 3 + 2 * variables ≤ length (now out) ⌝ }
-    ensures { λ r. ⌜ now (out .exit) ≡ laidOver variables (now (out .entry))
-        (endWords (ending .end) (ending .count) (ending .tableau) variables) ⌝ }
-{
-    let last = ending.tableau;
-    let count = ending.count;
-    let end = ending.end;
-    let seats = last.seats;
-    let common = last.common;
-    let zeros = [0i64; Tableau::MOST_VARIABLES];
-    match end {
-        End::Can => {
-            let found = answer::numerators_of(
-                &last.entries,
-                &last.values,
-                seats,
-                common,
-                last.rows,
-                last.columns,
-            );
-            answer::write(out, Verdict::Can, count, common, variables, &found, &zeros);
-        }
-        End::Cannot(blocked) => {
-            let found = multipliers::multipliers_of(
-                &last.entries,
-                seats,
-                common,
-                last.rows,
-                last.columns,
-                blocked,
-            );
-            answer::write(
-                out,
-                Verdict::Cannot,
-                count,
-                0,
-                variables,
-                &found.lower,
-                &found.upper,
-            );
-        }
-        End::Range => {
-            answer::write(out, Verdict::Range, count, 0, variables, &zeros, &zeros);
-        }
-    }
-}
 
 // Writes the answer of a check from the state that the tableau stands for.
 fn check(t: Tableau, out: &mut [i64])
@@ -88,8 +36,7 @@ fn check(t: Tableau, out: &mut [i64])
             answer::write(out, Verdict::Cannot, 0, 0, variables, &ones, &ones);
         }
         Crossed::Nowhere => {
-            let ending = run::run(t);
-            tell(ending, variables, out);
+            run::run(t, out);
         }
     }
 }

@@ -1,9 +1,10 @@
 -- The words of a finished run are the answer of the rules.
---   told        .. from the state that the first tableau stands for
---   tellable    what writing them needs
-use mathlib.Core.List.{List, _∷_, _++_}
-use mathlib.Core.Path.{_≡_, ap, ap₂, refl, sym, _∙_}
-use Prim.Native.Nat.{ℕ, _+_, _*_, _<_, _≤_}
+--   last-many    the last tableau has as many variables as the first
+--   told         the words, from the state that the first tableau stands for
+--   tellable     what writing them needs
+use mathlib.Core.List.{_∷_, _++_}
+use mathlib.Core.Path.{_≡_, ap, ap₂, sym, _∙_}
+use Prim.Native.Nat.{ℕ, _+_, _*_, _<_}
 use native.Mathlib.Omega.{arith}
 use lib.IntN.{ℤ, pos}
 use lib.ListN.{replicate, replicate-append-replicate}
@@ -12,7 +13,7 @@ use Rattle.whole.proofs.Bools.{zero-one}
 use Rattle.whole.proofs.Instances.{whole-laws}
 use Rattle.rules.specs.Answer.{answerFrom, wordsOf}
 use Rattle.rules.specs.Problem.{Problem, vars}
-use Rattle.rules.specs.Run.{Ended, Ends, after}
+use Rattle.rules.specs.Run.{Ended, after}
 use Rattle.rules.specs.Sizes.{mostRows}
 use Rattle.rules.specs.Step.{Outcome, State, evidence, step}
 use Rattle.rules.proofs.AnswerIs.{ended, ending-run}
@@ -21,36 +22,29 @@ use Rattle.rules.proofs.Moved.{rowed-after}
 use Rattle.rules.proofs.Sound.{Rowed}
 use Rattle.tableau.specs.declared.Tableau.{Tableau}
 use Rattle.tableau.specs.Parts.{rowOf}
-use Rattle.tableau.specs.Stands.{Stands}
 use Rattle.search.specs.declared.Blocked.{Blocked}
 use Rattle.search.specs.Search.{blockedAt}
 use Rattle.search.proofs.Laws.Rows.{searchable}
 use Rattle.search.proofs.Laws.Searches.{all-vars}
-use Rattle.solver.specs.declared.answer.Verdict.the-variants as verdicts
-use Rattle.solver.specs.declared.run.Ending.{Ending}
 use Rattle.solver.specs.declared.step.End.{End}
 use Rattle.solver.specs.declared.step.End.the-variants as ends
 use Rattle.solver.specs.declared.step.Outcome.the-variants as outcomes
-use Rattle.solver.specs.Answer.{noughts, numberOf, numeratorsAt, wordsAt}
-use Rattle.solver.specs.Multipliers.{multipliersAt}
+use Rattle.solver.specs.Answer.{numberOf, wordsAt}
 use Rattle.solver.specs.Run.{Finished, Startable, Tellable, afterAt, endWords}
 use Rattle.solver.specs.Step.{endedAs, steppedAt}
 use Rattle.solver.proofs.Laws.Halves.{lowers-are, numerators-are, uppers-are, zeros-are}
-use Rattle.solver.proofs.Laws.Runs.{Going, apart, count-small, going, sound}
+use Rattle.solver.proofs.Laws.Runs.{Going, count-small, going, sound}
 use Rattle.solver.proofs.Laws.Steps.{StepIs, ends-can, ends-cannot, ends-range, goes-to, step-is}
 
 twice : (N : ℕ) (a : ℤ) → replicate N a ++ replicate N a ≡ replicate (2 * N) a
 twice N a = replicate-append-replicate N N a ∙ ap (λ k. replicate k a) (let z : N + N ≡ 2 * N = omega arith in z)
 
-module _ {t : Tableau} (S : Startable t) (r : Ending) (F : Finished t r) where
+module _ {t : Tableau} (S : Startable t) {e : End} {k : ℕ} {u : Tableau} (F : Finished t e k u) where
   abbrev P : Problem ℤ
   P = S .begun .problem
 
   abbrev s : State ℤ
   s = S .begun .state
-
-  abbrev k : ℕ
-  k = r .count
 
   abbrev here : Tableau
   here = afterAt t k
@@ -67,31 +61,36 @@ module _ {t : Tableau} (S : Startable t) (r : Ending) (F : Finished t r) where
   cases : StepIs P here at-end
   cases = step-is (goes .stands) rowed-here (goes .ranged)
 
-  same-many : t .rows + t .columns ≡ vars P
-  same-many = all-vars P t s (S .begun .stands) (S .begun .ready .rowed)
+  here-many : here .rows + here .columns ≡ vars P
+  here-many = all-vars P here at-end (goes .stands) rowed-here
+
+  -- as many variables as at the start
+  pub last-many : u .rows + u .columns ≡ t .rows + t .columns
+  last-many = ap (λ x. x .rows + x .columns) (F .last) ∙ here-many
+      ∙ sym (all-vars P t s (S .begun .stands) (S .begun .ready .rowed))
 
   -- how the run ended, by the last step
-  end-is : (e : End) → steppedAt here ≡ endedAs here e → r .end ≡ e
-  end-is e q = let f : outcomes.Ended e ≡ outcomes.Ended (r .end) = sym (ap (λ x. x .outcome) q) ∙ F .ended in cc
+  end-is : (x : End) → steppedAt here ≡ endedAs here x → e ≡ x
+  end-is x q = let f : outcomes.Ended x ≡ outcomes.Ended e = sym (ap (λ y. y .outcome) q) ∙ F .ended in cc
 
-  no-going : {A : Type 0} (u : Tableau) → steppedAt here ≡ record { outcome = outcomes.Goes; tableau = u } → A
-  no-going u q = let f : outcomes.Goes ≡ outcomes.Ended (r .end) = sym (ap (λ x. x .outcome) q) ∙ F .ended in
+  no-going : {A : Type 0} (x : Tableau) → steppedAt here ≡ record { outcome = outcomes.Goes; tableau = x } → A
+  no-going x q = let f : outcomes.Goes ≡ outcomes.Ended e = sym (ap (λ y. y .outcome) q) ∙ F .ended in
       let c : _≡_ {A = ℕ} 0 1 = cc in zero-one c
 
   -- the answer of the rules, where the step of the last state is known
   words-at : (o : Outcome ℤ) → step whole P at-end ≡ o → Ended o →
       answerFrom P s ≡ wordsOf P (record { how = o; pivots = k; last = at-end })
   unfolding answerFrom
-  words-at o e h =
+  words-at o q h =
       ap (wordsOf P) (ending-run whole whole-laws P s (S .uncrossed) (sound S) (S .begun .ready .seated-many) k
-      (record { runs = goes .runs; ended = rw e h }))
-      ∙ ap (λ (u : Outcome ℤ). wordsOf P (record { how = u; pivots = k; last = at-end })) e
+      (record { runs = goes .runs; ended = rw q h }))
+      ∙ ap (λ (u : Outcome ℤ). wordsOf P (record { how = u; pivots = k; last = at-end })) q
 
-  pub told : endWords (r .end) k (r .tableau) (t .rows + t .columns) ≡ answerFrom P s
+  pub told : endWords e k u (u .rows + u .columns) ≡ answerFrom P s
   unfolding endWords wordsAt numberOf wordsOf evidence
-  told = ap₂ (λ u N. endWords (r .end) k u N) (F .last) same-many ∙ go cases
+  told = ap (λ x. endWords e k x (x .rows + x .columns)) (F .last) ∙ ap (endWords e k here) here-many ∙ go cases
     where
-      go : StepIs P here at-end → endWords (r .end) k here (vars P) ≡ answerFrom P s
+      go : StepIs P here at-end → endWords e k here (vars P) ≡ answerFrom P s
       go (ends-can q z) = ap (λ x. endWords x k here (vars P)) (end-is ends.Can q)
           ∙ ap₂ (λ d l. pos 1 ∷ pos k ∷ d ∷ l) (goes .stands .numbers .common-is)
           (ap₂ (λ x y. x ++ y) (numerators-are (goes .stands) rowed-here) (zeros-are (vars P)))
@@ -103,21 +102,20 @@ module _ {t : Tableau} (S : Startable t) (r : Ending) (F : Finished t r) where
       go (ends-range q z) = ap (λ x. endWords x k here (vars P)) (end-is ends.Range q)
           ∙ ap (λ x. pos 3 ∷ pos k ∷ pos 0 ∷ x) (ap₂ (λ x y. x ++ y) (zeros-are (vars P)) (zeros-are (vars P)) ∙ twice (vars P) (pos 0))
           ∙ sym (words-at _ z tt)
-      go (goes-to u x q z st rg) = no-going u q
+      go (goes-to y x q z st rg) = no-going y q
 
-  pub tellable : Tellable r (t .rows + t .columns)
+  pub tellable : Tellable e k u
   tellable = record {
     searchable = rw (F .last) (searchable P here at-end (goes .stands) (goes .ranged));
-    few = rw same-many (let a = goes .stands .sized .few-rows in let b = goes .stands .sized .few-columns in omega arith);
     counted = count-small S k (F .goes-on);
-    row-in = λ b e. go b e cases;
+    row-in = λ b g. go b g cases;
   }
     where
-      go : (b : Blocked) → r .end ≡ ends.Cannot b → StepIs P here at-end → b .row .0 < mostRows
-      go b e (ends-can q z) = let f = end-is ends.Can q in let c : _≡_ {A = ℕ} 0 1 = cc in zero-one c
-      go b e (ends-cannot l q y z) = let f = end-is (ends.Cannot (blockedAt here l)) q in let c : rowOf here (l .variable) ≡ b .row .0 = cc in
+      go : (b : Blocked) → e ≡ ends.Cannot b → StepIs P here at-end → b .row .0 < mostRows
+      go b g (ends-can q z) = let f = end-is ends.Can q in let c : _≡_ {A = ℕ} 0 1 = cc in zero-one c
+      go b g (ends-cannot l q y z) = let f = end-is (ends.Cannot (blockedAt here l)) q in let c : rowOf here (l .variable) ≡ b .row .0 = cc in
           rw (← c) (let L = left whole P at-end l y in
           let a = goes .stands .placed .has-row (l .variable) (L .variable) (L .was-basic) .in-rows in
           let d = goes .stands .sized .few-rows in omega arith)
-      go b e (ends-range q z) = let f = end-is ends.Range q in let c : _≡_ {A = ℕ} 0 1 = cc in zero-one c
-      go b e (goes-to u x q z st rg) = no-going u q
+      go b g (ends-range q z) = let f = end-is ends.Range q in let c : _≡_ {A = ℕ} 0 1 = cc in zero-one c
+      go b g (goes-to y x q z st rg) = no-going y q

@@ -1,7 +1,5 @@
 -- `solver::check` meets its contract: crossed limits give their answer, and else the run does. Assumes nothing.
-use mathlib.Core.Option.{none}
 use mathlib.Core.Path.{_≡_, ap, sym, _∙_}
-use native.Mathlib.Omega.{arith}
 use borrow.Author.Needs.{needs}
 use lib.IntN.{pos}
 use Prim.Native.Nat.{_+_}
@@ -13,7 +11,6 @@ use Rattle.solver.specs.Answer.{laidOver, wordsAt}
 use Rattle.solver.specs.Conflict.{conflictAt}
 use Rattle.solver.specs.Run.{Begun, Startable}
 use Rattle.solver.proofs.Laws.Crossings.{crossing-at, crossing-in, crossing-none, crossing-told}
-use Rattle.solver.proofs.Laws.Told.{tellable, told}
 use Rattle.solver.proofs.check.Statement.{statement}
 use Rattle.solver.proofs.check.Tie as tie
 
@@ -60,11 +57,7 @@ module _ (c : tie.After-enum-told) where
   startable B = record { begun = B; uncrossed = crossing-none (B .stands) (B .ready .rowed) uncrossed-is }
 
 run-requires : tie.Need-run-requires
-run-requires c κs = startable c (c .before .before .before .before .before .pre .0)
-
-tell-requires : tie.Need-tell-requires
-tell-requires c κs = let s = c .before .before .before .before .before .before .before in
-    (tellable (startable (c .before .before) (s .pre .0)) (c .before .run .result) (c .before .run .ensures), s .pre .1)
+run-requires c κs = let o = c .before in let s = o .before .before .before .before .before in (startable o (s .pre .0), s .pre .1)
 
 same-length : tie.Need-same-length
 same-length c = search needs
@@ -83,9 +76,7 @@ same-length-2 : tie.Need-same-length-2
 same-length-2 c = search needs
 
 returns-2 : tie.Need-returns-2
-returns-2 c B = let a = c .before .before .before .before .before .before .before .before .before .args in let o = c .before .before .before in
-    c .before .tell .ensures
-    ∙ ap (laidOver (a .t .rows + a .t .columns) (a .out .now)) (told (startable (o .before) B) (o .run .result) (o .run .ensures))
+returns-2 c B = c .before .run .ensures (startable (c .before .before .before) B)
 
 pub check-spec : {M : Type 1} → statement M
 check-spec =
@@ -98,7 +89,6 @@ check-spec =
     write-requires
     enum-told
     run-requires
-    tell-requires
     same-length
     returns
     same-length-2

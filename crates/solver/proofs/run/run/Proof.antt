@@ -1,24 +1,25 @@
 -- `solver::run::run` meets its contract. The loop's invariant: the tableau is the first one after as many steps as are
 -- counted, and all of them go on. The measure is what is left of the bound on the count, which the run of the state stays
--- below. Assumes nothing.
-use mathlib.Core.Path.{_≡_, ap, refl, sym, _∙_}
+-- below. What is told of the last tableau is the answer of the rules. Assumes nothing.
+use mathlib.Core.Path.{_≡_, ap, ap₂, sym, _∙_}
 use Prim.Native.Nat.{ℕ, _-_, _<_}
 use native.Mathlib.Omega.{arith}
 use borrow.Author.Needs.{needs}
 use Rattle.tableau.specs.declared.Tableau.{Tableau}
-use Rattle.solver.specs.declared.step.Outcome.the-variants as outcomes
-use Rattle.solver.specs.Answer.{mostCount}
-use Rattle.solver.specs.Run.{GoesOn, Startable, afterAt}
+use Rattle.solver.specs.declared.step.End.{End}
+use Rattle.solver.specs.Answer.{laidOver, mostCount}
+use Rattle.solver.specs.Run.{Finished, GoesOn, afterAt}
 use Rattle.solver.specs.Step.{steppedAt}
 use Rattle.solver.proofs.Laws.Runs.{after-more, after-none, boundOf, count-below, count-small, goes-more, held-after}
+use Rattle.solver.proofs.Laws.Told.{last-many, tellable, told}
 use Rattle.solver.proofs.run.run.Statement.{statement}
 use Rattle.solver.proofs.run.run.Tie as tie
 
 abbrev Inv-run : tie.InvT-run
-Inv-run now₀ count₀ now count = (now ≡ afterAt now₀ count) × GoesOn now₀ count
+Inv-run out now₀ count₀ now count = (now ≡ afterAt now₀ count) × GoesOn now₀ count
 
 abbrev μ-run : tie.MeasureT-run
-μ-run now₀ count₀ now count = boundOf now₀ - count
+μ-run out now₀ count₀ now count = boundOf now₀ - count
 
 run-holds : tie.Need-run-holds Inv-run μ-run
 run-holds c = (after-none (c .args .t), λ i h. let z : ⊥ = omega arith in absurd z)
@@ -32,13 +33,13 @@ module _ (c : tie.At-run Inv-run μ-run) where
   count = c .run .count
 
   under-bound : count < boundOf first
-  under-bound = count-below (c .before .pre) count (c .run .inv .1)
+  under-bound = count-below (c .before .pre .0) count (c .run .inv .1)
 
   small : count < mostCount
-  small = count-small (c .before .pre) count (c .run .inv .1)
+  small = count-small (c .before .pre .0) count (c .run .inv .1)
 
 step-requires : tie.Need-step-requires Inv-run μ-run
-step-requires c κs = rw (c .run .inv .0) (held-after (c .before .pre .begun) (count c) (c .run .inv .1))
+step-requires c κs = rw (c .run .inv .0) (held-after (c .before .pre .0 .begun) (count c) (c .run .inv .1))
 
 enum-known-how : tie.Need-enum-known-how Inv-run μ-run
 enum-known-how c = search needs
@@ -62,12 +63,32 @@ run-again c = let a = c .before .before .before .before in let e = step-at (c .b
   goes-more (first a) (count a) (a .run .inv .1) (sym (ap (λ s. s .outcome) e) ∙ c .before .enum-told .given .1),
 )
 
+-- the step that ends it
+module _ (c : tie.After-how Inv-run μ-run) where
+  abbrev at-end : tie.At-run Inv-run μ-run
+  at-end = c .before .before .before
+
+  abbrev end : End
+  end = c .how .given .0 .0
+
+  finished : Finished (first at-end) end (count at-end) (at-end .run .now)
+  finished = record {
+    goes-on = at-end .run .inv .1;
+    ended = sym (ap (λ s. s .outcome) (step-at (c .before .before))) ∙ c .how .given .1;
+    last = at-end .run .inv .0;
+  }
+
+tell-requires : tie.Need-tell-requires Inv-run μ-run
+tell-requires c κs = let o = c .before .before in let p = at-end o .before .pre in
+    (tellable (p .0) (finished o), let z = last-many (p .0) (finished o) in omega (arith, p .1))
+
+same-length : tie.Need-same-length Inv-run μ-run
+same-length c = search needs
+
 returns : tie.Need-returns Inv-run μ-run
-returns c = let a = c .before .before .before .before in record {
-  goes-on = a .run .inv .1;
-  ended = sym (ap (λ s. s .outcome) (step-at (c .before .before .before))) ∙ c .before .how .given .1;
-  last = a .run .inv .0;
-}
+returns c S = let o = c .before .before .before .before in let a = at-end o .before .args in
+    c .before .tell .ensures
+    ∙ ap₂ (λ N l. laidOver N (a .out .now) l) (last-many S (finished o)) (told S (finished o))
 
 pub run-spec : {M : Type 1} → statement M
 run-spec =
@@ -82,4 +103,6 @@ run-spec =
     add-count
     run-less
     run-again
+    tell-requires
+    same-length
     returns)

@@ -1,7 +1,8 @@
--- `solver::tell` meets its contract: one case for each way a run ends. Assumes nothing.
+-- `solver::run::tell` meets its contract: one case for each way a run ends. Assumes nothing.
 use mathlib.Core.List.{List}
-use mathlib.Core.Path.{_≡_, ap, sym, _∙_}
-use Prim.Native.Nat.{ℕ, _≤_}
+use mathlib.Core.Path.{ap, sym, _∙_}
+use Prim.Native.Nat.{ℕ, _+_, _≤_}
+use native.Mathlib.Omega.{arith}
 use borrow.Author.Needs.{needs}
 use lib.IntN.{ℤ, pos}
 use mir.Facts.{toZ-ofZ}
@@ -16,31 +17,34 @@ use Rattle.solver.specs.declared.step.End.{End}
 use Rattle.solver.specs.Answer.{laidOver, noughts, wordsAt}
 use Rattle.solver.specs.Run.{endWords}
 use Rattle.solver.proofs.Laws.Readable.{blockable, numerable}
-use Rattle.solver.proofs.tell.Statement.{statement}
-use Rattle.solver.proofs.tell.Tie as tie
+use Rattle.solver.proofs.run.tell.Statement.{statement}
+use Rattle.solver.proofs.run.tell.Tie as tie
 
 -- the last tableau, and the words by how the run ended
 module _ (s : tie.Start) where
   abbrev last : Tableau
-  last = s .args .ending .tableau
+  last = s .args .t1
 
   abbrev many : ℕ
-  many = s .args .variables
+  many = last .rows + last .columns
 
   abbrev over : List ℤ → List ℤ
   over = laidOver many (s .args .out .now)
 
   abbrev told : End → List ℤ
-  told e = over (endWords e (s .args .ending .count) last many)
+  told e = over (endWords e (s .args .count) last many)
 
   readable : Searchable last
   readable = s .pre .0 .searchable
 
   few : many ≤ mostVariables
-  few = s .pre .0 .few
+  few = let a = readable .few-rows in let b = readable .few-columns in omega arith
 
   fit-common : SFits w64 (last .common)
   fit-common = search needs
+
+add-variables : tie.Need-add-variables
+add-variables c = let z = few c in omega arith
 
 enum-told : tie.Need-enum-told
 enum-told c = search needs
@@ -49,7 +53,7 @@ enum-told c = search needs
 
 module _ (c : tie.After-enum-told) where
   abbrev start : tie.Start
-  start = c .before .before .before .before .before
+  start = c .before .before .before .before
 
 numerators-of-requires : tie.Need-numerators-of-requires
 numerators-of-requires c κs = let s = start (c .before .before .before) in
@@ -66,7 +70,7 @@ returns : tie.Need-returns
 unfolding endWords
 returns c = let o = c .before .before .before .before .before .before .before .before .before in let s = start o in
     (simp (toZ-ofZ (fit-common s)) at (c .before .write .ensures))
-    ∙ ap (λ l. over s (wordsAt verdicts.Can (s .args .ending .count) (last s .common) (many s) l noughts))
+    ∙ ap (λ l. over s (wordsAt verdicts.Can (s .args .count) (last s .common) (many s) l noughts))
     (simp (toZ-ofZ (fit-common s)) at (c .before .before .before .before .before .numerators-of .ensures))
     ∙ sym (ap (told s) (o .enum-told .given .1))
 
@@ -77,7 +81,7 @@ enum-known-end c = search needs
 
 module _ (c : tie.After-end) where
   abbrev entry : tie.Start
-  entry = c .before .before .before .before .before
+  entry = c .before .before .before .before
 
   abbrev blocked : Blocked
   blocked = c .end .given .0 .0
@@ -100,7 +104,7 @@ returns-2 : tie.Need-returns-2
 unfolding endWords
 returns-2 c = let o = c .before .before .before .before .before .before .before .before .before .before in let s = entry o in
     c .before .write2 .ensures
-    ∙ ap (λ m. over s (wordsAt verdicts.Cannot (s .args .ending .count) (pos 0) (many s) (m .lower) (m .upper)))
+    ∙ ap (λ m. over s (wordsAt verdicts.Cannot (s .args .count) (pos 0) (many s) (m .lower) (m .upper)))
     (simp (toZ-ofZ (fit-common s)) at (c .before .before .before .before .before .before .multipliers-of .ensures))
     ∙ sym (ap (told s) (o .end .given .1))
 
@@ -110,21 +114,21 @@ enum-told-2 : tie.Need-enum-told-2
 enum-told-2 c = search needs
 
 write-requires-3 : tie.Need-write-requires-3
-write-requires-3 c κs = let s = c .before .before .before .before .before .before .before .before in
-    (s .pre .1, few s, s .pre .0 .counted)
+write-requires-3 c κs = let s = c .before .before .before .before .before .before .before in (s .pre .1, few s, s .pre .0 .counted)
 
 same-length-3 : tie.Need-same-length-3
 same-length-3 c = search needs
 
 returns-3 : tie.Need-returns-3
 unfolding endWords
-returns-3 c = let o = c .before .before .before .before .before in let s = o .before .before .before .before .before in
+returns-3 c = let o = c .before .before .before .before .before in let s = o .before .before .before .before in
     c .before .write3 .ensures ∙ sym (ap (told s) (o .enum-told2 .given .1))
 
 pub tell-spec : {M : Type 1} → statement M
 tell-spec =
     tie.close
     (tie.spec
+    add-variables
     enum-told
     numerators-of-requires
     write-requires
