@@ -1,31 +1,30 @@
--- The problem that a tableau at its start holds, and the checker's sums and tests over it, by place.
+-- The problem that a tableau's entries and limits hold at its start, and the checker's sums and tests over them, by place.
 use mathlib.Core.Bool.{Bool, true, false, _&&_, not}
 use mathlib.Core.List.{List}
 use Prim.Native.Nat.{ℕ, _+_, _*_, _≤_, _<_}
 use lib.IntN.{ℤ, pos, _+ℤ_, _-ℤ_, _*ℤ_}
 use lib.ListN.{length, getD}
 use Rattle.whole.specs.Below.{allBelow}
-use Rattle.whole.specs.Numbers.{Within, outside, eqZ}
+use Rattle.whole.specs.Numbers.{Within, AllWithin, within, outside, eqZ}
 use Rattle.whole.specs.Sums.{sum}
 use Rattle.whole.specs.Values.{whole}
-use Rattle.rules.specs.Sizes.{mostRows, mostColumns, largestCoefficient, largestLimit, largestNumber}
+use Rattle.rules.specs.Sizes.{mostRows, mostColumns, largestCoefficient, largestLimit, largestNumber, largestNumerator}
 use Rattle.rules.specs.Problem.{Problem}
 use Rattle.rules.specs.Step.{seated}
 use Rattle.rules.specs.Evidence.{lowerPart, upperPart, atLeast, atMost}
 use Rattle.tableau.specs.declared.Limits.{Limits}
-use Rattle.tableau.specs.declared.Tableau.{Tableau}
 use Rattle.tableau.specs.Layout.{flat}
-use Rattle.tableau.specs.Parts.{cell, cellAt, lowerOf, upperOf}
+use Rattle.tableau.specs.Parts.{entryIn, lowerOf, upperOf}
 
 -- ---- the problem: at the start the entries are the coefficients
 
-unfoldable pub problemOf : Tableau → Problem ℤ
-problemOf t = record {
-  n = t .columns;
-  m = t .rows;
-  coefficient = cellAt t;
-  lower = lowerOf (t .limits);
-  upper = upperOf (t .limits);
+unfoldable pub problemOf : List ℤ → Limits → ℕ → ℕ → Problem ℤ
+problemOf entries limits rows columns = record {
+  n = columns;
+  m = rows;
+  coefficient = entryIn entries;
+  lower = lowerOf limits;
+  upper = upperOf limits;
 }
 
 -- every limit's number is within its range
@@ -33,22 +32,34 @@ pub record Limited (l : Limits) : Type 0 where
   pub lowers-within : (v : ℕ) → Within (getD (l .lower) v (pos 0)) largestLimit
   pub uppers-within : (v : ℕ) → Within (getD (l .upper) v (pos 0)) largestLimit
 
--- a tableau at its start, and an answer that is long enough
-pub record Readable (t : Tableau) (a : List ℤ) : Type 0 where
-  pub few-rows : t .rows ≤ mostRows
-  pub few-columns : t .columns ≤ mostColumns
-  pub long : 3 + 2 * (t .columns + t .rows) ≤ length a
-  pub cells-within : (k : ℕ) → Within (cell t k) largestCoefficient
-  pub limited : Limited (t .limits)
+-- entries and limits within their ranges, and an answer that is long enough
+pub record Readable (entries : List ℤ) (limits : Limits) (rows columns : ℕ) (a : List ℤ) : Type 0 where
+  pub few-rows : rows ≤ mostRows
+  pub few-columns : columns ≤ mostColumns
+  pub long : 3 + 2 * (columns + rows) ≤ length a
+  pub entries-within : AllWithin entries largestCoefficient
+  pub limited : Limited limits
 
 -- ---- verdict 1
+
+-- the numerators of so many variables are within their range
+abbrev pub numeratorsFit : List ℤ → ℕ → Bool
+numeratorsFit a variables = allBelow variables (λ v. within largestNumerator (lowerPart a v))
 
 -- row place i over the numerators of the problem's variables
 unfoldable pub rowSumAt : List ℤ → List ℤ → ℕ → ℕ → ℤ
 rowSumAt entries a columns i = sum columns (λ j. getD entries (flat i j) (pos 0) *ℤ lowerPart a j)
 
+abbrev pub rowsHold : List ℤ → List ℤ → ℕ → ℕ → Bool
+rowsHold entries a rows columns =
+    allBelow rows (λ i. eqZ (lowerPart a (columns + i)) (rowSumAt entries a columns i))
+
 unfoldable pub limitsHold : Limits → List ℤ → ℕ → ℤ → Bool
 limitsHold l a variables d = allBelow variables (λ v. atLeast (lowerOf l v) d (lowerPart a v) && atMost (upperOf l v) d (lowerPart a v))
+
+-- the second half of the answer is 0
+abbrev pub restIsZero : List ℤ → ℕ → Bool
+restIsZero a variables = allBelow variables (λ v. eqZ (upperPart variables a v) (pos 0))
 
 -- ---- verdict 2
 
@@ -79,6 +90,10 @@ columnUpTo entries a columns variables k j = balanceAt a variables j
 
 abbrev pub columnAtEntries : List ℤ → List ℤ → ℕ → ℕ → ℕ → ℤ
 columnAtEntries entries a columns rows j = columnUpTo entries a columns (columns + rows) rows j
+
+abbrev pub columnsCancel : List ℤ → List ℤ → ℕ → ℕ → Bool
+columnsCancel entries a rows columns =
+    allBelow columns (λ j. eqZ (columnAtEntries entries a columns rows j) (pos 0))
 
 -- lower limits times multipliers less upper limits times multipliers, of the first k variables
 unfoldable pub surplusUpTo : Limits → List ℤ → ℕ → ℕ → ℤ

@@ -5,13 +5,14 @@ ghost use Prim.Native.Nat.{ℕ, _+_, _*_, _≤_, _<_};
 ghost use lib.IntN.{ℤ, pos, _*ℤ_};
 ghost use lib.ListN.{length, getD};
 ghost use Rattle.whole.specs.Below.{allBelow};
-ghost use Rattle.whole.specs.Numbers.{Within, within, eqZ};
+ghost use Rattle.whole.specs.Numbers.{Within, AllWithin, within, eqZ};
 ghost use Rattle.whole.specs.Sums.{sum};
 ghost use Rattle.rules.specs.Sizes.{mostRows, mostColumns, mostVariables, largestCoefficient, largestLimit, largestNumber, largestNumerator};
 ghost use Rattle.rules.specs.Limit.{present};
 ghost use Rattle.rules.specs.Evidence.{lowerPart, upperPart, atLeast, atMost, showsCan};
 ghost use Rattle.tableau.specs.Layout.{flat};
-ghost use Rattle.evidence.specs.Reads.{problemOf, Readable, rowSumAt, limitsHold, Limited};
+ghost use Rattle.evidence.specs.Reads.{problemOf, Readable, Limited, rowSumAt};
+ghost use Rattle.evidence.specs.Reads.{numeratorsFit, rowsHold, limitsHold, restIsZero};
 use crate::parts::is_outside;
 use tableau::Limits;
 use tableau::RowPlace;
@@ -22,7 +23,7 @@ const LARGEST_NUMERATOR: i64 = 515396075280000;
 // Each numerator is within its range.
 fn numerators_fit(answer: &[i64], variables: usize) -> bool
     requires { ⌜ (variables ≤ mostVariables) × (3 + variables ≤ length (now answer)) ⌝ }
-    ensures { λ r. ⌜ r ≡ allBelow variables (λ v. within largestNumerator (lowerPart (now (answer .entry)) v)) ⌝ }
+    ensures { λ r. ⌜ r ≡ numeratorsFit (now (answer .entry)) variables ⌝ }
 {
     let mut v = 0;
     while v < variables {
@@ -36,9 +37,14 @@ fn numerators_fit(answer: &[i64], variables: usize) -> bool
 }
 
 // The sum of a row over the numerators of the problem's variables.
-fn row_sum(entries: &[i64; 128], answer: &[i64], row: RowPlace, columns: usize) -> i64
+fn row_sum(
+    entries: &[i64; Tableau::MOST_ENTRIES],
+    answer: &[i64],
+    row: RowPlace,
+    columns: usize,
+) -> i64
     requires { ⌜ (row .0 < mostRows) × (columns ≤ mostColumns) × (3 + columns ≤ length (now answer)) ⌝ }
-    requires { ⌜ ((k : ℕ) → Within (getD (now entries) k (pos 0)) largestCoefficient) ⌝ }
+    requires { ⌜ AllWithin (now entries) largestCoefficient ⌝ }
     requires { ⌜ ((v : ℕ) → v < columns → Within (lowerPart (now answer) v) largestNumerator) ⌝ }
     ensures { λ r. ⌜ r ≡ rowSumAt (now (entries .entry)) (now (answer .entry)) columns (row .0) ⌝ }
 {
@@ -54,11 +60,16 @@ fn row_sum(entries: &[i64; 128], answer: &[i64], row: RowPlace, columns: usize) 
 }
 
 // The numerator of each row's variable equals its row's sum.
-fn rows_hold(entries: &[i64; 128], answer: &[i64], rows: usize, columns: usize) -> bool
+fn rows_hold(
+    entries: &[i64; Tableau::MOST_ENTRIES],
+    answer: &[i64],
+    rows: usize,
+    columns: usize,
+) -> bool
     requires { ⌜ (rows ≤ mostRows) × (columns ≤ mostColumns) × (3 + (columns + rows) ≤ length (now answer)) ⌝ }
-    requires { ⌜ ((k : ℕ) → Within (getD (now entries) k (pos 0)) largestCoefficient) ⌝ }
+    requires { ⌜ AllWithin (now entries) largestCoefficient ⌝ }
     requires { ⌜ ((v : ℕ) → v < columns → Within (lowerPart (now answer) v) largestNumerator) ⌝ }
-    ensures { λ r. ⌜ r ≡ allBelow rows (λ i. eqZ (lowerPart (now (answer .entry)) (columns + i)) (rowSumAt (now (entries .entry)) (now (answer .entry)) columns i)) ⌝ }
+    ensures { λ r. ⌜ r ≡ rowsHold (now (entries .entry)) (now (answer .entry)) rows columns ⌝ }
 {
     let mut i = 0;
     while i < rows {
@@ -131,7 +142,7 @@ fn limits_hold(limits: Limits, answer: &[i64], variables: usize, denominator: i6
 // The second half of the answer is 0.
 fn rest_is_zero(answer: &[i64], variables: usize) -> bool
     requires { ⌜ (variables ≤ mostVariables) × (3 + 2 * variables ≤ length (now answer)) ⌝ }
-    ensures { λ r. ⌜ r ≡ allBelow variables (λ v. eqZ (upperPart variables (now (answer .entry)) v) (pos 0)) ⌝ }
+    ensures { λ r. ⌜ r ≡ restIsZero (now (answer .entry)) variables ⌝ }
 {
     let mut v = 0;
     while v < variables {
@@ -145,11 +156,17 @@ fn rest_is_zero(answer: &[i64], variables: usize) -> bool
 }
 
 // The words are right and within the ranges for verdict 1.
-pub fn shows_can(t: Tableau, answer: &[i64]) -> bool
-    requires { ⌜ Readable t (now answer) ⌝ }
-    ensures { λ r. ⌜ r ≡ showsCan (problemOf t) (now (answer .entry)) ⌝ }
+pub fn shows_can(
+    entries: &[i64; Tableau::MOST_ENTRIES],
+    limits: Limits,
+    rows: usize,
+    columns: usize,
+    answer: &[i64],
+) -> bool
+    requires { ⌜ Readable (now entries) limits rows columns (now answer) ⌝ }
+    ensures { λ r. ⌜ r ≡ showsCan (problemOf (now (entries .entry)) limits rows columns) (now (answer .entry)) ⌝ }
 {
-    let variables = t.columns + t.rows;
+    let variables = columns + rows;
     let denominator = answer[2];
     if is_outside(denominator, 1, Tableau::LARGEST_NUMBER) {
         return false;
@@ -157,10 +174,9 @@ pub fn shows_can(t: Tableau, answer: &[i64]) -> bool
     if !numerators_fit(answer, variables) {
         return false;
     }
-    if !rows_hold(&t.entries, answer, t.rows, t.columns) {
+    if !rows_hold(entries, answer, rows, columns) {
         return false;
     }
-    let limits = t.limits;
     if !limits_hold(limits, answer, variables, denominator) {
         return false;
     }

@@ -5,13 +5,14 @@ ghost use Prim.Native.Nat.{ℕ, _+_, _*_, _≤_, _<_};
 ghost use lib.IntN.{ℤ, pos, _*ℤ_, _-ℤ_};
 ghost use lib.ListN.{length, getD};
 ghost use Rattle.whole.specs.Below.{allBelow};
-ghost use Rattle.whole.specs.Numbers.{Within, eqZ};
+ghost use Rattle.whole.specs.Numbers.{Within, AllWithin, eqZ};
 ghost use Rattle.whole.specs.Values.{whole};
 ghost use Rattle.rules.specs.Sizes.{mostRows, mostColumns, mostVariables, largestCoefficient, largestLimit, largestNumber};
 ghost use Rattle.rules.specs.Limit.{present};
 ghost use Rattle.rules.specs.Step.{seated};
 ghost use Rattle.rules.specs.Evidence.{showsCannot};
-ghost use Rattle.evidence.specs.Reads.{problemOf, Readable, Limited, Multiplied, balanceAt, columnAtEntries, fairOf, multipliersFair, surplusOf};
+ghost use Rattle.evidence.specs.Reads.{problemOf, Readable, Limited, Multiplied, balanceAt, columnAtEntries};
+ghost use Rattle.evidence.specs.Reads.{fairOf, multipliersFair, columnsCancel, surplusOf};
 use crate::parts::is_outside;
 use tableau::ColumnPlace;
 use tableau::Limits;
@@ -71,14 +72,14 @@ fn balance(answer: &[i64], variables: usize, v: usize) -> i64
 
 // A column of the multipliers put through the rows.
 fn column_sum(
-    entries: &[i64; 128],
+    entries: &[i64; Tableau::MOST_ENTRIES],
     answer: &[i64],
     rows: usize,
     columns: usize,
     column: ColumnPlace,
 ) -> i64
     requires { ⌜ (rows ≤ mostRows) × (columns ≤ mostColumns) × (column .0 < columns) × (3 + 2 * (columns + rows) ≤ length (now answer)) ⌝ }
-    requires { ⌜ ((k : ℕ) → Within (getD (now entries) k (pos 0)) largestCoefficient) ⌝ }
+    requires { ⌜ AllWithin (now entries) largestCoefficient ⌝ }
     requires { ⌜ Multiplied (now answer) (columns + rows) ⌝ }
     ensures { λ r. ⌜ r ≡ columnAtEntries (now (entries .entry)) (now (answer .entry)) columns rows (column .0) ⌝ }
 {
@@ -94,11 +95,16 @@ fn column_sum(
 }
 
 // Every column cancels.
-fn columns_cancel(entries: &[i64; 128], answer: &[i64], rows: usize, columns: usize) -> bool
+fn columns_cancel(
+    entries: &[i64; Tableau::MOST_ENTRIES],
+    answer: &[i64],
+    rows: usize,
+    columns: usize,
+) -> bool
     requires { ⌜ (rows ≤ mostRows) × (columns ≤ mostColumns) × (3 + 2 * (columns + rows) ≤ length (now answer)) ⌝ }
-    requires { ⌜ ((k : ℕ) → Within (getD (now entries) k (pos 0)) largestCoefficient) ⌝ }
+    requires { ⌜ AllWithin (now entries) largestCoefficient ⌝ }
     requires { ⌜ Multiplied (now answer) (columns + rows) ⌝ }
-    ensures { λ r. ⌜ r ≡ allBelow columns (λ j. eqZ (columnAtEntries (now (entries .entry)) (now (answer .entry)) columns rows j) (pos 0)) ⌝ }
+    ensures { λ r. ⌜ r ≡ columnsCancel (now (entries .entry)) (now (answer .entry)) rows columns ⌝ }
 {
     let mut j = 0;
     while j < columns {
@@ -154,19 +160,24 @@ fn surplus(limits: Limits, answer: &[i64], variables: usize) -> i64
 }
 
 // The words are right and within the ranges for verdict 2.
-pub fn shows_cannot(t: Tableau, answer: &[i64]) -> bool
-    requires { ⌜ Readable t (now answer) ⌝ }
-    ensures { λ r. ⌜ r ≡ showsCannot (problemOf t) (now (answer .entry)) ⌝ }
+pub fn shows_cannot(
+    entries: &[i64; Tableau::MOST_ENTRIES],
+    limits: Limits,
+    rows: usize,
+    columns: usize,
+    answer: &[i64],
+) -> bool
+    requires { ⌜ Readable (now entries) limits rows columns (now answer) ⌝ }
+    ensures { λ r. ⌜ r ≡ showsCannot (problemOf (now (entries .entry)) limits rows columns) (now (answer .entry)) ⌝ }
 {
-    let variables = t.columns + t.rows;
+    let variables = columns + rows;
     if answer[2] != 0 {
         return false;
     }
-    let limits = t.limits;
     if !multipliers_fair(limits, answer, variables) {
         return false;
     }
-    if !columns_cancel(&t.entries, answer, t.rows, t.columns) {
+    if !columns_cancel(entries, answer, rows, columns) {
         return false;
     }
     0 < surplus(limits, answer, variables)

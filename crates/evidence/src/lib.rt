@@ -22,15 +22,16 @@ pub fn check(words: &[i32], answer: &[i64]) -> u32
     if answer.len() < 3 + 2 * (t.columns + t.rows) {
         return 7;
     }
+    let limits = t.limits;
     let verdict = answer[0];
     if verdict == 1 {
-        if shows_can(t, answer) {
+        if shows_can(&t.entries, limits, t.rows, t.columns, answer) {
             return 8;
         }
         return 9;
     }
     if verdict == 2 {
-        if shows_cannot(t, answer) {
+        if shows_cannot(&t.entries, limits, t.rows, t.columns, answer) {
             return 8;
         }
     }

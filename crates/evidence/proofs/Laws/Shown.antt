@@ -1,4 +1,5 @@
--- The checker's two rules as tests one after the other, over the problem that a tableau holds. Each law has the tests before as true.
+-- The checker's two rules as tests one after the other, over the problem that readable entries and limits hold. Each law
+-- has the tests before as true.
 --   can-denominator, can-numerators, can-rows, can-limits, can-rest    the first test that fails, or the last
 --   cannot-denominator, cannot-multipliers, cannot-columns, cannot-surplus
 use mathlib.Core.Path.{_≡_, refl, ap, ap₂, _∙_}
@@ -7,15 +8,16 @@ use mathlib.Core.List.{List}
 use Prim.Native.Nat.{ℕ, _+_}
 use lib.IntN.{ℤ, pos}
 use lib.ListN.{getD}
-use Rattle.whole.specs.Below.{allBelow}
-use Rattle.whole.specs.Numbers.{within, outside, eqZ, isPos}
+use Rattle.whole.specs.Numbers.{outside, eqZ, isPos}
 use Rattle.whole.proofs.Below.{all-same}
-use Rattle.rules.specs.Sizes.{largestNumber, largestNumerator}
+use Rattle.rules.specs.Sizes.{largestNumber}
 use Rattle.rules.specs.Limit.{present}
+use Rattle.rules.specs.Problem.{Problem}
 use Rattle.rules.specs.Evidence.{denominatorOf, lowerPart, upperPart, fair, column, surplus, showsCan, showsCannot}
 use Rattle.tableau.specs.Parts.{lowerOf, upperOf}
-use Rattle.tableau.specs.declared.Tableau.{Tableau}
-use Rattle.evidence.specs.Reads.{problemOf, rowSumAt, limitsHold, fairOf, fairAt, multipliersFair, columnUpTo, columnAtEntries, surplusUpTo, surplusOf}
+use Rattle.tableau.specs.declared.Limits.{Limits}
+use Rattle.evidence.specs.Reads.{Readable, problemOf, numeratorsFit, rowSumAt, rowsHold, limitsHold, restIsZero}
+use Rattle.evidence.specs.Reads.{fairOf, fairAt, multipliersFair, columnUpTo, columnsCancel, surplusUpTo, surplusOf}
 
 -- a multiplier's test asks only whether the limit is there
 fair-is : (b : Bool) (l k : ℤ) → fair (present b l) k ≡ fairOf b k
@@ -23,68 +25,66 @@ unfolding fair fairOf present
 fair-is true l k = refl
 fair-is false l k = refl
 
-module _ (t : Tableau) (a : List ℤ) where
+module _ {entries : List ℤ} {limits : Limits} {rows columns : ℕ} {a : List ℤ}
+    (R : Readable entries limits rows columns a) where
+  abbrev P : Problem ℤ
+  P = problemOf entries limits rows columns
+
   abbrev variables : ℕ
-  variables = t .columns + t .rows
+  variables = columns + rows
 
   -- ---- verdict 1
 
-  abbrev pub numeratorsFit : Bool
-  numeratorsFit = allBelow variables (λ v. within largestNumerator (lowerPart a v))
+  abbrev denominatorFits : Bool
+  denominatorFits = not (outside 1 largestNumber (denominatorOf a))
 
-  abbrev pub rowsHold : Bool
-  rowsHold = allBelow (t .rows) (λ i. eqZ (lowerPart a (t .columns + i)) (rowSumAt (t .entries) a (t .columns) i))
-
-  abbrev pub limitsMet : Bool
-  limitsMet = limitsHold (t .limits) a variables (denominatorOf a)
-
-  abbrev pub restZero : Bool
-  restZero = allBelow variables (λ v. eqZ (upperPart variables a v) (pos 0))
-
-  tests : showsCan (problemOf t) a ≡ (not (outside 1 largestNumber (denominatorOf a)) && numeratorsFit && rowsHold && limitsMet && restZero)
+  tests : showsCan P a ≡ (denominatorFits && numeratorsFit a variables && rowsHold entries a rows columns
+      && limitsHold limits a variables (denominatorOf a) && restIsZero a variables)
   unfolding showsCan problemOf rowSumAt limitsHold
   tests = refl
 
+  pub can-denominator : outside 1 largestNumber (denominatorOf a) ≡ true → showsCan P a ≡ false
+  can-denominator d = tests ∙ (rw d refl)
+
   module _ (d : outside 1 largestNumber (denominatorOf a) ≡ false) where
-    pub can-numerators : numeratorsFit ≡ false → showsCan (problemOf t) a ≡ false
+    pub can-numerators : numeratorsFit a variables ≡ false → showsCan P a ≡ false
     can-numerators e = tests ∙ (rw (d, e) refl)
 
-    pub can-rows : numeratorsFit ≡ true → rowsHold ≡ false → showsCan (problemOf t) a ≡ false
-    can-rows n e = tests ∙ (rw (d, n, e) refl)
+    module _ (n : numeratorsFit a variables ≡ true) where
+      pub can-rows : rowsHold entries a rows columns ≡ false → showsCan P a ≡ false
+      can-rows e = tests ∙ (rw (d, n, e) refl)
 
-    pub can-limits : numeratorsFit ≡ true → rowsHold ≡ true → limitsMet ≡ false → showsCan (problemOf t) a ≡ false
-    can-limits n r e = tests ∙ (rw (d, n, r, e) refl)
+      module _ (r : rowsHold entries a rows columns ≡ true) where
+        pub can-limits : limitsHold limits a variables (denominatorOf a) ≡ false → showsCan P a ≡ false
+        can-limits e = tests ∙ (rw (d, n, r, e) refl)
 
-    pub can-rest : numeratorsFit ≡ true → rowsHold ≡ true → limitsMet ≡ true → showsCan (problemOf t) a ≡ restZero
-    can-rest n r l = tests ∙ (rw (d, n, r, l) refl)
-
-  pub can-denominator : outside 1 largestNumber (denominatorOf a) ≡ true → showsCan (problemOf t) a ≡ false
-  can-denominator d = tests ∙ (rw d refl)
+        pub can-rest : limitsHold limits a variables (denominatorOf a) ≡ true → showsCan P a ≡ restIsZero a variables
+        can-rest l = tests ∙ (rw (d, n, r, l) refl)
 
   -- ---- verdict 2
 
-  abbrev pub columnsCancel : Bool
-  columnsCancel = allBelow (t .columns) (λ j. eqZ (columnAtEntries (t .entries) a (t .columns) (t .rows) j) (pos 0))
+  fairs : (v : ℕ) → (fair (lowerOf limits v) (lowerPart a v) && fair (upperOf limits v) (upperPart variables a v))
+      ≡ fairAt limits a variables v
+  fairs v = ap₂ _&&_ (fair-is (getD (limits .lowers) v false) _ (lowerPart a v))
+      (fair-is (getD (limits .uppers) v false) _ (upperPart variables a v))
 
-  fairs : (v : ℕ) → (fair (lowerOf (t .limits) v) (lowerPart a v) && fair (upperOf (t .limits) v) (upperPart variables a v)) ≡ fairAt (t .limits) a variables v
-  fairs v = ap₂ _&&_ (fair-is (getD (t .limits .lowers) v false) _ (lowerPart a v)) (fair-is (getD (t .limits .uppers) v false) _ (upperPart variables a v))
-
-  cannot-tests : showsCannot (problemOf t) a
-      ≡ (eqZ (denominatorOf a) (pos 0) && multipliersFair (t .limits) a variables && columnsCancel && isPos (surplusOf (t .limits) a variables))
+  cannot-tests : showsCannot P a ≡ (eqZ (denominatorOf a) (pos 0) && multipliersFair limits a variables
+      && columnsCancel entries a rows columns && isPos (surplusOf limits a variables))
   unfolding showsCannot problemOf multipliersFair columnUpTo surplusUpTo column surplus
-  cannot-tests = ap (λ (b : Bool). eqZ (denominatorOf a) (pos 0) && b && columnsCancel && isPos (surplusOf (t .limits) a variables))
-      (all-same variables _ _ (λ v h. fairs v))
+  cannot-tests = ap (λ (b : Bool). eqZ (denominatorOf a) (pos 0) && b && columnsCancel entries a rows columns
+      && isPos (surplusOf limits a variables)) (all-same variables _ _ (λ v h. fairs v))
 
-  pub cannot-denominator : eqZ (denominatorOf a) (pos 0) ≡ false → showsCannot (problemOf t) a ≡ false
+  pub cannot-denominator : eqZ (denominatorOf a) (pos 0) ≡ false → showsCannot P a ≡ false
   cannot-denominator d = cannot-tests ∙ (rw d refl)
 
   module _ (d : eqZ (denominatorOf a) (pos 0) ≡ true) where
-    pub cannot-multipliers : multipliersFair (t .limits) a variables ≡ false → showsCannot (problemOf t) a ≡ false
+    pub cannot-multipliers : multipliersFair limits a variables ≡ false → showsCannot P a ≡ false
     cannot-multipliers e = cannot-tests ∙ (rw (d, e) refl)
 
-    pub cannot-columns : multipliersFair (t .limits) a variables ≡ true → columnsCancel ≡ false → showsCannot (problemOf t) a ≡ false
-    cannot-columns f e = cannot-tests ∙ (rw (d, f, e) refl)
+    module _ (f : multipliersFair limits a variables ≡ true) where
+      pub cannot-columns : columnsCancel entries a rows columns ≡ false → showsCannot P a ≡ false
+      cannot-columns e = cannot-tests ∙ (rw (d, f, e) refl)
 
-    pub cannot-surplus : multipliersFair (t .limits) a variables ≡ true → columnsCancel ≡ true →
-        showsCannot (problemOf t) a ≡ isPos (surplusOf (t .limits) a variables)
-    cannot-surplus f e = cannot-tests ∙ (rw (d, f, e) refl)
+      pub cannot-surplus : columnsCancel entries a rows columns ≡ true →
+          showsCannot P a ≡ isPos (surplusOf limits a variables)
+      cannot-surplus e = cannot-tests ∙ (rw (d, f, e) refl)

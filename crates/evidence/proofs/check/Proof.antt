@@ -1,5 +1,5 @@
 -- `evidence::check` meets its contract: the problem's refusal, then the answer's length, then the rule of its verdict. Assumes nothing.
-use mathlib.Core.Path.{_≡_, refl, ap, sym, subst, _∙_}
+use mathlib.Core.Path.{_≡_, refl, ap, sym, _∙_}
 use mathlib.Core.Bool.{Bool, true, false, cond}
 use mathlib.Core.List.{List}
 use mathlib.Core.Logic.{_≢_}
@@ -20,8 +20,8 @@ use Rattle.rules.proofs.Evidence.Checked.{checked-by-problem}
 use Rattle.tableau.specs.declared.Tableau.{Tableau}
 use Rattle.tableau.specs.Start.{startTableau}
 use Rattle.tableau.proofs.Laws.Fitting.{Fitting, fitting-accepted}
-use Rattle.evidence.specs.Reads.{Readable, problemOf}
-use Rattle.evidence.proofs.Laws.Read.{readable, can-same, cannot-same}
+use Rattle.evidence.specs.Reads.{Readable}
+use Rattle.evidence.proofs.Laws.Read.{held, readable, can-same, cannot-same}
 use Rattle.evidence.proofs.Laws.Checks.{long-is, too-short, can-judged, cannot-judged, other-judged}
 use Rattle.evidence.proofs.check.Statement.{statement}
 use Rattle.evidence.proofs.check.Tie as tie
@@ -72,64 +72,61 @@ module _ (c : tie.After-new) where
   long-here = long-is (words start) t (c .new .ensures)
 
 add-if2 : tie.Need-add-if2
-add-if2 c = let h = few (c .before) in omega arith
+add-if2 c = let h = few c in omega arith
 
 mul-if2 : tie.Need-mul-if2
-mul-if2 c = let h = few (c .before) in omega arith
+mul-if2 c = let h = few c in omega arith
 
 add-if2-2 : tie.Need-add-if2-2
-add-if2-2 c = let h = few (c .before) in omega arith
+add-if2-2 c = let h = few c in omega arith
 
 returns-2 : tie.Need-returns-2
-returns-2 c = let n = c .before .before in
+returns-2 c = let n = c .before in
     sym (too-short (words (start n)) (answer (start n)) (fine (n .before)) (rw (← long-here n) (c .if2 .taken)))
 
 -- ---- the answer is long enough
 
 module _ (c : tie.Else2) where
   abbrev new : tie.After-new
-  new = c .before .before
+  new = c .before
 
   long : answerLength (words (start new)) ≤ length (answer (start new))
   long = rw (← long-here new) (c .if2 .left)
 
-  ready : Readable (t new) (answer (start new))
+  ready : Readable (t new .entries) (t new .limits) (t new .rows) (t new .columns) (answer (start new))
   unfolding problem
-  ready = subst (λ (t : Tableau). Readable t (answer (start new))) (sym (new .new .ensures))
-      (readable (problem (words (start new))) (fitting (new .before)) (answer (start new)) long)
+  ready = readable (problem (words (start new))) (fitting (new .before)) (answer (start new)) (t new) (new .new .ensures) long
 
-  can-is : showsCan (problemOf (t new)) (answer (start new)) ≡ showsCan (problem (words (start new))) (answer (start new))
-  can-is = ap (λ (t : Tableau). showsCan (problemOf t) (answer (start new))) (new .new .ensures)
-      ∙ can-same (problem (words (start new))) (fitting (new .before)) (answer (start new))
+  can-is : showsCan (held (t new)) (answer (start new)) ≡ showsCan (problem (words (start new))) (answer (start new))
+  can-is = can-same (problem (words (start new))) (fitting (new .before)) (answer (start new)) (t new) (new .new .ensures)
 
-  cannot-is : showsCannot (problemOf (t new)) (answer (start new)) ≡ showsCannot (problem (words (start new))) (answer (start new))
-  cannot-is = ap (λ (t : Tableau). showsCannot (problemOf t) (answer (start new))) (new .new .ensures)
-      ∙ cannot-same (problem (words (start new))) (fitting (new .before)) (answer (start new))
+  cannot-is : showsCannot (held (t new)) (answer (start new)) ≡ showsCannot (problem (words (start new))) (answer (start new))
+  cannot-is = cannot-same (problem (words (start new))) (fitting (new .before)) (answer (start new)) (t new) (new .new .ensures)
 
 shared-slice-copy-out-verdict : tie.Need-shared-slice-copy-out-verdict
-shared-slice-copy-out-verdict c = let h = long c in omega arith
+shared-slice-copy-out-verdict c = let h = long (c .before) in omega arith
 
 -- ---- the verdict
 
-fit : (c : tie.After-verdict) → SFits w64 (verdictOf (answer (start (new (c .before)))))
+fit : (c : tie.After-verdict) → SFits w64 (verdictOf (answer (start (new (c .before .before)))))
 fit c = sfits-of (c .verdict .given)
 
-one : (c : tie.Then3) → verdictOf (answer (start (new (c .before .before)))) ≡ pos 1
+one : (c : tie.Then3) → verdictOf (answer (start (new (c .before .before .before)))) ≡ pos 1
 one c = sym (toZ-ofZ (fit (c .before))) ∙ ap (toZ w64) (c .if3 .taken)
 
-not-one : (c : tie.Else3) → verdictOf (answer (start (new (c .before .before)))) ≢ pos 1
+not-one : (c : tie.Else3) → verdictOf (answer (start (new (c .before .before .before)))) ≢ pos 1
 not-one c e = c .if3 .left (ap (ofZ w64) e)
 
-two : (c : tie.Then5) → verdictOf (answer (start (new (c .before .before .before)))) ≡ pos 2
+two : (c : tie.Then5) → verdictOf (answer (start (new (c .before .before .before .before)))) ≡ pos 2
 two c = sym (toZ-ofZ (fit (c .before .before))) ∙ ap (toZ w64) (c .if5 .taken)
 
 shows-can-requires : tie.Need-shows-can-requires
-shows-can-requires c κs = ready (c .before .before)
+shows-can-requires c κs = ready (c .before .before .before .before .before)
 
-can-answers : (c : tie.After-shows-can) → let n = new (c .before .before .before) in
+can-answers : (c : tie.After-shows-can) → let n = new (c .before .before .before .before .before .before) in
     checked (words (start n)) (answer (start n)) ≡ cond (c .shows-can .result) 8 9
-can-answers c = let l = c .before .before .before in let n = new l in
-    can-judged (words (start n)) (answer (start n)) (fine (n .before)) (long l) (one (c .before))
+can-answers c = let v = c .before .before .before in let l = v .before .before .before in let n = new l in
+    can-judged (words (start n)) (answer (start n)) (fine (n .before)) (long l) (one v)
     ∙ ap (λ (b : Bool). cond b 8 9) (sym (c .shows-can .ensures ∙ can-is l))
 
 returns-3 : tie.Need-returns-3
@@ -139,12 +136,12 @@ returns-4 : tie.Need-returns-4
 returns-4 c = sym (can-answers (c .before) ∙ ap (λ (b : Bool). cond b 8 9) (c .if4 .left))
 
 shows-cannot-requires : tie.Need-shows-cannot-requires
-shows-cannot-requires c κs = ready (c .before .before .before)
+shows-cannot-requires c κs = ready (c .before .before .before .before .before .before)
 
-cannot-answers : (c : tie.After-shows-cannot) → let n = new (c .before .before .before .before) in
+cannot-answers : (c : tie.After-shows-cannot) → let n = new (c .before .before .before .before .before .before .before) in
     checked (words (start n)) (answer (start n)) ≡ cond (c .shows-cannot .result) 8 9
-cannot-answers c = let l = c .before .before .before .before in let n = new l in
-    cannot-judged (words (start n)) (answer (start n)) (fine (n .before)) (long l) (not-one (c .before .before)) (two (c .before))
+cannot-answers c = let v = c .before .before .before in let l = v .before .before .before .before in let n = new l in
+    cannot-judged (words (start n)) (answer (start n)) (fine (n .before)) (long l) (not-one (v .before)) (two v)
     ∙ ap (λ (b : Bool). cond b 8 9) (sym (c .shows-cannot .ensures ∙ cannot-is l))
 
 returns-5 : tie.Need-returns-5
@@ -154,7 +151,7 @@ returns-6 : tie.Need-returns-6
 returns-6 c = sym (cannot-answers (c .before) ∙ ap (λ (b : Bool). cond b 8 9) (c .if6 .left))
 
 returns-7 : tie.Need-returns-7
-returns-7 c = let l = c .before .before .before in let n = new l in
+returns-7 c = let l = c .before .before .before .before in let n = new l in
     sym (other-judged (words (start n)) (answer (start n)) (fine (n .before)) (long l) (not-one (c .before)) (λ e. c .if5 .left (ap (ofZ w64) e)))
 
 pub check-spec : {M : Type 1} → statement M

@@ -92,7 +92,7 @@ module _ (c : tie.After-x Inv-loop μ-loop) where
   term-is = ap (λ (k : ℕ). getD (start .args .entries .now) k (pos 0) *ℤ value) (c .before .before .place .ensures)
 
   within-term : (k : ℕ) → k < start .args .columns → Within (term k) (largestCoefficient * largestNumerator)
-  within-term k h = within-* (start .pre .1 .0 (flat (start .args .row .0) k)) (start .pre .1 .1 k h)
+  within-term k h = within-* (start .pre .1 .0 .each _) (start .pre .1 .1 k h)
 
   fit-term : SFits w64 (read *ℤ value)
   fit-term = rw term-is (fits-by (within-term j (omega arith)) tt)

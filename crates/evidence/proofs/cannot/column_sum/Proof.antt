@@ -94,7 +94,7 @@ module _ (c : tie.After-balance2 Inv-loop μ-loop) where
   within-balance v h = within-- (start .pre .1 .1 .lower-within v h) (start .pre .1 .1 .upper-within v h)
 
   within-term : (k : ℕ) → k < start .args .rows → Within (term k) (largestCoefficient * (largestNumber + largestNumber))
-  within-term k h = within-* (start .pre .1 .0 (flat k (start .args .column .0))) (within-balance (start .args .columns + k) (omega arith))
+  within-term k h = within-* (start .pre .1 .0 .each _) (within-balance (start .args .columns + k) (omega arith))
 
   fit-term : SFits w64 (read *ℤ c .balance2 .result)
   fit-term = rw term-is (fits-by (within-term i (omega arith)) tt)

@@ -1,9 +1,9 @@
--- `evidence::cannot::shows_cannot` meets its contract: the tests of the rule one after the other, each call giving one of them.
--- Assumes nothing.
+-- `evidence::cannot::shows_cannot` meets its contract: the tests of the rule one after the other, each call giving one of
+-- them. Assumes nothing.
 use mathlib.Core.Path.{_≡_, ap, sym, _∙_}
-use mathlib.Core.Bool.{Bool, true, false}
+use mathlib.Core.Bool.{true, false}
 use mathlib.Core.List.{List}
-use Prim.Native.Nat.{_+_}
+use Prim.Native.Nat.{ℕ, _+_}
 use native.Mathlib.Omega.{arith}
 use borrow.Author.Needs.{needs, sfits-of}
 use lib.IntN.{ℤ, pos}
@@ -15,18 +15,17 @@ use Rattle.whole.specs.Numbers.{eqZ}
 use Rattle.whole.proofs.Bools.{not-true, not-false}
 use Rattle.whole.proofs.Tells.{tells-eqZ, tells-true, tells-false}
 use Rattle.rules.specs.Evidence.{denominatorOf}
-use Rattle.tableau.specs.declared.Tableau.{Tableau}
-use Rattle.evidence.specs.Reads.{Multiplied, multipliersFair}
-use Rattle.evidence.proofs.Laws.Shown.{columnsCancel, cannot-denominator, cannot-multipliers, cannot-columns, cannot-surplus}
+use Rattle.evidence.specs.Reads.{Multiplied, multipliersFair, columnsCancel}
+use Rattle.evidence.proofs.Laws.Shown.{cannot-denominator, cannot-multipliers, cannot-columns, cannot-surplus}
 use Rattle.evidence.proofs.Laws.Weights.{multiplied}
 use Rattle.evidence.proofs.cannot.shows_cannot.Statement.{statement}
 use Rattle.evidence.proofs.cannot.shows_cannot.Tie as tie
 
-abbrev tableau : tie.Start → Tableau
-tableau s = s .args .t1
-
 abbrev answer : tie.Start → List ℤ
 answer s = s .args .answer .now
+
+abbrev variables : tie.Start → ℕ
+variables s = s .args .columns + s .args .rows
 
 add-variables : tie.Need-add-variables
 add-variables c = search needs
@@ -42,48 +41,58 @@ fit c = sfits-of (c .if12 .given)
 zero : (c : tie.Else1) → eqZ (denominatorOf (answer (c .before .before))) (pos 0) ≡ true
 zero c = tells-true (tells-eqZ _ (pos 0)) (sym (toZ-ofZ (fit (c .before))) ∙ ap (toZ w64) (c .if1 .left))
 
-fair : (c : tie.Else2) → let s = c .before .before .before .before .before in multipliersFair (tableau s .limits) (answer s) (tableau s .columns + tableau s .rows) ≡ true
-fair c = sym (c .before .multipliers-fair .ensures) ∙ not-false _ (c .if2 .left)
+module _ (c : tie.Else2) where
+  abbrev second : tie.Start
+  second = c .before .before .before .before
 
-many : (c : tie.Else2) → let s = c .before .before .before .before .before in Multiplied (answer s) (tableau s .columns + tableau s .rows)
-many c = multiplied _ _ _ (fair c)
+  fair : multipliersFair (second .args .limits) (answer second) (variables second) ≡ true
+  fair = sym (c .before .multipliers-fair .ensures) ∙ not-false _ (c .if2 .left)
 
-cancel : (c : tie.Else3) → let s = c .before .before .before .before .before .before .before .before .before in columnsCancel (tableau s) (answer s) ≡ true
-cancel c = sym (c .before .columns-cancel .ensures) ∙ not-false _ (c .if3 .left)
+  many : Multiplied (answer second) (variables second)
+  many = multiplied _ _ _ fair
+
+module _ (c : tie.Else3) where
+  abbrev third : tie.Start
+  third = second (c .before .before)
+
+  cancel : columnsCancel (third .args .entries .now) (answer third) (third .args .rows) (third .args .columns) ≡ true
+  cancel = sym (c .before .columns-cancel .ensures) ∙ not-false _ (c .if3 .left)
 
 -- ---- the calls and the returns
 
 returns : tie.Need-returns
 returns c = let s = c .before .before in
-    sym (cannot-denominator (tableau s) (answer s) (tells-false (tells-eqZ (denominatorOf (answer s)) (pos 0)) (λ e. c .if1 .taken (ap (ofZ w64) e))))
+    sym (cannot-denominator (s .pre) (tells-false (tells-eqZ (denominatorOf (answer s)) (pos 0))
+    (λ e. c .if1 .taken (ap (ofZ w64) e))))
 
 multipliers-fair-requires : tie.Need-multipliers-fair-requires
 multipliers-fair-requires c κs = search needs
 
 returns-2 : tie.Need-returns-2
-returns-2 c = let s = c .before .before .before .before .before in
-    sym (cannot-multipliers (tableau s) (answer s) (zero (c .before .before .before)) (sym (c .before .multipliers-fair .ensures) ∙ not-true _ (c .if2 .taken)))
+returns-2 c = let b = c .before in
+    sym (cannot-multipliers (b .before .before .before .pre) (zero (b .before)) (sym (b .multipliers-fair .ensures) ∙ not-true _ (c .if2 .taken)))
 
 columns-cancel-requires : tie.Need-columns-cancel-requires
-columns-cancel-requires c κs = let s = c .before .before .before .before .before .before .before in
-    ((s .pre .few-rows, s .pre .few-columns, s .pre .long), (s .pre .cells-within, many (c .before .before)))
+columns-cancel-requires c κs = let p = second c .pre in
+    ((p .few-rows, p .few-columns, p .long), (p .entries-within, many c))
 
 returns-3 : tie.Need-returns-3
-returns-3 c = let s = c .before .before .before .before .before .before .before .before .before in
-    sym (cannot-columns (tableau s) (answer s) (zero (c .before .before .before .before .before .before .before)) (fair (c .before .before .before .before))
-    (sym (c .before .columns-cancel .ensures) ∙ not-true _ (c .if3 .taken)))
+returns-3 c = let b = c .before in
+    sym (cannot-columns (second (b .before) .pre) (zero (b .before .before .before)) (fair (b .before))
+    (sym (b .columns-cancel .ensures) ∙ not-true _ (c .if3 .taken)))
 
 surplus-requires : tie.Need-surplus-requires
-surplus-requires c κs = let s = c .before .before .before .before .before .before .before .before .before in
-    ((omega arith, s .pre .long), (many (c .before .before .before .before), s .pre .limited))
+surplus-requires c κs = let p = third c .pre in
+    ((omega arith, p .long), (many (c .before .before), p .limited))
 
 fit-surplus : (c : tie.After-surplus) → SFits w64 (c .surplus .result)
 fit-surplus c = search needs
 
 returns-4 : tie.Need-returns-4
-returns-4 c = let s = c .before .before .before .before .before .before .before .before .before .before in
+returns-4 c = let b = c .before in
     simp (toZ-ofZ (fit-surplus c))
-    (ap (ltZ (pos 0)) (c .surplus .ensures) ∙ sym (cannot-surplus (tableau s) (answer s) (zero (c .before .before .before .before .before .before .before .before)) (fair (c .before .before .before .before .before)) (cancel (c .before))))
+    (ap (ltZ (pos 0)) (c .surplus .ensures)
+    ∙ sym (cannot-surplus (third b .pre) (zero (b .before .before .before .before)) (fair (b .before .before)) (cancel b)))
 
 pub shows-cannot-spec : {M : Type 1} → statement M
 shows-cannot-spec =
