@@ -10,7 +10,6 @@ ghost use Rattle.whole.specs.Sums.{sum};
 ghost use Rattle.rules.specs.Sizes.{mostRows, mostColumns, mostVariables, largestCoefficient, largestLimit, largestNumber, largestNumerator};
 ghost use Rattle.rules.specs.Limit.{present};
 ghost use Rattle.rules.specs.Evidence.{lowerPart, upperPart, atLeast, atMost, showsCan};
-ghost use Rattle.tableau.specs.Layout.{flat};
 ghost use Rattle.evidence.specs.Reads.{problemOf, Readable, Limited, rowSumAt};
 ghost use Rattle.evidence.specs.Reads.{numeratorsFit, rowsHold, limitsHold, restIsZero};
 use crate::parts::is_outside;

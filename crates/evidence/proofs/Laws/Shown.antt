@@ -16,7 +16,7 @@ use Rattle.rules.specs.Problem.{Problem}
 use Rattle.rules.specs.Evidence.{denominatorOf, lowerPart, upperPart, fair, column, surplus, showsCan, showsCannot}
 use Rattle.tableau.specs.Parts.{lowerOf, upperOf}
 use Rattle.tableau.specs.declared.Limits.{Limits}
-use Rattle.evidence.specs.Reads.{Readable, problemOf, numeratorsFit, rowSumAt, rowsHold, limitsHold, restIsZero}
+use Rattle.evidence.specs.Reads.{Readable, problemOf, numeratorsFit, rowUpTo, rowsHold, limitsHold, restIsZero}
 use Rattle.evidence.specs.Reads.{fairOf, fairAt, multipliersFair, columnUpTo, columnsCancel, surplusUpTo, surplusOf}
 
 -- a multiplier's test asks only whether the limit is there
@@ -40,7 +40,7 @@ module _ {entries : List ℤ} {limits : Limits} {rows columns : ℕ} {a : List �
 
   tests : showsCan P a ≡ (denominatorFits && numeratorsFit a variables && rowsHold entries a rows columns
       && limitsHold limits a variables (denominatorOf a) && restIsZero a variables)
-  unfolding showsCan problemOf rowSumAt limitsHold
+  unfolding showsCan problemOf rowUpTo limitsHold
   tests = refl
 
   pub can-denominator : outside 1 largestNumber (denominatorOf a) ≡ true → showsCan P a ≡ false

@@ -16,22 +16,23 @@ use Rattle.whole.proofs.Sizes.{within-*, within-+, within-le, fits-by}
 use Rattle.whole.proofs.Sums.{sum-step, sum-within}
 use Rattle.rules.specs.Sizes.{largestCoefficient, largestNumerator, mostColumns, mostRows}
 use Rattle.rules.specs.Evidence.{lowerPart}
-use Rattle.tableau.specs.Layout.{flat}
-use Rattle.tableau.proofs.Laws.Layout.{flat-in}
-use Rattle.evidence.specs.Reads.{rowSumAt}
+use Rattle.tableau.specs.Layout.{mostEntries}
+use Rattle.evidence.specs.Reads.{entryOf, rowUpTo}
+use Rattle.evidence.proofs.Laws.Places.{place-in}
 use Rattle.evidence.proofs.can.row_sum.Statement.{statement}
 use Rattle.evidence.proofs.can.row_sum.Tie as tie
 use Rattle.evidence.proofs.can.row_sum.Reads as reads
 use Rattle.evidence.proofs.can.row_sum.Lts as lts
 
 abbrev Inv-loop : tie.InvT-loop
-Inv-loop entries answer row columns sum₀ j₀ sum j = (j ≤ columns) × (toZ w64 sum ≡ rowSumAt entries answer j (row .0))
+Inv-loop entries answer row columns sum₀ j₀ sum j =
+    (j ≤ columns) × (toZ w64 sum ≡ rowUpTo entries answer columns (row .0) j)
 
 abbrev μ-loop : tie.MeasureT-loop
 μ-loop entries answer row columns sum₀ j₀ sum j = columns - j
 
 loop-holds : tie.Need-loop-holds Inv-loop μ-loop
-unfolding rowSumAt sumBy
+unfolding rowUpTo sumBy
 loop-holds c = (omega arith, refl)
 
 place-requires : tie.Need-place-requires Inv-loop μ-loop
@@ -42,20 +43,15 @@ add-at c = omega arith
 
 -- the flat place
 module _ (c : tie.After-place Inv-loop μ-loop) where
-  abbrev row : ℕ
-  row = c .before .before .before .args .row .0
-
-  abbrev turn : ℕ
-  turn = c .before .before .loop .j
-
-  place-in : c .place .result < 128
-  place-in = rw (c .place .ensures) (flat-in row turn (omega arith) (omega arith))
+  in-entries : c .place .result < mostEntries
+  in-entries = let o = c .before .before .before .args in
+      rw (c .place .ensures) (place-in (o .columns) (o .row .0) (c .before .before .loop .j) (omega arith) (omega arith) (omega arith))
 
 mul-e : tie.Need-mul-e Inv-loop μ-loop
-mul-e c = let h = place-in c in omega arith
+mul-e c = let h = in-entries c in omega arith
 
 element-copy-out-e : tie.Need-element-copy-out-e Inv-loop μ-loop
-element-copy-out-e c = let h = place-in c in omega arith
+element-copy-out-e c = let h = in-entries c in omega arith
 
 mul-x : tie.Need-mul-x Inv-loop μ-loop
 mul-x c = omega arith
@@ -71,10 +67,11 @@ module _ (c : tie.After-x Inv-loop μ-loop) where
   j = c .before .before .before .before .loop .j
 
   abbrev term : ℕ → ℤ
-  term k = getD (start .args .entries .now) (flat (start .args .row .0) k) (pos 0) *ℤ lowerPart (start .args .answer .now) k
+  term k = entryOf (start .args .entries .now) (start .args .columns) (start .args .row .0) k
+      *ℤ lowerPart (start .args .answer .now) k
 
-  abbrev old : ℤ
-  old = rowSumAt (start .args .entries .now) (start .args .answer .now) j (start .args .row .0)
+  abbrev upTo : ℕ → ℤ
+  upTo k = rowUpTo (start .args .entries .now) (start .args .answer .now) (start .args .columns) (start .args .row .0) k
 
   abbrev read : ℤ
   read = getD (start .args .entries .now) (c .before .before .place .result) (pos 0)
@@ -97,12 +94,12 @@ module _ (c : tie.After-x Inv-loop μ-loop) where
   fit-term : SFits w64 (read *ℤ value)
   fit-term = rw term-is (fits-by (within-term j (omega arith)) tt)
 
-  more : old +ℤ read *ℤ value ≡ rowSumAt (start .args .entries .now) (start .args .answer .now) (j + 1) (start .args .row .0)
-  unfolding rowSumAt
-  more = ap (λ (z : ℤ). old +ℤ z) term-is ∙ sym (sum-step j term)
+  more : upTo j +ℤ read *ℤ value ≡ upTo (j + 1)
+  unfolding rowUpTo
+  more = ap (λ (z : ℤ). upTo j +ℤ z) term-is ∙ sym (sum-step j term)
 
-  fit-sum : SFits w64 (old +ℤ read *ℤ value)
-  unfolding rowSumAt
+  fit-sum : SFits w64 (upTo j +ℤ read *ℤ value)
+  unfolding rowUpTo
   fit-sum = rw more (fits-by (within-le (sum-within (j + 1) (λ k h. within-term k (omega arith))) bound) tt)
     where
       bound : (j + 1) * (largestCoefficient * largestNumerator) ≤ mostColumns * (largestCoefficient * largestNumerator)
@@ -134,7 +131,8 @@ all c = omega arith
 
 returns : tie.Need-returns Inv-loop μ-loop
 returns c = let o = c .before .before .args in
-    c .before .loop .inv .1 ∙ ap (λ (k : ℕ). rowSumAt (o .entries .now) (o .answer .now) k (o .row .0)) (all c)
+    c .before .loop .inv .1
+    ∙ ap (λ (k : ℕ). rowUpTo (o .entries .now) (o .answer .now) (o .columns) (o .row .0) k) (all c)
 
 pub row-sum-spec : {M : Type 1} → statement M
 row-sum-spec =

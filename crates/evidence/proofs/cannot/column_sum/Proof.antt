@@ -14,9 +14,9 @@ use Rattle.whole.specs.Sums.{sumBy}
 use Rattle.whole.proofs.Sizes.{within-*, within-+, within--, within-le, fits-by}
 use Rattle.whole.proofs.Sums.{sum-step, sum-within}
 use Rattle.rules.specs.Sizes.{largestCoefficient, largestNumber, mostRows}
-use Rattle.tableau.specs.Layout.{flat}
-use Rattle.tableau.proofs.Laws.Layout.{flat-in}
-use Rattle.evidence.specs.Reads.{balanceAt, columnUpTo}
+use Rattle.tableau.specs.Layout.{mostEntries}
+use Rattle.evidence.specs.Reads.{entryOf, balanceAt, columnUpTo}
+use Rattle.evidence.proofs.Laws.Places.{place-in}
 use Rattle.evidence.proofs.cannot.column_sum.Statement.{statement}
 use Rattle.evidence.proofs.cannot.column_sum.Tie as tie
 use Rattle.evidence.proofs.cannot.column_sum.Reads as reads
@@ -47,14 +47,16 @@ place-requires c κs = (omega arith, omega arith)
 
 -- the flat place
 module _ (c : tie.After-place Inv-loop μ-loop) where
-  place-in : c .place .result < 128
-  place-in = rw (c .place .ensures) (flat-in (c .before .before .loop .i) (c .before .before .before .before .args .column .0) (omega arith) (omega arith))
+  in-entries : c .place .result < mostEntries
+  in-entries = let o = c .before .before .before .before .args in
+      rw (c .place .ensures)
+      (place-in (o .columns) (c .before .before .loop .i) (o .column .0) (omega arith) (omega arith) (omega arith))
 
 mul-e : tie.Need-mul-e Inv-loop μ-loop
-mul-e c = let h = place-in c in omega arith
+mul-e c = let h = in-entries c in omega arith
 
 element-copy-out-e : tie.Need-element-copy-out-e Inv-loop μ-loop
-element-copy-out-e c = let h = place-in c in omega arith
+element-copy-out-e c = let h = in-entries c in omega arith
 
 add-balance : tie.Need-add-balance Inv-loop μ-loop
 add-balance c = omega arith
@@ -76,7 +78,8 @@ module _ (c : tie.After-balance2 Inv-loop μ-loop) where
   upTo k = columnUpTo (start .args .entries .now) (start .args .answer .now) (start .args .columns) variables k (start .args .column .0)
 
   abbrev term : ℕ → ℤ
-  term k = getD (start .args .entries .now) (flat k (start .args .column .0)) (pos 0) *ℤ balanceAt (start .args .answer .now) variables (start .args .columns + k)
+  term k = entryOf (start .args .entries .now) (start .args .columns) k (start .args .column .0)
+      *ℤ balanceAt (start .args .answer .now) variables (start .args .columns + k)
 
   abbrev read : ℤ
   read = getD (start .args .entries .now) (c .before .before .place .result) (pos 0)
