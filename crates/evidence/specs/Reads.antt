@@ -1,6 +1,7 @@
--- The problem that a tableau's entries and limits hold at its start, and the checker's sums and tests over them, by place.
+-- The problem that a tableau's entries and limits hold at its start, and the checker's sums and tests over them.
 use mathlib.Core.Bool.{Bool, true, false, _&&_, not}
 use mathlib.Core.List.{List}
+use mathlib.Core.Option.{Option}
 use Prim.Native.Nat.{ℕ, _+_, _*_, _≤_, _<_}
 use lib.IntN.{ℤ, pos, _+ℤ_, _-ℤ_, _*ℤ_}
 use lib.ListN.{length, getD}
@@ -65,8 +66,12 @@ abbrev pub rowsHold : List ℤ → List ℤ → ℕ → ℕ → Bool
 rowsHold entries a rows columns =
     allBelow rows (λ i. eqZ (lowerPart a (columns + i)) (rowSumAt entries a columns i))
 
+-- a numerator over d against two limits that may be missing
+abbrev pub meetsBoth : Option ℤ → Option ℤ → ℤ → ℤ → Bool
+meetsBoth lower upper d x = atLeast lower d x && atMost upper d x
+
 unfoldable pub limitsHold : Limits → List ℤ → ℕ → ℤ → Bool
-limitsHold l a variables d = allBelow variables (λ v. atLeast (lowerOf l v) d (lowerPart a v) && atMost (upperOf l v) d (lowerPart a v))
+limitsHold l a variables d = allBelow variables (λ v. meetsBoth (lowerOf l v) (upperOf l v) d (lowerPart a v))
 
 -- the second half of the answer is 0
 abbrev pub restIsZero : List ℤ → ℕ → Bool
@@ -81,7 +86,8 @@ fairOf false k = eqZ k (pos 0)
 
 -- both multipliers of a variable
 abbrev pub fairAt : Limits → List ℤ → ℕ → ℕ → Bool
-fairAt l a variables v = fairOf (getD (l .lowers) v false) (lowerPart a v) && fairOf (getD (l .uppers) v false) (upperPart variables a v)
+fairAt l a variables v = fairOf (getD (l .lowers) v false) (lowerPart a v)
+    && fairOf (getD (l .uppers) v false) (upperPart variables a v)
 
 unfoldable pub multipliersFair : Limits → List ℤ → ℕ → Bool
 multipliersFair l a variables = allBelow variables (fairAt l a variables)

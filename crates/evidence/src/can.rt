@@ -1,17 +1,15 @@
 // Verdict 1: numerators over one denominator that meet every row and every limit.
 ghost use mathlib.Core.Path.{_≡_};
-ghost use mathlib.Core.Bool.{_&&_};
 ghost use Prim.Native.Nat.{ℕ, _+_, _*_, _≤_, _<_};
-ghost use lib.IntN.{ℤ, pos, _*ℤ_};
-ghost use lib.ListN.{length, getD};
-ghost use Rattle.whole.specs.Below.{allBelow};
-ghost use Rattle.whole.specs.Numbers.{Within, AllWithin, within, eqZ};
+ghost use lib.ListN.{length};
+ghost use Rattle.whole.specs.Numbers.{Within, AllWithin};
 ghost use Rattle.whole.specs.Sums.{sum};
-ghost use Rattle.rules.specs.Sizes.{mostRows, mostColumns, mostVariables, largestCoefficient, largestLimit, largestNumber, largestNumerator};
+ghost use Rattle.rules.specs.Sizes.{mostRows, mostColumns, mostVariables, largestCoefficient, largestLimit};
+ghost use Rattle.rules.specs.Sizes.{largestNumber, largestNumerator};
 ghost use Rattle.rules.specs.Limit.{present};
-ghost use Rattle.rules.specs.Evidence.{lowerPart, upperPart, atLeast, atMost, showsCan};
+ghost use Rattle.rules.specs.Evidence.{lowerPart, atLeast, atMost, showsCan};
 ghost use Rattle.evidence.specs.Reads.{problemOf, Readable, Limited, rowSumAt};
-ghost use Rattle.evidence.specs.Reads.{numeratorsFit, rowsHold, limitsHold, restIsZero};
+ghost use Rattle.evidence.specs.Reads.{numeratorsFit, rowsHold, meetsBoth, limitsHold, restIsZero};
 use crate::parts::is_outside;
 use tableau::Limits;
 use tableau::RowPlace;
@@ -105,7 +103,7 @@ fn at_most(denominator: i64, x: i64, uppers: bool, upper: i64) -> bool
 
 fn between(denominator: i64, x: i64, lowers: bool, lower: i64, uppers: bool, upper: i64) -> bool
     requires { ⌜ (Within denominator largestNumber) × (Within lower largestLimit) × (Within upper largestLimit) ⌝ }
-    ensures { λ r. ⌜ r ≡ (atLeast (present lowers lower) denominator x && atMost (present uppers upper) denominator x) ⌝ }
+    ensures { λ r. ⌜ r ≡ meetsBoth (present lowers lower) (present uppers upper) denominator x ⌝ }
 {
     if !at_least(denominator, x, lowers, lower) {
         return false;
@@ -115,7 +113,8 @@ fn between(denominator: i64, x: i64, lowers: bool, lower: i64, uppers: bool, upp
 
 // Every present limit holds.
 fn limits_hold(limits: Limits, answer: &[i64], variables: usize, denominator: i64) -> bool
-    requires { ⌜ (variables ≤ mostVariables) × (3 + variables ≤ length (now answer)) × (Within denominator largestNumber) ⌝ }
+    requires { ⌜ (variables ≤ mostVariables) × (3 + variables ≤ length (now answer))
+        × (Within denominator largestNumber) ⌝ }
     requires { ⌜ Limited limits ⌝ }
     ensures { λ r. ⌜ r ≡ limitsHold limits (now (answer .entry)) variables denominator ⌝ }
 {

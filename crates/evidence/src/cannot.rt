@@ -1,13 +1,13 @@
 // Verdict 2: multipliers of the limits whose sum is a contradiction.
 ghost use mathlib.Core.Path.{_≡_};
 ghost use mathlib.Core.Bool.{_&&_};
-ghost use Prim.Native.Nat.{ℕ, _+_, _*_, _≤_, _<_};
-ghost use lib.IntN.{ℤ, pos, _*ℤ_, _-ℤ_};
-ghost use lib.ListN.{length, getD};
-ghost use Rattle.whole.specs.Below.{allBelow};
-ghost use Rattle.whole.specs.Numbers.{Within, AllWithin, eqZ};
+ghost use Prim.Native.Nat.{_+_, _*_, _≤_, _<_};
+ghost use lib.IntN.{_*ℤ_, _-ℤ_};
+ghost use lib.ListN.{length};
+ghost use Rattle.whole.specs.Numbers.{Within, AllWithin};
 ghost use Rattle.whole.specs.Values.{whole};
-ghost use Rattle.rules.specs.Sizes.{mostRows, mostColumns, mostVariables, largestCoefficient, largestLimit, largestNumber};
+ghost use Rattle.rules.specs.Sizes.{mostRows, mostColumns, mostVariables, largestCoefficient, largestLimit};
+ghost use Rattle.rules.specs.Sizes.{largestNumber};
 ghost use Rattle.rules.specs.Limit.{present};
 ghost use Rattle.rules.specs.Step.{seated};
 ghost use Rattle.rules.specs.Evidence.{showsCannot};
@@ -78,7 +78,8 @@ fn column_sum(
     columns: usize,
     column: ColumnPlace,
 ) -> i64
-    requires { ⌜ (rows ≤ mostRows) × (columns ≤ mostColumns) × (column .0 < columns) × (3 + 2 * (columns + rows) ≤ length (now answer)) ⌝ }
+    requires { ⌜ (rows ≤ mostRows) × (columns ≤ mostColumns) × (column .0 < columns)
+        × (3 + 2 * (columns + rows) ≤ length (now answer)) ⌝ }
     requires { ⌜ AllWithin (now entries) largestCoefficient ⌝ }
     requires { ⌜ Multiplied (now answer) (columns + rows) ⌝ }
     ensures { λ r. ⌜ r ≡ columnAtEntries (now (entries .entry)) (now (answer .entry)) columns rows (column .0) ⌝ }
@@ -129,7 +130,8 @@ fn weighed(has: bool, limit: i64, k: i64) -> i64
 
 // What a variable's two limits give.
 fn net(lowers: bool, lower: i64, low: i64, uppers: bool, upper: i64, high: i64) -> i64
-    requires { ⌜ (Within lower largestLimit) × (Within low largestNumber) × (Within upper largestLimit) × (Within high largestNumber) ⌝ }
+    requires { ⌜ (Within lower largestLimit) × (Within low largestNumber)
+        × (Within upper largestLimit) × (Within high largestNumber) ⌝ }
     ensures { λ r. ⌜ r ≡ seated whole (present lowers lower) *ℤ low -ℤ seated whole (present uppers upper) *ℤ high ⌝ }
 {
     weighed(lowers, lower, low) - weighed(uppers, upper, high)

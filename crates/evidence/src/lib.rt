@@ -1,5 +1,5 @@
-// The evidence checker: accepts exactly what is right and within the number ranges, from anybody. It reads the problem through the
-// tableau type and shares nothing of the search or the run.
+// The evidence checker: accepts exactly what is right and within the number ranges, from anybody. It reads the problem
+// through the tableau type and shares nothing of the search or the run.
 ghost use mathlib.Core.Path.{_≡_};
 ghost use Rattle.rules.specs.Evidence.{checked};
 use can::shows_can;

@@ -5,20 +5,21 @@ use mathlib.Core.Path.{_≡_, refl, ap, _∙_}
 use mathlib.Core.Bool.{Bool, true, false, cond}
 use mathlib.Core.List.{List}
 use mathlib.Core.Logic.{_≢_}
-use Prim.Native.Nat.{ℕ, _+_, _*_, _<_, _≤_}
+use Prim.Native.Nat.{_+_, _*_, _<_, _≤_}
 use lib.IntN.{ℤ, pos}
 use lib.ListN.{length}
 use Rattle.whole.specs.Numbers.{eqZ}
 use Rattle.whole.proofs.Tells.{tells-eqZ, tells-false, tells-true}
 use Rattle.rules.specs.Problem.{answerLength, problem}
-use Rattle.rules.specs.Refusal.{problemRefusal, tooShort}
+use Rattle.rules.specs.Refusal.{problemRefusal}
 use Rattle.rules.specs.Evidence.{verdictOf, showsCan, showsCannot, accepted, checked}
 use Rattle.rules.proofs.Refused.{room-tells}
 use Rattle.rules.proofs.Evidence.Checked.{checked-by-answer}
 use Rattle.tableau.specs.declared.Tableau.{Tableau}
 use Rattle.tableau.specs.Start.{startTableau}
 
-pub long-is : (ws : List ℤ) (t : Tableau) → t ≡ startTableau (problem ws) → 3 + 2 * (t .columns + t .rows) ≡ answerLength ws
+pub long-is : (ws : List ℤ) (t : Tableau) → t ≡ startTableau (problem ws) →
+    3 + 2 * (t .columns + t .rows) ≡ answerLength ws
 unfolding startTableau problem
 long-is ws t e = ap (λ (t : Tableau). 3 + 2 * (t .columns + t .rows)) e
 
@@ -35,7 +36,8 @@ module _ (ws a : List ℤ) (fine : problemRefusal ws ≡ 0) where
     of-verdict : (one two : Bool) → eqZ (verdictOf a) (pos 1) ≡ one → eqZ (verdictOf a) (pos 2) ≡ two →
         accepted (problem ws) a ≡ cond one (showsCan (problem ws) a) (cond two (showsCannot (problem ws) a) false)
     unfolding accepted
-    of-verdict one two e f = ap (λ b. cond b (showsCan (problem ws) a) (cond (eqZ (verdictOf a) (pos 2)) (showsCannot (problem ws) a) false)) e
+    of-verdict one two e f = ap (λ b. cond b (showsCan (problem ws) a)
+        (cond (eqZ (verdictOf a) (pos 2)) (showsCannot (problem ws) a) false)) e
         ∙ ap (λ b. cond one (showsCan (problem ws) a) (cond b (showsCannot (problem ws) a) false)) f
 
     pub can-judged : verdictOf a ≡ pos 1 → checked ws a ≡ cond (showsCan (problem ws) a) 8 9
@@ -44,8 +46,10 @@ module _ (ws a : List ℤ) (fine : problemRefusal ws ≡ 0) where
 
     pub cannot-judged : verdictOf a ≢ pos 1 → verdictOf a ≡ pos 2 → checked ws a ≡ cond (showsCannot (problem ws) a) 8 9
     cannot-judged n e = judged
-        ∙ ap (λ b. cond b 8 9) (of-verdict false true (tells-false (tells-eqZ (verdictOf a) (pos 1)) n) (tells-true (tells-eqZ _ (pos 2)) e))
+        ∙ ap (λ b. cond b 8 9) (of-verdict false true (tells-false (tells-eqZ (verdictOf a) (pos 1)) n)
+        (tells-true (tells-eqZ _ (pos 2)) e))
 
     pub other-judged : verdictOf a ≢ pos 1 → verdictOf a ≢ pos 2 → checked ws a ≡ 9
     other-judged n m = judged
-        ∙ ap (λ b. cond b 8 9) (of-verdict false false (tells-false (tells-eqZ (verdictOf a) (pos 1)) n) (tells-false (tells-eqZ (verdictOf a) (pos 2)) m))
+        ∙ ap (λ b. cond b 8 9) (of-verdict false false (tells-false (tells-eqZ (verdictOf a) (pos 1)) n)
+        (tells-false (tells-eqZ (verdictOf a) (pos 2)) m))

@@ -7,5 +7,6 @@ use Rattle.tableau.specs.Layout.{mostEntries}
 use Rattle.tableau.proofs.Laws.Layout.{flat-in}
 use Rattle.evidence.specs.Reads.{placeIn}
 
-pub place-in : (columns i j : ℕ) → i < mostRows → j < columns → columns ≤ mostColumns → placeIn columns i j < mostEntries
+pub place-in : (columns i j : ℕ) → i < mostRows → j < columns → columns ≤ mostColumns →
+    placeIn columns i j < mostEntries
 place-in columns i j h k few = flat-in i j h (omega arith)

@@ -16,13 +16,13 @@ use Rattle.whole.proofs.Sums.{sum-same}
 use Rattle.rules.specs.Sizes.{largestNumber, largestNumerator}
 use Rattle.rules.specs.Problem.{Problem, vars}
 use Rattle.rules.specs.Step.{seated}
-use Rattle.rules.specs.Evidence.{denominatorOf, lowerPart, upperPart, rowSum, atLeast, atMost, fair, column, surplus}
+use Rattle.rules.specs.Evidence.{denominatorOf, lowerPart, upperPart, rowSum, fair, column, surplus}
 use Rattle.rules.specs.Evidence.{showsCan, showsCannot}
 use Rattle.tableau.specs.declared.Tableau.{Tableau}
 use Rattle.tableau.specs.Start.{startTableau}
 use Rattle.tableau.proofs.Laws.Fitting.{Fitting, coefficient-start, coefficients-start, serves-start}
 use Rattle.tableau.proofs.Laws.Reading.{lower-of, upper-of}
-use Rattle.evidence.specs.Reads.{problemOf, Readable}
+use Rattle.evidence.specs.Reads.{problemOf, Readable, meetsBoth}
 
 abbrev pub held : Tableau → Problem ℤ
 held t = problemOf (t .entries) (t .limits) (t .rows) (t .columns)
@@ -39,11 +39,11 @@ module _ (P : Problem ℤ) (F : Fitting P) (a : List ℤ) where
   rows-same x = all-same (P .m) _ _ (λ i h. ap (eqZ (x (P .n + i))) (sum-same (P .n) _ (λ j. P .coefficient i j *ℤ x j)
       (λ j k. ap (λ z. z *ℤ x j) (coefficient-start P F i j h k))))
 
-  limits-same : (d : ℤ) (x : ℕ → ℤ) → allBelow (vars P) (λ v. atLeast (read .lower v) d (x v) && atMost (read .upper v) d (x v))
-      ≡ allBelow (vars P) (λ v. atLeast (P .lower v) d (x v) && atMost (P .upper v) d (x v))
+  limits-same : (d : ℤ) (x : ℕ → ℤ) → allBelow (vars P) (λ v. meetsBoth (read .lower v) (read .upper v) d (x v))
+      ≡ allBelow (vars P) (λ v. meetsBoth (P .lower v) (P .upper v) d (x v))
   unfolding problemOf startTableau
   limits-same d x = all-same (vars P) _ _
-      (λ v h. ap₂ (λ l u. atLeast l d (x v) && atMost u d (x v)) (lower-of P v h) (upper-of P v h))
+      (λ v h. ap₂ (λ l u. meetsBoth l u d (x v)) (lower-of P v h) (upper-of P v h))
 
   can-start : showsCan read a ≡ showsCan P a
   unfolding showsCan problemOf startTableau
@@ -86,7 +86,8 @@ module _ (P : Problem ℤ) (F : Fitting P) (a : List ℤ) where
 
   cannot-start : showsCannot read a ≡ showsCannot P a
   unfolding showsCannot problemOf startTableau
-  cannot-start = ap₂ (λ (f c : Bool). eqZ (denominatorOf a) (pos 0) && f && c && isPos (extra read)) fairs-same columns-same
+  cannot-start = ap₂ (λ (f c : Bool). eqZ (denominatorOf a) (pos 0) && f && c && isPos (extra read))
+      fairs-same columns-same
       ∙ ap (λ z. eqZ (denominatorOf a) (pos 0) && fairs P && cancels P && isPos z) surplus-same
 
   -- ---- a tableau that was read

@@ -1,5 +1,5 @@
--- The checker's two rules as tests one after the other, over the problem that readable entries and limits hold. Each law
--- has the tests before as true.
+-- The checker's two rules as tests one after the other, over the problem that readable entries and limits hold. Each
+-- law has the tests before as true.
 --   can-denominator, can-numerators, can-rows, can-limits, can-rest    the first test that fails, or the last
 --   cannot-denominator, cannot-multipliers, cannot-columns, cannot-surplus
 use mathlib.Core.Path.{_≡_, refl, ap, ap₂, _∙_}
@@ -17,7 +17,8 @@ use Rattle.rules.specs.Evidence.{denominatorOf, lowerPart, upperPart, fair, col
 use Rattle.tableau.specs.Parts.{lowerOf, upperOf}
 use Rattle.tableau.specs.declared.Limits.{Limits}
 use Rattle.evidence.specs.Reads.{Readable, problemOf, numeratorsFit, rowUpTo, rowsHold, limitsHold, restIsZero}
-use Rattle.evidence.specs.Reads.{fairOf, fairAt, multipliersFair, columnUpTo, columnsCancel, surplusUpTo, surplusOf}
+use Rattle.evidence.specs.Reads.{fairOf, fairAt, multipliersFair, columnUpTo, columnsCancel}
+use Rattle.evidence.specs.Reads.{surplusUpTo, surplusOf}
 
 -- a multiplier's test asks only whether the limit is there
 fair-is : (b : Bool) (l k : ℤ) → fair (present b l) k ≡ fairOf b k

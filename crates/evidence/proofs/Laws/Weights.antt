@@ -28,18 +28,25 @@ unfolding seated present
 weight-within true l k h g = within-* h g
 weight-within false l k h g = rw (zero-*ℤ k) (record { within = lit≤ tt })
 
-pub net-within : (a b : Bool) (l u i k : ℤ) → Within l largestLimit → Within i largestNumber → Within u largestLimit → Within k largestNumber →
-    Within (seated whole (present a l) *ℤ i -ℤ seated whole (present b u) *ℤ k) (largestLimit * largestNumber + largestLimit * largestNumber)
+pub net-within : (a b : Bool) (l u i k : ℤ) →
+    Within l largestLimit → Within i largestNumber → Within u largestLimit → Within k largestNumber →
+    Within (seated whole (present a l) *ℤ i -ℤ seated whole (present b u) *ℤ k)
+    (largestLimit * largestNumber + largestLimit * largestNumber)
 net-within a b l u i k p q r s = within-- (weight-within a l i p q) (weight-within b u k r s)
 
 fair-within : (b : Bool) (k : ℤ) → fairOf b k ≡ true → Within k largestNumber
 unfolding fairOf
-fair-within true k e = let h = tells-outside 0 largestNumber k .if-false (not-true _ e) in record { within = under largestNumber 0 k (h .0) (h .1) }
+fair-within true k e = let h = tells-outside 0 largestNumber k .if-false (not-true _ e) in
+    record { within = under largestNumber 0 k (h .0) (h .1) }
 fair-within false k e = rw (tells-eqZ k (pos 0) .if-true e) (record { within = lit≤ tt })
 
-pub multiplied : (l : Limits) (a : List ℤ) (variables : ℕ) → multipliersFair l a variables ≡ true → Multiplied a variables
+pub multiplied : (l : Limits) (a : List ℤ) (variables : ℕ) → multipliersFair l a variables ≡ true →
+    Multiplied a variables
 unfolding multipliersFair
-multiplied l a variables e = record { lower-within = λ v h. low v h (both v h); upper-within = λ v h. high v h (both v h) }
+multiplied l a variables e = record {
+  lower-within = λ v h. low v h (both v h);
+  upper-within = λ v h. high v h (both v h);
+}
   where
     lower : ℕ → Bool
     lower v = fairOf (getD (l .lowers) v false) (lowerPart a v)
@@ -53,5 +60,6 @@ multiplied l a variables e = record { lower-within = λ v h. low v h (both v h);
     low : (v : ℕ) → v < variables → (lower v ≡ true) × (upper v ≡ true) → Within (lowerPart a v) largestNumber
     low v h p = fair-within (getD (l .lowers) v false) (lowerPart a v) (p .0)
 
-    high : (v : ℕ) → v < variables → (lower v ≡ true) × (upper v ≡ true) → Within (upperPart variables a v) largestNumber
+    high : (v : ℕ) → v < variables → (lower v ≡ true) × (upper v ≡ true) →
+        Within (upperPart variables a v) largestNumber
     high v h p = fair-within (getD (l .uppers) v false) (upperPart variables a v) (p .1)

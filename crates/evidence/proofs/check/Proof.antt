@@ -1,18 +1,19 @@
--- `evidence::check` meets its contract: the problem's refusal, then the answer's length, then the rule of its verdict. Assumes nothing.
+-- `evidence::check` meets its contract: the problem's refusal, then the answer's length, then the rule of its verdict.
+-- Assumes nothing.
 use mathlib.Core.Path.{_≡_, refl, ap, sym, _∙_}
-use mathlib.Core.Bool.{Bool, true, false, cond}
+use mathlib.Core.Bool.{Bool, cond}
 use mathlib.Core.List.{List}
 use mathlib.Core.Logic.{_≢_}
-use Prim.Native.Nat.{ℕ, zero, suc, _+_, _*_, _<_, _≤_}
+use Prim.Native.Nat.{ℕ, zero, suc, _+_, _*_, _≤_}
 use native.Mathlib.Omega.{arith}
-use borrow.Author.Needs.{needs, sfits-of}
+use borrow.Author.Needs.{sfits-of}
 use lib.IntN.{ℤ, pos}
 use lib.ListN.{length}
 use mir.Facts.{toZ-ofZ}
 use mir.Syntax.{w64}
 use mir.Val.{SFits, ofZ, toZ}
 use Rattle.rules.specs.Sizes.{mostColumns, mostRows}
-use Rattle.rules.specs.Problem.{answerLength, problem}
+use Rattle.rules.specs.Problem.{Problem, answerLength, problem}
 use Rattle.rules.specs.Refusal.{problemRefusal}
 use Rattle.rules.specs.Evidence.{verdictOf, showsCan, showsCannot, checked}
 use Rattle.rules.proofs.Refused.{accepted-exactly}
@@ -25,8 +26,6 @@ use Rattle.evidence.proofs.Laws.Read.{held, readable, can-same, cannot-
 use Rattle.evidence.proofs.Laws.Checks.{long-is, too-short, can-judged, cannot-judged, other-judged}
 use Rattle.evidence.proofs.check.Statement.{statement}
 use Rattle.evidence.proofs.check.Tie as tie
-use Rattle.evidence.proofs.check.Reads as reads
-use Rattle.evidence.proofs.check.Lts as lts
 
 abbrev words : tie.Start → List ℤ
 words s = s .args .words .now
@@ -38,7 +37,8 @@ judge-requires : tie.Need-judge-requires
 judge-requires c κs = tt
 
 returns : tie.Need-returns
-returns c = let s = c .before .before in kept (words s) (answer s) (c .before .judge .result) (c .before .judge .ensures) (c .if1 .taken)
+returns c = let s = c .before .before in let j = c .before .judge in
+    kept (words s) (answer s) (j .result) (j .ensures) (c .if1 .taken)
   where
     kept : (ws a : List ℤ) (r : ℕ) → r ≡ problemRefusal ws → r ≢ 0 → r ≡ checked ws a
     kept ws a zero e n = absurd (n refl)
@@ -90,18 +90,21 @@ module _ (c : tie.Else2) where
   abbrev new : tie.After-new
   new = c .before
 
+  abbrev P : Problem ℤ
+  P = problem (words (start new))
+
   long : answerLength (words (start new)) ≤ length (answer (start new))
   long = rw (← long-here new) (c .if2 .left)
 
   ready : Readable (t new .entries) (t new .limits) (t new .rows) (t new .columns) (answer (start new))
   unfolding problem
-  ready = readable (problem (words (start new))) (fitting (new .before)) (answer (start new)) (t new) (new .new .ensures) long
+  ready = readable P (fitting (new .before)) (answer (start new)) (t new) (new .new .ensures) long
 
-  can-is : showsCan (held (t new)) (answer (start new)) ≡ showsCan (problem (words (start new))) (answer (start new))
-  can-is = can-same (problem (words (start new))) (fitting (new .before)) (answer (start new)) (t new) (new .new .ensures)
+  can-is : showsCan (held (t new)) (answer (start new)) ≡ showsCan P (answer (start new))
+  can-is = can-same P (fitting (new .before)) (answer (start new)) (t new) (new .new .ensures)
 
-  cannot-is : showsCannot (held (t new)) (answer (start new)) ≡ showsCannot (problem (words (start new))) (answer (start new))
-  cannot-is = cannot-same (problem (words (start new))) (fitting (new .before)) (answer (start new)) (t new) (new .new .ensures)
+  cannot-is : showsCannot (held (t new)) (answer (start new)) ≡ showsCannot P (answer (start new))
+  cannot-is = cannot-same P (fitting (new .before)) (answer (start new)) (t new) (new .new .ensures)
 
 shared-slice-copy-out-verdict : tie.Need-shared-slice-copy-out-verdict
 shared-slice-copy-out-verdict c = let h = long (c .before) in omega arith
@@ -138,7 +141,8 @@ returns-4 c = sym (can-answers (c .before) ∙ ap (λ (b : Bool). cond b 8 9) (c
 shows-cannot-requires : tie.Need-shows-cannot-requires
 shows-cannot-requires c κs = ready (c .before .before .before .before .before .before)
 
-cannot-answers : (c : tie.After-shows-cannot) → let n = new (c .before .before .before .before .before .before .before) in
+cannot-answers : (c : tie.After-shows-cannot) →
+    let n = new (c .before .before .before .before .before .before .before) in
     checked (words (start n)) (answer (start n)) ≡ cond (c .shows-cannot .result) 8 9
 cannot-answers c = let v = c .before .before .before in let l = v .before .before .before .before in let n = new l in
     cannot-judged (words (start n)) (answer (start n)) (fine (n .before)) (long l) (not-one (v .before)) (two v)
@@ -152,7 +156,8 @@ returns-6 c = sym (cannot-answers (c .before) ∙ ap (λ (b : Bool). cond b 8 9)
 
 returns-7 : tie.Need-returns-7
 returns-7 c = let l = c .before .before .before .before in let n = new l in
-    sym (other-judged (words (start n)) (answer (start n)) (fine (n .before)) (long l) (not-one (c .before)) (λ e. c .if5 .left (ap (ofZ w64) e)))
+    sym (other-judged (words (start n)) (answer (start n)) (fine (n .before)) (long l) (not-one (c .before))
+    (λ e. c .if5 .left (ap (ofZ w64) e)))
 
 pub check-spec : {M : Type 1} → statement M
 check-spec =

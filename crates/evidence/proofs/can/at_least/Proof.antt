@@ -1,8 +1,8 @@
--- `evidence::can::at_least` meets its contract: the product fits, as it is within the largest number times the largest limit.
--- Assumes nothing.
-use mathlib.Core.Path.{_≡_, ap, sym, _∙_}
-use mathlib.Core.Bool.{Bool, true, false}
-use lib.IntN.{ℤ, _*ℤ_}
+-- `evidence::can::at_least` meets its contract: the product fits, as it is within the largest number times the largest
+-- limit. Assumes nothing.
+use mathlib.Core.Path.{ap, sym}
+use mathlib.Core.Bool.{Bool}
+use lib.IntN.{_*ℤ_}
 use mir.Facts.{toZ-ofZ}
 use mir.Syntax.{w64}
 use mir.Val.{SFits}

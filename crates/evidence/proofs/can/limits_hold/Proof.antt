@@ -1,29 +1,26 @@
--- `evidence::can::limits_hold` meets its contract. The invariant: the limits of the variables passed hold. The measure is how many are
--- left. Assumes nothing.
-use mathlib.Core.Path.{_≡_, ap, sym, _∙_}
-use mathlib.Core.Bool.{Bool, true, false, not, _&&_}
-use Prim.Native.Nat.{ℕ, _+_, _-_, _≤_}
+-- `evidence::can::limits_hold` meets its contract. The invariant: the limits of the variables passed hold. The measure
+-- is how many are left. Assumes nothing.
+use mathlib.Core.Path.{_≡_, sym, _∙_}
+use mathlib.Core.Bool.{Bool, true}
+use Prim.Native.Nat.{ℕ, _-_, _≤_}
 use native.Mathlib.Omega.{arith}
-use borrow.Author.Needs.{needs, sfits-of}
-use lib.IntN.{ℤ, pos}
+use borrow.Author.Needs.{sfits-of}
+use lib.IntN.{pos}
 use lib.ListN.{getD}
 use mir.Facts.{toZ-ofZ}
 use mir.Syntax.{w64}
 use mir.Val.{SFits, toZ}
-use Rattle.whole.specs.Below.{allBelow}
 use Rattle.whole.proofs.Below.{all-start, all-more, all-not}
 use Rattle.whole.proofs.Bools.{not-true, not-false}
-use Rattle.rules.specs.Limit.{present}
-use Rattle.rules.specs.Evidence.{lowerPart, atLeast, atMost}
+use Rattle.rules.specs.Evidence.{lowerPart}
 use Rattle.tableau.specs.Parts.{lowerOf, upperOf}
-use Rattle.evidence.specs.Reads.{limitsHold}
+use Rattle.evidence.specs.Reads.{meetsBoth, limitsHold}
 use Rattle.evidence.proofs.can.limits_hold.Statement.{statement}
 use Rattle.evidence.proofs.can.limits_hold.Tie as tie
-use Rattle.evidence.proofs.can.limits_hold.Reads as reads
-use Rattle.evidence.proofs.can.limits_hold.Lts as lts
 
 abbrev Inv-loop : tie.InvT-loop
-Inv-loop answer variables denominator limits v₀ v = (v ≤ variables) × (limitsHold limits answer v (toZ w64 denominator) ≡ true)
+Inv-loop answer variables denominator limits v₀ v =
+    (v ≤ variables) × (limitsHold limits answer v (toZ w64 denominator) ≡ true)
 
 abbrev μ-loop : tie.MeasureT-loop
 μ-loop answer variables denominator limits v₀ v = variables - v
@@ -77,8 +74,8 @@ module _ (c : tie.After-between-arg4 Inv-loop μ-loop) where
 
   -- the limits of one variable
   abbrev test : ℕ → Bool
-  test v = atLeast (lowerOf (start .args .t1) v) (start .args .denominator) (lowerPart (start .args .answer .now) v)
-      && atMost (upperOf (start .args .t1) v) (start .args .denominator) (lowerPart (start .args .answer .now) v)
+  test v = meetsBoth (lowerOf (start .args .t1) v) (upperOf (start .args .t1) v)
+      (start .args .denominator) (lowerPart (start .args .answer .now) v)
 
 between-requires : tie.Need-between-requires Inv-loop μ-loop
 between-requires c κs = let s = start c in
@@ -87,12 +84,14 @@ between-requires c κs = let s = start c in
 
 told : (c : tie.After-between Inv-loop μ-loop) → c .between .result ≡ test (c .before) (place (c .before))
 told c = let b = c .before in
-    simp (toZ-ofZ (start b .fits .denominator), toZ-ofZ (fit-x b), toZ-ofZ (fit-lower b), toZ-ofZ (fit-upper b)) at (c .between .ensures)
+    simp (toZ-ofZ (start b .fits .denominator), toZ-ofZ (fit-x b), toZ-ofZ (fit-lower b), toZ-ofZ (fit-upper b))
+    at (c .between .ensures)
 
 returns : tie.Need-returns Inv-loop μ-loop
 unfolding limitsHold
 returns c = let b = c .before .before in
-    sym (all-not (start b .args .variables) (place b) (test b) (omega arith) (sym (told (c .before)) ∙ not-true _ (c .if1 .taken)))
+    sym (all-not (start b .args .variables) (place b) (test b) (omega arith)
+    (sym (told (c .before)) ∙ not-true _ (c .if1 .taken)))
 
 add-v : tie.Need-add-v Inv-loop μ-loop
 add-v c = omega arith
@@ -102,10 +101,10 @@ loop-less c = omega arith
 
 loop-again : tie.Need-loop-again Inv-loop μ-loop
 unfolding limitsHold
-loop-again c = let b = c .before .before in (
+loop-again c = let b = c .before .before in let l = b .before .before .before .before .before .before .loop in (
   omega arith,
   simp (toZ-ofZ (start b .fits .denominator))
-      (all-more (place b) (test b) (simp (toZ-ofZ (start b .fits .denominator)) at (b .before .before .before .before .before .before .loop .inv .1))
+      (all-more (place b) (test b) (simp (toZ-ofZ (start b .fits .denominator)) at (l .inv .1))
       (sym (told (c .before)) ∙ not-false _ (c .if1 .left))),
 )
 

@@ -1,26 +1,26 @@
--- `evidence::can::numerators_fit` meets its contract. The invariant: the numerators passed are in range. The measure is how many are
--- left. Assumes nothing.
-use mathlib.Core.Path.{_≡_, ap, sym, _∙_}
-use mathlib.Core.Bool.{Bool, true, false, not}
-use Prim.Native.Nat.{ℕ, _+_, _-_, _≤_}
+-- `evidence::can::numerators_fit` meets its contract. The invariant: the numerators passed are in range. The measure is
+-- how many are left. Assumes nothing.
+use mathlib.Core.Path.{_≡_, sym, _∙_}
+use mathlib.Core.Bool.{true, not}
+use Prim.Native.Nat.{ℕ, _-_, _≤_}
 use native.Mathlib.Omega.{arith}
 use borrow.Author.Needs.{needs, sfits-of}
 use lib.IntN.{ℤ}
 use mir.Facts.{toZ-ofZ}
 use mir.Syntax.{w64}
 use mir.Val.{SFits}
-use Rattle.whole.specs.Below.{allBelow}
 use Rattle.whole.specs.Numbers.{within}
 use Rattle.whole.proofs.Below.{all-start, all-more, all-not}
 use Rattle.whole.proofs.Bools.{not-true, not-false}
 use Rattle.whole.proofs.Tells.{outside-within}
 use Rattle.rules.specs.Sizes.{largestNumerator}
 use Rattle.rules.specs.Evidence.{lowerPart}
+use Rattle.evidence.specs.Reads.{numeratorsFit}
 use Rattle.evidence.proofs.can.numerators_fit.Statement.{statement}
 use Rattle.evidence.proofs.can.numerators_fit.Tie as tie
 
 abbrev Inv-loop : tie.InvT-loop
-Inv-loop answer variables v₀ v = (v ≤ variables) × (allBelow v (λ v. within largestNumerator (lowerPart answer v)) ≡ true)
+Inv-loop answer variables v₀ v = (v ≤ variables) × (numeratorsFit answer v ≡ true)
 
 abbrev μ-loop : tie.MeasureT-loop
 μ-loop answer variables v₀ v = variables - v

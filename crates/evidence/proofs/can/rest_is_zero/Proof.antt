@@ -1,12 +1,11 @@
--- `evidence::can::rest_is_zero` meets its contract. The invariant: the words passed are 0. The measure is how many are left.
--- Assumes nothing.
-use mathlib.Core.Path.{_≡_, refl, ap, sym, _∙_}
+-- `evidence::can::rest_is_zero` meets its contract. The invariant: the words passed are 0. The measure is how many are
+-- left. Assumes nothing.
+use mathlib.Core.Path.{_≡_, ap, sym, _∙_}
 use mathlib.Core.Bool.{true}
-use Prim.Native.Nat.{ℕ, _+_, _-_, _≤_}
+use Prim.Native.Nat.{ℕ, _-_, _≤_}
 use native.Mathlib.Omega.{arith}
 use borrow.Author.Needs.{sfits-of}
 use lib.IntN.{ℤ, pos}
-use lib.ListN.{getD}
 use mir.Facts.{toZ-ofZ}
 use mir.Syntax.{w64}
 use mir.Val.{SFits, ofZ, toZ}
@@ -17,8 +16,6 @@ use Rattle.whole.proofs.Tells.{tells-true, tells-false, tells-eqZ}
 use Rattle.rules.specs.Evidence.{upperPart}
 use Rattle.evidence.proofs.can.rest_is_zero.Statement.{statement}
 use Rattle.evidence.proofs.can.rest_is_zero.Tie as tie
-use Rattle.evidence.proofs.can.rest_is_zero.Reads as reads
-use Rattle.evidence.proofs.can.rest_is_zero.Lts as lts
 
 abbrev Inv-loop : tie.InvT-loop
 Inv-loop answer variables v₀ v = (v ≤ variables) × (allBelow v (λ v. eqZ (upperPart variables answer v) (pos 0)) ≡ true)

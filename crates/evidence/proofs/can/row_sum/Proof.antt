@@ -1,10 +1,9 @@
--- `evidence::can::row_sum` meets its contract. The invariant: the sum is that of the columns passed, and is within so many times the
--- largest coefficient times the largest numerator. The measure is the columns left. Assumes nothing.
+-- `evidence::can::row_sum` meets its contract. The invariant: the sum is that of the columns passed, and is within so
+-- many times the largest coefficient times the largest numerator. The measure is the columns left. Assumes nothing.
 use mathlib.Core.Path.{_≡_, refl, ap, sym, _∙_}
 use Prim.Native.Nat.{ℕ, _+_, _*_, _-_, _≤_, _<_}
 use native.Mathlib.Omega.{arith}
-use borrow.Author.Needs.{needs, sfits-of}
-use lib.Dec.{lit≤}
+use borrow.Author.Needs.{sfits-of}
 use lib.IntN.{ℤ, pos, _+ℤ_, _*ℤ_}
 use lib.ListN.{getD}
 use mir.Facts.{toZ-ofZ}
@@ -12,17 +11,15 @@ use mir.Syntax.{w64}
 use mir.Val.{SFits, toZ}
 use Rattle.whole.specs.Numbers.{Within}
 use Rattle.whole.specs.Sums.{sum, sumBy}
-use Rattle.whole.proofs.Sizes.{within-*, within-+, within-le, fits-by}
+use Rattle.whole.proofs.Sizes.{within-*, within-le, fits-by}
 use Rattle.whole.proofs.Sums.{sum-step, sum-within}
-use Rattle.rules.specs.Sizes.{largestCoefficient, largestNumerator, mostColumns, mostRows}
+use Rattle.rules.specs.Sizes.{largestCoefficient, largestNumerator, mostColumns}
 use Rattle.rules.specs.Evidence.{lowerPart}
 use Rattle.tableau.specs.Layout.{mostEntries}
 use Rattle.evidence.specs.Reads.{entryOf, rowUpTo}
 use Rattle.evidence.proofs.Laws.Places.{place-in}
 use Rattle.evidence.proofs.can.row_sum.Statement.{statement}
 use Rattle.evidence.proofs.can.row_sum.Tie as tie
-use Rattle.evidence.proofs.can.row_sum.Reads as reads
-use Rattle.evidence.proofs.can.row_sum.Lts as lts
 
 abbrev Inv-loop : tie.InvT-loop
 Inv-loop entries answer row columns sum₀ j₀ sum j =
@@ -45,7 +42,8 @@ add-at c = omega arith
 module _ (c : tie.After-place Inv-loop μ-loop) where
   in-entries : c .place .result < mostEntries
   in-entries = let o = c .before .before .before .args in
-      rw (c .place .ensures) (place-in (o .columns) (o .row .0) (c .before .before .loop .j) (omega arith) (omega arith) (omega arith))
+      rw (c .place .ensures)
+      (place-in (o .columns) (o .row .0) (c .before .before .loop .j) (omega arith) (omega arith) (omega arith))
 
 mul-e : tie.Need-mul-e Inv-loop μ-loop
 mul-e c = let h = in-entries c in omega arith
@@ -110,7 +108,12 @@ mul-sum c = simp (toZ-ofZ (fit-entry c), toZ-ofZ (fit-value c)) (fit-term c)
 
 add-sum : tie.Need-add-sum Inv-loop μ-loop
 add-sum c =
-    simp (toZ-ofZ (fit-entry c), toZ-ofZ (fit-value c), toZ-ofZ (fit-term c), c .before .before .before .before .loop .inv .1)
+    simp (
+      toZ-ofZ (fit-entry c),
+      toZ-ofZ (fit-value c),
+      toZ-ofZ (fit-term c),
+      c .before .before .before .before .loop .inv .1,
+    )
     (fit-sum c)
 
 add-j : tie.Need-add-j Inv-loop μ-loop
@@ -122,7 +125,13 @@ loop-less c = omega arith
 loop-again : tie.Need-loop-again Inv-loop μ-loop
 loop-again c = (
   omega arith,
-  simp (toZ-ofZ (fit-entry c), toZ-ofZ (fit-value c), toZ-ofZ (fit-term c), c .before .before .before .before .loop .inv .1, toZ-ofZ (fit-sum c))
+  simp (
+    toZ-ofZ (fit-entry c),
+    toZ-ofZ (fit-value c),
+    toZ-ofZ (fit-term c),
+    c .before .before .before .before .loop .inv .1,
+    toZ-ofZ (fit-sum c),
+  )
       (more c),
 )
 

@@ -1,13 +1,13 @@
--- `evidence::can::rows_hold` meets its contract. The invariant: the rows passed hold. The measure is how many are left. Assumes nothing.
+-- `evidence::can::rows_hold` meets its contract. The invariant: the rows passed hold. The measure is how many are left.
+-- Assumes nothing.
 use mathlib.Core.Path.{_≡_, ap, sym, _∙_}
 use mathlib.Core.Bool.{Bool, true}
 use Prim.Native.Nat.{ℕ, _+_, _-_, _≤_}
 use native.Mathlib.Omega.{arith}
 use borrow.Author.Needs.{needs, sfits-of}
 use lib.IntN.{ℤ}
-use mir.Facts.{toZ-ofZ}
 use mir.Syntax.{w64}
-use mir.Val.{SFits, ofZ, toZ}
+use mir.Val.{SFits, ofZ}
 use Rattle.whole.specs.Below.{allBelow}
 use Rattle.whole.specs.Numbers.{eqZ}
 use Rattle.whole.proofs.Below.{all-start, all-more, all-not}
@@ -17,8 +17,6 @@ use Rattle.rules.specs.Evidence.{lowerPart}
 use Rattle.evidence.specs.Reads.{rowSumAt}
 use Rattle.evidence.proofs.can.rows_hold.Statement.{statement}
 use Rattle.evidence.proofs.can.rows_hold.Tie as tie
-use Rattle.evidence.proofs.can.rows_hold.Reads as reads
-use Rattle.evidence.proofs.can.rows_hold.Lts as lts
 
 abbrev Inv-loop : tie.InvT-loop
 Inv-loop entries answer rows columns i₀ i =
@@ -57,7 +55,8 @@ module _ (c : tie.After-row-sum Inv-loop μ-loop) where
   number = lowerPart (start .args .answer .now) (start .args .columns + place)
 
   abbrev test : ℕ → Bool
-  test i = eqZ (lowerPart (start .args .answer .now) (start .args .columns + i)) (rowSumAt (start .args .entries .now) (start .args .answer .now) (start .args .columns) i)
+  test i = eqZ (lowerPart (start .args .answer .now) (start .args .columns + i))
+      (rowSumAt (start .args .entries .now) (start .args .answer .now) (start .args .columns) i)
 
   fit-number : SFits w64 number
   fit-number = sfits-of (c .before .x .given)
@@ -80,7 +79,8 @@ loop-again : tie.Need-loop-again Inv-loop μ-loop
 loop-again c = let b = c .before in (
   omega arith,
   all-more (place b) (test b) (b .before .before .before .loop .inv .1)
-      (tells-true (tells-eqZ (number b) _) (test-eq w64 (fit-number b) (fit-sum b) (c .if1 .left) ∙ b .row-sum .ensures)),
+      (tells-true (tells-eqZ (number b) _) (test-eq w64 (fit-number b) (fit-sum b) (c .if1 .left)
+      ∙ b .row-sum .ensures)),
 )
 
 all : (c : tie.After-loop Inv-loop μ-loop) → c .before .loop .i ≡ c .before .before .args .rows

@@ -1,5 +1,5 @@
--- `evidence::can::shows_can` meets its contract: the tests of the rule one after the other, each call giving one of them.
--- Assumes nothing.
+-- `evidence::can::shows_can` meets its contract: the tests of the rule one after the other, each call giving one of
+-- them. Assumes nothing.
 use mathlib.Core.Path.{_≡_, sym, _∙_}
 use mathlib.Core.Bool.{true, false}
 use mathlib.Core.List.{List}
@@ -99,7 +99,8 @@ numerators-fit-requires c κs = search needs
 
 returns-2 : tie.Need-returns-2
 returns-2 c = let b = c .before in
-    sym (can-numerators (first (b .before) .pre) (in-range (b .before)) (sym (b .numerators-fit .ensures) ∙ not-true _ (c .if2 .taken)))
+    sym (can-numerators (first (b .before) .pre) (in-range (b .before))
+    (sym (b .numerators-fit .ensures) ∙ not-true _ (c .if2 .taken)))
 
 rows-hold-requires : tie.Need-rows-hold-requires
 rows-hold-requires c κs = let p = second c .pre in

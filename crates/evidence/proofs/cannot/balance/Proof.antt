@@ -1,5 +1,4 @@
 -- `evidence::cannot::balance` meets its contract: the difference is within twice the largest number. Assumes nothing.
-use mathlib.Core.Path.{_≡_}
 use native.Mathlib.Omega.{arith}
 use borrow.Author.Needs.{sfits-of}
 use lib.IntN.{ℤ, _-ℤ_}
@@ -49,7 +48,8 @@ module _ (c : tie.After-result2) where
   fit-high = sfits-of (c .result2 .given)
 
   fit : SFits w64 (low -ℤ high)
-  fit = fits-by (within-- (start .pre .1 .lower-within (start .args .v) (omega arith)) (start .pre .1 .upper-within (start .args .v) (omega arith))) tt
+  fit = fits-by (within-- (start .pre .1 .lower-within (start .args .v) (omega arith))
+      (start .pre .1 .upper-within (start .args .v) (omega arith))) tt
 
 sub-result : tie.Need-sub-result
 sub-result c = simp (toZ-ofZ (fit-low c), toZ-ofZ (fit-high c)) (fit c)

@@ -1,6 +1,6 @@
 -- `evidence::cannot::both_fair` meets its contract: the two tests, one after the other. Assumes nothing.
 use mathlib.Core.Path.{_≡_, ap, ap₂, sym, _∙_}
-use mathlib.Core.Bool.{Bool, true, false, not, _&&_}
+use mathlib.Core.Bool.{Bool, _&&_}
 use mir.Facts.{toZ-ofZ}
 use Rattle.whole.proofs.Bools.{not-true, not-false}
 use Rattle.evidence.specs.Reads.{fairOf}

@@ -1,6 +1,7 @@
--- `evidence::cannot::column_sum` meets its contract. The invariant: the sum is that of the column's own balance and the rows passed, each
--- term within the largest coefficient times twice the largest number. The measure is the rows left. Assumes nothing.
-use mathlib.Core.Path.{_≡_, refl, ap, ap₂, sym, _∙_}
+-- `evidence::cannot::column_sum` meets its contract. The invariant: the sum is that of the column's own balance and the
+-- rows passed, each term within the largest coefficient times twice the largest number. The measure is the rows left.
+-- Assumes nothing.
+use mathlib.Core.Path.{_≡_, ap, ap₂, sym, _∙_}
 use Prim.Native.Nat.{ℕ, _+_, _*_, _-_, _≤_, _<_}
 use native.Mathlib.Omega.{arith}
 use borrow.Author.Needs.{needs, sfits-of}
@@ -19,8 +20,6 @@ use Rattle.evidence.specs.Reads.{entryOf, balanceAt, columnUpTo}
 use Rattle.evidence.proofs.Laws.Places.{place-in}
 use Rattle.evidence.proofs.cannot.column_sum.Statement.{statement}
 use Rattle.evidence.proofs.cannot.column_sum.Tie as tie
-use Rattle.evidence.proofs.cannot.column_sum.Reads as reads
-use Rattle.evidence.proofs.cannot.column_sum.Lts as lts
 
 abbrev Inv-loop : tie.InvT-loop
 Inv-loop entries answer rows columns column variables j sum₀ i₀ sum i =
@@ -62,7 +61,10 @@ add-balance : tie.Need-add-balance Inv-loop μ-loop
 add-balance c = omega arith
 
 balance-requires-2 : tie.Need-balance-requires-2 Inv-loop μ-loop
-balance-requires-2 c κs = ((omega arith, omega arith, omega arith), c .before .before .before .before .before .pre .1 .1)
+balance-requires-2 c κs = (
+  (omega arith, omega arith, omega arith),
+  c .before .before .before .before .before .pre .1 .1,
+)
 
 module _ (c : tie.After-balance2 Inv-loop μ-loop) where
   abbrev start : tie.Start Inv-loop μ-loop
@@ -75,7 +77,8 @@ module _ (c : tie.After-balance2 Inv-loop μ-loop) where
   variables = start .args .columns + start .args .rows
 
   abbrev upTo : ℕ → ℤ
-  upTo k = columnUpTo (start .args .entries .now) (start .args .answer .now) (start .args .columns) variables k (start .args .column .0)
+  upTo k = columnUpTo (start .args .entries .now) (start .args .answer .now) (start .args .columns) variables k
+      (start .args .column .0)
 
   abbrev term : ℕ → ℤ
   term k = entryOf (start .args .entries .now) (start .args .columns) k (start .args .column .0)
@@ -91,9 +94,11 @@ module _ (c : tie.After-balance2 Inv-loop μ-loop) where
   fit-balance = search needs
 
   term-is : read *ℤ c .balance2 .result ≡ term i
-  term-is = ap₂ (λ (k : ℕ) (z : ℤ). getD (start .args .entries .now) k (pos 0) *ℤ z) (c .before .before .place .ensures) (c .balance2 .ensures)
+  term-is = ap₂ (λ (k : ℕ) (z : ℤ). getD (start .args .entries .now) k (pos 0) *ℤ z)
+      (c .before .before .place .ensures) (c .balance2 .ensures)
 
-  within-balance : (v : ℕ) → v < variables → Within (balanceAt (start .args .answer .now) variables v) (largestNumber + largestNumber)
+  within-balance : (v : ℕ) → v < variables →
+      Within (balanceAt (start .args .answer .now) variables v) (largestNumber + largestNumber)
   within-balance v h = within-- (start .pre .1 .1 .lower-within v h) (start .pre .1 .1 .upper-within v h)
 
   within-term : (k : ℕ) → k < start .args .rows → Within (term k) (largestCoefficient * (largestNumber + largestNumber))
@@ -106,20 +111,28 @@ module _ (c : tie.After-balance2 Inv-loop μ-loop) where
   unfolding columnUpTo
   more = ap (λ (z : ℤ). upTo i +ℤ z) term-is
       ∙ +ℤ-assoc (balanceAt (start .args .answer .now) variables (start .args .column .0)) _ (term i)
-      ∙ ap (λ (z : ℤ). balanceAt (start .args .answer .now) variables (start .args .column .0) +ℤ z) (sym (sum-step i term))
+      ∙ ap (λ (z : ℤ). balanceAt (start .args .answer .now) variables (start .args .column .0) +ℤ z)
+      (sym (sum-step i term))
 
   fit-sum : SFits w64 (upTo i +ℤ read *ℤ c .balance2 .result)
   unfolding columnUpTo
-  fit-sum = rw more (fits-by (within-+ (within-balance (start .args .column .0) (omega arith)) (within-le (sum-within (i + 1) (λ k h. within-term k (omega arith))) bound)) tt)
+  fit-sum = rw more (fits-by (within-+ (within-balance (start .args .column .0) (omega arith))
+      (within-le (sum-within (i + 1) (λ k h. within-term k (omega arith))) bound)) tt)
     where
-      bound : (i + 1) * (largestCoefficient * (largestNumber + largestNumber)) ≤ mostRows * (largestCoefficient * (largestNumber + largestNumber))
+      bound : (i + 1) * (largestCoefficient * (largestNumber + largestNumber))
+          ≤ mostRows * (largestCoefficient * (largestNumber + largestNumber))
       bound = omega arith
 
 mul-sum : tie.Need-mul-sum Inv-loop μ-loop
 mul-sum c = simp (toZ-ofZ (fit-entry c), toZ-ofZ (fit-balance c)) (fit-term c)
 
 add-sum : tie.Need-add-sum Inv-loop μ-loop
-add-sum c = simp (toZ-ofZ (fit-entry c), toZ-ofZ (fit-balance c), toZ-ofZ (fit-term c), c .before .before .before .before .loop .inv .1) (fit-sum c)
+add-sum c = simp (
+  toZ-ofZ (fit-entry c),
+  toZ-ofZ (fit-balance c),
+  toZ-ofZ (fit-term c),
+  c .before .before .before .before .loop .inv .1,
+) (fit-sum c)
 
 add-i : tie.Need-add-i Inv-loop μ-loop
 add-i c = omega arith
@@ -130,7 +143,13 @@ loop-less c = omega arith
 loop-again : tie.Need-loop-again Inv-loop μ-loop
 loop-again c = (
   omega arith,
-  simp (toZ-ofZ (fit-entry c), toZ-ofZ (fit-balance c), toZ-ofZ (fit-term c), c .before .before .before .before .loop .inv .1, toZ-ofZ (fit-sum c)) (more c),
+  simp (
+    toZ-ofZ (fit-entry c),
+    toZ-ofZ (fit-balance c),
+    toZ-ofZ (fit-term c),
+    c .before .before .before .before .loop .inv .1,
+    toZ-ofZ (fit-sum c),
+  ) (more c),
 )
 
 all : (c : tie.After-loop Inv-loop μ-loop) → c .before .loop .i ≡ c .before .before .before .args .rows
@@ -139,7 +158,8 @@ all c = omega arith
 returns : tie.Need-returns Inv-loop μ-loop
 returns c = let o = c .before .before .before .args in
     c .before .loop .inv .1
-    ∙ ap (λ (k : ℕ). columnUpTo (o .entries .now) (o .answer .now) (o .columns) (o .columns + o .rows) k (o .column .0)) (all c)
+    ∙ ap (λ (k : ℕ). columnUpTo (o .entries .now) (o .answer .now) (o .columns) (o .columns + o .rows) k (o .column .0))
+    (all c)
 
 pub column-sum-spec : {M : Type 1} → statement M
 column-sum-spec =

@@ -1,8 +1,8 @@
--- `evidence::cannot::columns_cancel` meets its contract. The invariant: the columns passed cancel. The measure is how many are left.
--- Assumes nothing.
+-- `evidence::cannot::columns_cancel` meets its contract. The invariant: the columns passed cancel. The measure is how
+-- many are left. Assumes nothing.
 use mathlib.Core.Path.{_≡_, ap, sym, _∙_}
 use mathlib.Core.Bool.{Bool, true}
-use Prim.Native.Nat.{ℕ, _+_, _-_, _≤_}
+use Prim.Native.Nat.{ℕ, _-_, _≤_}
 use native.Mathlib.Omega.{arith}
 use borrow.Author.Needs.{needs}
 use lib.IntN.{ℤ, pos}
@@ -39,7 +39,8 @@ module _ (c : tie.After-column-sum Inv-loop μ-loop) where
   place = c .before .before .loop .j
 
   abbrev total : ℕ → ℤ
-  total j = columnAtEntries (start .args .entries .now) (start .args .answer .now) (start .args .columns) (start .args .rows) j
+  total j = columnAtEntries (start .args .entries .now) (start .args .answer .now) (start .args .columns)
+      (start .args .rows) j
 
   abbrev test : ℕ → Bool
   test j = eqZ (total j) (pos 0)
@@ -50,7 +51,8 @@ module _ (c : tie.After-column-sum Inv-loop μ-loop) where
 returns : tie.Need-returns Inv-loop μ-loop
 returns c = let b = c .before in
     sym (all-not (start b .args .columns) (place b) (test b) (omega arith)
-    (tells-false (tells-eqZ (total b (place b)) (pos 0)) (λ e. c .if1 .taken (ap (ofZ w64) (b .column-sum .ensures ∙ e)))))
+    (tells-false (tells-eqZ (total b (place b)) (pos 0))
+    (λ e. c .if1 .taken (ap (ofZ w64) (b .column-sum .ensures ∙ e)))))
 
 add-j : tie.Need-add-j Inv-loop μ-loop
 add-j c = omega arith
@@ -62,7 +64,8 @@ loop-again : tie.Need-loop-again Inv-loop μ-loop
 loop-again c = let b = c .before in (
   omega arith,
   all-more (place b) (test b) (b .before .before .loop .inv .1)
-      (tells-true (tells-eqZ (total b (place b)) (pos 0)) (sym (b .column-sum .ensures) ∙ sym (toZ-ofZ (fit b)) ∙ ap (toZ w64) (c .if1 .left))),
+      (tells-true (tells-eqZ (total b (place b)) (pos 0))
+      (sym (b .column-sum .ensures) ∙ sym (toZ-ofZ (fit b)) ∙ ap (toZ w64) (c .if1 .left))),
 )
 
 all : (c : tie.After-loop Inv-loop μ-loop) → c .before .loop .j ≡ c .before .before .args .columns

@@ -1,8 +1,8 @@
 -- `evidence::cannot::fair` meets its contract. Assumes nothing.
-use mathlib.Core.Path.{_≡_, ap, sym, _∙_}
-use mathlib.Core.Bool.{Bool, true, false, not}
+use mathlib.Core.Path.{ap, sym, _∙_}
+use mathlib.Core.Bool.{Bool, not}
 use lib.Dec.{lit<}
-use lib.IntN.{ℤ, pos}
+use lib.IntN.{pos}
 use mir.Facts.{toZ-ofZ}
 use mir.Syntax.{w64}
 use mir.Val.{SFits}
@@ -18,7 +18,8 @@ is-outside-requires c κs = tt
 returns : tie.Need-returns
 unfolding fairOf outside
 returns c = let o = c .before .before in
-    ap not (simp (toZ-ofZ (o .fits .k)) at (c .is-outside .ensures)) ∙ ap (λ (b : Bool). fairOf b (o .args .k)) (sym (c .before .if1 .taken))
+    ap not (simp (toZ-ofZ (o .fits .k)) at (c .is-outside .ensures))
+    ∙ ap (λ (b : Bool). fairOf b (o .args .k)) (sym (c .before .if1 .taken))
 
 zero-fits : SFits w64 (pos 0)
 zero-fits = record { sfits = lit< tt }

@@ -1,11 +1,10 @@
--- `evidence::cannot::multipliers_fair` meets its contract. The invariant: the multipliers of the variables passed are fair. The measure
--- is how many are left. Assumes nothing.
+-- `evidence::cannot::multipliers_fair` meets its contract. The invariant: the multipliers of the variables passed are
+-- fair. The measure is how many are left. Assumes nothing.
 use mathlib.Core.Path.{_≡_, sym, _∙_}
-use mathlib.Core.Bool.{Bool, true, false, not, _&&_}
-use Prim.Native.Nat.{ℕ, _+_, _-_, _≤_}
+use mathlib.Core.Bool.{Bool, true}
+use Prim.Native.Nat.{ℕ, _-_, _≤_}
 use native.Mathlib.Omega.{arith}
 use borrow.Author.Needs.{sfits-of}
-use lib.ListN.{getD}
 use mir.Facts.{toZ-ofZ}
 use mir.Syntax.{w64}
 use mir.Val.{SFits}
@@ -79,7 +78,8 @@ module _ (c : tie.After-both-fair Inv-loop μ-loop) where
 returns : tie.Need-returns Inv-loop μ-loop
 unfolding multipliersFair
 returns c = let b = c .before in
-    sym (all-not (start b .args .variables) (place b) (test b) (omega arith) (sym (told b) ∙ not-true _ (c .if1 .taken)))
+    sym (all-not (start b .args .variables) (place b) (test b) (omega arith)
+    (sym (told b) ∙ not-true _ (c .if1 .taken)))
 
 add-v : tie.Need-add-v Inv-loop μ-loop
 add-v c = omega arith
@@ -90,7 +90,8 @@ loop-less c = omega arith
 loop-again : tie.Need-loop-again Inv-loop μ-loop
 loop-again c = let b = c .before in (
   omega arith,
-  all-more (place b) (test b) (b .before .before .before .before .before .before .loop .inv .1) (sym (told b) ∙ not-false _ (c .if1 .left)),
+  all-more (place b) (test b) (b .before .before .before .before .before .before .loop .inv .1)
+      (sym (told b) ∙ not-false _ (c .if1 .left)),
 )
 
 all : (c : tie.After-loop Inv-loop μ-loop) → c .before .loop .v ≡ c .before .before .args .variables

@@ -1,6 +1,7 @@
--- `evidence::cannot::net` meets its contract: each product is within the largest limit times the largest number. Assumes nothing.
-use mathlib.Core.Path.{_≡_, ap₂, _∙_}
-use lib.IntN.{ℤ, pos, _-ℤ_, _*ℤ_}
+-- `evidence::cannot::net` meets its contract: each product is within the largest limit times the largest number.
+-- Assumes nothing.
+use mathlib.Core.Path.{_≡_, ap₂}
+use lib.IntN.{ℤ, _-ℤ_, _*ℤ_}
 use borrow.Author.Needs.{needs}
 use mir.Facts.{toZ-ofZ}
 use mir.Syntax.{w64}
@@ -45,7 +46,8 @@ module _ (c : tie.After-weighed2) where
   both-are = ap₂ (λ (a b : ℤ). a -ℤ b) gain-is loss-is
 
   fit : SFits w64 (c .before .weighed .result -ℤ c .weighed2 .result)
-  fit = rw both-are (fits-by (net-within (start .args .lowers) (start .args .uppers) (start .args .lower) (start .args .upper)
+  fit = rw both-are (fits-by (net-within (start .args .lowers) (start .args .uppers)
+      (start .args .lower) (start .args .upper)
       (start .args .low) (start .args .high) (start .pre .0) (start .pre .1) (start .pre .2) (start .pre .3)) tt)
 
 sub-result : tie.Need-sub-result

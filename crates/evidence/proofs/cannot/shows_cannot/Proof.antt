@@ -1,7 +1,7 @@
--- `evidence::cannot::shows_cannot` meets its contract: the tests of the rule one after the other, each call giving one of
--- them. Assumes nothing.
+-- `evidence::cannot::shows_cannot` meets its contract: the tests of the rule one after the other, each call giving one
+-- of them. Assumes nothing.
 use mathlib.Core.Path.{_≡_, ap, sym, _∙_}
-use mathlib.Core.Bool.{true, false}
+use mathlib.Core.Bool.{true}
 use mathlib.Core.List.{List}
 use Prim.Native.Nat.{ℕ, _+_}
 use native.Mathlib.Omega.{arith}
@@ -70,7 +70,8 @@ multipliers-fair-requires c κs = search needs
 
 returns-2 : tie.Need-returns-2
 returns-2 c = let b = c .before in
-    sym (cannot-multipliers (b .before .before .before .pre) (zero (b .before)) (sym (b .multipliers-fair .ensures) ∙ not-true _ (c .if2 .taken)))
+    sym (cannot-multipliers (b .before .before .before .pre) (zero (b .before))
+    (sym (b .multipliers-fair .ensures) ∙ not-true _ (c .if2 .taken)))
 
 columns-cancel-requires : tie.Need-columns-cancel-requires
 columns-cancel-requires c κs = let p = second c .pre in
@@ -92,7 +93,8 @@ returns-4 : tie.Need-returns-4
 returns-4 c = let b = c .before in
     simp (toZ-ofZ (fit-surplus c))
     (ap (ltZ (pos 0)) (c .surplus .ensures)
-    ∙ sym (cannot-surplus (third b .pre) (zero (b .before .before .before .before)) (fair (b .before .before)) (cancel b)))
+    ∙ sym (cannot-surplus (third b .pre) (zero (b .before .before .before .before)) (fair (b .before .before))
+    (cancel b)))
 
 pub shows-cannot-spec : {M : Type 1} → statement M
 shows-cannot-spec =

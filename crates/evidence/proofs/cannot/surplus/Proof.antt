@@ -1,5 +1,5 @@
--- `evidence::cannot::surplus` meets its contract. The invariant: the sum is that of the variables passed, each term within twice the
--- largest limit times the largest number. The measure is how many are left. Assumes nothing.
+-- `evidence::cannot::surplus` meets its contract. The invariant: the sum is that of the variables passed, each term
+-- within twice the largest limit times the largest number. The measure is how many are left. Assumes nothing.
 use mathlib.Core.Path.{_≡_, refl, ap, sym, _∙_}
 use mathlib.Core.Bool.{false}
 use Prim.Native.Nat.{ℕ, _+_, _*_, _-_, _≤_, _<_}
@@ -24,9 +24,6 @@ use Rattle.evidence.specs.Reads.{surplusUpTo}
 use Rattle.evidence.proofs.Laws.Weights.{net-within}
 use Rattle.evidence.proofs.cannot.surplus.Statement.{statement}
 use Rattle.evidence.proofs.cannot.surplus.Tie as tie
-use Rattle.evidence.proofs.cannot.surplus.Reads as reads
-use Rattle.evidence.proofs.cannot.surplus.Lts as lts
-use Rattle.evidence.proofs.cannot.net.Reads as net-reads
 
 abbrev Inv-loop : tie.InvT-loop
 Inv-loop answer variables limits sum₀ v₀ sum v = (v ≤ variables) × (toZ w64 sum ≡ surplusUpTo limits answer variables v)
@@ -107,15 +104,19 @@ module _ (c : tie.After-net-arg6 Inv-loop μ-loop) where
   abbrev upTo : ℕ → ℤ
   upTo k = surplusUpTo limits (start .args .answer .now) (start .args .variables) k
 
-  within-term : (k : ℕ) → k < start .args .variables → Within (term k) (largestLimit * largestNumber + largestLimit * largestNumber)
-  within-term k h = net-within (getD (limits .lowers) k false) (getD (limits .uppers) k false) (getD (limits .lower) k (pos 0)) (getD (limits .upper) k (pos 0)) _ _
-      (start .pre .1 .1 .lowers-within k) (start .pre .1 .0 .lower-within k h) (start .pre .1 .1 .uppers-within k) (start .pre .1 .0 .upper-within k h)
+  within-term : (k : ℕ) → k < start .args .variables →
+      Within (term k) (largestLimit * largestNumber + largestLimit * largestNumber)
+  within-term k h = let many = start .pre .1 .0 in let l = start .pre .1 .1 in
+      net-within (getD (limits .lowers) k false) (getD (limits .uppers) k false)
+      (getD (limits .lower) k (pos 0)) (getD (limits .upper) k (pos 0)) _ _
+      (l .lowers-within k) (many .lower-within k h) (l .uppers-within k) (many .upper-within k h)
 
   fit-more : SFits w64 (upTo (v + 1))
   unfolding surplusUpTo
   fit-more = fits-by (within-le (sum-within (v + 1) (λ k h. within-term k (omega arith))) bound) tt
     where
-      bound : (v + 1) * (largestLimit * largestNumber + largestLimit * largestNumber) ≤ mostVariables * (largestLimit * largestNumber + largestLimit * largestNumber)
+      bound : (v + 1) * (largestLimit * largestNumber + largestLimit * largestNumber)
+          ≤ mostVariables * (largestLimit * largestNumber + largestLimit * largestNumber)
       bound = omega arith
 
   step : upTo v +ℤ term v ≡ upTo (v + 1)
@@ -123,13 +124,19 @@ module _ (c : tie.After-net-arg6 Inv-loop μ-loop) where
   step = sym (sum-step v term)
 
 net-requires : tie.Need-net-requires Inv-loop μ-loop
-net-requires c κs = let s = start c in
-    simp (toZ-ofZ (fit-lower c), toZ-ofZ (fit-low c), toZ-ofZ (fit-upper c), toZ-ofZ (fit-high c))
-    (s .pre .1 .1 .lowers-within (v c), s .pre .1 .0 .lower-within (v c) (omega arith), s .pre .1 .1 .uppers-within (v c), s .pre .1 .0 .upper-within (v c) (omega arith))
+net-requires c κs = let many = start c .pre .1 .0 in let l = start c .pre .1 .1 in
+    simp (toZ-ofZ (fit-lower c), toZ-ofZ (fit-low c), toZ-ofZ (fit-upper c), toZ-ofZ (fit-high c)) (
+      l .lowers-within (v c),
+      many .lower-within (v c) (omega arith),
+      l .uppers-within (v c),
+      many .upper-within (v c) (omega arith),
+    )
 
 module _ (c : tie.After-net Inv-loop μ-loop) where
   told : c .net .result ≡ term (c .before) (v (c .before))
-  told = simp (toZ-ofZ (fit-lower (c .before)), toZ-ofZ (fit-low (c .before)), toZ-ofZ (fit-upper (c .before)), toZ-ofZ (fit-high (c .before))) at (c .net .ensures)
+  told = let b = c .before in
+      simp (toZ-ofZ (fit-lower b), toZ-ofZ (fit-low b), toZ-ofZ (fit-upper b), toZ-ofZ (fit-high b))
+      at (c .net .ensures)
 
   fit-net : SFits w64 (c .net .result)
   fit-net = search needs
@@ -137,11 +144,14 @@ module _ (c : tie.After-net Inv-loop μ-loop) where
   more : upTo (c .before) (v (c .before)) +ℤ c .net .result ≡ upTo (c .before) (v (c .before) + 1)
   more = ap (λ (z : ℤ). upTo (c .before) (v (c .before)) +ℤ z) told ∙ step (c .before)
 
+  abbrev turn : tie.At-loop Inv-loop μ-loop
+  turn = c .before .before .before .before .before .before .before .before
+
   fit-sum : SFits w64 (upTo (c .before) (v (c .before)) +ℤ c .net .result)
   fit-sum = rw more (fit-more (c .before))
 
 add-sum : tie.Need-add-sum Inv-loop μ-loop
-add-sum c = simp (toZ-ofZ (fit-net c), c .before .before .before .before .before .before .before .before .loop .inv .1) (fit-sum c)
+add-sum c = simp (toZ-ofZ (fit-net c), turn c .loop .inv .1) (fit-sum c)
 
 add-v : tie.Need-add-v Inv-loop μ-loop
 add-v c = omega arith
@@ -152,7 +162,7 @@ loop-less c = omega arith
 loop-again : tie.Need-loop-again Inv-loop μ-loop
 loop-again c = (
   omega arith,
-  simp (toZ-ofZ (fit-net c), c .before .before .before .before .before .before .before .before .loop .inv .1, toZ-ofZ (fit-sum c)) (more c),
+  simp (toZ-ofZ (fit-net c), turn c .loop .inv .1, toZ-ofZ (fit-sum c)) (more c),
 )
 
 all : (c : tie.After-loop Inv-loop μ-loop) → c .before .loop .v ≡ c .before .before .args .variables

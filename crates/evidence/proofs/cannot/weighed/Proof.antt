@@ -1,8 +1,8 @@
--- `evidence::cannot::weighed` meets its contract: the product fits, as it is within the largest limit times the largest number.
--- Assumes nothing.
-use mathlib.Core.Path.{_≡_, ap, sym, _∙_}
-use mathlib.Core.Bool.{Bool, true, false}
-use lib.IntN.{ℤ, pos, _*ℤ_, zero-*ℤ}
+-- `evidence::cannot::weighed` meets its contract: the product fits, as it is within the largest limit times the largest
+-- number. Assumes nothing.
+use mathlib.Core.Path.{ap, sym, _∙_}
+use mathlib.Core.Bool.{Bool}
+use lib.IntN.{_*ℤ_, zero-*ℤ}
 use mir.Facts.{toZ-ofZ}
 use mir.Syntax.{w64}
 use mir.Val.{SFits}
@@ -28,7 +28,8 @@ returns c = let o = c .before in
 returns-2 : tie.Need-returns-2
 unfolding seated present
 returns-2 c = let o = c .before in
-    sym (zero-*ℤ (o .args .k)) ∙ ap (λ (b : Bool). seated whole (present b (o .args .limit)) *ℤ o .args .k) (sym (c .if1 .left))
+    sym (zero-*ℤ (o .args .k)) ∙ ap (λ (b : Bool). seated whole (present b (o .args .limit)) *ℤ o .args .k)
+    (sym (c .if1 .left))
 
 pub weighed-spec : {M : Type 1} → statement M
 weighed-spec = tie.close (tie.spec mul-result returns returns-2)
