@@ -37,7 +37,7 @@ shared-slice-copy-out-denominator c = search needs
 is-outside-requires : tie.Need-is-outside-requires
 is-outside-requires c κs = tt
 
--- ---- what each test says, where it passed
+-- ---- what each test says, where it passed; `first` and the like are the start of the call, seen from there
 
 module _ (c : tie.After-is-outside) where
   abbrev start : tie.Start

@@ -33,7 +33,7 @@ add-variables c = search needs
 shared-slice-copy-out-if1 : tie.Need-shared-slice-copy-out-if1
 shared-slice-copy-out-if1 c = search needs
 
--- ---- what each test says, where it passed
+-- ---- what each test says, where it passed; `second` and `third` are the start of the call, seen from there
 
 fit : (c : tie.After-if12) → SFits w64 (denominatorOf (answer (c .before)))
 fit c = sfits-of (c .if12 .given)
