@@ -162,9 +162,6 @@ impl Tableau {
         let mut divisor = self.common.unsigned_abs();
         for cell in cells.iter() {
             divisor = common_divisor(cell.unsigned_abs(), divisor);
-            if divisor == 1 {
-                break;
-            }
         }
         let divisor = divisor as i64 * self.common.signum();
         if divisor != 1 {
