@@ -1,5 +1,6 @@
 // Refusals 1 to 6: whether lent words are a problem. Each test runs over the whole input before the next.
 ghost use mathlib.Core.Path.{_≡_};
+ghost use mathlib.Core.Bool.{_||_};
 ghost use mathlib.Core.List.{[], _∷_};
 ghost use Prim.Native.Nat.{_≤_, _<_};
 ghost use lib.IntN.{ℤ, pos, natAbs};
@@ -59,6 +60,26 @@ fn is_bad_limit(present: bool, word: i32) -> bool
     word != 0
 }
 
+// Whether one of a variable's two limits is so.
+fn is_bad_pair(kind: i32, lower: i32, upper: i32) -> bool
+    ensures { λ r. ⌜ r ≡ (badLimitWord (hasLower kind) lower || badLimitWord (hasUpper kind) upper) ⌝ }
+{
+    either(
+        is_bad_limit(has_lower(kind), lower),
+        is_bad_limit(has_upper(kind), upper),
+    )
+}
+
+// Both are asked for, so that a loop looks at all words without a branch.
+fn either(a: bool, b: bool) -> bool
+    ensures { λ r. ⌜ r ≡ (a || b) ⌝ }
+{
+    if a {
+        return true;
+    }
+    b
+}
+
 // A word that is not below 0, as a count.
 pub fn count_at(words: &[i32], at: usize) -> usize
     requires { ⌜ (at < length (now words)) × (pos 0 ≤ℤ word (now words) at) ⌝ }
@@ -84,15 +105,12 @@ fn some_bad_coefficient(words: &[i32], columns: usize, rows: usize) -> bool
     ensures { λ r. ⌜ r ≡ badCoefficient (now (words .entry)) ⌝ }
 {
     let end = rows * columns;
-    let mut i = 0;
-    while i < end {
+    let mut bad = false;
+    for i in 0..end {
         let at = 2 + i;
-        if !is_within(words[at], Tableau::LARGEST_COEFFICIENT) {
-            return true;
-        }
-        i += 1;
+        bad = either(bad, !is_within(words[at], Tableau::LARGEST_COEFFICIENT));
     }
-    false
+    bad
 }
 
 // Whether some kind is outside 0 to 3.
@@ -102,15 +120,12 @@ fn some_bad_kind(words: &[i32], columns: usize, rows: usize) -> bool
 {
     let from = 2 + rows * columns;
     let end = columns + rows;
-    let mut v = 0;
-    while v < end {
+    let mut bad = false;
+    for v in 0..end {
         let at = from + 3 * v;
-        if is_outside(words[at], 0, 3) {
-            return true;
-        }
-        v += 1;
+        bad = either(bad, is_outside(words[at], 0, 3));
     }
-    false
+    bad
 }
 
 // Whether some limit is outside its range, or a missing limit's word not 0.
@@ -120,21 +135,14 @@ fn some_bad_limit(words: &[i32], columns: usize, rows: usize) -> bool
 {
     let from = 2 + rows * columns;
     let end = columns + rows;
-    let mut v = 0;
-    while v < end {
+    let mut bad = false;
+    for v in 0..end {
         let at = from + 3 * v;
-        let kind = words[at];
         let lower = at + 1;
-        if is_bad_limit(has_lower(kind), words[lower]) {
-            return true;
-        }
         let upper = at + 2;
-        if is_bad_limit(has_upper(kind), words[upper]) {
-            return true;
-        }
-        v += 1;
+        bad = either(bad, is_bad_pair(words[at], words[lower], words[upper]));
     }
-    false
+    bad
 }
 
 // The number of the first of refusals 4 to 6 that applies, or 0.

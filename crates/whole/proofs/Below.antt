@@ -6,7 +6,7 @@
 --   some-none, some-at, some-of                    the test fails at each, or passes at one
 --   all-start, all-more, some-start, some-more     for a loop: nothing passed yet, one number more
 use mathlib.Core.Path.{_≡_, refl, _∙_}
-use mathlib.Core.Bool.{Bool, true, false, cond}
+use mathlib.Core.Bool.{Bool, true, false, cond, _||_}
 use mathlib.Core.Logic.{_↔_}
 use mathlib.Core.Option.{Option, none, some, Option·none-ne-some, Option·some-ne-none}
 use Prim.Native.Nat.{ℕ, zero, suc, _+_, _<_}
@@ -173,6 +173,10 @@ pub some-start : (f : ℕ → Bool) → someBelow 0 f ≡ false
 unfolding someBelow
 some-start f = refl
 
-pub some-more : (k : ℕ) (f : ℕ → Bool) → someBelow k f ≡ false → f k ≡ false → someBelow (k + 1) f ≡ false
+pub some-more : (k : ℕ) (f : ℕ → Bool) → someBelow (suc k) f ≡ (someBelow k f || f k)
 unfolding someBelow
-some-more k f e h = rw (add-one, e, someBelow) h
+some-more k f = go (someBelow k f) refl
+  where
+    go : (b : Bool) → someBelow k f ≡ b → someBelow (suc k) f ≡ (someBelow k f || f k)
+    go true e = rw (e, someBelow) refl
+    go false e = rw (e, someBelow) refl

@@ -9,6 +9,7 @@ use Prim.Native.Nat.{ℕ, zero, suc, _≤_, min}
 use native.Mathlib.Omega.{arith}
 use lib.IntN.{ℤ}
 use Rattle.whole.specs.Below.{someBelow}
+use Rattle.whole.proofs.Below.{some-more}
 use Rattle.rules.specs.Refusal.{first}
 use Rattle.rules.specs.TimeWords.{badEnd, badStrict, badRowLength, rowTests}
 use Rattle.times.specs.Judged.{numberOf, rowNumber, rowsNumber}
@@ -40,14 +41,6 @@ either-least false false false true c c′ = omega (arith, strict-least false c)
 either-least false false false false true c′ = omega (arith, span-least c′)
 either-least false false false false false true = omega arith
 either-least false false false false false false = omega arith
-
-some-more : (k : ℕ) (f : ℕ → Bool) → someBelow (suc k) f ≡ (someBelow k f || f k)
-unfolding someBelow
-some-more k f = go (someBelow k f) refl
-  where
-    go : (b : Bool) → someBelow k f ≡ b → someBelow (suc k) f ≡ (someBelow k f || f k)
-    go true e = rw (e, someBelow) refl
-    go false e = rw (e, someBelow) refl
 
 module _ (ws : List ℤ) where
   pub rows-start : rowsNumber ws 0 ≡ 17

@@ -1,39 +1,40 @@
--- `tableau::judge::some_bad_coefficient` meets its contract. The invariant: every coefficient passed is within its
--- range. The measure is the coefficients left. Assumes nothing.
-use mathlib.Core.Path.{_≡_, sym, _∙_, ap}
-use mathlib.Core.Bool.{not}
+-- `tableau::judge::some_bad_coefficient` meets its contract. The invariant: whether one of the coefficients passed is
+-- outside its range. The measure is the coefficients left. Assumes nothing.
+use mathlib.Core.Bool.{Bool, not, _||_}
 use mathlib.Core.List.{List}
-use Prim.Native.Nat.{ℕ, _+_, _-_, _≤_, _<_}
+use mathlib.Core.Path.{_≡_, sym, _∙_, ap, ap₂}
+use Prim.Native.Nat.{ℕ, _+_, _*_, _-_, _≤_}
+use native.Mathlib.Numerals.{add-one}
 use native.Mathlib.Omega.{arith}
-use borrow.Author.Count.{below-more, below-none}
 use borrow.Author.Needs.{needs, sfits-of}
 use lib.IntN.{ℤ}
 use mir.Facts.{toZ-ofZ}
 use mir.Syntax.{w32}
 use mir.Val.{SFits}
-use Rattle.whole.specs.Numbers.{Within, within}
-use Rattle.whole.proofs.Tells.{Tells, tells-false, tells-not, tells-true, tells-within}
+use Rattle.whole.specs.Below.{someBelow}
+use Rattle.whole.specs.Numbers.{within}
+use Rattle.whole.proofs.Below.{some-more, some-start}
 use Rattle.rules.specs.Sizes.{largestCoefficient}
 use Rattle.rules.specs.Problem.{word}
-use Rattle.rules.proofs.Refused.{coefficient-tells}
+use Rattle.rules.specs.Refusal.{badCoefficient}
 use Rattle.tableau.proofs.Laws.Judged.{few-words, product-is}
 use Rattle.tableau.proofs.judge.some_bad_coefficient.Statement.{statement}
 use Rattle.tableau.proofs.judge.some_bad_coefficient.Tie as tie
 
-abbrev Fine : List ℤ → ℕ → Type 0
-Fine ws i = Within (word ws (2 + i)) largestCoefficient
+abbrev bad-at : List ℤ → ℕ → Bool
+bad-at ws i = not (within largestCoefficient (word ws (2 + i)))
 
 abbrev Inv-loop : tie.InvT-loop
-Inv-loop words columns rows end i₀ i = (i ≤ end) × ((k : ℕ) → k < i → Fine words k)
+Inv-loop words columns rows end bad₀ i₀ bad i = (i ≤ end) × (bad ≡ someBelow i (bad-at words))
 
 abbrev μ-loop : tie.MeasureT-loop
-μ-loop words columns rows end i₀ i = end - i
+μ-loop words columns rows end bad₀ i₀ bad i = end - i
 
 mul-end : tie.Need-mul-end Inv-loop μ-loop
 mul-end c = omega (arith, few-words (c .pre))
 
 loop-holds : tie.Need-loop-holds Inv-loop μ-loop
-loop-holds c = (omega arith, below-none (Fine (c .args .words .now)))
+loop-holds c = (omega arith, sym (some-start (bad-at (c .args .words .now))))
 
 add-at : tie.Need-add-at Inv-loop μ-loop
 add-at c = omega (arith, few-words (c .before .before .pre))
@@ -61,17 +62,11 @@ module _ (c : tie.After-is-within Inv-loop μ-loop) where
   read : SFits w32 (word ws (2 + i))
   read = sfits-of (c .before .is-within-arg .given)
 
-  told : not (within largestCoefficient (word ws (2 + i))) ≡ not (c .is-within .result)
-  told = sym (ap not (simp (toZ-ofZ read) at (c .is-within .ensures)))
+  told : not (c .is-within .result) ≡ bad-at ws i
+  told = ap not (simp (toZ-ofZ read) at (c .is-within .ensures))
 
-  tells : Tells (not (within largestCoefficient (word ws (2 + i)))) (¬ Fine ws i) (Fine ws i)
-  tells = tells-not (tells-within largestCoefficient (word ws (2 + i)))
-
-returns : tie.Need-returns Inv-loop μ-loop
-returns c =
-    let d = c .before in
-    sym (tells-true (coefficient-tells (ws d))
-    (i d, omega (arith, product-is (start d .pre)), tells d .if-true (told d ∙ c .if1 .taken)))
+either-requires : tie.Need-either-requires Inv-loop μ-loop
+either-requires c κs = search needs
 
 add-i : tie.Need-add-i Inv-loop μ-loop
 add-i c = omega arith
@@ -83,14 +78,15 @@ loop-again : tie.Need-loop-again Inv-loop μ-loop
 loop-again c =
     let d = c .before in (
       omega arith,
-      below-more (Fine (ws d)) (i d) (d .before .before .before .loop .inv .1)
-          (tells d .if-false (told d ∙ c .if1 .left)),
+      rw add-one (c .either .ensures ∙ ap₂ (λ a b. a || b) (d .before .before .before .loop .inv .1) (told d)
+          ∙ sym (some-more (i d) (bad-at (ws d)))),
     )
 
-returns-2 : tie.Need-returns-2 Inv-loop μ-loop
-returns-2 c =
-    sym (tells-false (coefficient-tells (c .before .before .args .words .now))
-    (λ i h. c .before .loop .inv .1 i (omega (arith, product-is (c .before .before .pre)))))
+returns : tie.Need-returns Inv-loop μ-loop
+unfolding badCoefficient
+returns c = let s = c .before .before in
+    let e : c .before .loop .i ≡ s .args .rows * s .args .columns = omega arith in
+    c .before .loop .inv .1 ∙ ap (λ k. someBelow k (bad-at (s .args .words .now))) (e ∙ product-is (s .pre))
 
 pub some-bad-coefficient-spec : {M : Type 1} → statement M
 some-bad-coefficient-spec =
@@ -104,8 +100,8 @@ some-bad-coefficient-spec =
     mul-is-within
     shared-slice-copy-out-is-within
     is-within-requires
-    returns
+    either-requires
     add-i
     loop-less
     loop-again
-    returns-2)
+    returns)
