@@ -1,13 +1,13 @@
 -- The live cells of an array, which are its first: their greatest common divisor with a number, and their quotients.
 use Prim.Native.Nat.{ℕ}
-use mathlib.Core.List.{List}
+use mathlib.Core.List.{List, _++_}
 use mathlib.Core.Logic.{_≢_}
 use lib.IntN.{ℤ, pos, natAbs}
-use lib.ListN.{getD}
+use lib.ListN.{drop, getD}
 use lib.Signed.{quotZ}
 use Rattle.whole.specs.Below.{foldBelow}
 use Rattle.whole.specs.Divisors.{gcd}
-use Rattle.whole.specs.Tables.{filled}
+use Rattle.whole.specs.Tables.{table}
 
 -- how many cells the array has
 abbrev pub mostCells : ℕ
@@ -28,6 +28,6 @@ divisorBelow k l common = foldBelow k (λ i g. gcd (natAbs (getD l i (pos 0))) g
 abbrev pub quotients : List ℤ → ℤ → ℕ → ℤ
 quotients l by k = quotZ (getD l k (pos 0)) by
 
--- the first k cells divided, the others 0
-abbrev pub quotientCells : ℕ → List ℤ → ℤ → List ℤ
-quotientCells k l by = filled mostCells (pos 0) k (quotients l by)
+-- the first k cells divided, the others as they were
+abbrev pub dividedCells : ℕ → List ℤ → ℤ → List ℤ
+dividedCells k l by = table k (quotients l by) ++ drop k l

@@ -2,9 +2,10 @@
 ghost use mathlib.Core.Path.{_≡_};
 ghost use Prim.Native.Nat.{_≤_};
 ghost use lib.IntN.{natAbs};
+ghost use lib.ListN.{length};
 ghost use Rattle.whole.specs.Divisors.{gcd};
 ghost use Rattle.whole.specs.Numbers.{Within, AllWithin};
-ghost use Rattle.divisor.specs.Cells.{mostCells, largestSize, Divides, divisorBelow, quotientCells};
+ghost use Rattle.divisor.specs.Cells.{mostCells, largestSize, Divides, divisorBelow, dividedCells};
 
 // How many cells an array has; the first of them are live, the others are not looked at.
 pub const MOST_CELLS: usize = 128;
@@ -46,17 +47,15 @@ pub fn divisor_of(cells: &[i64; MOST_CELLS], live: usize, common: i64) -> u64
     g
 }
 
-// Each live cell divided, exactly where the divisor is a common one; the others are 0.
-pub fn divided(cells: &[i64; MOST_CELLS], live: usize, by: i64) -> [i64; MOST_CELLS]
-    requires { ⌜ live ≤ mostCells ⌝ }
+// Each live cell is divided, exactly where the divisor is a common one; the others stay.
+pub fn divide(cells: &mut [i64; MOST_CELLS], live: usize, by: i64)
+    requires { ⌜ (live ≤ mostCells) × (length (now cells) ≡ mostCells) ⌝ }
     requires { ⌜ Divides by ⌝ }
     requires { ⌜ AllWithin (now cells) largestSize ⌝ }
-    ensures { λ r. ⌜ r ≡ quotientCells live (now (cells .entry)) by ⌝ }
+    ensures { λ r. ⌜ now (cells .exit) ≡ dividedCells live (now (cells .entry)) by ⌝ }
 {
-    let mut out = [0i64; MOST_CELLS];
     for k in 0..live {
         let e = cells[k];
-        out[k] = e / by;
+        cells[k] = e / by;
     }
-    out
 }

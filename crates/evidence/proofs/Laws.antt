@@ -1,4 +1,3 @@
-pub mod Places
 pub mod Weights
 pub mod Shown
 pub mod Read

@@ -14,16 +14,7 @@ use Rattle.rules.specs.Problem.{Problem}
 use Rattle.rules.specs.Step.{seated}
 use Rattle.rules.specs.Evidence.{lowerPart, upperPart, atLeast, atMost}
 use Rattle.tableau.specs.declared.Limits.{Limits}
-use Rattle.tableau.specs.Layout.{flat}
-use Rattle.tableau.specs.Parts.{lowerOf, upperOf}
-
--- ---- where entries lie, for so many columns; nothing else in this crate says it
-
-abbrev pub placeIn : ℕ → ℕ → ℕ → ℕ
-placeIn columns i j = flat i j
-
-abbrev pub entryOf : List ℤ → ℕ → ℕ → ℕ → ℤ
-entryOf entries columns i j = getD entries (placeIn columns i j) (pos 0)
+use Rattle.tableau.specs.Parts.{entryIn, lowerOf, upperOf}
 
 -- ---- the problem: at the start the entries are the coefficients
 
@@ -31,7 +22,7 @@ unfoldable pub problemOf : List ℤ → Limits → ℕ → ℕ → Problem ℤ
 problemOf entries limits rows columns = record {
   n = columns;
   m = rows;
-  coefficient = entryOf entries columns;
+  coefficient = entryIn columns entries;
   lower = lowerOf limits;
   upper = upperOf limits;
 }
@@ -57,7 +48,7 @@ numeratorsFit a variables = allBelow variables (λ v. within largestNumerator (l
 
 -- row place i over the numerators of the first k of the problem's variables
 unfoldable pub rowUpTo : List ℤ → List ℤ → ℕ → ℕ → ℕ → ℤ
-rowUpTo entries a columns i k = sum k (λ j. entryOf entries columns i j *ℤ lowerPart a j)
+rowUpTo entries a columns i k = sum k (λ j. entryIn columns entries i j *ℤ lowerPart a j)
 
 abbrev pub rowSumAt : List ℤ → List ℤ → ℕ → ℕ → ℤ
 rowSumAt entries a columns i = rowUpTo entries a columns i columns
@@ -103,7 +94,7 @@ balanceAt a variables v = lowerPart a v -ℤ upperPart variables a v
 -- column place j of the multipliers put through the first k rows
 unfoldable pub columnUpTo : List ℤ → List ℤ → ℕ → ℕ → ℕ → ℕ → ℤ
 columnUpTo entries a columns variables k j = balanceAt a variables j
-    +ℤ sum k (λ i. entryOf entries columns i j *ℤ balanceAt a variables (columns + i))
+    +ℤ sum k (λ i. entryIn columns entries i j *ℤ balanceAt a variables (columns + i))
 
 abbrev pub columnAtEntries : List ℤ → List ℤ → ℕ → ℕ → ℕ → ℤ
 columnAtEntries entries a columns rows j = columnUpTo entries a columns (columns + rows) rows j

@@ -47,7 +47,7 @@ fn row_sum(
 {
     let mut sum = 0i64;
     for j in 0..columns {
-        let k = tableau::layout::place(row, tableau::ColumnPlace(j));
+        let k = tableau::layout::place(columns, row, tableau::ColumnPlace(j));
         let at = 3 + j;
         let e = entries[k];
         let x = answer[at];

@@ -88,7 +88,7 @@ fn column_sum(
     let j = column.0;
     let mut sum = balance(answer, variables, j);
     for i in 0..rows {
-        let k = tableau::layout::place(RowPlace(i), column);
+        let k = tableau::layout::place(columns, RowPlace(i), column);
         let e = entries[k];
         sum = sum + e * balance(answer, variables, columns + i);
     }

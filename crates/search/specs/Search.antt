@@ -15,8 +15,7 @@ use Rattle.rules.specs.Step.{Side, Leaving, leaves, pull, suits}
 use Rattle.tableau.specs.declared.Limits.{Limits}
 use Rattle.tableau.specs.declared.Seat.{Seat}
 use Rattle.tableau.specs.declared.Tableau.{Tableau}
-use Rattle.tableau.specs.Layout.{flat}
-use Rattle.tableau.specs.Parts.{cellAt, valueAt, seatAt, rowOf, columnOf, lowerOf, upperOf}
+use Rattle.tableau.specs.Parts.{cellAt, entryIn, valueAt, seatAt, rowOf, columnOf, lowerOf, upperOf}
 use Rattle.tableau.specs.Pivot.{Cells}
 use Rattle.search.specs.declared.sides.LimitPair.{LimitPair}
 use Rattle.search.specs.declared.Blocked.{Blocked}
@@ -25,9 +24,13 @@ use Rattle.search.specs.declared.Next.{Next}
 use Rattle.search.specs.declared.Next.the-variants as variants
 use Rattle.search.specs.Sides.{sideOf, rising, suitsOf}
 
+-- the sum of the first k columns of row place i, of n columns
+unfoldable pub partSum : ℕ → List ℤ → List ℤ → ℕ → ℕ → ℤ
+partSum n l x i k = sum k (λ j. entryIn n l i j *ℤ getD x j (pos 0))
+
 -- D times the value of the basic variable of row place i, from entries and values
-unfoldable pub rowSum : List ℤ → List ℤ → ℕ → ℕ → ℤ
-rowSum l x i n = sum n (λ j. getD l (flat i j) (pos 0) *ℤ getD x j (pos 0))
+abbrev pub rowSum : List ℤ → List ℤ → ℕ → ℕ → ℤ
+rowSum l x i n = partSum n l x i n
 
 -- ---- the leaving variable
 
@@ -48,8 +51,8 @@ leavingAt t = lowest (t .rows + t .columns) (brokenAt t)
 -- ---- the entering variable
 
 -- the nonbasic variable of column place j, with these limits, can move the basic variable of row place i the right way
-unfoldable pub movesAt : List ℤ → List ℤ → ℕ → ℕ → Bool → LimitPair → Bool
-movesAt l x i j rises p = suitsOf rises (getD l (flat i j) (pos 0)) (getD x j (pos 0)) p
+unfoldable pub movesAt : ℕ → List ℤ → List ℤ → ℕ → ℕ → Bool → LimitPair → Bool
+movesAt n l x i j rises p = suitsOf rises (entryIn n l i j) (getD x j (pos 0)) p
 
 -- variable w can move the basic variable of row place i the right way, if it is nonbasic
 abbrev pub fitting : Tableau → ℕ → Side → ℕ → Bool

@@ -51,7 +51,7 @@ pub fn row_value<'a>(
 {
     let mut sum = 0i64;
     for j in 0..columns {
-        let k = layout::place(row, ColumnPlace(j));
+        let k = layout::place(columns, row, ColumnPlace(j));
         let e = entries[k];
         let x = values[j];
         sum = sum + e * x;
@@ -70,9 +70,9 @@ fn can_move<'a>(
     limits: LimitPair,
 ) -> bool
     requires { ⌜ (columns ≤ mostColumns) × (row .0 < mostRows) × (column .0 < columns) ⌝ }
-    ensures { λ r. ⌜ r ≡ movesAt (now (entries .entry)) (now (values .entry)) (row .0) (column .0) rises limits ⌝ }
+    ensures { λ r. ⌜ r ≡ movesAt columns (now (entries .entry)) (now (values .entry)) (row .0) (column .0) rises limits ⌝ }
 {
-    let k = layout::place(row, column);
+    let k = layout::place(columns, row, column);
     let e = entries[k];
     let j = column.0;
     let x = values[j];

@@ -12,8 +12,7 @@ use Rattle.rules.specs.Sizes.{mostColumns, mostRows, mostVariables, largestNumb
 use Rattle.rules.specs.Step.{pull, positive}
 use Rattle.tableau.specs.declared.Seat.{Seat}
 use Rattle.tableau.specs.declared.Tableau.{Tableau}
-use Rattle.tableau.specs.Layout.{flat}
-use Rattle.tableau.specs.Parts.{nowhere}
+use Rattle.tableau.specs.Parts.{entryIn, nowhere}
 use Rattle.search.specs.declared.Blocked.{Blocked}
 use Rattle.search.specs.Sides.{sideBy}
 use Rattle.solver.specs.declared.multipliers.Multipliers.{Multipliers}
@@ -29,23 +28,23 @@ relationFrom true false common entry = pos 0
 relationFrom false own common entry = entry
 
 -- .. turned to rise
-unfoldable pub pullOf : List ℤ → ℤ → Blocked → Seat → ℤ
-pullOf l common b x = pull (sideBy (b .rises))
-    (relationFrom (x .basic) (eqb (x .row .0) (b .row .0)) common (getD l (flat (b .row .0) (x .column .0)) (pos 0)))
+unfoldable pub pullOf : List ℤ → ℕ → ℤ → Blocked → Seat → ℤ
+pullOf l columns common b x = pull (sideBy (b .rises))
+    (relationFrom (x .basic) (eqb (x .row .0) (b .row .0)) common (entryIn columns l (b .row .0) (x .column .0)))
 
 -- .. at every variable, by the seats
-abbrev pub pullIn : List ℤ → List Seat → ℤ → Blocked → ℕ → ℤ
-pullIn l seats common b v = pullOf l common b (getD seats v nowhere)
+abbrev pub pullIn : List ℤ → List Seat → ℕ → ℤ → Blocked → ℕ → ℤ
+pullIn l seats columns common b v = pullOf l columns common b (getD seats v nowhere)
 
 unfoldable pub multipliersIn : List ℤ → List Seat → ℤ → ℕ → ℕ → Blocked → Multipliers
 multipliersIn l seats common rows columns b = record {
-  lower = filled mostVariables (pos 0) (rows + columns) (λ v. positive (negℤ (pullIn l seats common b v)));
-  upper = filled mostVariables (pos 0) (rows + columns) (λ v. positive (pullIn l seats common b v));
+  lower = filled mostVariables (pos 0) (rows + columns) (λ v. positive (negℤ (pullIn l seats columns common b v)));
+  upper = filled mostVariables (pos 0) (rows + columns) (λ v. positive (pullIn l seats columns common b v));
 }
 
 -- .. and of a tableau
 abbrev pub pullAt : Tableau → Blocked → ℕ → ℤ
-pullAt t b v = pullIn (t .entries) (t .seats) (t .common) b v
+pullAt t b v = pullIn (t .entries) (t .seats) (t .columns) (t .common) b v
 
 abbrev pub multipliersAt : Tableau → Blocked → Multipliers
 multipliersAt t b = multipliersIn (t .entries) (t .seats) (t .common) (t .rows) (t .columns) b

@@ -17,10 +17,9 @@ use Rattle.search.specs.Search.{Searchable}
 use Rattle.solver.specs.declared.answer.Verdict.the-variants as verdicts
 use Rattle.solver.specs.declared.step.End.{End}
 use Rattle.solver.specs.declared.step.End.the-variants as ends
-use Rattle.solver.specs.declared.step.Outcome.the-variants as outcomes
 use Rattle.solver.specs.Answer.{mostCount, noughts, numeratorsAt, wordsAt}
 use Rattle.solver.specs.Multipliers.{multipliersAt}
-use Rattle.solver.specs.Step.{steppedAt}
+use Rattle.solver.specs.Step.{on, over, steppedAt}
 
 -- the tableau after k steps
 unfoldable pub afterAt : Tableau → ℕ → Tableau
@@ -29,12 +28,12 @@ afterAt t (suc k) = steppedAt (afterAt t k) .tableau
 
 -- the first k steps go on
 abbrev pub GoesOn : Tableau → ℕ → Type 0
-GoesOn t k = (i : ℕ) → i < k → steppedAt (afterAt t i) .outcome ≡ outcomes.Goes
+GoesOn t k = (i : ℕ) → i < k → steppedAt (afterAt t i) .course ≡ on
 
 -- the run: k steps that go on, the step that ends it, and the last tableau
 pub record Finished (t : Tableau) (e : End) (k : ℕ) (u : Tableau) : Type 0 where
   pub goes-on : GoesOn t k
-  pub ended : steppedAt (afterAt t k) .outcome ≡ outcomes.Ended e
+  pub ended : steppedAt (afterAt t k) .course ≡ over e
   pub last : u ≡ afterAt t k
 
 -- ---- the words of a run that ended

@@ -1,63 +1,125 @@
 -- One step by place: docs/RULES.md, "The run", over the struct.
 use mathlib.Core.Bool.{Bool, true, false}
+use mathlib.Core.List.{List, []}
+use mathlib.Core.Path.{_≡_}
 use Prim.Native.Nat.{ℕ, _<_}
 use lib.IntN.{ℤ, pos}
 use lib.ListN.{getD}
 use Rattle.whole.specs.Values.{whole}
 use Rattle.rules.specs.Problem.{Problem}
-use Rattle.rules.specs.Sizes.{mostVariables}
+use Rattle.rules.specs.Sizes.{mostRows, mostVariables}
 use Rattle.rules.specs.Step.{State}
 use Rattle.rules.proofs.Sound.{Rowed}
+use Rattle.tableau.specs.declared.Limits.{Limits}
+use Rattle.tableau.specs.declared.Seat.{Seat}
 use Rattle.tableau.specs.declared.Tableau.{Tableau}
-use Rattle.tableau.specs.Layout.{live}
+use Rattle.tableau.specs.declared.Variable.{Variable}
 use Rattle.tableau.specs.Parts.{basicAt}
-use Rattle.tableau.specs.Pivot.{Pivotable, Swappable, pivotedAt, swappedAt, smallBelow}
+use Rattle.tableau.specs.Pivot.{Pivotable, commonAfter, entriesAfter, entriesBy, fitsAfter, pivotedAt, swappedAt}
 use Rattle.tableau.specs.Stands.{Ranged, Stands}
 use Rattle.search.specs.declared.Choice.{Choice}
 use Rattle.search.specs.declared.Next.{Next}
 use Rattle.search.specs.declared.Next.the-variants as nexts
-use Rattle.search.specs.Search.{nextAt}
+use Rattle.search.specs.Search.{Searchable, nextAt}
 use Rattle.solver.specs.declared.step.End.{End}
 use Rattle.solver.specs.declared.step.End.the-variants as ends
+use Rattle.solver.specs.declared.step.Outcome.{Outcome}
 use Rattle.solver.specs.declared.step.Outcome.the-variants as outcomes
-use Rattle.solver.specs.declared.step.Stepped.{Stepped}
 
 -- the limit that a variable violates
 abbrev pub limitOf : Bool → ℤ → ℤ → ℤ
 limitOf true lower upper = lower
 limitOf false lower upper = upper
 
+-- .. of the chosen row
+abbrev pub valueAfter : Tableau → Choice → ℤ
+valueAfter t c = let v : ℕ = basicAt t (c .row .0) in
+    limitOf (c .rises) (getD (t .limits .lower) v (pos 0)) (getD (t .limits .upper) v (pos 0))
+
 -- the tableau after the chosen pivot, whose leaving variable gets the limit that it violates
 unfoldable pub movedAt : Tableau → Choice → Tableau
-movedAt t c = let v : ℕ = basicAt t (c .row .0) in
-    swappedAt (pivotedAt t (c .row .0) (c .column .0)) (c .row .0) (c .column .0)
-    (limitOf (c .rises) (getD (t .limits .lower) v (pos 0)) (getD (t .limits .upper) v (pos 0)))
+movedAt t c = swappedAt (pivotedAt t (c .row .0) (c .column .0)) (c .row .0) (c .column .0) (valueAfter t c)
 
 -- a pivot whose row, column and variables are places and numbers of the tableau
 pub record Movable (t : Tableau) (c : Choice) : Type 0 where
-  pub pivotable : Pivotable t (c .row .0) (c .column .0)
-  pub swappable : Swappable (pivotedAt t (c .row .0) (c .column .0)) (c .row .0) (c .column .0)
+  pub pivotable : Pivotable (t .rows) (t .columns) (t .entries) (t .common) (c .row .0) (c .column .0)
+  pub row-place : c .row .0 < mostRows
   pub leaving-seat : basicAt t (c .row .0) < mostVariables
 
--- the range test of a whole tableau
-abbrev pub fitting : Tableau → Bool
-fitting t = smallBelow (live (t .rows) (t .columns)) (t .entries) (t .common)
+-- ---- a step
+
+-- the run is over, or goes on
+pub data Course : Type 0 where
+  over : End → Course
+  on : Course
+
+-- .. with the tableau after the step: the next one where it goes on, else the one that it was
+pub record Stepped : Type 0 where
+  pub course : Course
+  pub tableau : Tableau
 
 abbrev pub endedAs : Tableau → End → Stepped
-endedAs t e = record { outcome = outcomes.Ended e; tableau = t }
+endedAs t e = record { course = over e; tableau = t }
 
 -- after a pivot: on where it passes the range test
 abbrev pub admitAt : Bool → Tableau → Tableau → Stepped
-admitAt true t u = record { outcome = outcomes.Goes; tableau = u }
+admitAt true t u = record { course = on; tableau = u }
 admitAt false t u = endedAs t ends.Range
+
+-- the range test of the numbers after the chosen pivot
+abbrev pub fitsBy : Tableau → Choice → Bool
+fitsBy t c = fitsAfter (t .rows) (t .columns) (t .entries) (t .common) (c .row .0) (c .column .0)
 
 unfoldable pub stepBy : Tableau → Next → Stepped
 stepBy t nexts.Within = endedAs t ends.Can
 stepBy t (nexts.Stuck b) = endedAs t (ends.Cannot b)
-stepBy t (nexts.Pivot c) = admitAt (fitting (movedAt t c)) t (movedAt t c)
+stepBy t (nexts.Pivot c) = admitAt (fitsBy t c) t (movedAt t c)
 
 unfoldable pub steppedAt : Tableau → Stepped
 steppedAt t = stepBy t (nextAt t)
+
+-- ---- a step as the code makes it: its answer, and the entries that it leaves
+
+-- the tableau as a step reads it: which variable is at which column place is not asked
+abbrev pub readAs : List ℤ → List ℤ → List Variable → List Seat → Limits → ℤ → ℕ → ℕ → Tableau
+readAs entries values basic seats limits common rows columns = record {
+  rows = rows;
+  columns = columns;
+  common = common;
+  entries = entries;
+  basic = basic;
+  nonbasic = [];
+  values = values;
+  seats = seats;
+  limits = limits;
+}
+
+abbrev pub answerBy : Bool → Tableau → Choice → Outcome
+answerBy true t c = outcomes.Goes (c .row) (c .column) (valueAfter t c)
+    (commonAfter (t .rows) (t .columns) (t .entries) (t .common) (c .row .0) (c .column .0))
+answerBy false t c = outcomes.Ended ends.Range
+
+unfoldable pub outcomeBy : Tableau → Next → Outcome
+outcomeBy t nexts.Within = outcomes.Ended ends.Can
+outcomeBy t (nexts.Stuck b) = outcomes.Ended (ends.Cannot b)
+outcomeBy t (nexts.Pivot c) = answerBy (fitsBy t c) t c
+
+unfoldable pub entriesLeft : Tableau → Next → List ℤ
+entriesLeft t nexts.Within = t .entries
+entriesLeft t (nexts.Stuck b) = t .entries
+entriesLeft t (nexts.Pivot c) = entriesBy (fitsBy t c) (t .entries)
+    (entriesAfter (t .rows) (t .columns) (t .entries) (t .common) (c .row .0) (c .column .0))
+
+abbrev pub outcomeAt : Tableau → Outcome
+outcomeAt t = outcomeBy t (nextAt t)
+
+abbrev pub leftAt : Tableau → List ℤ
+leftAt t = entriesLeft t (nextAt t)
+
+-- what a step needs: a search may read the tableau, and the pivot that it chooses may be made
+pub record Steppable (t : Tableau) : Type 0 where
+  pub searchable : Searchable t
+  pub movable : (c : Choice) → nextAt t ≡ nexts.Pivot c → Movable t c
 
 -- a tableau that stands for a state whose rows hold, its numbers in range
 pub record Held (t : Tableau) : Type 0 where

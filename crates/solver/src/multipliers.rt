@@ -66,11 +66,11 @@ fn pull_of(
     seat: Seat,
 ) -> i64
     requires { ⌜ Blockable (now entries) columns common (blocked .row .0) seat ⌝ }
-    ensures { λ r. ⌜ r ≡ pullOf (now (entries .entry)) common blocked seat ⌝ }
+    ensures { λ r. ⌜ r ≡ pullOf (now (entries .entry)) columns common blocked seat ⌝ }
 {
     let row = blocked.row;
     if !seat.basic {
-        let k = layout::place(row, seat.column);
+        let k = layout::place(columns, row, seat.column);
         let e = entries[k];
         return turned(blocked.rises, e);
     }

@@ -6,13 +6,24 @@ ghost use lib.ListN.{length};
 ghost use Rattle.rules.specs.Answer.{answerFrom};
 ghost use Rattle.solver.specs.Answer.{laidOver};
 ghost use Rattle.solver.specs.Run.{Startable, Tellable, endWords};
-use crate::answer;
 use crate::answer::Verdict;
-use crate::multipliers;
-use crate::step;
+use crate::answer::numerators_of;
+use crate::answer::write;
+use crate::multipliers::multipliers_of;
 use crate::step::End;
 use crate::step::Outcome;
+use crate::step::step;
+use tableau::ColumnPlace;
+use tableau::RowPlace;
+use tableau::Seat;
 use tableau::Tableau;
+
+// The seat of a variable that has just got one: a basic one has a row, the other a column.
+fn seated(basic: bool, row: RowPlace, column: ColumnPlace) -> Seat
+    ensures { λ r. ⌜ r ≡ record { basic = basic; row = row; column = column } ⌝ }
+{
+    Seat { basic, row, column }
+}
 
 // Writes the answer of a run that ended: how, after how many pivots, and with which tableau.
 fn tell(last: Tableau, end: End, count: usize, out: &mut [i64])
@@ -21,32 +32,20 @@ fn tell(last: Tableau, end: End, count: usize, out: &mut [i64])
     ensures { λ r. ⌜ now (out .exit) ≡ laidOver (last .rows + last .columns) (now (out .entry))
         (endWords end count last (last .rows + last .columns)) ⌝ }
 {
-    let variables = last.rows + last.columns;
+    let rows = last.rows;
+    let columns = last.columns;
+    let variables = rows + columns;
     let common = last.common;
     let seats = last.seats;
     let zeros = [0i64; Tableau::MOST_VARIABLES];
     match end {
         End::Can => {
-            let found = answer::numerators_of(
-                &last.entries,
-                &last.values,
-                seats,
-                common,
-                last.rows,
-                last.columns,
-            );
-            answer::write(out, Verdict::Can, count, common, variables, &found, &zeros);
+            let found = numerators_of(&last.entries, &last.values, seats, common, rows, columns);
+            write(out, Verdict::Can, count, common, variables, &found, &zeros);
         }
         End::Cannot(blocked) => {
-            let found = multipliers::multipliers_of(
-                &last.entries,
-                seats,
-                common,
-                last.rows,
-                last.columns,
-                blocked,
-            );
-            answer::write(
+            let found = multipliers_of(&last.entries, seats, common, rows, columns, blocked);
+            write(
                 out,
                 Verdict::Cannot,
                 count,
@@ -57,33 +56,52 @@ fn tell(last: Tableau, end: End, count: usize, out: &mut [i64])
             );
         }
         End::Range => {
-            answer::write(out, Verdict::Range, count, 0, variables, &zeros, &zeros);
+            write(out, Verdict::Range, count, 0, variables, &zeros, &zeros);
         }
     }
 }
 
 // Writes the answer of the run from the state that the tableau stands for, whose limits don't cross.
-pub fn run(t: Tableau, out: &mut [i64])
+pub fn run(mut t: Tableau, out: &mut [i64])
     requires { ⌜ Startable t ⌝ }
     requires { ⌜ 3 + 2 * (t .rows + t .columns) ≤ length (now out) ⌝ }
     ensures { λ r. ⌜ ((S : Startable t) → now (out .exit)
         ≡ laidOver (t .rows + t .columns) (now (out .entry)) (answerFrom (S .begun .problem) (S .begun .state))) ⌝ }
 {
-    let mut now = t;
     let mut count = 0usize;
     let end = 'run: loop {
-        let next = step::step(now);
-        let how = next.outcome;
-        match how {
-            Outcome::Ended(last) => {
-                break 'run last;
-            }
-            Outcome::Goes => {
-                let after = next.tableau;
-                now = after;
+        let values = t.values;
+        let basic = t.basic;
+        let seats = t.seats;
+        let limits = t.limits;
+        let next = step(
+            values,
+            basic,
+            seats,
+            limits,
+            t.common,
+            t.rows,
+            t.columns,
+            &mut t.entries,
+        );
+        match next {
+            Outcome::Ended(last) => break 'run last,
+            Outcome::Goes(row, column, value, common) => {
+                let i = row.0;
+                let j = column.0;
+                let leaving = t.basic[i];
+                let entering = t.nonbasic[j];
+                let v = leaving.0;
+                let w = entering.0;
+                t.common = common;
+                t.basic[i] = entering;
+                t.nonbasic[j] = leaving;
+                t.values[j] = value;
+                t.seats[w] = seated(true, row, column);
+                t.seats[v] = seated(false, row, column);
                 count += 1;
             }
         }
     };
-    tell(now, end, count, out);
+    tell(t, end, count, out);
 }

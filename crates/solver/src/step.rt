@@ -1,14 +1,17 @@
 // One step of the run: the search for the next pivot, the pivot, and the range test.
 ghost use mathlib.Core.Path.{_≡_};
-ghost use Rattle.solver.specs.Step.{Held, Movable, limitOf, movedAt, steppedAt};
+ghost use Rattle.solver.specs.Step.{Steppable, leftAt, limitOf, outcomeAt, readAs};
 use search::Blocked;
 use search::Choice;
 use search::Next;
+use tableau::ColumnPlace;
+use tableau::Limits;
+use tableau::RowPlace;
+use tableau::Seat;
 use tableau::Tableau;
 use tableau::Variable;
-use tableau::layout;
 use tableau::pivot;
-use tableau::range;
+use tableau::pivot::Pivoted;
 
 // How a run ends: every variable is within its limits, one is outside and stuck, or a number is too large.
 pub enum End {
@@ -17,16 +20,11 @@ pub enum End {
     Range,
 }
 
-// What one step comes to.
+// What one step comes to: an end, or the row and the column whose variables are to change places, the value of the one that
+// leaves, and the new common number.
 pub enum Outcome {
     Ended(End),
-    Goes,
-}
-
-// .. and the tableau after it: the next one where it goes, else the one that it was.
-pub struct Stepped {
-    pub outcome: Outcome,
-    pub tableau: Tableau,
+    Goes(RowPlace, ColumnPlace, i64, i64),
 }
 
 // The limit that a variable violates.
@@ -39,61 +37,37 @@ fn violated_limit(rises: bool, lower: i64, upper: i64) -> i64
     upper
 }
 
-// The tableau after the chosen pivot: the leaving variable gets the limit that it violates.
-fn moved(t: Tableau, choice: Choice) -> Tableau
-    requires { ⌜ Movable t choice ⌝ }
-    ensures { λ r. ⌜ r ≡ movedAt t choice ⌝ }
+// One step: where a pivot is chosen it is made on the entries, and where it leads out of range they stay.
+pub fn step(
+    values: [i64; Tableau::MOST_COLUMNS],
+    basic: [Variable; Tableau::MOST_ROWS],
+    seats: [Seat; Tableau::MOST_VARIABLES],
+    limits: Limits,
+    common: i64,
+    rows: usize,
+    columns: usize,
+    entries: &mut [i64; Tableau::MOST_ENTRIES],
+) -> Outcome
+    requires { ⌜ Steppable (readAs (now entries) values basic seats limits common rows columns) ⌝ }
+    ensures answer { λ r. ⌜ r ≡ outcomeAt (readAs (now (entries .entry)) values basic seats limits common rows columns) ⌝ }
+    ensures numbers { λ r. ⌜ now (entries .exit)
+        ≡ leftAt (readAs (now (entries .entry)) values basic seats limits common rows columns) ⌝ }
 {
-    let row = choice.row;
-    let column = choice.column;
-    let limits = t.limits;
-    let i = row.0;
-    let leaving = t.basic[i];
-    let v = leaving.0;
-    let value = violated_limit(choice.rises, limits.lower[v], limits.upper[v]);
-    let turned = pivot::pivoted(t, row, column);
-    pivot::swapped(turned, row, column, value)
-}
-
-// The range is tested after the pivot is reduced.
-pub fn step(t: Tableau) -> Stepped
-    requires { ⌜ Held t ⌝ }
-    ensures { λ r. ⌜ r ≡ steppedAt t ⌝ }
-{
-    let seats = t.seats;
-    let limits = t.limits;
-    let common = t.common;
-    let next = search::next_step(
-        &t.entries,
-        &t.values,
-        seats,
-        limits,
-        common,
-        t.rows,
-        t.columns,
-    );
+    let next = search::next_step(entries, &values, seats, limits, common, rows, columns);
     match next {
-        Next::Within => Stepped {
-            outcome: Outcome::Ended(End::Can),
-            tableau: t,
-        },
-        Next::Stuck(blocked) => Stepped {
-            outcome: Outcome::Ended(End::Cannot(blocked)),
-            tableau: t,
-        },
+        Next::Within => Outcome::Ended(End::Can),
+        Next::Stuck(blocked) => Outcome::Ended(End::Cannot(blocked)),
         Next::Pivot(choice) => {
-            let after = moved(t, choice);
-            let live = layout::live(after.rows, after.columns);
-            let common = after.common;
-            if range::all_in_range(&after.entries, live, common) {
-                return Stepped {
-                    outcome: Outcome::Goes,
-                    tableau: after,
-                };
-            }
-            Stepped {
-                outcome: Outcome::Ended(End::Range),
-                tableau: t,
+            let row = choice.row;
+            let column = choice.column;
+            let i = row.0;
+            let leaving = basic[i];
+            let v = leaving.0;
+            let value = violated_limit(choice.rises, limits.lower[v], limits.upper[v]);
+            let turned = pivot::pivot(entries, rows, columns, common, row, column);
+            match turned {
+                Pivoted::Common(after) => Outcome::Goes(row, column, value, after),
+                Pivoted::Beyond => Outcome::Ended(End::Range),
             }
         }
     }

@@ -12,7 +12,8 @@ use Rattle.tableau.specs.declared.ColumnPlace.{ColumnPlace}
 use Rattle.tableau.specs.declared.Seat.{Seat}
 use Rattle.tableau.specs.declared.Limits.{Limits}
 use Rattle.tableau.specs.declared.Tableau.{Tableau}
-use Rattle.tableau.specs.Layout.{flat}
+use Rattle.tableau.specs.declared.layout.Spot.{Spot}
+use Rattle.tableau.specs.Layout.{flat, rowAt, columnAt}
 
 abbrev pub variable : ℕ → Variable
 variable v = record { 0 = v }
@@ -26,13 +27,17 @@ column j = record { 0 = j }
 abbrev pub nowhere : Seat
 nowhere = record { basic = false; row = row 0; column = column 0 }
 
--- the number at a row place and a column place of an array of entries
-abbrev pub entryIn : List ℤ → ℕ → ℕ → ℤ
-entryIn l i j = getD l (flat i j) (pos 0)
+-- the places of flat place k, for n columns
+abbrev pub spotAt : ℕ → ℕ → Spot
+spotAt n k = record { row = row (rowAt n k); column = column (columnAt n k) }
+
+-- the number at a row place and a column place of an array of entries, for n columns
+abbrev pub entryIn : ℕ → List ℤ → ℕ → ℕ → ℤ
+entryIn n l i j = getD l (flat n i j) (pos 0)
 
 -- .. of the tableau, and the number at flat place k
 abbrev pub cellAt : Tableau → ℕ → ℕ → ℤ
-cellAt t i j = entryIn (t .entries) i j
+cellAt t i j = entryIn (t .columns) (t .entries) i j
 
 abbrev pub cell : Tableau → ℕ → ℤ
 cell t k = getD (t .entries) k (pos 0)

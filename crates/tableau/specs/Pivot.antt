@@ -8,14 +8,16 @@ use lib.ListN.{getD, set}
 use lib.IntN.{ℤ, pos, negℤ, _*ℤ_, _-ℤ_}
 use lib.Signed.{quotZ}
 use Rattle.whole.specs.Below.{allBelow}
-use Rattle.whole.specs.Numbers.{Within, within, isNeg}
+use Rattle.whole.specs.Numbers.{Within, AllWithin, within, isNeg}
 use Rattle.whole.specs.Tables.{filled}
-use Rattle.divisor.specs.Cells.{divisorBelow, quotientCells}
+use Rattle.divisor.specs.Cells.{divisorBelow, quotients}
 use Rattle.rules.specs.Sizes.{mostColumns, mostRows, mostVariables, largestNumber}
 use Rattle.tableau.specs.declared.Variable.{Variable}
 use Rattle.tableau.specs.declared.Tableau.{Tableau}
+use Rattle.tableau.specs.declared.pivot.Pivoted.{Pivoted}
+use Rattle.tableau.specs.declared.pivot.Pivoted.the-variants as pivots
 use Rattle.tableau.specs.Layout.{mostEntries, rowAt, columnAt, live}
-use Rattle.tableau.specs.Parts.{variable, row, column, entryIn, cell, cellAt, basicAt, nonbasicAt}
+use Rattle.tableau.specs.Parts.{variable, row, column, entryIn, cell, basicAt, nonbasicAt}
 
 -- ---- one entry before reduction: `own` is the entry, `beside` stands in its row and the entering column, `above` in
 -- its column and the leaving row
@@ -39,18 +41,18 @@ pub record Cells (t : Tableau) : Type 0 where
   pub common-within : Within (t .common) largestNumber
   pub cell-within : (k : ℕ) → Within (cell t k) largestNumber
 
--- the number of row place i and column place j after the pivot of row place p and column place q
-unfoldable pub mixedCell : ℤ → List ℤ → ℕ → ℕ → ℕ → ℕ → ℤ
-mixedCell common l p q i j =
-    mixedOf (eqb i p) (eqb j q) common (entryIn l p q) (entryIn l i j) (entryIn l i q) (entryIn l p j)
+-- the number of row place i and column place j after the pivot of row place p and column place q, for n columns
+unfoldable pub mixedCell : ℕ → ℤ → List ℤ → ℕ → ℕ → ℕ → ℕ → ℤ
+mixedCell n common l p q i j =
+    mixedOf (eqb i p) (eqb j q) common (entryIn n l p q) (entryIn n l i j) (entryIn n l i q) (entryIn n l p j)
 
 -- .. and at flat place k
-abbrev pub mixedAt : ℤ → List ℤ → ℕ → ℕ → ℕ → ℤ
-mixedAt common l p q k = mixedCell common l p q (rowAt k) (columnAt k)
+abbrev pub mixedAt : ℕ → ℤ → List ℤ → ℕ → ℕ → ℕ → ℤ
+mixedAt n common l p q k = mixedCell n common l p q (rowAt n k) (columnAt n k)
 
 -- the first k cells after the pivot, the others 0
-abbrev pub mixedEntries : ℕ → ℤ → List ℤ → ℕ → ℕ → List ℤ
-mixedEntries k common l p q = filled mostEntries (pos 0) k (mixedAt common l p q)
+abbrev pub mixedEntries : ℕ → ℕ → ℤ → List ℤ → ℕ → ℕ → List ℤ
+mixedEntries n k common l p q = filled mostEntries (pos 0) k (mixedAt n common l p q)
 
 -- ---- reduction
 
@@ -67,17 +69,49 @@ inRange z = within largestNumber z
 unfoldable pub smallBelow : ℕ → List ℤ → ℤ → Bool
 smallBelow k l common = inRange common && allBelow k (λ i. inRange (getD l i (pos 0)))
 
--- ---- the whole pivot
+-- ---- the whole pivot, of m rows and n columns with these entries and this common number
+
+module _ (m n : ℕ) (l : List ℤ) (common : ℤ) (p q : ℕ) where
+  -- the common number and the entries before reduction, and what they are divided by
+  abbrev pub product : ℤ
+  product = entryIn n l p q *ℤ common
+
+  abbrev pub mix : List ℤ
+  mix = mixedEntries n (live m n) common l p q
+
+  abbrev pub by : ℤ
+  by = signedBy product (divisorBelow (live m n) mix product)
+
+  -- .. and after it
+  abbrev pub commonAfter : ℤ
+  commonAfter = quotZ product by
+
+  abbrev pub entriesAfter : List ℤ
+  entriesAfter = filled mostEntries (pos 0) (live m n) (quotients mix by)
+
+  -- whether they are in range
+  abbrev pub fitsAfter : Bool
+  fitsAfter = smallBelow (live m n) entriesAfter commonAfter
+
+-- what the code answers, and the entries that it leaves
+abbrev pub pivotedBy : Bool → ℤ → Pivoted
+pivotedBy true c = pivots.Common c
+pivotedBy false c = pivots.Beyond
+
+abbrev pub entriesBy : Bool → List ℤ → List ℤ → List ℤ
+entriesBy true old new = new
+entriesBy false old new = old
 
 -- a row place and a column place with an entry other than 0
-pub record Pivotable (t : Tableau) (p q : ℕ) : Type 0 where
-  pub few-rows : t .rows ≤ mostRows
-  pub few-columns : t .columns ≤ mostColumns
-  pub in-rows : p < t .rows
-  pub in-columns : q < t .columns
-  pub cells : Cells t
-  pub common-nonzero : t .common ≢ pos 0
-  pub pivot-nonzero : cellAt t p q ≢ pos 0
+pub record Pivotable (m n : ℕ) (l : List ℤ) (common : ℤ) (p q : ℕ) : Type 0 where
+  pub few-rows : m ≤ mostRows
+  pub few-columns : n ≤ mostColumns
+  pub in-rows : p < m
+  pub in-columns : q < n
+  pub common-within : Within common largestNumber
+  pub all-within : AllWithin l largestNumber
+  pub common-nonzero : common ≢ pos 0
+  pub pivot-nonzero : entryIn n l p q ≢ pos 0
 
 -- the tableau with another common number and other entries
 abbrev pub withNumbers : Tableau → ℤ → List ℤ → Tableau
@@ -95,12 +129,8 @@ withNumbers t c l = record {
 
 -- the tableau after the pivot of row place p and column place q: entries and common number in lowest form
 unfoldable pub pivotedAt : Tableau → ℕ → ℕ → Tableau
-pivotedAt t p q =
-    let e : ℕ = live (t .rows) (t .columns) in
-    let l : List ℤ = mixedEntries e (t .common) (t .entries) p q in
-    let c : ℤ = cellAt t p q *ℤ t .common in
-    let by : ℤ = signedBy c (divisorBelow e l c) in
-    withNumbers t (quotZ c by) (quotientCells e l by)
+pivotedAt t p q = withNumbers t (commonAfter (t .rows) (t .columns) (t .entries) (t .common) p q)
+    (entriesAfter (t .rows) (t .columns) (t .entries) (t .common) p q)
 
 -- the variables of row place p and column place q change places, and the one that leaves gets the value x
 unfoldable pub swappedAt : Tableau → ℕ → ℕ → ℤ → Tableau

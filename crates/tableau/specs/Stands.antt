@@ -2,7 +2,6 @@
 use Prim.Native.Nat.{ℕ, _≤_, _<_}
 use mathlib.Core.Path.{_≡_}
 use mathlib.Core.Bool.{true, false}
-use mathlib.Core.Logic.{_⊎_}
 use mathlib.Core.Option.{none, some}
 use lib.IntN.{ℤ, pos}
 use lib.ListN.{length, getD}
@@ -13,7 +12,7 @@ use Rattle.rules.specs.Tableau.{entry}
 use Rattle.rules.specs.Step.{State, seat, common}
 use Rattle.tableau.specs.declared.Limits.{Limits}
 use Rattle.tableau.specs.declared.Tableau.{Tableau}
-use Rattle.tableau.specs.Layout.{rowAt, columnAt}
+use Rattle.tableau.specs.Layout.{live}
 use Rattle.tableau.specs.Parts.{cell, cellAt, basicAt, nonbasicAt, valueAt, seatAt, rowOf, columnOf, lowerOf, upperOf}
 use Rattle.tableau.specs.Pivot.{Cells}
 
@@ -62,7 +61,7 @@ pub record Placed (P : Problem ℤ) (t : Tableau) (s : State ℤ) : Type 0 where
 pub record Numbers (P : Problem ℤ) (t : Tableau) (s : State ℤ) : Type 0 where
   pub common-is : t .common ≡ common s
   pub cell-is : (i j : ℕ) → i < P .m → j < P .n → cellAt t i j ≡ entry (s .tableau) (basicAt t i) (nonbasicAt t j)
-  pub unused : (k : ℕ) → (P .m ≤ rowAt k) ⊎ (P .n ≤ columnAt k) → cell t k ≡ pos 0
+  pub unused : (k : ℕ) → live (P .m) (P .n) ≤ k → cell t k ≡ pos 0
 
 -- the limits are the problem's
 pub record Serves (P : Problem ℤ) (l : Limits) : Type 0 where

@@ -1,7 +1,7 @@
 -- The tableau by place at the start of a run: docs/RULES.md, "The run". Problem variable j sits in column place j, row
 -- i's variable in row place i.
 use Prim.Native.Nat.{ℕ, _+_, _-_}
-use mathlib.Core.Bool.{Bool, true, false, cond, not}
+use mathlib.Core.Bool.{Bool, true, false, not}
 use mathlib.Core.List.{List}
 use mathlib.Core.Option.{Option, none, some}
 use lib.Dec.{ltb}
@@ -18,12 +18,8 @@ use Rattle.tableau.specs.declared.Tableau.{Tableau}
 use Rattle.tableau.specs.Layout.{mostEntries, rowAt, columnAt, live}
 use Rattle.tableau.specs.Parts.{variable, row, column, lowerOf, upperOf}
 
--- the number of a row place and a column place; where one of them is not used it is 0
-unfoldable pub startCell : Problem ℤ → ℕ → ℕ → ℤ
-startCell P i j = cond (ltb i (P .m)) (cond (ltb j (P .n)) (P .coefficient i j) (pos 0)) (pos 0)
-
 abbrev pub startEntries : Problem ℤ → List ℤ
-startEntries P = filled mostEntries (pos 0) (live (P .m) (P .n)) (λ k. startCell P (rowAt k) (columnAt k))
+startEntries P = filled mostEntries (pos 0) (live (P .m) (P .n)) (λ k. P .coefficient (rowAt (P .n) k) (columnAt (P .n) k))
 
 -- ---- places, for n columns in use
 

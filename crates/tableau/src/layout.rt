@@ -1,34 +1,63 @@
-// Where the entry of a row place and a column place lies in the flat array, and back. Nothing else in the code says it.
+// Where the entry of a row place and a column place lies in the flat array, and in which order the places follow there.
+// Nothing else in the code says it.
 ghost use mathlib.Core.Path.{_≡_};
-ghost use Prim.Native.Nat.{_≤_, _<_};
+ghost use Prim.Native.Nat.{ℕ, _+_, _*_, _≤_, _<_};
 ghost use Rattle.rules.specs.Sizes.{mostRows, mostColumns};
 ghost use Rattle.tableau.specs.Layout.{flat, rowAt, columnAt};
 ghost use Rattle.tableau.specs.Layout as layout;
-ghost use Rattle.tableau.specs.Parts as parts;
+ghost use Rattle.tableau.specs.Parts.{spotAt};
 use crate::ColumnPlace;
 use crate::RowPlace;
-use crate::Tableau;
+
+// The row place and the column place of one entry.
+pub struct Spot {
+    pub row: RowPlace,
+    pub column: ColumnPlace,
+}
 
 // The flat place.
-pub fn place(row: RowPlace, column: ColumnPlace) -> usize
-    requires { ⌜ (row .0 < mostRows) × (column .0 < mostColumns) ⌝ }
-    ensures { λ r. ⌜ r ≡ flat (row .0) (column .0) ⌝ }
+pub fn place(columns: usize, row: RowPlace, column: ColumnPlace) -> usize
+    requires { ⌜ (row .0 < mostRows) × (column .0 < columns) × (columns ≤ mostColumns) ⌝ }
+    ensures { λ r. ⌜ r ≡ flat columns (row .0) (column .0) ⌝ }
 {
-    row.0 * Tableau::MOST_COLUMNS + column.0
+    row.0 * columns + column.0
 }
 
-// The row place of a flat place.
-pub fn row_at(k: usize) -> RowPlace
-    ensures { λ r. ⌜ r ≡ parts.row (rowAt k) ⌝ }
+// The spot of flat place 0.
+pub fn first() -> Spot
+    ensures { λ r. ⌜ ((n : ℕ) → r ≡ spotAt n 0) ⌝ }
 {
-    RowPlace(k / Tableau::MOST_COLUMNS)
+    Spot {
+        row: RowPlace(0),
+        column: ColumnPlace(0),
+    }
 }
 
-// The column place of a flat place.
-pub fn column_at(k: usize) -> ColumnPlace
-    ensures { λ r. ⌜ r ≡ parts.column (columnAt k) ⌝ }
+// The spot of the next flat place.
+pub fn after(columns: usize, spot: Spot) -> Spot
+    requires { ⌜ (spot .row .0 < mostRows) × (spot .column .0 < columns) ⌝ }
+    ensures { λ r. ⌜ ((k : ℕ) → spot ≡ spotAt columns k → r ≡ spotAt columns (k + 1)) ⌝ }
 {
-    ColumnPlace(k % Tableau::MOST_COLUMNS)
+    let row = spot.row;
+    let column = spot.column;
+    let next = column.0 + 1;
+    if next == columns {
+        return Spot {
+            row: RowPlace(row.0 + 1),
+            column: ColumnPlace(0),
+        };
+    }
+    Spot {
+        row,
+        column: ColumnPlace(next),
+    }
+}
+
+// Which coefficient belongs to flat place k; they are handed in row by row.
+pub fn coefficient_for(k: usize) -> usize
+    ensures { λ r. ⌜ ((n : ℕ) → r ≡ rowAt n k * n + columnAt n k) ⌝ }
+{
+    k
 }
 
 // From here on no cell is in use.
@@ -36,5 +65,5 @@ pub fn live(rows: usize, columns: usize) -> usize
     requires { ⌜ (rows ≤ mostRows) × (columns ≤ mostColumns) ⌝ }
     ensures { λ r. ⌜ r ≡ layout.live rows columns ⌝ }
 {
-    Tableau::MOST_COLUMNS * rows
+    rows * columns
 }

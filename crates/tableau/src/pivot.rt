@@ -5,16 +5,26 @@
 //   D y = .. + b w + a u ..     another row, times p: D p y = b D x + (p a - b c) u ..
 ghost use mathlib.Core.Path.{_≡_};
 ghost use Prim.Native.Nat.{_≤_, _<_};
+ghost use lib.IntN.{_*ℤ_, _-ℤ_};
 ghost use Rattle.whole.specs.Numbers.{Within, AllWithin};
 ghost use Rattle.divisor.specs.Cells.{largestSize};
 ghost use Rattle.rules.specs.Sizes.{mostRows, mostColumns, largestNumber};
-ghost use Rattle.tableau.specs.Layout.{mostEntries};
-ghost use Rattle.tableau.specs.Pivot.{mixedOf, mixedAt, mixedEntries, signedBy, pivotedAt, swappedAt, Mixable};
-ghost use Rattle.tableau.specs.Pivot.{Pivotable, Swappable};
+ghost use Rattle.tableau.specs.Layout.{live};
+ghost use Rattle.tableau.specs.Pivot.{mixedOf, mixedCell, mixedEntries, Mixable, signedBy};
+ghost use Rattle.tableau.specs.Pivot.{Pivotable, fitsAfter, commonAfter, entriesAfter, pivotedBy, entriesBy};
 use crate::ColumnPlace;
 use crate::RowPlace;
-use crate::Seat;
 use crate::Tableau;
+use crate::layout;
+use crate::range;
+
+// The difference of two products.
+fn crossed(a: i64, b: i64, c: i64, d: i64) -> i64
+    requires { ⌜ (Within a largestNumber) × (Within b largestNumber) × (Within c largestNumber) × (Within d largestNumber) ⌝ }
+    ensures { λ r. ⌜ r ≡ a *ℤ b -ℤ c *ℤ d ⌝ }
+{
+    a * b - c * d
+}
 
 // One entry after a pivot, before reduction: `own` is the entry, `beside` stands in its row and the entering column,
 // `above` in its column and the leaving row.
@@ -32,36 +42,38 @@ fn mixed(
 {
     if in_row {
         if in_column {
-            return common * common;
+            return crossed(common, common, 0, 0);
         }
-        return -(common * above);
+        return crossed(0, 0, common, above);
     }
     if in_column {
-        return beside * common;
+        return crossed(common, beside, 0, 0);
     }
-    pivot * own - beside * above
+    crossed(pivot, own, beside, above)
 }
 
-// The entry at a flat place after a pivot, before reduction.
+// The entry at row place i and column place j after a pivot, before reduction.
 fn mixed_at(
     entries: &[i64; Tableau::MOST_ENTRIES],
+    columns: usize,
     common: i64,
     row: RowPlace,
     column: ColumnPlace,
-    k: usize,
+    i: RowPlace,
+    j: ColumnPlace,
 ) -> i64
-    requires { ⌜ (row .0 < mostRows) × (column .0 < mostColumns) × (k < mostEntries) ⌝ }
+    requires { ⌜ (row .0 < mostRows) × (column .0 < columns) × (columns ≤ mostColumns) ⌝ }
+    requires { ⌜ (i .0 < mostRows) × (j .0 < columns) ⌝ }
     requires { ⌜ Within common largestNumber ⌝ }
     requires { ⌜ AllWithin (now entries) largestNumber ⌝ }
-    ensures { λ r. ⌜ r ≡ mixedAt common (now (entries .entry)) (row .0) (column .0) k ⌝ }
+    ensures { λ r. ⌜ r ≡ mixedCell columns common (now (entries .entry)) (row .0) (column .0) (i .0) (j .0) ⌝ }
 {
-    let i = crate::layout::row_at(k);
-    let j = crate::layout::column_at(k);
-    let at = crate::layout::place(row, column);
-    let besides = crate::layout::place(i, column);
-    let aboves = crate::layout::place(row, j);
+    let at = layout::place(columns, row, column);
+    let owns = layout::place(columns, i, j);
+    let besides = layout::place(columns, i, column);
+    let aboves = layout::place(columns, row, j);
     let pivot = entries[at];
-    let own = entries[k];
+    let own = entries[owns];
     let beside = entries[besides];
     let above = entries[aboves];
     mixed(
@@ -78,19 +90,23 @@ fn mixed_at(
 // All live entries after a pivot, before reduction.
 fn mixed_entries(
     entries: &[i64; Tableau::MOST_ENTRIES],
-    live: usize,
+    rows: usize,
+    columns: usize,
     common: i64,
     row: RowPlace,
     column: ColumnPlace,
 ) -> [i64; Tableau::MOST_ENTRIES]
-    requires { ⌜ (row .0 < mostRows) × (column .0 < mostColumns) × (live ≤ mostEntries) ⌝ }
+    requires { ⌜ (row .0 < mostRows) × (column .0 < columns) × (rows ≤ mostRows) × (columns ≤ mostColumns) ⌝ }
     requires { ⌜ Within common largestNumber ⌝ }
     requires { ⌜ AllWithin (now entries) largestNumber ⌝ }
-    ensures { λ r. ⌜ r ≡ mixedEntries live common (now (entries .entry)) (row .0) (column .0) ⌝ }
+    ensures { λ r. ⌜ r ≡ mixedEntries columns (live rows columns) common (now (entries .entry)) (row .0) (column .0) ⌝ }
 {
+    let end = layout::live(rows, columns);
     let mut out = [0i64; Tableau::MOST_ENTRIES];
-    for k in 0..live {
-        out[k] = mixed_at(entries, common, row, column, k);
+    let mut spot = layout::first();
+    for k in 0..end {
+        out[k] = mixed_at(entries, columns, common, row, column, spot.row, spot.column);
+        spot = layout::after(columns, spot);
     }
     out
 }
@@ -107,47 +123,39 @@ fn signed(common: i64, divisor: u64) -> i64
     by
 }
 
-// The tableau after a pivot, in lowest common form, with the common number above 0.
-pub fn pivoted(mut t: Tableau, row: RowPlace, column: ColumnPlace) -> Tableau
-    requires { ⌜ Pivotable t (row .0) (column .0) ⌝ }
-    ensures { λ r. ⌜ r ≡ pivotedAt t (row .0) (column .0) ⌝ }
-{
-    let at = crate::layout::place(row, column);
-    let live = crate::layout::live(t.rows, t.columns);
-    let pivot = t.entries[at];
-    let before = t.common;
-    let common = pivot * before;
-    let mixed = mixed_entries(&t.entries, live, before, row, column);
-    let by = signed(common, divisor::divisor_of(&mixed, live, common));
-    let entries = divisor::divided(&mixed, live, by);
-    t.entries = entries;
-    t.common = common / by;
-    t
+// What a pivot comes to: the new common number, or a number beyond the largest.
+pub enum Pivoted {
+    Common(i64),
+    Beyond,
 }
 
-// The variables of a row and of a column change places, and the one that leaves gets a value.
-pub fn swapped(mut t: Tableau, row: RowPlace, column: ColumnPlace, value: i64) -> Tableau
-    requires { ⌜ Swappable t (row .0) (column .0) ⌝ }
-    ensures { λ r. ⌜ r ≡ swappedAt t (row .0) (column .0) value ⌝ }
+// The entries after a pivot, in lowest common form with the common number above 0. The range is tested after the
+// reduction; beyond it the entries stay.
+pub fn pivot(
+    entries: &mut [i64; Tableau::MOST_ENTRIES],
+    rows: usize,
+    columns: usize,
+    common: i64,
+    row: RowPlace,
+    column: ColumnPlace,
+) -> Pivoted
+    requires { ⌜ Pivotable rows columns (now entries) common (row .0) (column .0) ⌝ }
+    ensures answer { λ r. ⌜ r ≡ pivotedBy (fitsAfter rows columns (now (entries .entry)) common (row .0) (column .0))
+        (commonAfter rows columns (now (entries .entry)) common (row .0) (column .0)) ⌝ }
+    ensures numbers { λ r. ⌜ now (entries .exit)
+        ≡ entriesBy (fitsAfter rows columns (now (entries .entry)) common (row .0) (column .0)) (now (entries .entry))
+        (entriesAfter rows columns (now (entries .entry)) common (row .0) (column .0)) ⌝ }
 {
-    let i = row.0;
-    let j = column.0;
-    let leaving = t.basic[i];
-    let entering = t.nonbasic[j];
-    let r = leaving.0;
-    let w = entering.0;
-    t.basic[i] = entering;
-    t.nonbasic[j] = leaving;
-    t.values[j] = value;
-    t.seats[w] = Seat {
-        basic: true,
-        row,
-        column,
-    };
-    t.seats[r] = Seat {
-        basic: false,
-        row,
-        column,
-    };
-    t
+    let at = layout::place(columns, row, column);
+    let end = layout::live(rows, columns);
+    let product = entries[at] * common;
+    let mut cells = mixed_entries(entries, rows, columns, common, row, column);
+    let by = signed(product, divisor::divisor_of(&cells, end, product));
+    divisor::divide(&mut cells, end, by);
+    let after = product / by;
+    if range::all_in_range(&cells, end, after) {
+        *entries = cells;
+        return Pivoted::Common(after);
+    }
+    Pivoted::Beyond
 }

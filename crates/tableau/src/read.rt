@@ -10,7 +10,7 @@ ghost use Rattle.rules.specs.Problem.{problem, word};
 ghost use Rattle.rules.specs.Refusal.{Accepted, problemRefusal};
 ghost use Rattle.rules.specs.Step.{startValue};
 ghost use Rattle.tableau.specs.Words.{Framed};
-ghost use Rattle.tableau.specs.Start.{startCell, startEntries, startBasic, startNonbasic, seatFor, startSeats};
+ghost use Rattle.tableau.specs.Start.{startEntries, startBasic, startNonbasic, seatFor, startSeats};
 ghost use Rattle.tableau.specs.Start.{limitsFor, valuesFor, startTableau};
 use crate::ColumnPlace;
 use crate::Limits;
@@ -29,22 +29,6 @@ fn number_at(words: &[i32], at: usize) -> i64
     words[at] as i64
 }
 
-// The number of a row place and a column place: the coefficient, or 0 where a place is not used.
-fn start_cell(words: &[i32], columns: usize, rows: usize, row: RowPlace, column: ColumnPlace) -> i64
-    requires { ⌜ Framed (now words) columns rows ⌝ }
-    ensures { λ r. ⌜ r ≡ startCell (problem (now (words .entry))) (row .0) (column .0) ⌝ }
-{
-    let i = row.0;
-    let j = column.0;
-    if i < rows {
-        if j < columns {
-            return number_at(words, 2 + (i * columns + j));
-        }
-        return 0;
-    }
-    0
-}
-
 // All entries.
 fn start_entries(words: &[i32], columns: usize, rows: usize) -> [i64; Tableau::MOST_ENTRIES]
     requires { ⌜ Framed (now words) columns rows ⌝ }
@@ -53,13 +37,7 @@ fn start_entries(words: &[i32], columns: usize, rows: usize) -> [i64; Tableau::M
     let end = layout::live(rows, columns);
     let mut entries = [0i64; Tableau::MOST_ENTRIES];
     for k in 0..end {
-        entries[k] = start_cell(
-            words,
-            columns,
-            rows,
-            layout::row_at(k),
-            layout::column_at(k),
-        );
+        entries[k] = number_at(words, 2 + layout::coefficient_for(k));
     }
     entries
 }

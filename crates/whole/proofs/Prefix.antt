@@ -1,9 +1,9 @@
 -- A list that a loop writes from the front, and what it then holds.
 --   length-prefix, set-prefix, prefix-all      `take i s ++ drop i t`: s written over t
 --   front, front-next, front-set, front-all    a list mapped in place
---   set-table                                  `table k f ++ drop k l`: a list filled by a function
+--   table-next, set-table                      `table k f ++ drop k l`: a list filled by a function
 --   filled-start, filled-more, filled-all      an array filled by a function: nothing, one element more, all of it
---   filled-same                                .. by functions that are equal there
+--   filled-same, filled-rest                   .. by functions that are equal there; what is past the filled part
 use Prim.Native.Nat.{ℕ, zero, suc, _+_, _≤_, _<_, min, suc-le-suc}
 use native.Mathlib.Nat.{le-of-suc-le-suc}
 use native.Mathlib.Numerals.{add-one}
@@ -12,7 +12,7 @@ use mathlib.Core.Path.{_≡_, refl, ap, ap₂, sym, _∙_}
 use mathlib.Core.List.{List, [], _∷_, _++_, map}
 use mathlib.Core.List.{append-assoc, append-nil}
 use lib.ListN.{length, take, drop, set, getD, replicate, length-append, length-take, length-drop, length-replicate}
-use lib.Seq.{drop-cons, set-at}
+use lib.Seq.{drop-at, drop-cons, getD-append-add, getD-drop, set-at}
 use Rattle.whole.specs.Tables.{table, tableFrom, filled}
 use Rattle.whole.proofs.Tables.{table-length, table-last, table-same}
 
@@ -68,6 +68,10 @@ module _ {A : Type 0} (f : A → A) where
 
 -- A list that a loop fills by a function, from the front.
 module _ {A : Type 0} (f : ℕ → A) (d : A) (l : List A) where
+  pub table-next : (k : ℕ) → getD (table k f ++ drop k l) k d ≡ getD l k d
+  table-next k = ap (λ i. getD (table k f ++ drop k l) i d) (let z : k ≡ k + 0 = omega arith in rw (table-length k f) z)
+      ∙ getD-append-add (table k f) (drop k l) 0 d ∙ getD-drop k l 0 d ∙ ap (λ i. getD l i d) (let z : k + 0 ≡ k = omega arith in z)
+
   pub set-table : (k : ℕ) → k < length l → set (table k f ++ drop k l) k (f k) ≡ table (k + 1) f ++ drop (k + 1) l
   set-table k h = rw (add-one, drop-cons l k d h)
       (set-at (table k f) (getD l k d) (drop (suc k) l) (f k) k (table-length k f)
@@ -96,3 +100,7 @@ module _ {A : Type 0} (size : ℕ) (rest : A) (f : ℕ → A) where
   pub filled-same : (k : ℕ) (g : ℕ → A) → ((i : ℕ) → i < k → f i ≡ g i) → filled size rest k f ≡ filled size rest k g
   unfolding filled
   filled-same k g h = ap (λ l. l ++ drop k (replicate size rest)) (table-same k f g h)
+
+  pub filled-rest : (k : ℕ) → drop k (filled size rest k f) ≡ drop k (replicate size rest)
+  unfolding filled
+  filled-rest k = drop-at (table k f) (drop k (replicate size rest)) k (table-length k f)

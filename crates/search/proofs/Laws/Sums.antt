@@ -13,20 +13,21 @@ use Rattle.whole.specs.Sums.{sumBy, sum}
 use Rattle.whole.proofs.Sizes.{within-+, within-*, within-le}
 use Rattle.rules.specs.Sizes.{largestNumber, largestLimit}
 use Rattle.tableau.specs.Layout.{flat}
-use Rattle.search.specs.Search.{rowSum}
+use Rattle.tableau.specs.Parts.{entryIn}
+use Rattle.search.specs.Search.{partSum}
 
-module _ (l x : List ℤ) (i : ℕ) where
-  pub row-more : (j : ℕ) → rowSum l x i (j + 1) ≡ rowSum l x i j +ℤ getD l (flat i j) (pos 0) *ℤ getD x j (pos 0)
-  unfolding rowSum sumBy
+module _ (n : ℕ) (l x : List ℤ) (i : ℕ) where
+  pub row-more : (j : ℕ) → partSum n l x i (j + 1) ≡ partSum n l x i j +ℤ entryIn n l i j *ℤ getD x j (pos 0)
+  unfolding partSum sumBy
   row-more j = rw add-one refl
 
   module _ (h : (k : ℕ) → Within (getD l k (pos 0)) largestNumber)
       (g : (j : ℕ) → Within (getD x j (pos 0)) largestLimit) where
-    term-within : (j : ℕ) → Within (getD l (flat i j) (pos 0) *ℤ getD x j (pos 0)) (largestNumber * largestLimit)
-    term-within j = within-* (h (flat i j)) (g j)
+    term-within : (j : ℕ) → Within (entryIn n l i j *ℤ getD x j (pos 0)) (largestNumber * largestLimit)
+    term-within j = within-* (h (flat n i j)) (g j)
 
-    pub row-within : (n : ℕ) → Within (rowSum l x i n) (n * (largestNumber * largestLimit))
-    unfolding rowSum sumBy
+    pub row-within : (k : ℕ) → Within (partSum n l x i k) (k * (largestNumber * largestLimit))
+    unfolding partSum sumBy
     row-within zero = record { within = omega arith }
-    row-within (suc n) = within-le (within-+ (row-within n) (term-within n))
-        (omega (arith, suc-mul n (largestNumber * largestLimit)))
+    row-within (suc k) = within-le (within-+ (row-within k) (term-within k))
+        (omega (arith, suc-mul k (largestNumber * largestLimit)))

@@ -1,5 +1,5 @@
 -- The chosen pivot by place is the move of the state: what it needs holds, and what it gives stands for the moved state.
---   movable, stands-moved, fitting-is, ranged-moved
+--   movable, exchangeable, stands-moved, fitting-is, ranged-moved
 use mathlib.Core.Bool.{true}
 use mathlib.Core.Option.{some}
 use mathlib.Core.Path.{_≡_, ap, refl, sym, _∙_}
@@ -18,7 +18,7 @@ use Rattle.rules.proofs.Sound.{Rowed}
 use Rattle.tableau.specs.declared.Limits.{Limits}
 use Rattle.tableau.specs.declared.Tableau.{Tableau}
 use Rattle.tableau.specs.Parts.{basicAt, columnOf, rowOf}
-use Rattle.tableau.specs.Pivot.{Cells, pivotedAt, swappedAt}
+use Rattle.tableau.specs.Pivot.{Cells, Swappable, pivotedAt, swappedAt}
 use Rattle.tableau.specs.Stands.{Ranged, Stands}
 use Rattle.tableau.proofs.Laws.Moves.{stands-next}
 use Rattle.tableau.proofs.Laws.Smalls.{small-is}
@@ -27,7 +27,7 @@ use Rattle.tableau.proofs.Laws.Turns as turns
 use Rattle.tableau.proofs.Laws.Turns.{Turn, leaving-row}
 use Rattle.search.specs.Sides.{rising}
 use Rattle.search.specs.Search.{choiceAt}
-use Rattle.solver.specs.Step.{Movable, fitting, limitOf, movedAt}
+use Rattle.solver.specs.Step.{Movable, fitsBy, limitOf, movedAt}
 
 limit-by : (σ : Side) (l : Limits) (v : ℕ) →
     limitOf (rising σ) (getD (l .lower) v (pos 0)) (getD (l .upper) v (pos 0)) ≡ limitNumber σ l v
@@ -50,7 +50,12 @@ module _ {P : Problem ℤ} {t : Tableau} {s : State ℤ} (St : Stands P t s) (R 
 
   pub movable : Cells t → Movable t (choiceAt t r w)
   unfolding pivotedAt
-  movable c = record { pivotable = pivotable turn c; swappable = swappable turn; leaving-seat = swappable turn .leaving-seat }
+  movable c = record { pivotable = pivotable turn c; row-place = swappable turn .in-rows; leaving-seat = swappable turn .leaving-seat }
+
+  pub exchangeable : Swappable t p q
+  unfolding pivotedAt
+  exchangeable = let z = swappable turn in
+      record { in-rows = z .in-rows; in-columns = z .in-columns; leaving-seat = z .leaving-seat; entering-seat = z .entering-seat }
 
   moved-is : next ≡ turns.nextAt P t r w
   unfolding movedAt
@@ -63,8 +68,10 @@ module _ {P : Problem ℤ} {t : Tableau} {s : State ℤ} (St : Stands P t s) (R 
   pub stands-moved : Stands P next (moved whole P s r w)
   stands-moved = rw moved-is (stands-next turn)
 
-  pub fitting-is : fitting next ≡ small (vars P) (moved whole P s r w .tableau)
+  pub fitting-is : fitsBy t (choiceAt t r w) ≡ small (vars P) (moved whole P s r w .tableau)
+  unfolding movedAt swappedAt pivotedAt
   fitting-is = small-is stands-moved (rowed-moved whole P s R r w (turn .left) (turn .entered))
 
-  pub ranged-moved : Ranged t → fitting next ≡ true → Ranged next
-  ranged-moved g h = rw moved-is (ranged-next turn g (rw moved-is at h))
+  pub ranged-moved : Ranged t → fitsBy t (choiceAt t r w) ≡ true → Ranged next
+  unfolding swappedAt pivotedAt
+  ranged-moved g h = rw moved-is (ranged-next turn g h)

@@ -27,8 +27,8 @@ relation-within true false d a h k = record { within = omega arith }
 relation-within false own d a h k = k
 
 pub pull-within : {l : List ℤ} {columns : ℕ} {d : ℤ} (b : Blocked) (x : Seat) → Blockable l columns d (b .row .0) x →
-    Within (pullOf l d b x) largestNumber
+    Within (pullOf l columns d b x) largestNumber
 unfolding pullOf
-pull-within {d = d} b x B = pulled-within (sideBy (b .rises)) _
+pull-within {columns} {d} b x B = pulled-within (sideBy (b .rises)) _
     (relation-within (x .basic) (eqb (x .row .0) (b .row .0)) d _ (B .common-within)
-    (B .entries-within (flat (b .row .0) (x .column .0))))
+    (B .entries-within (flat columns (b .row .0) (x .column .0))))

@@ -23,10 +23,9 @@ use Rattle.rules.proofs.Sound.{Apart, Rowed, Sound, sound-of}
 use Rattle.rules.proofs.Started.{no-conflict}
 use Rattle.tableau.specs.declared.Tableau.{Tableau}
 use Rattle.tableau.specs.Stands.{Ranged, Stands}
-use Rattle.solver.specs.declared.step.Outcome.the-variants as outcomes
 use Rattle.solver.specs.Answer.{mostCount}
 use Rattle.solver.specs.Run.{Begun, GoesOn, Startable, afterAt}
-use Rattle.solver.specs.Step.{Held, steppedAt}
+use Rattle.solver.specs.Step.{Held, on, steppedAt}
 use Rattle.solver.proofs.Laws.Steps.{StepIs, ends-can, ends-cannot, ends-range, goes-to, step-is}
 
 pub record Going (P : Problem ℤ) (s : State ℤ) (t : Tableau) (k : ℕ) : Type 0 where
@@ -49,7 +48,7 @@ module _ {t : Tableau} (B : Begun t) where
   rowed-at k = rowed-after whole P s (B .ready .rowed) k
 
   -- one step more, of any tableau that stands there
-  turn : (k : ℕ) (u : Tableau) → Going P s u k → steppedAt u .outcome ≡ outcomes.Goes → Going P s (steppedAt u .tableau) (suc k)
+  turn : (k : ℕ) (u : Tableau) → Going P s u k → steppedAt u .course ≡ on → Going P s (steppedAt u .tableau) (suc k)
   turn k u G e = go (step-is (G .stands) (rowed-at k) (G .ranged))
     where
       go : StepIs P u (after whole P s k) → Going P s (steppedAt u .tableau) (suc k)
@@ -75,10 +74,10 @@ module _ {t : Tableau} (B : Begun t) where
   held-after k g = let G = going k g in
       record { problem = P; state = after whole P s k; stands = G .stands; rowed = rowed-at k; ranged = G .ranged }
 
-pub goes-more : (t : Tableau) (k : ℕ) → GoesOn t k → steppedAt (afterAt t k) .outcome ≡ outcomes.Goes → GoesOn t (k + 1)
+pub goes-more : (t : Tableau) (k : ℕ) → GoesOn t k → steppedAt (afterAt t k) .course ≡ on → GoesOn t (k + 1)
 goes-more t k g e i h = one (ℕ-discrete i k)
   where
-    one : Dec (i ≡ k) → steppedAt (afterAt t i) .outcome ≡ outcomes.Goes
+    one : Dec (i ≡ k) → steppedAt (afterAt t i) .course ≡ on
     one (yes j) = rw j e
     one (no j) = g i (omega arith)
 

@@ -1,29 +1,40 @@
 -- One step by place is the step of the state.
 --   StepIs, step-is     the four cases, each with the step of the state
---   search-held, move-held    what a step needs of its calls
+--   search-held, steppable-held                 what a step needs of its calls
+--   places-held, common-held, value-held        .. and the exchange after it
+use mathlib.Core.Bool.{Bool, true, false}
 use mathlib.Core.Option.{some}
-use mathlib.Core.Path.{_≡_, ap, subst, _∙_}
+use mathlib.Core.Path.{_≡_, ap, subst, sym, _∙_}
 use Prim.Native.Nat.{ℕ}
 use lib.IntN.{ℤ}
+use mir.Syntax.{w64}
+use mir.Val.{SFits}
+use Rattle.whole.specs.Numbers.{Within}
 use Rattle.whole.specs.Values.{whole}
 use Rattle.whole.proofs.Bools.{zero-one}
+use Rattle.whole.proofs.Sizes.{fits-by}
 use Rattle.rules.specs.Problem.{Problem, vars}
+use Rattle.rules.specs.Sizes.{largestLimit}
 use Rattle.rules.specs.Step.{Leaving, State, can, entering, evidence, goes, leaving, moved, range, step}
 use Rattle.rules.specs.Tableau.{relation}
 use Rattle.rules.proofs.Moves.{Stepped, is-can, is-cannot, is-goes, is-range, stepped}
 use Rattle.rules.proofs.Sound.{Rowed}
+use Rattle.tableau.specs.declared.ColumnPlace.{ColumnPlace}
+use Rattle.tableau.specs.declared.RowPlace.{RowPlace}
 use Rattle.tableau.specs.declared.Tableau.{Tableau}
+use Rattle.tableau.specs.Parts.{basicAt}
+use Rattle.tableau.specs.Pivot.{Swappable}
 use Rattle.tableau.specs.Stands.{Ranged, Stands}
+use Rattle.tableau.proofs.Laws.Reductions.{quotient-fits}
 use Rattle.search.specs.declared.Choice.{Choice}
 use Rattle.search.specs.declared.Next.the-variants as nexts
 use Rattle.search.specs.Search.{Searchable, blockedAt, choiceAt, nextAt}
 use Rattle.search.proofs.Laws.Rows.{searchable}
 use Rattle.search.proofs.Laws.Searches.{next-blocked, next-chosen, next-none}
 use Rattle.solver.specs.declared.step.End.the-variants as ends
-use Rattle.solver.specs.declared.step.Outcome.the-variants as outcomes
-use Rattle.solver.specs.Step.{Held, Movable, admitAt, endedAs, fitting, movedAt, steppedAt}
-use Rattle.solver.proofs.Laws.Pivots.{fitting-is, movable, ranged-moved, stands-moved}
-use Rattle.solver.proofs.Laws.Stepped.{stepped-none, stepped-pivot, stepped-stuck}
+use Rattle.solver.specs.Step.{Held, Movable, Steppable, admitAt, endedAs, fitsBy, limitOf, movedAt, on, steppedAt}
+use Rattle.solver.proofs.Laws.Pivots.{exchangeable, fitting-is, movable, ranged-moved, stands-moved}
+use Rattle.solver.proofs.Laws.Stepped.{Chosen, next-read, readOf, searchable-read, stepped-none, stepped-pivot, stepped-stuck}
 
 -- the four cases: what the step by place comes to, and the step of the state
 pub data StepIs (P : Problem ℤ) (t : Tableau) (s : State ℤ) : Type 0 where
@@ -31,12 +42,12 @@ pub data StepIs (P : Problem ℤ) (t : Tableau) (s : State ℤ) : Type 0 where
   ends-cannot : (r : Leaving) → steppedAt t ≡ endedAs t (ends.Cannot (blockedAt t r)) → leaving whole P s ≡ some r →
       step whole P s ≡ evidence (vars P) (r .side) (relation (s .tableau) (r .variable)) → StepIs P t s
   ends-range : steppedAt t ≡ endedAs t ends.Range → step whole P s ≡ range → StepIs P t s
-  goes-to : (u : Tableau) (x : State ℤ) → steppedAt t ≡ record { outcome = outcomes.Goes; tableau = u } → step whole P s ≡ goes x →
+  goes-to : (u : Tableau) (x : State ℤ) → steppedAt t ≡ record { course = on; tableau = u } → step whole P s ≡ goes x →
       Stands P u x → Ranged u → StepIs P t s
 
 module _ {P : Problem ℤ} {t : Tableau} {s : State ℤ} (St : Stands P t s) (R : Rowed whole P s) (G : Ranged t) where
   chosen-is : (r : Leaving) (w : ℕ) → leaving whole P s ≡ some r → entering whole P s r ≡ some w →
-      steppedAt t ≡ admitAt (fitting (movedAt t (choiceAt t r w))) t (movedAt t (choiceAt t r w))
+      steppedAt t ≡ admitAt (fitsBy t (choiceAt t r w)) t (movedAt t (choiceAt t r w))
   chosen-is r w q y = stepped-pivot t (choiceAt t r w) (next-chosen P t s St R r q w y)
 
   pub step-is : StepIs P t s
@@ -52,23 +63,50 @@ module _ {P : Problem ℤ} {t : Tableau} {s : State ℤ} (St : Stands P t s) (R 
           (chosen-is r w q y ∙ ap (λ b. admitAt b t (movedAt t (choiceAt t r w))) h) z
           (stands-moved St R r w q y) (ranged-moved St R r w q y G h)
 
-  move-ready : (c : Choice) → nextAt t ≡ nexts.Pivot c → Movable t c
+  -- a pivot that the search chooses may be made, and its variables may change places
+  abbrev Both : Choice → Type 0
+  Both c = Movable t c × Swappable t (c .row .0) (c .column .0)
+
+  move-ready : (c : Choice) → nextAt t ≡ nexts.Pivot c → Both c
   move-ready c e = go (stepped whole P s)
     where
-      of : (r : Leaving) (w : ℕ) → leaving whole P s ≡ some r → entering whole P s r ≡ some w → Movable t c
+      of : (r : Leaving) (w : ℕ) → leaving whole P s ≡ some r → entering whole P s r ≡ some w → Both c
       of r w q y = let n = next-chosen P t s St R r q w y in let k : choiceAt t r w ≡ c = cc in
-          subst (Movable t) k (movable St R r w q y (G .cells))
+          subst Both k (movable St R r w q y (G .cells), exchangeable St R r w q y)
 
-      go : Stepped whole P s → Movable t c
+      go : Stepped whole P s → Both c
       go (is-can q z) = let n = next-none P t s St R q in let k : _≡_ {A = ℕ} 0 1 = cc in zero-one k
       go (is-cannot r q y z) = let n = next-blocked P t s St R r q y in let k : _≡_ {A = ℕ} 0 1 = cc in zero-one k
       go (is-range r w q y f z) = of r w q y
       go (is-goes r w q y f z) = of r w q y
 
--- ---- what the calls of a step need
+-- ---- what the calls of a step need, and the exchange after it
 
-pub search-held : {t : Tableau} → Held t → Searchable t
-search-held {t} H = searchable (H .problem) t (H .state) (H .stands) (H .ranged)
+limit-fits : (b : Bool) {l u : ℤ} → Within l largestLimit → Within u largestLimit → SFits w64 (limitOf b l u)
+limit-fits true h k = fits-by h tt
+limit-fits false h k = fits-by k tt
 
-pub move-held : {t : Tableau} → Held t → (c : Choice) → nextAt t ≡ nexts.Pivot c → Movable t c
-move-held H c e = move-ready (H .stands) (H .rowed) (H .ranged) c e
+module _ {t : Tableau} (H : Held t) where
+  pub search-held : Searchable t
+  search-held = searchable (H .problem) t (H .state) (H .stands) (H .ranged)
+
+  ready : (c : Choice) → nextAt t ≡ nexts.Pivot c → Both (H .stands) (H .rowed) (H .ranged) c
+  ready c e = move-ready (H .stands) (H .rowed) (H .ranged) c e
+
+  pub steppable-held : Steppable (readOf t)
+  steppable-held = record {
+    searchable = searchable-read search-held;
+    movable = λ c e. let m = ready c (sym (next-read t) ∙ e) .0 in
+        record { pivotable = m .pivotable; row-place = m .row-place; leaving-seat = m .leaving-seat };
+  }
+
+  module _ {row : RowPlace} {column : ColumnPlace} {value common : ℤ} (K : Chosen t row column value common (nextAt t)) where
+    pub places-held : Swappable t (row .0) (column .0)
+    places-held = rw (← K .row-is, ← K .column-is) (ready (K .choice) (K .next-is) .1)
+
+    pub common-held : SFits w64 common
+    common-held = subst (SFits w64) (K .common-is) (quotient-fits (ready (K .choice) (K .next-is) .0 .pivotable))
+
+    pub value-held : SFits w64 value
+    value-held = let v = basicAt t (K .choice .row .0) in subst (SFits w64) (K .value-is)
+        (limit-fits (K .choice .rises) (search-held .lowers-within v) (search-held .uppers-within v))

@@ -28,10 +28,9 @@ use Rattle.search.proofs.Laws.Rows.{searchable}
 use Rattle.search.proofs.Laws.Searches.{all-vars}
 use Rattle.solver.specs.declared.step.End.{End}
 use Rattle.solver.specs.declared.step.End.the-variants as ends
-use Rattle.solver.specs.declared.step.Outcome.the-variants as outcomes
 use Rattle.solver.specs.Answer.{numberOf, wordsAt}
 use Rattle.solver.specs.Run.{Finished, Startable, Tellable, afterAt, endWords}
-use Rattle.solver.specs.Step.{endedAs, steppedAt}
+use Rattle.solver.specs.Step.{endedAs, on, over, steppedAt}
 use Rattle.solver.proofs.Laws.Halves.{lowers-are, numerators-are, uppers-are, zeros-are}
 use Rattle.solver.proofs.Laws.Runs.{Going, count-small, going, sound}
 use Rattle.solver.proofs.Laws.Steps.{StepIs, ends-can, ends-cannot, ends-range, goes-to, step-is}
@@ -71,10 +70,10 @@ module _ {t : Tableau} (S : Startable t) {e : End} {k : ℕ} {u : Tableau} (F : 
 
   -- how the run ended, by the last step
   end-is : (x : End) → steppedAt here ≡ endedAs here x → e ≡ x
-  end-is x q = let f : outcomes.Ended x ≡ outcomes.Ended e = sym (ap (λ y. y .outcome) q) ∙ F .ended in cc
+  end-is x q = let f : over x ≡ over e = sym (ap (λ y. y .course) q) ∙ F .ended in cc
 
-  no-going : {A : Type 0} (x : Tableau) → steppedAt here ≡ record { outcome = outcomes.Goes; tableau = x } → A
-  no-going x q = let f : outcomes.Goes ≡ outcomes.Ended e = sym (ap (λ y. y .outcome) q) ∙ F .ended in
+  no-going : {A : Type 0} (x : Tableau) → steppedAt here ≡ record { course = on; tableau = x } → A
+  no-going x q = let f : on ≡ over e = sym (ap (λ y. y .course) q) ∙ F .ended in
       let c : _≡_ {A = ℕ} 0 1 = cc in zero-one c
 
   -- the answer of the rules, where the step of the last state is known

@@ -20,12 +20,12 @@ use Rattle.rules.specs.Problem.{Problem, problem, vars}
 use Rattle.rules.specs.Refusal.{Accepted}
 use Rattle.rules.specs.Sizes.{largestCoefficient, largestLimit, largestNumber, mostColumns, mostRows, mostVariables}
 use Rattle.rules.specs.Step.{seated, startValue}
-use Rattle.tableau.proofs.Laws.Layout.{Spot, column-flat, flat-live, row-flat, spot, unused, used}
-use Rattle.tableau.proofs.Laws.Reading.{cell-unused, cell-used, lower-of, upper-of}
+use Rattle.tableau.proofs.Laws.Layout.{column-flat, column-live, flat-live, row-flat, row-live}
+use Rattle.tableau.proofs.Laws.Reading.{lower-of, upper-of}
 use Rattle.tableau.specs.Layout.{columnAt, flat, live, mostEntries, rowAt}
 use Rattle.tableau.specs.Parts.{cell, cellAt}
 use Rattle.tableau.specs.Stands.{Ranged, Serves}
-use Rattle.tableau.specs.Start.{limitsFor, startCell, startTableau}
+use Rattle.tableau.specs.Start.{limitsFor, startTableau}
 
 -- a problem within the sizes of the rules
 pub record Fitting (P : Problem ℤ) : Type 0 where
@@ -84,24 +84,21 @@ module _ (P : Problem ℤ) (F : Fitting P) where
         (λ v h. seated-within (P .upper v) (λ u. F .upper-within v u h));
   }
 
-  start-cell-within : (k : ℕ) → Within (startCell P (rowAt k) (columnAt k)) largestCoefficient
-  start-cell-within k = go (spot (P .m) (P .n) k)
-    where
-      go : Spot (P .m) (P .n) k → Within (startCell P (rowAt k) (columnAt k)) largestCoefficient
-      go (used h l) = rw (cell-used P (rowAt k) (columnAt k) h l) (F .coefficient-within (rowAt k) (columnAt k) h l)
-      go (unused h) = rw (cell-unused P (rowAt k) (columnAt k) h) zero-within
+  abbrev coefficient-at : ℕ → ℤ
+  coefficient-at k = P .coefficient (rowAt (P .n) k) (columnAt (P .n) k)
 
   -- at the start every entry is a coefficient, or 0
   pub coefficients-start : (k : ℕ) → Within (cell (startTableau P) k) largestCoefficient
   unfolding startTableau
-  coefficients-start = filled-each mostEntries (pos 0) (live (P .m) (P .n)) (λ k. startCell P (rowAt k) (columnAt k))
-      (λ z. Within z largestCoefficient) zero-within (λ k h. start-cell-within k)
+  coefficients-start = filled-each mostEntries (pos 0) (live (P .m) (P .n)) coefficient-at
+      (λ z. Within z largestCoefficient) zero-within
+      (λ k h. F .coefficient-within _ _ (row-live (P .m) (P .n) k h) (column-live (P .m) (P .n) k h))
 
   pub coefficient-start : (i j : ℕ) → i < P .m → j < P .n → cellAt (startTableau P) i j ≡ P .coefficient i j
   unfolding startTableau
-  coefficient-start i j h k = let a = F .few-rows in let b = F .few-columns in
-      filled-in mostEntries (pos 0) (live (P .m) (P .n)) (λ k. startCell P (rowAt k) (columnAt k)) (flat i j) (flat-live (P .m) (P .n) a b i j h k)
-      ∙ ap₂ (startCell P) (row-flat i j (omega arith) (omega arith)) (column-flat i j (omega arith) (omega arith)) ∙ cell-used P i j h k
+  coefficient-start i j h k =
+      filled-in mostEntries (pos 0) (live (P .m) (P .n)) coefficient-at (flat (P .n) i j) (flat-live (P .m) (P .n) i j h k)
+      ∙ ap₂ (P .coefficient) (row-flat (P .n) i j k) (column-flat (P .n) i j k)
 
   pub ranged-start : Ranged (startTableau P)
   unfolding startTableau

@@ -1,23 +1,22 @@
 -- A pivot by place stands for the move of the state. The divisor of the mixed entries is that of the whole solved
 -- tableau, since each of its numbers is 0, the common number or a cell.
 --   product-is                            the new common number, before reduction
---   cell-mixed, mixed-flat, mixed-zero    each mixed cell, by place
+--   cell-mixed, mixed-flat                each mixed cell, by place
 --   divisor-is, by-is                     the divisor, and with its sign
 --   rowed-next, stands-next               the rows of the next state hold, and the next tableau stands for it
 use Prim.Native.Nat.{ℕ, _≤_, _<_, _∣_}
 use native.Mathlib.Nat.{dvd-antisymm, dvd-zero}
 use native.Mathlib.Omega.{arith}
-use native.Mathlib.Decide.{decLt}
-use mathlib.Core.Path.{_≡_, ap, ap₂, sym, _∙_}
-use mathlib.Core.Logic.{_≢_, _⊎_}
+use mathlib.Core.Path.{_≡_, ap, ap₂, refl, sym, _∙_}
+use mathlib.Core.Logic.{_≢_}
+use mathlib.Core.List.{List}
 use lib.IntN.{ℤ, pos, natAbs, _*ℤ_, *ℤ-zero}
 use lib.ListN.{getD}
 use lib.Signed.{quotZ}
 use Rattle.whole.specs.Values.{whole}
-use Rattle.whole.proofs.Division.{quot-zero}
 use Rattle.whole.proofs.Sizes.{product-nonzero}
 use Rattle.whole.proofs.Tables.{filled-in, filled-out}
-use Rattle.divisor.specs.Cells.{quotients}
+use Rattle.divisor.specs.Cells.{divisorBelow, quotients}
 use Rattle.divisor.proofs.Laws.Cells as cells
 use Rattle.rules.specs.Problem.{Problem, vars}
 use Rattle.rules.specs.Step.{State, Leaving, moved, common}
@@ -27,14 +26,14 @@ use Rattle.rules.proofs.Lowest.{Factored, factored, divisor-divides, divisor-gr
 use Rattle.rules.proofs.Pivoted.{rowed-moved}
 use Rattle.rules.proofs.Sound.{Rowed}
 use Rattle.tableau.specs.declared.Tableau.{Tableau}
-use Rattle.tableau.specs.Layout.{mostEntries, flat, rowAt, columnAt}
+use Rattle.tableau.specs.Layout.{mostEntries, flat, rowAt, columnAt, live}
 use Rattle.tableau.specs.Parts.{cell, cellAt, basicAt, nonbasicAt}
-use Rattle.tableau.specs.Pivot.{mixedCell, mixedAt, signedBy, pivotedAt, swappedAt}
+use Rattle.tableau.specs.Pivot.{mixedCell, mixedAt, signedBy, product, mix, by, pivotedAt, swappedAt}
 use Rattle.tableau.specs.Stands.{Serves, Stands}
 use Rattle.tableau.proofs.Laws.Kinds.{Kind, none-there, own, cell-there, kind}
-use Rattle.tableau.proofs.Laws.Layout.{row-in, column-in, Spot, used, unused, spot}
-use Rattle.tableau.proofs.Laws.Reductions.{end, product, mix, size, by, live-place, live-entries, place-back}
-use Rattle.tableau.proofs.Laws.Solved.{mixed-is, mixed-unused}
+use Rattle.tableau.proofs.Laws.Layout.{row-live, column-live}
+use Rattle.tableau.proofs.Laws.Reductions.{end, live-place, place-back}
+use Rattle.tableau.proofs.Laws.Solved.{mixed-is}
 use Rattle.tableau.proofs.Laws.Turns.{Turn, rowPlace, columnPlace, nextAt, pivot-is, pivot-nonzero}
 use Rattle.tableau.proofs.Laws.Turns.{common-nonzero}
 use Rattle.tableau.proofs.Laws.Turns.{placed-next, sized-next}
@@ -58,13 +57,26 @@ module _ {P : Problem ℤ} {t : Tableau} {s : State ℤ} {r : Leaving} {w : ℕ}
   abbrev T1 : rules.Tableau
   T1 = solved N (s .tableau) (r .variable) w
 
+  -- the parts of the pivot
+  abbrev n : ℕ
+  n = t .columns
+
   abbrev mixed : ℕ → ℤ
-  mixed = mixedAt (t .common) (t .entries) p q
+  mixed = mixedAt n (t .common) (t .entries) p q
+
+  abbrev new : ℤ
+  new = product (t .rows) n (t .entries) (t .common) p q
+
+  abbrev mixes : List ℤ
+  mixes = mix (t .rows) n (t .entries) (t .common) p q
+
+  abbrev part : ℤ
+  part = by (t .rows) n (t .entries) (t .common) p q
 
   abbrev g : ℕ
-  g = size t p q
+  g = divisorBelow (end t) mixes new
 
-  pub product-is : product t p q ≡ T1 .common
+  pub product-is : new ≡ T1 .common
   unfolding solved
   product-is = ap₂ (λ a b. a *ℤ b) (pivot-is M) (M .stands .numbers .common-is)
 
@@ -79,26 +91,21 @@ module _ {P : Problem ℤ} {t : Tableau} {s : State ℤ} {r : Leaving} {w : ℕ}
 
   -- ---- the cells by place and by row and column
 
-  pub cell-mixed : (k : ℕ) → k < end t → getD (mix t p q) k (pos 0) ≡ mixed k
+  pub cell-mixed : (k : ℕ) → k < end t → getD mixes k (pos 0) ≡ mixed k
   cell-mixed k h = filled-in mostEntries (pos 0) (end t) mixed k h
 
-  pub mixed-flat : (i j : ℕ) → i < P .m → j < P .n → mixed (flat i j) ≡ entry T1 (basicAt next i) (nonbasicAt next j)
+  pub mixed-flat : (i j : ℕ) → i < P .m → j < P .n → mixed (flat n i j) ≡ entry T1 (basicAt next i) (nonbasicAt next j)
   mixed-flat i j h k =
-      let b = place-back (M .stands .sized) i j h k in
-      ap₂ (mixedCell (t .common) (t .entries) p q) (b .0) (b .1) ∙ mixed-is M i j h k
-
-  pub mixed-zero : (k : ℕ) → k < end t → (P .m ≤ rowAt k) ⊎ (P .n ≤ columnAt k) → mixed k ≡ pos 0
-  mixed-zero k h o =
-      let e = live-entries (M .stands .sized) k h in
-      mixed-unused M (rowAt k) (columnAt k) (row-in k e) (column-in k e) o
+      let b = place-back (M .stands .sized) i j k in
+      ap₂ (mixedCell n (t .common) (t .entries) p q) (b .0) (b .1) ∙ mixed-is M i j h k
 
   -- ---- the divisor of the cells divides every number of the solved tableau
 
   g-common : g ∣ natAbs (T1 .common)
-  g-common = rw (← product-is) (cells.divisor-divides (mix t p q) (product t p q) (end t) .0)
+  g-common = rw (← product-is) (cells.divisor-divides mixes new (end t) .0)
 
   g-cell : (k : ℕ) → k < end t → g ∣ natAbs (mixed k)
-  g-cell k h = rw (← cell-mixed k h) (cells.divisor-divides (mix t p q) (product t p q) (end t) .1 k h)
+  g-cell k h = rw (← cell-mixed k h) (cells.divisor-divides mixes new (end t) .1 k h)
 
   g-entry : (v u : ℕ) → v < N → u < N → g ∣ natAbs (entry T1 v u)
   unfolding moved pivot
@@ -108,25 +115,24 @@ module _ {P : Problem ℤ} {t : Tableau} {s : State ℤ} {r : Leaving} {w : ℕ}
       go (none-there e) = rw (sym (F .of-entry v u h k) ∙ ap (λ z. F .by *ℤ z) e ∙ *ℤ-zero (F .by)) (dvd-zero g)
       go (own e) = rw (sym (F .of-entry v u h k) ∙ ap (λ z. F .by *ℤ z) e ∙ F .of-common) g-common
       go (cell-there i j a b e f) = rw (← e, ← f, ← mixed-flat i j a b)
-          (g-cell (flat i j) (live-place (M .stands .sized) i j a b))
+          (g-cell (flat n i j) (live-place (M .stands .sized) i j a b))
 
   -- ---- the divisor of the whole tableau divides each cell
 
-  whole-cell : (k : ℕ) → k < end t → divisorSize N T1 ∣ natAbs (getD (mix t p q) k (pos 0))
-  whole-cell k h = rw (cell-mixed k h) (go (spot (P .m) (P .n) k))
-    where
-      go : Spot (P .m) (P .n) k → divisorSize N T1 ∣ natAbs (mixed k)
-      go (used a b) = rw (mixed-is M (rowAt k) (columnAt k) a b)
-          (divisor-divides N T1 .1 (basicAt next (rowAt k)) (nonbasicAt next (columnAt k))
-          (placed-next M .in-row (rowAt k) a .variable-in) (placed-next M .in-column (columnAt k) b .variable-in))
-      go (unused o) = rw (mixed-zero k h o) (dvd-zero (divisorSize N T1))
+  whole-cell : (k : ℕ) → k < end t → divisorSize N T1 ∣ natAbs (getD mixes k (pos 0))
+  whole-cell k h =
+      let a : rowAt n k < P .m = rw (← M .stands .sized .rows-is) (row-live (t .rows) n k h) in
+      let b : columnAt n k < P .n = rw (← M .stands .sized .columns-is) (column-live (t .rows) n k h) in
+      rw (cell-mixed k h, mixed-is M (rowAt n k) (columnAt n k) a b)
+      (divisor-divides N T1 .1 (basicAt next (rowAt n k)) (nonbasicAt next (columnAt n k))
+      (placed-next M .in-row (rowAt n k) a .variable-in) (placed-next M .in-column (columnAt n k) b .variable-in))
 
   pub divisor-is : g ≡ divisorSize N T1
   divisor-is = dvd-antisymm (divisor-greatest N T1 g g-common g-entry)
-      (cells.divisor-greatest (mix t p q) (product t p q) (end t) (divisorSize N T1)
+      (cells.divisor-greatest mixes new (end t) (divisorSize N T1)
       (rw product-is (divisor-divides N T1 .0)) whole-cell)
 
-  pub by-is : by t p q ≡ divisor N T1
+  pub by-is : part ≡ divisor N T1
   unfolding signedBy divisor
   by-is = ap₂ signedBy product-is divisor-is
 
@@ -138,31 +144,31 @@ module _ {P : Problem ℤ} {t : Tableau} {s : State ℤ} {r : Leaving} {w : ℕ}
 
   cell-live : (k : ℕ) → k < end t → cell next k ≡ quotZ (mixed k) (divisor N T1)
   unfolding swappedAt pivotedAt
-  cell-live k h = filled-in mostEntries (pos 0) (end t) (quotients (mix t p q) (by t p q)) k h
+  cell-live k h = filled-in mostEntries (pos 0) (end t) (quotients mixes part) k h
       ∙ ap₂ quotZ (cell-mixed k h) by-is
 
   cell-past : (k : ℕ) → end t ≤ k → cell next k ≡ pos 0
   unfolding swappedAt pivotedAt
-  cell-past k h = filled-out mostEntries (pos 0) (end t) (quotients (mix t p q) (by t p q)) k h
+  cell-past k h = filled-out mostEntries (pos 0) (end t) (quotients mixes part) k h
 
   entry-next : (v u : ℕ) → v < N → u < N → entry (after .tableau) v u ≡ quotZ (entry T1 v u) (divisor N T1)
   unfolding moved pivot
   entry-next v u h k = reduced-entry N T1 v u h k
 
+  same-place : (i j : ℕ) → cellAt next i j ≡ cell next (flat n i j)
+  unfolding swappedAt pivotedAt
+  same-place i j = refl
+
   cell-next : (i j : ℕ) → i < P .m → j < P .n →
       cellAt next i j ≡ entry (after .tableau) (basicAt next i) (nonbasicAt next j)
   cell-next i j h k =
-      cell-live (flat i j) (live-place (M .stands .sized) i j h k)
+      same-place i j ∙ cell-live (flat n i j) (live-place (M .stands .sized) i j h k)
       ∙ ap (λ z. quotZ z (divisor N T1)) (mixed-flat i j h k)
       ∙ sym (entry-next (basicAt next i) (nonbasicAt next j) (placed-next M .in-row i h .variable-in)
       (placed-next M .in-column j k .variable-in))
 
-  unused-next : (k : ℕ) → (P .m ≤ rowAt k) ⊎ (P .n ≤ columnAt k) → cell next k ≡ pos 0
-  unused-next k o = go (decLt k (end t))
-    where
-      go : Dec (k < end t) → cell next k ≡ pos 0
-      go (yes l) = cell-live k l ∙ ap (λ z. quotZ z (divisor N T1)) (mixed-zero k l o) ∙ quot-zero (divisor N T1)
-      go (no l) = cell-past k (omega arith)
+  unused-next : (k : ℕ) → live (P .m) (P .n) ≤ k → cell next k ≡ pos 0
+  unused-next k h = cell-past k (rw (M .stands .sized .rows-is, M .stands .sized .columns-is) h)
 
   serves-next : Serves P (next .limits)
   unfolding swappedAt pivotedAt

@@ -1,12 +1,13 @@
 -- Two results that a promise of this crate's public functions allows are equal: NAME-only for each.
 -- The contracts themselves are compared: κs are lifetimes, x the arguments, e what lent words hold at the exit.
 use mathlib.Core.Path.{_≡_, sym, _∙_}
+use Rattle.tableau.proofs.Laws.Layout.{spot-here}
 use Rattle.tableau.proofs.layout.place.Reads as place
-use Rattle.tableau.proofs.layout.row_at.Reads as row-at
-use Rattle.tableau.proofs.layout.column_at.Reads as column-at
+use Rattle.tableau.proofs.layout.first.Reads as first
+use Rattle.tableau.proofs.layout.after.Reads as after
+use Rattle.tableau.proofs.layout.coefficient_for.Reads as coefficient-for
 use Rattle.tableau.proofs.layout.live.Reads as live
-use Rattle.tableau.proofs.pivot.pivoted.Reads as pivoted
-use Rattle.tableau.proofs.pivot.swapped.Reads as swapped
+use Rattle.tableau.proofs.pivot.pivot.Reads as pivot
 use Rattle.tableau.proofs.range.all_in_range.Reads as all-in-range
 use Rattle.tableau.proofs.judge.has_lower.Reads as has-lower
 use Rattle.tableau.proofs.judge.has_upper.Reads as has-upper
@@ -17,20 +18,20 @@ use Rattle.tableau.proofs.Tableau.new.Reads as new
 pub place-only : (κs : _) (x : _) (a b : _) (e : _) → place.Post κs x a e → place.Post κs x b e → a ≡ b
 place-only κs x a b e h k = h ∙ sym k
 
-pub row-at-only : (κs : _) (x : _) (a b : _) (e : _) → row-at.Post κs x a e → row-at.Post κs x b e → a ≡ b
-row-at-only κs x a b e h k = h ∙ sym k
+pub first-only : (κs : _) (x : _) (a b : _) (e : _) → first.Post κs x a e → first.Post κs x b e → a ≡ b
+first-only κs x a b e h k = h 0 ∙ sym (k 0)
 
-pub column-at-only : (κs : _) (x : _) (a b : _) (e : _) → column-at.Post κs x a e → column-at.Post κs x b e → a ≡ b
-column-at-only κs x a b e h k = h ∙ sym k
+pub after-only : (κs : _) (x : _) (a b : _) (e : _) → after.Pre κs x → after.Post κs x a e → after.Post κs x b e → a ≡ b
+after-only κs x a b e p h k = let i = spot-here (x .0) (x .1 .0) (p .1) in h _ i ∙ sym (k _ i)
+
+pub coefficient-for-only : (κs : _) (x : _) (a b : _) (e : _) → coefficient-for.Post κs x a e → coefficient-for.Post κs x b e → a ≡ b
+coefficient-for-only κs x a b e h k = h 0 ∙ sym (k 0)
 
 pub live-only : (κs : _) (x : _) (a b : _) (e : _) → live.Post κs x a e → live.Post κs x b e → a ≡ b
 live-only κs x a b e h k = h ∙ sym k
 
-pub pivoted-only : (κs : _) (x : _) (a b : _) (e : _) → pivoted.Post κs x a e → pivoted.Post κs x b e → a ≡ b
-pivoted-only κs x a b e h k = h ∙ sym k
-
-pub swapped-only : (κs : _) (x : _) (a b : _) (e : _) → swapped.Post κs x a e → swapped.Post κs x b e → a ≡ b
-swapped-only κs x a b e h k = h ∙ sym k
+pub pivot-only : (κs : _) (x : _) (a b : _) (e f : _) → pivot.Post κs x a e → pivot.Post κs x b f → (a ≡ b) × (e .0 .now ≡ f .0 .now)
+pivot-only κs x a b e f h k = (h .0 ∙ sym (k .0), h .1 ∙ sym (k .1))
 
 pub all-in-range-only : (κs : _) (x : _) (a b : _) (e : _) → all-in-range.Post κs x a e → all-in-range.Post κs x b e →
     a ≡ b

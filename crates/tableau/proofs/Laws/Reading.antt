@@ -1,5 +1,4 @@
 -- What the words of a problem are read as.
---   cell-used, cell-unused           the number of a row place and a column place at the start
 --   coefficient-in, coefficient-is   where the words have it
 --   present-there, present-missing   a limit by its flag
 --   present-flag, present-number     .. and back, as a flag and a number
@@ -10,7 +9,6 @@
 use mathlib.Core.Path.{_≡_, refl, sym, _∙_, ap, ap₂}
 use mathlib.Core.Bool.{Bool, true, false, cond}
 use mathlib.Core.List.{List}
-use mathlib.Core.Logic.{_⊎_, inl, inr}
 use mathlib.Core.Option.{Option, none, some}
 use Prim.Native.Nat.{ℕ, _+_, _*_, _≤_, _<_}
 use native.Mathlib.Omega.{arith}
@@ -29,28 +27,11 @@ use Rattle.rules.specs.Problem.{Problem, problem, vars, word}
 use Rattle.rules.specs.Refusal.{Accepted, FineLimit}
 use Rattle.rules.specs.Step.{seated, startValue}
 use Rattle.tableau.specs.Parts.{lowerOf, upperOf}
-use Rattle.tableau.specs.Start.{startCell, isPresent, limitsFor, startValues, valuesFor}
+use Rattle.tableau.specs.Start.{isPresent, limitsFor, startValues, valuesFor}
 use Rattle.tableau.specs.Words.{Framed}
 use Rattle.tableau.proofs.Laws.Judged.{kind-place, vars-are}
 
 -- ---- entries
-
-module _ (P : Problem ℤ) (i j : ℕ) where
-  pub cell-used : i < P .m → j < P .n → startCell P i j ≡ P .coefficient i j
-  unfolding startCell
-  cell-used h k =
-      ap₂ (λ a b. cond a (cond b (P .coefficient i j) (pos 0)) (pos 0)) (lt-ltb i (P .m) h) (lt-ltb j (P .n) k)
-
-  pub cell-unused : (P .m ≤ i) ⊎ (P .n ≤ j) → startCell P i j ≡ pos 0
-  unfolding startCell
-  cell-unused (inl h) = ap (λ a. cond a (cond (ltb j (P .n)) (P .coefficient i j) (pos 0)) (pos 0)) (le-ltb i (P .m) h)
-  cell-unused (inr h) =
-      ap (λ b. cond (ltb i (P .m)) (cond b (P .coefficient i j) (pos 0)) (pos 0)) (le-ltb j (P .n) h)
-      ∙ both (ltb i (P .m))
-    where
-      both : (a : Bool) → cond a (pos 0) (pos 0) ≡ pos 0
-      both true = refl
-      both false = refl
 
 module _ {ws : List ℤ} {n m : ℕ} (F : Framed ws n m) where
   pub coefficient-in : (i j : ℕ) → i < m → j < n → 2 + (i * n + j) < length ws

@@ -24,7 +24,7 @@ use Rattle.tableau.specs.Parts.{cell, basicAt, nonbasicAt}
 use Rattle.tableau.specs.Pivot.{inRange, smallBelow, Cells}
 use Rattle.tableau.specs.Stands.{Stands}
 use Rattle.tableau.proofs.Laws.Kinds.{Kind, none-there, own, cell-there, kind}
-use Rattle.tableau.proofs.Laws.Layout.{flat-back, past-live, Spot, used, unused, spot}
+use Rattle.tableau.proofs.Laws.Layout.{flat-back, row-live, column-live}
 use Rattle.tableau.proofs.Laws.Reductions.{end, live-place}
 
 zero-in : inRange (pos 0) ≡ true
@@ -38,10 +38,18 @@ module _ {P : Problem ℤ} {t : Tableau} {s : State ℤ} (St : Stands P t s) whe
   abbrev fine : ℕ → Bool
   fine k = inRange (cell t k)
 
-  -- the entry at a live place in use
-  cell-used : (k : ℕ) → rowAt k < P .m → columnAt k < P .n →
-      cell t k ≡ entry (s .tableau) (basicAt t (rowAt k)) (nonbasicAt t (columnAt k))
-  cell-used k a b = ap (cell t) (sym (flat-back k)) ∙ St .numbers .cell-is (rowAt k) (columnAt k) a b
+  abbrev n : ℕ
+  n = t .columns
+
+  row-used : (k : ℕ) → k < end t → rowAt n k < P .m
+  row-used k h = rw (← St .sized .rows-is) (row-live (t .rows) n k h)
+
+  column-used : (k : ℕ) → k < end t → columnAt n k < P .n
+  column-used k h = rw (← St .sized .columns-is) (column-live (t .rows) n k h)
+
+  -- the entry at a live place
+  cell-used : (k : ℕ) → k < end t → cell t k ≡ entry (s .tableau) (basicAt t (rowAt n k)) (nonbasicAt t (columnAt n k))
+  cell-used k h = ap (cell t) (sym (flat-back n k)) ∙ St .numbers .cell-is (rowAt n k) (columnAt n k) (row-used k h) (column-used k h)
 
   pub small-is : Rowed whole P s → smallBelow (end t) (t .entries) (t .common) ≡ small N (s .tableau)
   unfolding smallBelow small
@@ -62,20 +70,19 @@ module _ {P : Problem ℤ} {t : Tableau} {s : State ℤ} (St : Stands P t s) whe
               go (own z) = rw (z, ← St .numbers .common-is) c
               go (cell-there i j l m f d) =
                   rw (← f, ← d, ← St .numbers .cell-is i j l m)
-                  (all-each (end t) fine a (flat i j) (live-place (St .sized) i j l m))
+                  (all-each (end t) fine a (flat n i j) (live-place (St .sized) i j l m))
 
       back : small N (s .tableau) ≡ true → smallBelow (end t) (t .entries) (t .common) ≡ true
       back e =
           let z = and-true _ _ e in
           and-of (ap inRange (St .numbers .common-is) ∙ z .0)
-          (all-of (end t) fine (λ k h. each k (z .1) (spot (P .m) (P .n) k)))
+          (all-of (end t) fine (λ k h. each k (z .1) h))
         where
           each : (k : ℕ) → allBelow N (λ v. allBelow N (λ u. within largestNumber (entry (s .tableau) v u))) ≡ true →
-              Spot (P .m) (P .n) k → fine k ≡ true
-          each k a (used l m) = rw (cell-used k l m)
-              (all-each N _ (all-each N _ a (basicAt t (rowAt k)) (St .placed .in-row (rowAt k) l .variable-in))
-              (nonbasicAt t (columnAt k)) (St .placed .in-column (columnAt k) m .variable-in))
-          each k a (unused o) = rw (St .numbers .unused k o) zero-in
+              k < end t → fine k ≡ true
+          each k a h = rw (cell-used k h)
+              (all-each N _ (all-each N _ a (basicAt t (rowAt n k)) (St .placed .in-row (rowAt n k) (row-used k h) .variable-in))
+              (nonbasicAt t (columnAt n k)) (St .placed .in-column (columnAt n k) (column-used k h) .variable-in))
 
   pub cells-small : smallBelow (end t) (t .entries) (t .common) ≡ true → Cells t
   unfolding smallBelow
@@ -87,6 +94,5 @@ module _ {P : Problem ℤ} {t : Tableau} {s : State ℤ} (St : Stands P t s) whe
     where
       go : (k : ℕ) → allBelow (end t) fine ≡ true → Dec (k < end t) → Within (cell t k) largestNumber
       go k a (yes h) = tells-within largestNumber (cell t k) .if-true (all-each (end t) fine a k h)
-      go k a (no h) = rw (St .numbers .unused k
-          (rw (← St .sized .rows-is, ← St .sized .columns-is) (past-live (t .rows) (t .columns) k (omega arith))))
+      go k a (no h) = rw (St .numbers .unused k (rw (← St .sized .rows-is, ← St .sized .columns-is) (omega arith)))
           (record { within = omega arith })

@@ -41,16 +41,7 @@ in-leaving-row D p a = ring-at (D ∷ p ∷ a ∷ []) (search reify depth 30) re
 in-entering-column : (D p b : ℤ) → b *ℤ D ≡ p *ℤ pos 0 -ℤ b *ℤ negℤ D
 in-entering-column D p b = ring-at (D ∷ p ∷ b ∷ []) (search reify depth 30) refl
 
-empty-leaving-row : (D : ℤ) → negℤ (D *ℤ pos 0) ≡ pos 0
-empty-leaving-row D = ring-at (D ∷ []) (search reify depth 30) refl
-
-empty-column : (p b : ℤ) → p *ℤ pos 0 -ℤ b *ℤ pos 0 ≡ pos 0
-empty-column p b = ring-at (p ∷ b ∷ []) (search reify depth 30) refl
-
-empty-row : (p c : ℤ) → p *ℤ pos 0 -ℤ pos 0 *ℤ c ≡ pos 0
-empty-row p c = ring-at (p ∷ c ∷ []) (search reify depth 30) refl
-
-mixed-cell : (t : Tableau) (p q i j : ℕ) → mixedCell (t .common) (t .entries) p q i j
+mixed-cell : (t : Tableau) (p q i j : ℕ) → mixedCell (t .columns) (t .common) (t .entries) p q i j
     ≡ mixedOf (eqb i p) (eqb j q) (t .common) (cellAt t p q) (cellAt t i j) (cellAt t i q) (cellAt t p j)
 unfolding mixedCell
 mixed-cell t p q i j = refl
@@ -108,7 +99,7 @@ module _ {P : Problem ℤ} {t : Tableau} {s : State ℤ} {r : Leaving} {w : ℕ}
       ∙ ap (entry T (basicAt t i)) (entering-column M .holds)
 
   pub mixed-is : (i j : ℕ) → i < P .m → j < P .n →
-      mixedCell (t .common) (t .entries) p q i j ≡ entry T1 (basicAt next i) (nonbasicAt next j)
+      mixedCell (t .columns) (t .common) (t .entries) p q i j ≡ entry T1 (basicAt next i) (nonbasicAt next j)
   mixed-is i j h k = mixed-cell t p q i j ∙ go (ℕ-discrete i p) (ℕ-discrete j q)
     where
       v-var : basicAt t i < N
@@ -155,32 +146,3 @@ module _ {P : Problem ℤ} {t : Tableau} {s : State ℤ} {r : Leaving} {w : ℕ}
             beside i h,
             relation-off T (r .variable) (nonbasicAt t j) (seated-not-r j k),
           ) refl)))
-
-  -- ---- a row or a column that is not in use
-
-  zero-at : (i j : ℕ) → i < mostRows → j < mostColumns → (P .m ≤ i) ⊎ (P .n ≤ j) → cellAt t i j ≡ pos 0
-  zero-at i j h k o = M .stands .numbers .unused (flat i j) (rw (row-flat i j h k, column-flat i j h k) o)
-
-  pub mixed-unused : (i j : ℕ) → i < mostRows → j < mostColumns → (P .m ≤ i) ⊎ (P .n ≤ j) →
-      mixedCell (t .common) (t .entries) p q i j ≡ pos 0
-  mixed-unused i j h k o = mixed-cell t p q i j ∙ go o
-    where
-      go : (P .m ≤ i) ⊎ (P .n ≤ j) →
-          mixedOf (eqb i p) (eqb j q) (t .common) (cellAt t p q) (cellAt t i j) (cellAt t i q) (cellAt t p j) ≡ pos 0
-      go (inl l) = rw (ne-eqb i p off, zero-at i j h k o, zero-at i q h (column-in-range M) (inl l))
-          (by-column (eqb j q))
-        where
-          off : i ≢ p
-          off e = let z = leaving-row M .in-rows in omega arith
-
-          by-column : (b : Bool) → mixedOf false b (t .common) (cellAt t p q) (pos 0) (pos 0) (cellAt t p j) ≡ pos 0
-          by-column true = zero-*ℤ (t .common)
-          by-column false = empty-row (cellAt t p q) (cellAt t p j)
-      go (inr l) = rw (ne-eqb j q off, zero-at i j h k o, zero-at p j (row-in-range M) k (inr l)) (by-row (eqb i p))
-        where
-          off : j ≢ q
-          off e = let z = entering-column M .in-columns in omega arith
-
-          by-row : (b : Bool) → mixedOf b false (t .common) (cellAt t p q) (pos 0) (cellAt t i q) (pos 0) ≡ pos 0
-          by-row true = empty-leaving-row (t .common)
-          by-row false = empty-column (cellAt t p q) (cellAt t i q)

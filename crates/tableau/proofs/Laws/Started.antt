@@ -1,11 +1,9 @@
 -- The tableau by place at the start of a run stands for the start of the rules.
 --   stands-start    sizes, places, numbers and limits
 use mathlib.Core.Bool.{cond, not}
-use mathlib.Core.Logic.{_⊎_}
 use mathlib.Core.Option.{none, some}
 use mathlib.Core.Path.{ap, ap₂, refl, sym, _∙_, _≡_}
 use Prim.Native.Nat.{ℕ, _+_, _-_, _<_, _≤_}
-use native.Mathlib.Decide.{decLt}
 use native.Mathlib.Omega.{arith}
 use borrow.Author.Tests.{le-ltb, lt-ltb}
 use lib.IntN.{pos, ℤ}
@@ -16,14 +14,12 @@ use Rattle.rules.specs.Problem.{Problem, vars}
 use Rattle.rules.specs.Sizes.{mostColumns, mostRows, mostVariables}
 use Rattle.rules.specs.Step.{same, seat, start, startEntry, startSeat, startValue}
 use Rattle.rules.specs.Tableau.{entry}
-use Rattle.tableau.proofs.Laws.Fitting.{Fitting, serves-start}
-use Rattle.tableau.proofs.Laws.Layout.{column-flat, flat-live, row-flat}
-use Rattle.tableau.proofs.Laws.Reading.{cell-unused, cell-used}
-use Rattle.tableau.specs.Layout.{columnAt, flat, live, mostEntries, rowAt}
+use Rattle.tableau.proofs.Laws.Fitting.{Fitting, coefficient-start, serves-start}
+use Rattle.tableau.specs.Layout.{live, mostEntries}
 use Rattle.tableau.specs.Parts.{basicAt, cell, cellAt, columnOf, nonbasicAt, nowhere}
 use Rattle.tableau.specs.Parts.{rowOf, seatAt, valueAt, variable}
 use Rattle.tableau.specs.Stands.{HasColumn, HasRow, InColumn, InRow, Stands}
-use Rattle.tableau.specs.Start.{seatFor, startCell, startTableau}
+use Rattle.tableau.specs.Start.{seatFor, startTableau}
 use Rattle.tableau.specs.declared.Seat.{Seat}
 use Rattle.tableau.specs.declared.Tableau.{Tableau}
 use Rattle.tableau.specs.declared.Variable.{Variable}
@@ -105,17 +101,6 @@ module _ (P : Problem ℤ) (F : Fitting P) where
 
   -- ---- entries
 
-  abbrev cell-for : ℕ → ℤ
-  cell-for k = startCell P (rowAt k) (columnAt k)
-
-  cell-live : (k : ℕ) → k < live (P .m) (P .n) → cell t k ≡ cell-for k
-  unfolding startTableau
-  cell-live k h = filled-in mostEntries (pos 0) (live (P .m) (P .n)) cell-for k h
-
-  cell-past : (k : ℕ) → live (P .m) (P .n) ≤ k → cell t k ≡ pos 0
-  unfolding startTableau
-  cell-past k h = filled-out mostEntries (pos 0) (live (P .m) (P .n)) cell-for k h
-
   entry-start : (i j : ℕ) → i < P .m → j < P .n → entry (start whole P .tableau) (P .n + i) j ≡ P .coefficient i j
   unfolding startEntry
   entry-start i j h k = at-start whole P (P .n + i) j (omega arith) (omega arith)
@@ -126,17 +111,12 @@ module _ (P : Problem ℤ) (F : Fitting P) where
   cell-is-start : (i j : ℕ) → i < P .m → j < P .n →
       cellAt t i j ≡ entry (start whole P .tableau) (basicAt t i) (nonbasicAt t j)
   cell-is-start i j h k = let q = F .few-rows in let p = F .few-columns in
-      cell-live (flat i j) (flat-live (P .m) (P .n) q p i j h k)
-      ∙ ap₂ (startCell P) (row-flat i j (omega arith) (omega arith)) (column-flat i j (omega arith) (omega arith))
-      ∙ cell-used P i j h k ∙ sym (entry-start i j h k)
+      coefficient-start P F i j h k ∙ sym (entry-start i j h k)
       ∙ sym (ap₂ (entry (start whole P .tableau)) (basic-is i (omega arith)) (nonbasic-is j (omega arith)))
 
-  unused-start : (k : ℕ) → (P .m ≤ rowAt k) ⊎ (P .n ≤ columnAt k) → cell t k ≡ pos 0
-  unused-start k h = go (decLt k (live (P .m) (P .n)))
-    where
-      go : Dec (k < live (P .m) (P .n)) → cell t k ≡ pos 0
-      go (yes l) = cell-live k l ∙ cell-unused P (rowAt k) (columnAt k) h
-      go (no l) = cell-past k (omega arith)
+  unused-start : (k : ℕ) → live (P .m) (P .n) ≤ k → cell t k ≡ pos 0
+  unfolding startTableau
+  unused-start k h = filled-out mostEntries (pos 0) (live (P .m) (P .n)) _ k h
 
   -- ---- the whole
 

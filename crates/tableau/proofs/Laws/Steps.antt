@@ -58,13 +58,14 @@ module _ {P : Problem ℤ} {t : Tableau} {s : State ℤ} {r : Leaving} {w : ℕ}
   few : (v : ℕ) → v < vars P → v < mostVariables
   few v h = let a = M .stands .sized .few-rows in let b = M .stands .sized .few-columns in omega arith
 
-  pub pivotable : Cells t → Pivotable t p q
+  pub pivotable : Cells t → Pivotable (t .rows) (t .columns) (t .entries) (t .common) p q
   pivotable c = record {
     few-rows = rw (M .stands .sized .rows-is) (M .stands .sized .few-rows);
     few-columns = rw (M .stands .sized .columns-is) (M .stands .sized .few-columns);
     in-rows = rw (M .stands .sized .rows-is) (leaving-row M .in-rows);
     in-columns = rw (M .stands .sized .columns-is) (entering-column M .in-columns);
-    cells = c;
+    common-within = c .common-within;
+    all-within = record { each = c .cell-within };
     common-nonzero = common-nonzero M;
     pivot-nonzero = pivot-nonzero M;
   }

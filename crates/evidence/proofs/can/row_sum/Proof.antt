@@ -16,8 +16,9 @@ use Rattle.whole.proofs.Sums.{sum-step, sum-within}
 use Rattle.rules.specs.Sizes.{largestCoefficient, largestNumerator, mostColumns}
 use Rattle.rules.specs.Evidence.{lowerPart}
 use Rattle.tableau.specs.Layout.{mostEntries}
-use Rattle.evidence.specs.Reads.{entryOf, rowUpTo}
-use Rattle.evidence.proofs.Laws.Places.{place-in}
+use Rattle.evidence.specs.Reads.{rowUpTo}
+use Rattle.tableau.specs.Parts.{entryIn}
+use Rattle.tableau.proofs.Laws.Layout.{flat-in}
 use Rattle.evidence.proofs.can.row_sum.Statement.{statement}
 use Rattle.evidence.proofs.can.row_sum.Tie as tie
 
@@ -33,7 +34,7 @@ unfolding rowUpTo sumBy
 loop-holds c = (omega arith, refl)
 
 place-requires : tie.Need-place-requires Inv-loop μ-loop
-place-requires c κs = (omega arith, omega arith)
+place-requires c κs = (omega arith, omega arith, omega arith)
 
 add-at : tie.Need-add-at Inv-loop μ-loop
 add-at c = omega arith
@@ -43,7 +44,7 @@ module _ (c : tie.After-place Inv-loop μ-loop) where
   in-entries : c .place .result < mostEntries
   in-entries = let o = c .before .before .before .args in
       rw (c .place .ensures)
-      (place-in (o .columns) (o .row .0) (c .before .before .loop .j) (omega arith) (omega arith) (omega arith))
+      (flat-in (o .columns) (o .row .0) (c .before .before .loop .j) (omega arith) (omega arith) (omega arith))
 
 mul-e : tie.Need-mul-e Inv-loop μ-loop
 mul-e c = let h = in-entries c in omega arith
@@ -65,7 +66,7 @@ module _ (c : tie.After-x Inv-loop μ-loop) where
   j = c .before .before .before .before .loop .j
 
   abbrev term : ℕ → ℤ
-  term k = entryOf (start .args .entries .now) (start .args .columns) (start .args .row .0) k
+  term k = entryIn (start .args .columns) (start .args .entries .now) (start .args .row .0) k
       *ℤ lowerPart (start .args .answer .now) k
 
   abbrev upTo : ℕ → ℤ

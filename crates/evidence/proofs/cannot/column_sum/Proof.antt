@@ -16,8 +16,9 @@ use Rattle.whole.proofs.Sizes.{within-*, within-+, within--, within-le, fits-by
 use Rattle.whole.proofs.Sums.{sum-step, sum-within}
 use Rattle.rules.specs.Sizes.{largestCoefficient, largestNumber, mostRows}
 use Rattle.tableau.specs.Layout.{mostEntries}
-use Rattle.evidence.specs.Reads.{entryOf, balanceAt, columnUpTo}
-use Rattle.evidence.proofs.Laws.Places.{place-in}
+use Rattle.evidence.specs.Reads.{balanceAt, columnUpTo}
+use Rattle.tableau.specs.Parts.{entryIn}
+use Rattle.tableau.proofs.Laws.Layout.{flat-in}
 use Rattle.evidence.proofs.cannot.column_sum.Statement.{statement}
 use Rattle.evidence.proofs.cannot.column_sum.Tie as tie
 
@@ -42,14 +43,14 @@ unfolding columnUpTo sumBy
 loop-holds c = (omega arith, toZ-ofZ (fit-first c) ∙ c .balance .ensures ∙ sym (+ℤ-idr _))
 
 place-requires : tie.Need-place-requires Inv-loop μ-loop
-place-requires c κs = (omega arith, omega arith)
+place-requires c κs = (omega arith, omega arith, omega arith)
 
 -- the flat place
 module _ (c : tie.After-place Inv-loop μ-loop) where
   in-entries : c .place .result < mostEntries
   in-entries = let o = c .before .before .before .before .args in
       rw (c .place .ensures)
-      (place-in (o .columns) (c .before .before .loop .i) (o .column .0) (omega arith) (omega arith) (omega arith))
+      (flat-in (o .columns) (c .before .before .loop .i) (o .column .0) (omega arith) (omega arith) (omega arith))
 
 mul-e : tie.Need-mul-e Inv-loop μ-loop
 mul-e c = let h = in-entries c in omega arith
@@ -81,7 +82,7 @@ module _ (c : tie.After-balance2 Inv-loop μ-loop) where
       (start .args .column .0)
 
   abbrev term : ℕ → ℤ
-  term k = entryOf (start .args .entries .now) (start .args .columns) k (start .args .column .0)
+  term k = entryIn (start .args .columns) (start .args .entries .now) k (start .args .column .0)
       *ℤ balanceAt (start .args .answer .now) variables (start .args .columns + k)
 
   abbrev read : ℤ

@@ -23,15 +23,15 @@ use Rattle.solver.proofs.multipliers.multipliers_of.Tie as tie
 
 abbrev Inv-loop : tie.InvT-loop
 Inv-loop entries common rows columns blocked seats variables lower₀ upper₀ v₀ lower upper v = (v ≤ variables)
-    × (lower ≡ filled mostVariables (pos 0) v (λ v. positive (negℤ (pullIn entries seats (toZ w64 common) blocked v))))
-    × (upper ≡ filled mostVariables (pos 0) v (λ v. positive (pullIn entries seats (toZ w64 common) blocked v)))
+    × (lower ≡ filled mostVariables (pos 0) v (λ v. positive (negℤ (pullIn entries seats columns (toZ w64 common) blocked v))))
+    × (upper ≡ filled mostVariables (pos 0) v (λ v. positive (pullIn entries seats columns (toZ w64 common) blocked v)))
 
 abbrev μ-loop : tie.MeasureT-loop
 μ-loop entries common rows columns blocked seats variables lower₀ upper₀ v₀ lower upper v = variables - v
 
 -- the pull at a variable, the common number by its bits
 abbrev read : tie.Start Inv-loop μ-loop → ℕ → ℤ
-read s = let a = s .args in pullIn (a .entries .now) (a .t2) (toZ w64 (ofZ w64 (a .common))) (a .blocked)
+read s = let a = s .args in pullIn (a .entries .now) (a .t2) (a .columns) (toZ w64 (ofZ w64 (a .common))) (a .blocked)
 
 add-variables : tie.Need-add-variables Inv-loop μ-loop
 add-variables c = omega arith

@@ -14,7 +14,8 @@ use mir.Val.{SFits}
 use Rattle.whole.proofs.Sizes.{fits-by, within-neg}
 use Rattle.rules.specs.Sizes.{mostColumns}
 use Rattle.rules.specs.Step.{pull}
-use Rattle.tableau.specs.Layout.{flat, mostEntries}
+use Rattle.tableau.specs.Layout.{mostEntries}
+use Rattle.tableau.specs.Parts.{entryIn}
 use Rattle.tableau.proofs.Laws.Layout.{flat-in}
 use Rattle.search.specs.Sides.{sideBy}
 use Rattle.solver.specs.Multipliers.{pullOf, relationFrom}
@@ -25,7 +26,7 @@ use Rattle.solver.proofs.multipliers.pull_of.Tie as tie
 abbrev relation : tie.Start → Bool → Bool → ℤ
 relation s basic own = let a = s .args in
     pull (sideBy (a .blocked .rises)) (relationFrom basic own (a .common)
-    (getD (a .entries .now) (flat (a .blocked .row .0) (a .seat .column .0)) (pos 0)))
+    (entryIn (a .columns) (a .entries .now) (a .blocked .row .0) (a .seat .column .0)))
 
 pull-zero : (b : Bool) → pull (sideBy b) (pos 0) ≡ pos 0
 unfolding pull
@@ -33,16 +34,16 @@ pull-zero true = refl
 pull-zero false = refl
 
 -- the seat's column is one
-in-columns : (c : tie.Then1) → c .before .before .before .args .seat .column .0 < mostColumns
-in-columns c = let p = c .before .before .before .pre in let a = p .in-columns (not-true _ (c .if1 .taken)) in let b = p .few-columns in omega arith
+in-columns : (c : tie.Then1) → let a = c .before .before .before .args in a .seat .column .0 < a .columns
+in-columns c = c .before .before .before .pre .in-columns (not-true _ (c .if1 .taken))
 
 place-requires : tie.Need-place-requires
-place-requires c κs = (c .before .before .before .pre .in-rows, in-columns c)
+place-requires c κs = let p = c .before .before .before .pre in (p .in-rows, in-columns c, p .few-columns)
 
 place-in : (c : tie.After-place) → c .place .result < mostEntries
 place-in c = let s = c .before .before .before .before in
-    rw (c .place .ensures) (flat-in (s .args .blocked .row .0) (s .args .seat .column .0) (s .pre .in-rows)
-    (in-columns (c .before)))
+    rw (c .place .ensures) (flat-in (s .args .columns) (s .args .blocked .row .0) (s .args .seat .column .0)
+    (in-columns (c .before)) (s .pre .in-rows) (s .pre .few-columns))
 
 mul-e : tie.Need-mul-e
 mul-e c = let z = place-in c in omega arith

@@ -1,36 +1,52 @@
 -- `solver::run::run` meets its contract. The loop's invariant: the tableau is the first one after as many steps as are
 -- counted, and all of them go on. The measure is what is left of the bound on the count, which the run of the state stays
 -- below. What is told of the last tableau is the answer of the rules. Assumes nothing.
-use mathlib.Core.Path.{_≡_, ap, ap₂, sym, _∙_}
-use Prim.Native.Nat.{ℕ, _-_, _<_}
+use mathlib.Core.List.{List}
+use mathlib.Core.Path.{_≡_, ap, ap₂, subst, sym, _∙_}
+use Prim.Native.Nat.{ℕ, _+_, _-_, _<_}
 use native.Mathlib.Omega.{arith}
 use borrow.Author.Needs.{needs}
+use lib.IntN.{ℤ}
+use mir.Facts.{toZ-ofZ}
+use mir.Syntax.{w64}
+use mir.Val.{SFits}
+use Rattle.whole.proofs.Sizes.{fits-by}
+use Rattle.tableau.specs.declared.ColumnPlace.{ColumnPlace}
+use Rattle.tableau.specs.declared.RowPlace.{RowPlace}
 use Rattle.tableau.specs.declared.Tableau.{Tableau}
+use Rattle.tableau.specs.Pivot.{Swappable, withNumbers}
+use Rattle.search.specs.Search.{nextAt}
 use Rattle.solver.specs.declared.step.End.{End}
+use Rattle.solver.specs.declared.step.Outcome.the-variants as outcomes
 use Rattle.solver.specs.Answer.{laidOver, mostCount}
-use Rattle.solver.specs.Run.{Finished, GoesOn, afterAt}
-use Rattle.solver.specs.Step.{steppedAt}
+use Rattle.solver.specs.Run.{Finished, GoesOn, Tellable, afterAt, endWords}
+use Rattle.solver.specs.Step.{Held, leftAt, outcomeAt, steppedAt}
 use Rattle.solver.proofs.Laws.Runs.{after-more, after-none, boundOf, count-below, count-small, goes-more, held-after}
+use Rattle.solver.proofs.Laws.Stepped.{Chosen, exchanged, going, outcome-ended, outcome-goes, outcome-left, readOf}
+use Rattle.solver.proofs.Laws.Steps.{common-held, places-held, steppable-held, value-held}
 use Rattle.solver.proofs.Laws.Told.{last-many, tellable, told}
 use Rattle.solver.proofs.run.run.Statement.{statement}
 use Rattle.solver.proofs.run.run.Tie as tie
 
 abbrev Inv-run : tie.InvT-run
-Inv-run out now₀ count₀ now count = (now ≡ afterAt now₀ count) × GoesOn now₀ count
+Inv-run out t₀ count₀ t count = (t ≡ afterAt t₀ count) × GoesOn t₀ count
 
 abbrev μ-run : tie.MeasureT-run
-μ-run out now₀ count₀ now count = boundOf now₀ - count
+μ-run out t₀ count₀ t count = boundOf t₀ - count
 
 run-holds : tie.Need-run-holds Inv-run μ-run
-run-holds c = (after-none (c .args .t), λ i h. let z : ⊥ = omega arith in absurd z)
+run-holds c = (after-none (c .args .t1), λ i h. let z : ⊥ = omega arith in absurd z)
 
 -- at a turn
 module _ (c : tie.At-run Inv-run μ-run) where
   abbrev first : Tableau
-  first = c .before .args .t
+  first = c .before .args .t1
 
   abbrev count : ℕ
   count = c .run .count
+
+  abbrev here : Tableau
+  here = c .run .t
 
   under-bound : count < boundOf first
   under-bound = count-below (c .before .pre .0) count (c .run .inv .1)
@@ -38,49 +54,157 @@ module _ (c : tie.At-run Inv-run μ-run) where
   small : count < mostCount
   small = count-small (c .before .pre .0) count (c .run .inv .1)
 
+  held : Held here
+  held = rw (c .run .inv .0) (held-after (c .before .pre .0 .begun) count (c .run .inv .1))
+
+fit-common : (c : tie.At-run Inv-run μ-run) → SFits w64 (here c .common)
+fit-common c = fits-by (held c .ranged .cells .common-within) tt
+
 step-requires : tie.Need-step-requires Inv-run μ-run
-step-requires c κs = rw (c .run .inv .0) (held-after (c .before .pre .0 .begun) (count c) (c .run .inv .1))
-
-enum-known-how : tie.Need-enum-known-how Inv-run μ-run
-enum-known-how c = search needs
-
-enum-told : tie.Need-enum-told Inv-run μ-run
-enum-told c = search needs
+step-requires c κs = let a = c .before .before .before .before .before .before in simp (toZ-ofZ (fit-common a)) (steppable-held (held a))
 
 -- the step from there
-step-at : (c : tie.After-step Inv-run μ-run) → c .step .result ≡ steppedAt (afterAt (first (c .before)) (count (c .before)))
-step-at c = c .step .ensures ∙ ap steppedAt (c .before .run .inv .0)
+module _ (c : tie.After-step Inv-run μ-run) where
+  abbrev at : tie.At-run Inv-run μ-run
+  at = c .before .before .before .before .before .before .before
+
+  abbrev left : List ℤ
+  left = c .step .last .1 .1 .1 .1 .1 .1 .1 .0
+
+  step-is : (c .step .result ≡ outcomeAt (readOf (here at))) × (left ≡ leftAt (readOf (here at)))
+  step-is = simp (toZ-ofZ (fit-common at)) at (c .step .ensures)
+
+enum-known-next : tie.Need-enum-known-next Inv-run μ-run
+enum-known-next c = search needs
+
+enum-known-next-2 : tie.Need-enum-known-next-2 Inv-run μ-run
+enum-known-next-2 c = search needs
+
+-- it goes on
+module _ (c : tie.After-next2 Inv-run μ-run) where
+  abbrev step-made : tie.After-step Inv-run μ-run
+  step-made = c .before .before
+
+  abbrev turn : tie.At-run Inv-run μ-run
+  turn = at step-made
+
+  abbrev row : RowPlace
+  row = c .next2 .given .0 .0
+
+  abbrev column : ColumnPlace
+  column = c .next2 .given .0 .1 .0
+
+  abbrev value : ℤ
+  value = c .next2 .given .0 .1 .1 .0
+
+  abbrev common : ℤ
+  common = c .next2 .given .0 .1 .1 .1 .0
+
+  chosen : Chosen (here turn) row column value common (nextAt (here turn))
+  chosen = outcome-goes (here turn) row column value common (sym (step-is step-made .0) ∙ c .next2 .given .1)
+
+  places : Swappable (here turn) (row .0) (column .0)
+  places = places-held (held turn) chosen
+
+  fit-new : SFits w64 common
+  fit-new = common-held (held turn) chosen
+
+  fit-value : SFits w64 value
+  fit-value = value-held (held turn) chosen
+
+mul-leaving : tie.Need-mul-leaving Inv-run μ-run
+mul-leaving c = omega (arith, places (c .before) .in-rows)
+
+element-copy-out-leaving : tie.Need-element-copy-out-leaving Inv-run μ-run
+element-copy-out-leaving c = places (c .before) .in-rows
+
+mul-entering : tie.Need-mul-entering Inv-run μ-run
+mul-entering c = omega (arith, places (c .before .before) .in-columns)
+
+element-copy-out-entering : tie.Need-element-copy-out-entering Inv-run μ-run
+element-copy-out-entering c = places (c .before .before) .in-columns
+
+mul-entering-2 : tie.Need-mul-entering-2 Inv-run μ-run
+mul-entering-2 c = omega (arith, places (c .before .before .before) .in-rows)
+
+element-set-from-entering : tie.Need-element-set-from-entering Inv-run μ-run
+element-set-from-entering c = places (c .before .before .before) .in-rows
+
+mul-leaving-2 : tie.Need-mul-leaving-2 Inv-run μ-run
+mul-leaving-2 c = omega (arith, places (c .before .before .before) .in-columns)
+
+element-set-from-leaving : tie.Need-element-set-from-leaving Inv-run μ-run
+element-set-from-leaving c = places (c .before .before .before) .in-columns
+
+mul-value : tie.Need-mul-value Inv-run μ-run
+mul-value c = omega (arith, places (c .before .before .before) .in-columns)
+
+element-set-from-value : tie.Need-element-set-from-value Inv-run μ-run
+element-set-from-value c = places (c .before .before .before) .in-columns
+
+seated-requires : tie.Need-seated-requires Inv-run μ-run
+seated-requires c κs = search needs
+
+mul-t : tie.Need-mul-t Inv-run μ-run
+mul-t c = omega (arith, places (c .before .before .before .before) .entering-seat)
+
+element-set-from-t : tie.Need-element-set-from-t Inv-run μ-run
+element-set-from-t c = places (c .before .before .before .before) .entering-seat
+
+seated-requires-2 : tie.Need-seated-requires-2 Inv-run μ-run
+seated-requires-2 c κs = search needs
+
+mul-t27 : tie.Need-mul-t27 Inv-run μ-run
+mul-t27 c = omega (arith, places (c .before .before .before .before .before) .leaving-seat)
+
+element-set-from-t-2 : tie.Need-element-set-from-t-2 Inv-run μ-run
+element-set-from-t-2 c = places (c .before .before .before .before .before) .leaving-seat
 
 add-count : tie.Need-add-count Inv-run μ-run
-add-count c = let z = small (c .before .before .before .before) in omega arith
+add-count c = let z = small (turn (c .before .before .before .before .before)) in omega arith
 
 run-less : tie.Need-run-less Inv-run μ-run
-run-less c = let z = under-bound (c .before .before .before .before) in omega arith
+run-less c = let z = under-bound (turn (c .before .before .before .before .before)) in omega arith
 
 run-again : tie.Need-run-again Inv-run μ-run
-run-again c = let a = c .before .before .before .before in let e = step-at (c .before .before .before) in (
-  ap (λ s. s .tableau) e ∙ after-more (first a) (count a),
-  goes-more (first a) (count a) (a .run .inv .1) (sym (ap (λ s. s .outcome) e) ∙ c .before .enum-told .given .1),
+run-again c = let o = c .before .before .before .before .before in let a = turn o in (
+  simp (toZ-ofZ (fit-new o), toZ-ofZ (fit-value o))
+      (exchanged (here a) (row o) (column o) (value o) (common o) (chosen o) (step-is (step-made o) .1) (c .before .seated .ensures)
+      (c .seated2 .ensures) ∙ ap (λ u. steppedAt u .tableau) (a .run .inv .0) ∙ after-more (first a) (count a)),
+  goes-more (first a) (count a) (a .run .inv .1)
+      (ap (λ u. steppedAt u .course) (sym (a .run .inv .0)) ∙ going (here a) (row o) (column o) (value o) (common o) (chosen o)),
 )
 
 -- the step that ends it
-module _ (c : tie.After-how Inv-run μ-run) where
+module _ (c : tie.After-next Inv-run μ-run) where
+  abbrev last-step : tie.After-step Inv-run μ-run
+  last-step = c .before .before
+
   abbrev at-end : tie.At-run Inv-run μ-run
-  at-end = c .before .before .before
+  at-end = at last-step
 
   abbrev end : End
-  end = c .how .given .0 .0
+  end = c .next .given .0 .0
 
-  finished : Finished (first at-end) end (count at-end) (at-end .run .now)
+  ended-as : outcomeAt (readOf (here at-end)) ≡ outcomes.Ended end
+  ended-as = sym (step-is last-step .0) ∙ c .next .given .1
+
+  -- the entries stay, and with them the tableau
+  now-is : withNumbers (here at-end) (here at-end .common) (left last-step) ≡ here at-end
+  now-is = ap (withNumbers (here at-end) (here at-end .common)) (step-is last-step .1 ∙ outcome-left (here at-end) end ended-as)
+
+  finished : Finished (first at-end) end (count at-end) (here at-end)
   finished = record {
     goes-on = at-end .run .inv .1;
-    ended = sym (ap (λ s. s .outcome) (step-at (c .before .before))) ∙ c .how .given .1;
+    ended = ap (λ u. steppedAt u .course) (sym (at-end .run .inv .0)) ∙ ap (λ s. s .course) (outcome-ended (here at-end) end ended-as);
     last = at-end .run .inv .0;
   }
 
 tell-requires : tie.Need-tell-requires Inv-run μ-run
-tell-requires c κs = let o = c .before .before in let p = at-end o .before .pre in
-    (tellable (p .0) (finished o), let z = last-many (p .0) (finished o) in omega (arith, p .1))
+tell-requires c κs = let o = c .before .before in let p = at-end o .before .pre in (
+  subst (Tellable (end o) (count (at-end o))) (sym (now-is o)) (tellable (p .0) (finished o)),
+  let z = last-many (p .0) (finished o) in omega (arith, p .1),
+)
 
 same-length : tie.Need-same-length Inv-run μ-run
 same-length c = search needs
@@ -88,6 +212,7 @@ same-length c = search needs
 returns : tie.Need-returns Inv-run μ-run
 returns c S = let o = c .before .before .before .before in let a = at-end o .before .args in
     c .before .tell .ensures
+    ∙ ap (λ u. laidOver (u .rows + u .columns) (a .out .now) (endWords (end o) (count (at-end o)) u (u .rows + u .columns))) (now-is o)
     ∙ ap₂ (λ N l. laidOver N (a .out .now) l) (last-many S (finished o)) (told S (finished o))
 
 pub run-spec : {M : Type 1} → statement M
@@ -98,8 +223,24 @@ run-spec =
     μ-run
     run-holds
     step-requires
-    enum-known-how
-    enum-told
+    enum-known-next
+    enum-known-next-2
+    mul-leaving
+    element-copy-out-leaving
+    mul-entering
+    element-copy-out-entering
+    mul-entering-2
+    element-set-from-entering
+    mul-leaving-2
+    element-set-from-leaving
+    mul-value
+    element-set-from-value
+    seated-requires
+    mul-t
+    element-set-from-t
+    seated-requires-2
+    mul-t27
+    element-set-from-t-2
     add-count
     run-less
     run-again

@@ -1,42 +1,40 @@
 -- `solver::step::step` meets its contract: the answer of the search, and after a pivot that of the range test, is the
 -- definition's case. Assumes nothing.
-use mathlib.Core.Path.{_≡_, ap, ap₂, sym, _∙_}
-use Prim.Native.Nat.{_≤_}
-use borrow.Author.Needs.{needs}
+use mathlib.Core.Bool.{Bool, true, false}
+use mathlib.Core.Path.{_≡_, ap, ap₂, refl, subst, sym, _∙_}
+use native.Mathlib.Omega.{arith}
+use Prim.Native.Nat.{ℕ}
+use borrow.Author.Needs.{needs, sfits-of}
+use lib.IntN.{ℤ, pos}
+use lib.ListN.{getD}
 use mir.Facts.{toZ-ofZ}
 use mir.Syntax.{w64}
 use mir.Val.{SFits}
-use Rattle.rules.specs.Sizes.{mostColumns, mostRows}
+use Rattle.whole.proofs.Bools.{zero-one}
+use Rattle.tableau.specs.declared.pivot.Pivoted.the-variants as pivots
 use Rattle.tableau.specs.declared.Tableau.{Tableau}
-use Rattle.tableau.specs.Pivot.{smallBelow}
-use Rattle.tableau.proofs.Laws.Layout.{live-most}
+use Rattle.tableau.specs.Parts.{basicAt}
+use Rattle.tableau.specs.Pivot.{commonAfter, entriesAfter, entriesBy, pivotedBy}
+use Rattle.tableau.proofs.Laws.Reductions.{quotient-fits}
 use Rattle.search.specs.declared.Choice.{Choice}
 use Rattle.search.specs.declared.Next.the-variants as nexts
 use Rattle.search.specs.Search.{nextAt}
 use Rattle.search.proofs.Laws.Seen.{next-seen, searchable-seen}
-use Rattle.solver.specs.Step.{admitAt, fitting, movedAt}
-use Rattle.solver.proofs.Laws.Stepped.{moved-columns, moved-rows, stepped-none, stepped-pivot, stepped-stuck}
-use Rattle.solver.proofs.Laws.Steps.{move-held, search-held}
+use Rattle.solver.specs.declared.step.Outcome.the-variants as outcomes
+use Rattle.solver.specs.Step.{Movable, answerBy, entriesLeft, fitsBy, outcomeBy, readAs, valueAfter}
 use Rattle.solver.proofs.step.step.Statement.{statement}
 use Rattle.solver.proofs.step.step.Tie as tie
 
-fit-first : (c : tie.Start) → SFits w64 (c .args .t1 .common)
-fit-first c = search needs
+-- the tableau that is read
+abbrev old : tie.Start → Tableau
+old s = let a = s .args in readAs (a .entries .now) (a .t1) (a .t2) (a .seats) (a .t4) (a .common) (a .rows) (a .columns)
 
 next-step-requires : tie.Need-next-step-requires
-next-step-requires c κs = let s = c .before .before .before .before .before .before in
-    simp (toZ-ofZ (fit-first s)) (searchable-seen (search-held (s .pre)))
+next-step-requires c κs = let s = c .before .before in simp (toZ-ofZ (s .fits .common)) (searchable-seen (s .pre .searchable))
 
--- the search has answered
-module _ (c : tie.After-next-step) where
-  abbrev start : tie.Start
-  start = c .before .before .before .before .before .before .before
-
-  abbrev old : Tableau
-  old = start .args .t1
-
-  found-is : c .next-step .result ≡ nextAt old
-  found-is = (simp (toZ-ofZ (fit-first start)) at (c .next-step .ensures)) ∙ next-seen old
+-- what the search finds is the definition's
+next-is : (c : tie.After-next-step) → c .next-step .result ≡ nextAt (old (c .before .before .before))
+next-is c = let s = c .before .before .before in (simp (toZ-ofZ (s .fits .common)) at (c .next-step .ensures)) ∙ next-seen (old s)
 
 enum-told : tie.Need-enum-told
 enum-told c = search needs
@@ -49,80 +47,122 @@ enum-known-next-2 c = search needs
 
 -- a pivot is chosen
 module _ (c : tie.After-next2) where
-  abbrev searched : tie.After-next-step
-  searched = c .before .before
-
-  abbrev first : Tableau
-  first = old searched
+  abbrev start : tie.Start
+  start = c .before .before .before .before .before
 
   abbrev choice : Choice
   choice = c .next2 .given .0 .0
 
-  next-is : nextAt first ≡ nexts.Pivot choice
-  next-is = sym (found-is searched) ∙ c .next2 .given .1
+  chosen-is : nextAt (old start) ≡ nexts.Pivot choice
+  chosen-is = sym (next-is (c .before .before)) ∙ c .next2 .given .1
 
-moved-requires : tie.Need-moved-requires
-moved-requires c κs = let o = c .before in move-held (start (searched o) .pre) (choice o) (next-is o)
+  movable : Movable (old start) choice
+  movable = start .pre .movable choice chosen-is
+
+mul-leaving : tie.Need-mul-leaving
+mul-leaving c = omega (arith, movable (c .before .before .before) .row-place)
+
+array-copy-out-leaving : tie.Need-array-copy-out-leaving
+array-copy-out-leaving c = movable (c .before .before .before) .row-place
+
+mul-violated-limit : tie.Need-mul-violated-limit
+mul-violated-limit c = omega (arith, movable (c .before .before .before .before) .leaving-seat)
+
+element-copy-out-violated-limit : tie.Need-element-copy-out-violated-limit
+element-copy-out-violated-limit c = movable (c .before .before .before .before) .leaving-seat
+
+mul-violated-limit-2 : tie.Need-mul-violated-limit-2
+mul-violated-limit-2 c = omega (arith, movable (c .before .before .before .before .before) .leaving-seat)
+
+element-copy-out-violated-limit-2 : tie.Need-element-copy-out-violated-limit-2
+element-copy-out-violated-limit-2 c = movable (c .before .before .before .before .before) .leaving-seat
+
+violated-limit-requires : tie.Need-violated-limit-requires
+violated-limit-requires c κs = search needs
+
+pivot-requires : tie.Need-pivot-requires
+pivot-requires c κs = let o = c .before .before .before .before .before .before .before .before in
+    simp (toZ-ofZ (start o .fits .common)) (movable o .pivotable)
+
+enum-known-turned : tie.Need-enum-known-turned
+enum-known-turned c = search needs
+
+enum-told-2 : tie.Need-enum-told-2
+enum-told-2 c = search needs
+
+-- what the pivot answers tells whether it is in range
+common-told : (b : Bool) (d z : ℤ) → pivotedBy b d ≡ pivots.Common z → (b ≡ true) × (d ≡ z)
+common-told true d z e = (refl, cc)
+common-told false d z e = let y : _≡_ {A = ℕ} 0 1 = cc in zero-one y
+
+beyond-told : (b : Bool) (d : ℤ) → pivotedBy b d ≡ pivots.Beyond → b ≡ false
+beyond-told true d e = let y : _≡_ {A = ℕ} 0 1 = cc in zero-one y
+beyond-told false d e = refl
 
 -- the pivot is made
-module _ (c : tie.After-moved) where
+module _ (c : tie.After-pivot) where
   abbrev chosen : tie.After-next2
-  chosen = c .before .before
+  chosen = c .before .before .before .before .before .before .before .before .before
 
-  moved-is : c .moved .result ≡ movedAt (first chosen) (choice chosen)
-  moved-is = c .moved .ensures
+  abbrev t : Tableau
+  t = old (start chosen)
 
-  few-rows : c .moved .result .rows ≤ mostRows
-  few-rows = rw (ap (λ t. t .rows) moved-is ∙ moved-rows (first chosen) (choice chosen))
-      (search-held (start (searched chosen) .pre) .few-rows)
+  abbrev common : ℤ
+  common = commonAfter (t .rows) (t .columns) (t .entries) (t .common) (choice chosen .row .0) (choice chosen .column .0)
 
-  few-columns : c .moved .result .columns ≤ mostColumns
-  few-columns = rw (ap (λ t. t .columns) moved-is ∙ moved-columns (first chosen) (choice chosen))
-      (search-held (start (searched chosen) .pre) .few-columns)
+  turned-is : (c .pivot .result ≡ pivotedBy (fitsBy t (choice chosen)) common)
+      × (c .pivot .last .0 ≡ entriesBy (fitsBy t (choice chosen)) (t .entries)
+      (entriesAfter (t .rows) (t .columns) (t .entries) (t .common) (choice chosen .row .0) (choice chosen .column .0)))
+  turned-is = simp (toZ-ofZ (start chosen .fits .common)) at (c .pivot .ensures)
 
-live-requires : tie.Need-live-requires
-live-requires c κs = (few-rows c, few-columns c)
+  left-is : c .pivot .last .0 ≡ entriesLeft t (nextAt t)
+  unfolding entriesLeft
+  left-is = turned-is .1 ∙ sym (ap (entriesLeft t) (chosen-is chosen))
 
-all-in-range-requires : tie.Need-all-in-range-requires
-all-in-range-requires c κs = let o = c .before .before .before .before in
-    rw (c .before .before .before .live .ensures) (live-most (o .moved .result .rows) (o .moved .result .columns) (few-rows o) (few-columns o))
+  answer-is : (b : Bool) → fitsBy t (choice chosen) ≡ b → answerBy b t (choice chosen) ≡ outcomeBy t (nextAt t)
+  unfolding outcomeBy
+  answer-is b e = ap (λ b. answerBy b t (choice chosen)) (sym e) ∙ sym (ap (outcomeBy t) (chosen-is chosen))
 
--- the range is tested
-module _ (c : tie.After-all-in-range) where
-  abbrev made : tie.After-moved
-  made = c .before .before .before .before .before
+  fit-lower : SFits w64 (getD (t .limits .lower) (basicAt t (choice chosen .row .0)) (pos 0))
+  fit-lower = sfits-of (c .before .before .before .before .violated-limit-arg .given)
 
-  abbrev after : Tableau
-  after = movedAt (first (chosen made)) (choice (chosen made))
+  fit-upper : SFits w64 (getD (t .limits .upper) (basicAt t (choice chosen .row .0)) (pos 0))
+  fit-upper = sfits-of (c .before .before .before .violated-limit-arg2 .given)
 
-  fit-common : SFits w64 (made .moved .result .common)
-  fit-common = search needs
+  fit-value : SFits w64 (c .before .before .violated-limit .result)
+  fit-value = search needs
 
-  test-is : c .all-in-range .result ≡ fitting after
-  test-is = (simp (toZ-ofZ fit-common) at (c .all-in-range .ensures))
-      ∙ ap (λ k. smallBelow k (made .moved .result .entries) (made .moved .result .common)) (c .before .before .before .before .live .ensures)
-      ∙ ap fitting (moved-is made)
-
-  stepped-is : admitAt (c .all-in-range .result) (first (chosen made)) (made .moved .result) ≡ admitAt (fitting after) (first (chosen made)) after
-  stepped-is = ap₂ (λ b u. admitAt b (first (chosen made)) u) test-is (moved-is made)
+  value-is : c .before .before .violated-limit .result ≡ valueAfter t (choice chosen)
+  value-is = simp (toZ-ofZ fit-lower, toZ-ofZ fit-upper) at (c .before .before .violated-limit .ensures)
 
 returns : tie.Need-returns
-returns c = let o = c .before in let t = first (chosen (made o)) in
-    sym (ap (λ b. admitAt b t (made o .moved .result)) (c .if1 .taken)) ∙ stepped-is o
-    ∙ sym (stepped-pivot t (choice (chosen (made o))) (next-is (chosen (made o))))
+unfolding outcomeBy entriesLeft
+returns c = let o = c .before .before in let t = old (o .before .before .before) in
+    let e : nextAt t ≡ nexts.Within = sym (next-is o) ∙ c .enum-told .given .1 in
+    (sym (ap (outcomeBy t) e), sym (ap (entriesLeft t) e))
 
 returns-2 : tie.Need-returns-2
-returns-2 c = let s = c .before .before in
-    sym (stepped-none (old s) (sym (found-is s) ∙ c .enum-told .given .1))
+unfolding outcomeBy entriesLeft
+returns-2 c = let o = c .before .before .before in let t = old (o .before .before .before) in
+    let e : nextAt t ≡ nexts.Stuck (c .before .next .given .0 .0) = sym (next-is o) ∙ c .before .next .given .1 in
+    (sym (ap (outcomeBy t) e), sym (ap (entriesLeft t) e))
 
 returns-3 : tie.Need-returns-3
-returns-3 c = let s = c .before .before .before in
-    sym (stepped-stuck (old s) (c .before .next .given .0 .0) (sym (found-is s) ∙ c .before .next .given .1))
+returns-3 c =
+    let d = c .before .before .before in
+    let w = choice (chosen d) in
+    let x = c .before .turned .given in
+    let f = common-told (fitsBy (t d) w) (common d) (x .0 .0) (sym (turned-is d .0) ∙ x .1) in
+    let fit : SFits w64 (x .0 .0) = subst (SFits w64) (f .1) (quotient-fits (movable (chosen d) .pivotable)) in (
+      simp (toZ-ofZ (fit-value d), toZ-ofZ fit) (ap₂ (λ v z. outcomes.Goes (w .row) (w .column) v z) (value-is d) (sym (f .1)) ∙ answer-is d true (f .0)),
+      left-is d,
+    )
 
 returns-4 : tie.Need-returns-4
-returns-4 c = let o = c .before in let t = first (chosen (made o)) in
-    sym (ap (λ b. admitAt b t (made o .moved .result)) (c .if1 .left)) ∙ stepped-is o
-    ∙ sym (stepped-pivot t (choice (chosen (made o))) (next-is (chosen (made o))))
+returns-4 c =
+    let d = c .before .before in
+    let f = beyond-told (fitsBy (t d) (choice (chosen d))) (common d) (sym (turned-is d .0) ∙ c .enum-told2 .given .1) in
+    (answer-is d false f, left-is d)
 
 pub step-spec : {M : Type 1} → statement M
 step-spec =
@@ -132,9 +172,16 @@ step-spec =
     enum-told
     enum-known-next
     enum-known-next-2
-    moved-requires
-    live-requires
-    all-in-range-requires
+    mul-leaving
+    array-copy-out-leaving
+    mul-violated-limit
+    element-copy-out-violated-limit
+    mul-violated-limit-2
+    element-copy-out-violated-limit-2
+    violated-limit-requires
+    pivot-requires
+    enum-known-turned
+    enum-told-2
     returns
     returns-2
     returns-3

@@ -1,11 +1,14 @@
 -- `tableau::layout::live` meets its contract. Assumes nothing.
+use native.Mathlib.Omega.{arith}
 use borrow.Author.Needs.{needs}
 use Rattle.tableau.specs.Layout.{live}
+use Rattle.tableau.proofs.Laws.Layout.{live-most}
 use Rattle.tableau.proofs.layout.live.Statement.{statement}
 use Rattle.tableau.proofs.layout.live.Tie as tie
 
 mul-result : tie.Need-mul-result
-mul-result c = search needs
+unfolding live
+mul-result c = omega (arith, live-most (c .args .rows) (c .args .columns) (c .pre .0) (c .pre .1))
 
 returns : tie.Need-returns
 unfolding live

@@ -1,129 +1,75 @@
--- `tableau::pivot::mixed` meets its contract: one product, or the difference of two, fits 64 bits. Assumes nothing.
-use mathlib.Core.Path.{_≡_, ap, _∙_}
-use lib.IntN.{ℤ, negℤ, _+ℤ_, _*ℤ_, _-ℤ_, +ℤ-idl}
+-- `tableau::pivot::mixed` meets its contract: each case is a difference of two products. Assumes nothing.
+use mathlib.Core.Path.{_≡_, refl, _∙_}
+use mathlib.Core.List.{[], _∷_}
+use borrow.Author.Needs.{needs}
+use lib.IntN.{ℤ, pos, negℤ, _*ℤ_, _-ℤ_}
 use mir.Facts.{toZ-ofZ}
 use mir.Syntax.{w64}
-use mir.Val.{SFits, toZ, ofZ}
-use Rattle.rules.specs.Sizes.{largestNumber}
-use Rattle.whole.specs.Numbers.{Within}
-use Rattle.whole.proofs.Sizes.{within-*, within--, within-neg, fits-by}
+use mir.Val.{SFits}
+use Rattle.whole.proofs.Reify.{reify}
+use Rattle.whole.proofs.Tools.{ring-at}
 use Rattle.tableau.proofs.pivot.mixed.Statement.{statement}
 use Rattle.tableau.proofs.pivot.mixed.Tie as tie
 
-product : {a b : ℤ} → Within a largestNumber → Within b largestNumber → SFits w64 (a *ℤ b)
-product h k = fits-by (within-* h k) tt
+first-alone : (a b : ℤ) → a *ℤ b -ℤ pos 0 *ℤ pos 0 ≡ b *ℤ a
+first-alone a b = ring-at (a ∷ b ∷ []) (search reify depth 30) refl
 
-opposite : {a b : ℤ} → Within a largestNumber → Within b largestNumber → SFits w64 (negℤ (a *ℤ b))
-opposite h k = fits-by (within-neg (within-* h k)) tt
+second-alone : (a b : ℤ) → pos 0 *ℤ pos 0 -ℤ a *ℤ b ≡ negℤ (a *ℤ b)
+second-alone a b = ring-at (a ∷ b ∷ []) (search reify depth 30) refl
 
-difference : {a b c d : ℤ} →
-    Within a largestNumber → Within b largestNumber → Within c largestNumber → Within d largestNumber →
-    SFits w64 (a *ℤ b -ℤ c *ℤ d)
-difference h k l m = fits-by (within-- (within-* h k) (within-* l m)) tt
+crossed-requires : tie.Need-crossed-requires
+crossed-requires c κs = search needs
 
--- minus z is 0 - z in the code
-from-zero : {z : ℤ} → SFits w64 z → toZ w64 (ofZ w64 (toZ w64 0 +ℤ z)) ≡ z
-from-zero {z} h = ap (λ y. toZ w64 (ofZ w64 y)) (+ℤ-idl z) ∙ toZ-ofZ h
-
-mul-result : tie.Need-mul-result
-mul-result c = let s = c .before .before in simp (toZ-ofZ (s .fits .common))
-    (product (s .pre .common-within) (s .pre .common-within))
+fit : (c : tie.After-crossed) → SFits w64 (c .crossed .result)
+fit c = search needs
 
 returns : tie.Need-returns
-returns c = let s = c .before .before in
-    simp (
-      toZ-ofZ (s .fits .common),
-      toZ-ofZ (product (s .pre .common-within) (s .pre .common-within)),
-      c .before .if1 .taken,
-      c .if2 .taken,
-    )
+returns c = let s = c .before .before .before in
+    simp (toZ-ofZ (fit c), c .before .before .if1 .taken, c .before .if2 .taken)
+    ((simp (toZ-ofZ (s .fits .common)) at (c .crossed .ensures)) ∙ first-alone (s .args .common) (s .args .common))
 
-mul-result-2 : tie.Need-mul-result-2
-mul-result-2 c = let s = c .before .before in
-    simp (toZ-ofZ (s .fits .common), toZ-ofZ (s .fits .above)) (product (s .pre .common-within) (s .pre .above-within))
+crossed-requires-2 : tie.Need-crossed-requires-2
+crossed-requires-2 c κs = search needs
 
-sub-result : tie.Need-sub-result
-sub-result c = let s = c .before .before in
-    simp (
-      toZ-ofZ (s .fits .common),
-      toZ-ofZ (s .fits .above),
-      toZ-ofZ (product (s .pre .common-within) (s .pre .above-within)),
-      +ℤ-idl,
-    )
-    (opposite (s .pre .common-within) (s .pre .above-within))
+fit2 : (c : tie.After-crossed2) → SFits w64 (c .crossed2 .result)
+fit2 c = search needs
 
 returns-2 : tie.Need-returns-2
-returns-2 c = let s = c .before .before in
-    simp (
-      toZ-ofZ (s .fits .common),
-      toZ-ofZ (s .fits .above),
-      toZ-ofZ (product (s .pre .common-within) (s .pre .above-within)),
-      c .before .if1 .taken,
-      c .if2 .left,
-    )
-    (from-zero (opposite (s .pre .common-within) (s .pre .above-within)))
+returns-2 c = let s = c .before .before .before in
+    simp (toZ-ofZ (fit2 c), c .before .before .if1 .taken, c .before .if2 .left)
+    ((simp (toZ-ofZ (s .fits .common), toZ-ofZ (s .fits .above)) at (c .crossed2 .ensures)) ∙ second-alone (s .args .common) (s .args .above))
 
-mul-result-3 : tie.Need-mul-result-3
-mul-result-3 c = let s = c .before .before in
-    simp (toZ-ofZ (s .fits .common), toZ-ofZ (s .fits .beside))
-    (product (s .pre .beside-within) (s .pre .common-within))
+crossed-requires-3 : tie.Need-crossed-requires-3
+crossed-requires-3 c κs = search needs
+
+fit3 : (c : tie.After-crossed3) → SFits w64 (c .crossed3 .result)
+fit3 c = search needs
 
 returns-3 : tie.Need-returns-3
-returns-3 c = let s = c .before .before in
-    simp (
-      toZ-ofZ (s .fits .common),
-      toZ-ofZ (s .fits .beside),
-      toZ-ofZ (product (s .pre .beside-within) (s .pre .common-within)),
-      c .before .if1 .left,
-      c .if3 .taken,
-    )
+returns-3 c = let s = c .before .before .before in
+    simp (toZ-ofZ (fit3 c), c .before .before .if1 .left, c .before .if3 .taken)
+    ((simp (toZ-ofZ (s .fits .common), toZ-ofZ (s .fits .beside)) at (c .crossed3 .ensures)) ∙ first-alone (s .args .common) (s .args .beside))
 
-mul-result-4 : tie.Need-mul-result-4
-mul-result-4 c = let s = c .before .before in
-    simp (toZ-ofZ (s .fits .pivot), toZ-ofZ (s .fits .own)) (product (s .pre .pivot-within) (s .pre .own-within))
+crossed-requires-4 : tie.Need-crossed-requires-4
+crossed-requires-4 c κs = search needs
 
-mul-result-5 : tie.Need-mul-result-5
-mul-result-5 c = let s = c .before .before in
-    simp (toZ-ofZ (s .fits .beside), toZ-ofZ (s .fits .above)) (product (s .pre .beside-within) (s .pre .above-within))
-
-sub-result-2 : tie.Need-sub-result-2
-sub-result-2 c = let s = c .before .before in
-    simp (
-      toZ-ofZ (s .fits .pivot),
-      toZ-ofZ (s .fits .own),
-      toZ-ofZ (s .fits .beside),
-      toZ-ofZ (s .fits .above),
-      toZ-ofZ (product (s .pre .pivot-within) (s .pre .own-within)),
-      toZ-ofZ (product (s .pre .beside-within) (s .pre .above-within)),
-    )
-    (difference (s .pre .pivot-within) (s .pre .own-within) (s .pre .beside-within) (s .pre .above-within))
+fit4 : (c : tie.After-crossed4) → SFits w64 (c .crossed4 .result)
+fit4 c = search needs
 
 returns-4 : tie.Need-returns-4
-returns-4 c = let s = c .before .before in
-    simp (
-      toZ-ofZ (s .fits .pivot),
-      toZ-ofZ (s .fits .own),
-      toZ-ofZ (s .fits .beside),
-      toZ-ofZ (s .fits .above),
-      toZ-ofZ (product (s .pre .pivot-within) (s .pre .own-within)),
-      toZ-ofZ (product (s .pre .beside-within) (s .pre .above-within)),
-      toZ-ofZ (difference (s .pre .pivot-within) (s .pre .own-within) (s .pre .beside-within) (s .pre .above-within)),
-      c .before .if1 .left,
-      c .if3 .left,
-    )
+returns-4 c = let s = c .before .before .before in
+    simp (toZ-ofZ (fit4 c), c .before .before .if1 .left, c .before .if3 .left)
+    ((simp (toZ-ofZ (s .fits .pivot), toZ-ofZ (s .fits .own), toZ-ofZ (s .fits .beside), toZ-ofZ (s .fits .above)) at (c .crossed4 .ensures)))
 
 pub mixed-spec : {M : Type 1} → statement M
 mixed-spec =
     tie.close
     (tie.spec
-    mul-result
+    crossed-requires
     returns
-    mul-result-2
-    sub-result
+    crossed-requires-2
     returns-2
-    mul-result-3
+    crossed-requires-3
     returns-3
-    mul-result-4
-    mul-result-5
-    sub-result-2
+    crossed-requires-4
     returns-4)

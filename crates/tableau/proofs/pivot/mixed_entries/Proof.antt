@@ -1,88 +1,131 @@
--- `tableau::pivot::mixed_entries` meets its contract. The invariant: the cells passed are the definition's, the
--- others 0. The measure is how many are left. Assumes nothing.
+-- `tableau::pivot::mixed_entries` meets its contract. The invariant: the cells passed are the definition's, the others 0,
+-- and the spot is that of the next cell. The measure is how many are left. Assumes nothing.
 use native.Mathlib.Omega.{arith}
-use mathlib.Core.Path.{_≡_, refl, ap, _∙_}
-use mathlib.Core.List.{List, _++_}
-use Prim.Native.Nat.{ℕ, _+_, _≤_, _-_}
+use mathlib.Core.Path.{_≡_, ap, _∙_}
+use Prim.Native.Nat.{ℕ, _≤_, _<_, _-_}
+use native.Mathlib.Nat.{lt-of-lt-of-le}
 use borrow.Author.Needs.{needs}
-use lib.ListN.{drop, set, replicate}
 use lib.IntN.{ℤ, pos}
 use mir.Facts.{toZ-ofZ}
 use mir.Syntax.{w64}
 use mir.Val.{SFits, toZ}
-use Rattle.whole.specs.Tables.{table, tableFrom, filled}
-use Rattle.whole.proofs.Prefix.{set-table}
-use Rattle.tableau.specs.Layout.{mostEntries}
-use Rattle.tableau.specs.Pivot.{mixedAt}
+use Rattle.whole.specs.Tables.{filled}
+use Rattle.whole.proofs.Prefix.{filled-start, filled-more}
+use Rattle.rules.specs.Sizes.{mostRows}
+use Rattle.tableau.specs.declared.layout.Spot.{Spot}
+use Rattle.tableau.specs.Layout.{columnAt, live, mostEntries, rowAt}
+use Rattle.tableau.specs.Parts.{spotAt}
+use Rattle.tableau.specs.Pivot.{mixedAt, mixedCell}
+use Rattle.tableau.proofs.Laws.Layout.{column-live, live-most, row-live}
 use Rattle.tableau.proofs.pivot.mixed_entries.Statement.{statement}
 use Rattle.tableau.proofs.pivot.mixed_entries.Tie as tie
 
 abbrev Inv-loop : tie.InvT-loop
-Inv-loop entries live common row column out₀ k₀ out k =
-    (k ≤ live) × (out ≡ table k (mixedAt (toZ w64 common) entries (row .0) (column .0)) ++ drop k out₀)
+Inv-loop entries rows columns common row column end out₀ spot₀ k₀ out spot k =
+    (k ≤ end) × (out ≡ filled mostEntries (pos 0) k (mixedAt columns (toZ w64 common) entries (row .0) (column .0)))
+    × (spot ≡ spotAt columns k)
 
 abbrev μ-loop : tie.MeasureT-loop
-μ-loop entries live common row column out₀ k₀ out k = live - k
+μ-loop entries rows columns common row column end out₀ spot₀ k₀ out spot k = end - k
+
+live-requires : tie.Need-live-requires Inv-loop μ-loop
+live-requires c κs = search needs
+
+first-requires : tie.Need-first-requires Inv-loop μ-loop
+first-requires c κs = search needs
 
 loop-holds : tie.Need-loop-holds Inv-loop μ-loop
-unfolding tableFrom
-loop-holds c = (omega arith, refl)
+loop-holds c = (omega arith, filled-start mostEntries (pos 0) _, c .first .ensures (c .before .before .args .columns))
+
+-- the places of a spot that is at hand
+row-below : (n k : ℕ) {b : ℕ} {s : Spot} → s ≡ spotAt n k → rowAt n k < b → s .row .0 < b
+row-below n k e h = rw e h
+
+column-below : (n k : ℕ) {b : ℕ} {s : Spot} → s ≡ spotAt n k → columnAt n k < b → s .column .0 < b
+column-below n k e h = rw e h
+
+-- a live cell
+module _ (c : tie.In-loop Inv-loop μ-loop) where
+  abbrev start : tie.Start Inv-loop μ-loop
+  start = c .before .before .before .before
+
+  abbrev m : ℕ
+  m = start .args .rows
+
+  abbrev n : ℕ
+  n = start .args .columns
+
+  abbrev k : ℕ
+  k = c .before .loop .k
+
+  abbrev spot : Spot
+  spot = c .before .loop .spot
+
+  is-live : k < live m n
+  is-live = rw (← c .before .before .before .live .ensures) (omega arith)
+
+  in-array : k < mostEntries
+  in-array = lt-of-lt-of-le is-live (live-most m n (start .pre .0 .2) (start .pre .0 .3))
+
+  row-small : spot .row .0 < mostRows
+  row-small = row-below n k (c .before .loop .inv .2) (lt-of-lt-of-le (row-live m n k is-live) (start .pre .0 .2))
+
+  column-small : spot .column .0 < n
+  column-small = column-below n k (c .before .loop .inv .2) (column-live m n k is-live)
 
 mixed-at-requires : tie.Need-mixed-at-requires Inv-loop μ-loop
-mixed-at-requires c κs =
-    let s = c .before .before in
-    ((s .pre .0 .0, s .pre .0 .1, omega arith), (simp (toZ-ofZ (s .fits .common)) (s .pre .1 .0), s .pre .1 .1))
+mixed-at-requires c κs = let s = start c in (
+  (s .pre .0 .0, s .pre .0 .1, s .pre .0 .3),
+  ((row-small c, column-small c), (simp (toZ-ofZ (s .fits .common)) (s .pre .1 .0), s .pre .1 .1)),
+)
 
 mul-out : tie.Need-mul-out Inv-loop μ-loop
-mul-out c = omega arith
+mul-out c = omega (arith, in-array (c .before))
 
 array-set-from-out : tie.Need-array-set-from-out Inv-loop μ-loop
-array-set-from-out c = omega arith
+array-set-from-out c = in-array (c .before)
+
+after-requires : tie.Need-after-requires Inv-loop μ-loop
+after-requires c κs = (row-small (c .before), column-small (c .before))
 
 add-k : tie.Need-add-k Inv-loop μ-loop
-add-k c = omega arith
+add-k c = omega (arith, in-array (c .before .before))
 
 loop-less : tie.Need-loop-less Inv-loop μ-loop
 loop-less c = omega arith
 
+-- what the call gives is the definition's number at this place
 module _ (c : tie.After-mixed-at Inv-loop μ-loop) where
-  abbrev start : tie.Start Inv-loop μ-loop
-  start = c .before .before .before
+  abbrev begun : tie.Start Inv-loop μ-loop
+  begun = start (c .before)
 
-  abbrev place : ℕ
-  place = c .before .before .loop .k
+  abbrev cell : ℕ → ℤ
+  cell = mixedAt (begun .args .columns) (begun .args .common) (begun .args .entries .now) (begun .args .row .0) (begun .args .column .0)
 
-  abbrev new : ℕ → ℤ
-  new = mixedAt (start .args .common) (start .args .entries .now) (start .args .row .0) (start .args .column .0)
+  fit : SFits w64 (c .mixed-at .result)
+  fit = search needs
 
-  fit-result : SFits w64 (c .mixed-at .result)
-  fit-result = search needs
-
-  -- what the call gives is the definition's number at this place
-  right : c .mixed-at .result ≡ new place
-  right = simp (toZ-ofZ (start .fits .common)) at (c .mixed-at .ensures)
+  right : c .mixed-at .result ≡ cell (k (c .before))
+  right = (simp (toZ-ofZ (begun .fits .common)) at (c .mixed-at .ensures))
+      ∙ ap (λ (s : Spot). mixedCell (begun .args .columns) (begun .args .common) (begun .args .entries .now) (begun .args .row .0)
+      (begun .args .column .0) (s .row .0) (s .column .0)) (c .before .before .loop .inv .2)
 
 loop-again : tie.Need-loop-again Inv-loop μ-loop
-loop-again c = (
+loop-again c = let o = c .before in (
   omega arith,
-  simp (toZ-ofZ (fit-result c), toZ-ofZ (start c .fits .common))
-      (ap (λ (l : List ℤ). set l (place c) (c .mixed-at .result))
-      (simp (toZ-ofZ (start c .fits .common)) at (c .before .before .loop .inv .1))
-      ∙ ap (λ (z : ℤ). set (table (place c) (new c) ++ drop (place c) (replicate mostEntries (pos 0))) (place c) z)
-      (right c)
-      ∙ set-table (new c) (pos 0) (replicate mostEntries (pos 0)) (place c) (omega arith)),
+  simp (toZ-ofZ (begun o .fits .common), toZ-ofZ (fit o))
+      (filled-more mostEntries (pos 0) (cell o) (k (o .before)) (in-array (o .before))
+      (simp (toZ-ofZ (begun o .fits .common)) at (o .before .before .loop .inv .1)) (right o)),
+  c .after .ensures (k (o .before)) (o .before .before .loop .inv .2),
 )
 
-all : (c : tie.After-loop Inv-loop μ-loop) → c .before .loop .k ≡ c .before .before .args .live
-all c = omega arith
-
 returns : tie.Need-returns Inv-loop μ-loop
-unfolding filled
 returns c =
-    let s = c .before .before in
-    let f : ℕ → ℤ = mixedAt (s .args .common) (s .args .entries .now) (s .args .row .0) (s .args .column .0) in
+    let s = c .before .before .before .before in
+    let e : c .before .loop .k ≡ c .before .before .before .live .result = omega arith in
     (simp (toZ-ofZ (s .fits .common)) at (c .before .loop .inv .1))
-    ∙ ap (λ (k : ℕ). table k f ++ drop k (replicate mostEntries (pos 0))) (all c)
+    ∙ ap (λ k. filled mostEntries (pos 0) k (mixedAt (s .args .columns) (s .args .common) (s .args .entries .now) (s .args .row .0)
+    (s .args .column .0))) (e ∙ c .before .before .before .live .ensures)
 
 pub mixed-entries-spec : {M : Type 1} → statement M
 mixed-entries-spec =
@@ -90,10 +133,13 @@ mixed-entries-spec =
     (tie.spec
     Inv-loop
     μ-loop
+    live-requires
+    first-requires
     loop-holds
     mixed-at-requires
     mul-out
     array-set-from-out
+    after-requires
     add-k
     loop-less
     loop-again
