@@ -10,8 +10,8 @@ ghost use Rattle.whole.specs.Numbers.{within, outside};
 ghost use Rattle.rules.specs.Sizes.{mostRows};
 ghost use Rattle.rules.specs.Limit.{hasLower, hasUpper, badLimitWord};
 ghost use Rattle.rules.specs.Problem.{word};
-ghost use Rattle.rules.specs.Refusal.{badSize, badCoefficient, badKind, badLimit, first, problemRefusal};
-ghost use Rattle.tableau.specs.Words.{Framed};
+ghost use Rattle.rules.specs.Refusal.{badSize, badCoefficient, first, problemRefusal};
+ghost use Rattle.tableau.specs.Words.{Framed, badBy, badVariable};
 use crate::Tableau;
 
 // Whether a word is below `least` or above `most`.
@@ -60,10 +60,13 @@ fn is_bad_limit(present: bool, word: i32) -> bool
     word != 0
 }
 
-// Whether one of a variable's two limits is so.
-fn is_bad_pair(kind: i32, lower: i32, upper: i32) -> bool
-    ensures { λ r. ⌜ r ≡ (badLimitWord (hasLower kind) lower || badLimitWord (hasUpper kind) upper) ⌝ }
+// Whether a variable's kind is outside 0 to 3, or one of its two limits bad.
+fn is_bad_variable(kind: i32, lower: i32, upper: i32, kinds: bool) -> bool
+    ensures { λ r. ⌜ r ≡ badBy kinds kind lower upper ⌝ }
 {
+    if kinds {
+        return is_outside(kind, 0, 3);
+    }
     either(
         is_bad_limit(has_lower(kind), lower),
         is_bad_limit(has_upper(kind), upper),
@@ -113,25 +116,10 @@ fn some_bad_coefficient(words: &[i32], columns: usize, rows: usize) -> bool
     bad
 }
 
-// Whether some kind is outside 0 to 3.
-fn some_bad_kind(words: &[i32], columns: usize, rows: usize) -> bool
+// Whether some variable fails the test of its kind, or else that of its limits.
+fn some_bad_variable(words: &[i32], columns: usize, rows: usize, kinds: bool) -> bool
     requires { ⌜ Framed (now words) columns rows ⌝ }
-    ensures { λ r. ⌜ r ≡ badKind (now (words .entry)) ⌝ }
-{
-    let from = 2 + rows * columns;
-    let end = columns + rows;
-    let mut bad = false;
-    for v in 0..end {
-        let at = from + 3 * v;
-        bad = either(bad, is_outside(words[at], 0, 3));
-    }
-    bad
-}
-
-// Whether some limit is outside its range, or a missing limit's word not 0.
-fn some_bad_limit(words: &[i32], columns: usize, rows: usize) -> bool
-    requires { ⌜ Framed (now words) columns rows ⌝ }
-    ensures { λ r. ⌜ r ≡ badLimit (now (words .entry)) ⌝ }
+    ensures { λ r. ⌜ r ≡ badVariable kinds (now (words .entry)) ⌝ }
 {
     let from = 2 + rows * columns;
     let end = columns + rows;
@@ -140,7 +128,10 @@ fn some_bad_limit(words: &[i32], columns: usize, rows: usize) -> bool
         let at = from + 3 * v;
         let lower = at + 1;
         let upper = at + 2;
-        bad = either(bad, is_bad_pair(words[at], words[lower], words[upper]));
+        bad = either(
+            bad,
+            is_bad_variable(words[at], words[lower], words[upper], kinds),
+        );
     }
     bad
 }
@@ -178,7 +169,7 @@ pub fn judge(words: &[i32]) -> u32
     }
     word_refusal(
         some_bad_coefficient(words, columns, rows),
-        some_bad_kind(words, columns, rows),
-        some_bad_limit(words, columns, rows),
+        some_bad_variable(words, columns, rows, true),
+        some_bad_variable(words, columns, rows, false),
     )
 }

@@ -136,11 +136,11 @@ module _ (c : tie.Else3) where
 some-bad-coefficient-requires : tie.Need-some-bad-coefficient-requires
 some-bad-coefficient-requires c κs = framed c
 
-some-bad-kind-requires : tie.Need-some-bad-kind-requires
-some-bad-kind-requires c κs = framed (c .before)
+some-bad-variable-requires : tie.Need-some-bad-variable-requires
+some-bad-variable-requires c κs = framed (c .before)
 
-some-bad-limit-requires : tie.Need-some-bad-limit-requires
-some-bad-limit-requires c κs = framed (c .before .before)
+some-bad-variable-requires-2 : tie.Need-some-bad-variable-requires-2
+some-bad-variable-requires-2 c κs = framed (c .before .before)
 
 word-refusal-requires : tie.Need-word-refusal-requires
 word-refusal-requires c κs = tt
@@ -156,9 +156,9 @@ returns-4 c =
     let coefficient = kind .before in
     let ws = words (origin (coefficient .before)) in
     c .word-refusal .ensures
-    ∙ ap₂ (λ a b. by-words a b (limit .some-bad-limit .result))
-    (coefficient .some-bad-coefficient .ensures) (kind .some-bad-kind .ensures)
-    ∙ ap (by-words (badCoefficient ws) (badKind ws)) (limit .some-bad-limit .ensures)
+    ∙ ap₂ (λ a b. by-words a b (limit .some-bad-variable2 .result))
+    (coefficient .some-bad-coefficient .ensures) (kind .some-bad-variable .ensures)
+    ∙ ap (by-words (badCoefficient ws) (badKind ws)) (limit .some-bad-variable2 .ensures)
     ∙ sym (skip-3 (coefficient .before))
 
 pub judge-spec : {M : Type 1} → statement M
@@ -177,7 +177,7 @@ judge-spec =
     add-if3-3
     returns-3
     some-bad-coefficient-requires
-    some-bad-kind-requires
-    some-bad-limit-requires
+    some-bad-variable-requires
+    some-bad-variable-requires-2
     word-refusal-requires
     returns-4)
