@@ -1,10 +1,12 @@
--- The search reads a tableau without its two lists of variables: it finds the same there.
---   next-seen, searchable-seen
+-- The search does not read which variable is at which place: with other lists of variables it finds the same.
+--   seatedAs, next-as, searchable-as
+use mathlib.Core.List.{List}
 use mathlib.Core.Option.{Option, none, some}
 use mathlib.Core.Path.{_≡_, refl}
 use Prim.Native.Nat.{ℕ}
 use Rattle.rules.specs.Step.{Leaving}
 use Rattle.tableau.specs.declared.Tableau.{Tableau}
+use Rattle.tableau.specs.declared.Variable.{Variable}
 use Rattle.tableau.specs.Parts.{rowOf}
 use Rattle.search.specs.Search.{
   Searchable,
@@ -15,36 +17,48 @@ use Rattle.search.specs.Search.{
   moveBy,
   nextBy,
   nextAt,
-  seen,
 }
 
--- a tableau without them
-abbrev pub seenOf : Tableau → Tableau
-seenOf t = seen (t .entries) (t .values) (t .seats) (t .limits) (t .common) (t .rows) (t .columns)
+-- a tableau with other variables at its places
+abbrev pub seatedAs : Tableau → List Variable → List Variable → Tableau
+seatedAs t basic nonbasic = record {
+  rows = t .rows;
+  columns = t .columns;
+  common = t .common;
+  entries = t .entries;
+  basic = basic;
+  nonbasic = nonbasic;
+  values = t .values;
+  seats = t .seats;
+  limits = t .limits;
+}
 
-module _ (t : Tableau) where
-  move-seen : (r : Leaving) (o : Option ℕ) → moveBy (seenOf t) r o ≡ moveBy t r o
+module _ (t : Tableau) (basic nonbasic : List Variable) where
+  abbrev other : Tableau
+  other = seatedAs t basic nonbasic
+
+  move-as : (r : Leaving) (o : Option ℕ) → moveBy other r o ≡ moveBy t r o
   unfolding moveBy
-  move-seen r none = refl
-  move-seen r (some w) = refl
+  move-as r none = refl
+  move-as r (some w) = refl
 
-  by-seen : (o : Option Leaving) → nextBy (seenOf t) o ≡ nextBy t o
+  by-as : (o : Option Leaving) → nextBy other o ≡ nextBy t o
   unfolding nextBy enteringAt enteringOf
-  by-seen none = refl
-  by-seen (some r) = move-seen r (enteringAt t (rowOf t (r .variable)) (r .side))
+  by-as none = refl
+  by-as (some r) = move-as r (enteringAt t (rowOf t (r .variable)) (r .side))
 
-  pub next-seen : nextAt (seenOf t) ≡ nextAt t
+  pub next-as : nextAt other ≡ nextAt t
   unfolding nextAt leavingAt brokenAt
-  next-seen = by-seen (leavingAt t)
+  next-as = by-as (leavingAt t)
 
-pub searchable-seen : {t : Tableau} → Searchable t → Searchable (seenOf t)
-searchable-seen S = record {
-  few-rows = S .few-rows;
-  few-columns = S .few-columns;
-  cells = record { common-within = S .cells .common-within; cell-within = S .cells .cell-within };
-  values-within = S .values-within;
-  lowers-within = S .lowers-within;
-  uppers-within = S .uppers-within;
-  row-seats = S .row-seats;
-  column-seats = S .column-seats;
-}
+  pub searchable-as : Searchable t → Searchable other
+  searchable-as S = record {
+    few-rows = S .few-rows;
+    few-columns = S .few-columns;
+    cells = record { common-within = S .cells .common-within; cell-within = S .cells .cell-within };
+    values-within = S .values-within;
+    lowers-within = S .lowers-within;
+    uppers-within = S .uppers-within;
+    row-seats = S .row-seats;
+    column-seats = S .column-seats;
+  }

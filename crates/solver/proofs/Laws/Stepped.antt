@@ -1,10 +1,10 @@
 -- The step by place, by what its calls return.
 --   stepped-none, stepped-stuck, stepped-pivot     by the answer of the search
---   readOf, next-read, searchable-read             what a step reads of a tableau, and that the search finds the same there
+--   readOf, next-read                              what a step reads of a tableau, and that the search finds the same there
 --   outcome-ended, outcome-left                    the step by the code's answer, where that is an end
 --   Chosen, outcome-goes, going, exchanged         .. and where it goes on: the exchange that is left to be done
 use mathlib.Core.Bool.{Bool, true, false}
-use mathlib.Core.List.{List}
+use mathlib.Core.List.{List, []}
 use mathlib.Core.Path.{_≡_, ap, refl, sym, _∙_}
 use Prim.Native.Nat.{ℕ}
 use lib.IntN.{ℤ}
@@ -20,8 +20,8 @@ use Rattle.search.specs.declared.Blocked.{Blocked}
 use Rattle.search.specs.declared.Choice.{Choice}
 use Rattle.search.specs.declared.Next.{Next}
 use Rattle.search.specs.declared.Next.the-variants as nexts
-use Rattle.search.specs.Search.{Searchable, nextAt}
-use Rattle.search.proofs.Laws.Seen.{next-seen}
+use Rattle.search.specs.Search.{nextAt}
+use Rattle.search.proofs.Laws.Seen.{next-as}
 use Rattle.solver.specs.declared.step.End.{End}
 use Rattle.solver.specs.declared.step.End.the-variants as ends
 use Rattle.solver.specs.declared.step.Outcome.the-variants as outcomes
@@ -47,19 +47,7 @@ abbrev pub readOf : Tableau → Tableau
 readOf t = readAs (t .entries) (t .values) (t .basic) (t .seats) (t .limits) (t .common) (t .rows) (t .columns)
 
 pub next-read : (t : Tableau) → nextAt (readOf t) ≡ nextAt t
-next-read t = sym (next-seen (readOf t)) ∙ next-seen t
-
-pub searchable-read : {t : Tableau} → Searchable t → Searchable (readOf t)
-searchable-read S = record {
-  few-rows = S .few-rows;
-  few-columns = S .few-columns;
-  cells = record { common-within = S .cells .common-within; cell-within = S .cells .cell-within };
-  values-within = S .values-within;
-  lowers-within = S .lowers-within;
-  uppers-within = S .uppers-within;
-  row-seats = S .row-seats;
-  column-seats = S .column-seats;
-}
+next-read t = next-as t (t .basic) []
 
 -- ---- the step by the code's answer
 

@@ -3,6 +3,7 @@
 --   search-held, steppable-held                 what a step needs of its calls
 --   places-held, common-held, value-held        .. and the exchange after it
 use mathlib.Core.Bool.{Bool, true, false}
+use mathlib.Core.List.{[]}
 use mathlib.Core.Option.{some}
 use mathlib.Core.Path.{_≡_, ap, subst, sym, _∙_}
 use Prim.Native.Nat.{ℕ}
@@ -30,11 +31,12 @@ use Rattle.search.specs.declared.Choice.{Choice}
 use Rattle.search.specs.declared.Next.the-variants as nexts
 use Rattle.search.specs.Search.{Searchable, blockedAt, choiceAt, nextAt}
 use Rattle.search.proofs.Laws.Rows.{searchable}
+use Rattle.search.proofs.Laws.Seen.{searchable-as}
 use Rattle.search.proofs.Laws.Searches.{next-blocked, next-chosen, next-none}
 use Rattle.solver.specs.declared.step.End.the-variants as ends
 use Rattle.solver.specs.Step.{Held, Movable, Steppable, admitAt, endedAs, fitsBy, limitOf, movedAt, on, steppedAt}
 use Rattle.solver.proofs.Laws.Pivots.{exchangeable, fitting-is, movable, ranged-moved, stands-moved}
-use Rattle.solver.proofs.Laws.Stepped.{Chosen, next-read, readOf, searchable-read, stepped-none, stepped-pivot, stepped-stuck}
+use Rattle.solver.proofs.Laws.Stepped.{Chosen, next-read, readOf, stepped-none, stepped-pivot, stepped-stuck}
 
 -- the four cases: what the step by place comes to, and the step of the state
 pub data StepIs (P : Problem ℤ) (t : Tableau) (s : State ℤ) : Type 0 where
@@ -95,7 +97,7 @@ module _ {t : Tableau} (H : Held t) where
 
   pub steppable-held : Steppable (readOf t)
   steppable-held = record {
-    searchable = searchable-read search-held;
+    searchable = searchable-as t (t .basic) [] search-held;
     movable = λ c e. let m = ready c (sym (next-read t) ∙ e) .0 in
         record { pivotable = m .pivotable; row-place = m .row-place; leaving-seat = m .leaving-seat };
   }

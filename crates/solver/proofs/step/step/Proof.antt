@@ -1,6 +1,7 @@
 -- `solver::step::step` meets its contract: the answer of the search, and after a pivot that of the range test, is the
 -- definition's case. Assumes nothing.
 use mathlib.Core.Bool.{Bool, true, false}
+use mathlib.Core.List.{[]}
 use mathlib.Core.Path.{_≡_, ap, ap₂, refl, subst, sym, _∙_}
 use native.Mathlib.Omega.{arith}
 use Prim.Native.Nat.{ℕ}
@@ -19,7 +20,7 @@ use Rattle.tableau.proofs.Laws.Reductions.{quotient-fits}
 use Rattle.search.specs.declared.Choice.{Choice}
 use Rattle.search.specs.declared.Next.the-variants as nexts
 use Rattle.search.specs.Search.{nextAt}
-use Rattle.search.proofs.Laws.Seen.{next-seen, searchable-seen}
+use Rattle.search.proofs.Laws.Seen.{next-as, searchable-as}
 use Rattle.solver.specs.declared.step.Outcome.the-variants as outcomes
 use Rattle.solver.specs.Step.{Movable, answerBy, entriesLeft, fitsBy, outcomeBy, readAs, valueAfter}
 use Rattle.solver.proofs.step.step.Statement.{statement}
@@ -30,11 +31,11 @@ abbrev old : tie.Start → Tableau
 old s = let a = s .args in readAs (a .entries .now) (a .t1) (a .t2) (a .seats) (a .t4) (a .common) (a .rows) (a .columns)
 
 next-step-requires : tie.Need-next-step-requires
-next-step-requires c κs = let s = c .before .before in simp (toZ-ofZ (s .fits .common)) (searchable-seen (s .pre .searchable))
+next-step-requires c κs = let s = c .before .before in simp (toZ-ofZ (s .fits .common)) (searchable-as (old s) [] [] (s .pre .searchable))
 
 -- what the search finds is the definition's
 next-is : (c : tie.After-next-step) → c .next-step .result ≡ nextAt (old (c .before .before .before))
-next-is c = let s = c .before .before .before in (simp (toZ-ofZ (s .fits .common)) at (c .next-step .ensures)) ∙ next-seen (old s)
+next-is c = let s = c .before .before .before in (simp (toZ-ofZ (s .fits .common)) at (c .next-step .ensures)) ∙ next-as (old s) [] []
 
 enum-told : tie.Need-enum-told
 enum-told c = search needs
