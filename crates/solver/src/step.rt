@@ -2,7 +2,6 @@
 ghost use mathlib.Core.Path.{_≡_};
 ghost use Rattle.solver.specs.Step.{Steppable, leftAt, limitOf, outcomeAt, readAs};
 use search::Blocked;
-use search::Choice;
 use search::Next;
 use tableau::ColumnPlace;
 use tableau::Limits;
