@@ -1,5 +1,5 @@
 -- What the code asks for before a pivot that the rules choose, and what may be asked of it afterwards.
---   pivotable, swappable    the contracts of `pivoted` and `swapped` may be called for
+--   pivotable, swappable    the pivot may be made, and its two variables may change places
 --   limit-is                the number that the leaving variable gets is the violated limit
 --   end-next                as many cells are live afterwards
 --   ranged-next             a pivot that passes the range test leaves every number in range
