@@ -4,11 +4,13 @@
 --   first-exactly    `first` gives k exactly where First says k
 --   first-fine       `first` gives 0 exactly where every test is fine
 --   first-hit, first-skip    one test at a time
+--   first-kept, first-passed, Upto    a list in two parts: the first part has a number, or none
 use mathlib.Core.Bool.{Bool, false, true}
-use mathlib.Core.List.{List, [], map, _∷_}
+use mathlib.Core.List.{List, [], map, _++_, _∷_}
 use mathlib.Core.Logic.{inl, inr, _↔_, _≢_, _⊎_}
 use mathlib.Core.Path.{refl, sym, _∙_, _≡_}
-use Prim.Native.Nat.{ℕ}
+use Prim.Native.Nat.{ℕ, suc, _<_, _≤_}
+use native.Mathlib.Omega.{arith}
 use Rattle.whole.proofs.Tells.{Tells, tells-false, tells-true}
 use Rattle.rules.specs.Refusal.{first}
 
@@ -19,6 +21,27 @@ first-hit k ts e = rw (e, first)
 pub first-skip : {b : Bool} (k : ℕ) (ts : List (Bool × ℕ)) → b ≡ false → first ((b, k) ∷ ts) ≡ first ts
 unfolding first
 first-skip k ts e = rw (e, first)
+
+-- ---- a list in two parts
+
+pub first-kept : (ts us : List (Bool × ℕ)) (k : ℕ) → first ts ≡ suc k → first (ts ++ us) ≡ suc k
+unfolding first
+first-kept [] us k e = let z : ⊥ = omega arith in absurd z
+first-kept ((true, j) ∷ ts) us k e = e
+first-kept ((false, j) ∷ ts) us k e = first-kept ts us k e
+
+-- every number is from 1 to n
+abbrev pub Upto : ℕ → List (Bool × ℕ) → Type 0
+Upto n [] = Unit {0}
+Upto n (t ∷ ts) = (0 < t .1) × (t .1 ≤ n) × Upto n ts
+
+pub first-passed : (n : ℕ) (ts us : List (Bool × ℕ)) → Upto n ts → first ts ≡ 0 → first (ts ++ us) ≡ first us
+unfolding first
+first-passed n [] us h e = refl
+first-passed n ((true, j) ∷ ts) us (l, m, h) e = let z : ⊥ = omega arith in absurd z
+first-passed n ((false, j) ∷ ts) us (l, m, h) e = first-passed n ts us h e
+
+-- ---- tests with their meanings
 
 pub record Test : Type 1 where
   pub test : Bool

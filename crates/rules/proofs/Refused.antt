@@ -3,6 +3,7 @@
 --   refusal-exactly              the refusal is k exactly where no earlier line's meaning holds and line k's does, and 0 where none does
 --   problem-refusal-exactly      the same of refusals 1 to 6
 --   limit-tells, ..-tells       what each test says
+--   numbered                     the numbers of refusals 1 to 6
 --   accepted-exactly             refusals 1 to 6 give 0 exactly for accepted words, with any most rows
 --   answered-exactly             the refusal is 0 exactly for accepted words with room enough
 use mathlib.Core.Bool.{Bool, false, true}
@@ -16,11 +17,16 @@ use lib.ListN.{length}
 use lib.Signed.{_<ℤ_, _≤ℤ_}
 use Rattle.whole.proofs.Tells.{Tells, tells-eq, tells-eqZ, tells-lt, tells-not, tells-or, tells-outside, tells-some, tells-within}
 use Rattle.whole.specs.Numbers.{Within}
-use Rattle.rules.proofs.First.{AllFine, First, Test, first-exactly, first-fine, line}
+use Rattle.rules.proofs.First.{AllFine, First, Test, Upto, first-exactly, first-fine, line}
 use Rattle.rules.specs.Limit.{badLimitWord, hasLower, hasUpper}
 use Rattle.rules.specs.Problem.{answerLength, kind, lowerWord, mOf, nOf, upperWord, varsOf, word}
 use Rattle.rules.specs.Refusal.{Accepted, FineLimit, badCoefficient, badKind, badLength, badLimit, badSize, first, problemRefusal, problemTests, refusal, tooFew, tooShort}
 use Rattle.rules.specs.Sizes.{largestCoefficient, largestLimit, mostColumns, mostRows}
+
+-- the numbers of the problem's tests
+pub numbered : (ws : List ℤ) → Upto 6 (problemTests mostRows ws)
+unfolding problemTests
+numbered ws = omega arith
 
 abbrev pub OutOfRange : ℕ → ℕ → ℤ → Type 0
 OutOfRange lo hi z = (z <ℤ pos lo) ⊎ (pos hi <ℤ z)

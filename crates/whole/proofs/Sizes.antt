@@ -11,15 +11,13 @@ use mathlib.Core.Logic.{_≢_}
 use mathlib.Core.Bool.{Bool, true, false, not, cond}
 use Prim.Native.Nat.{ℕ, zero, suc, _+_, _*_, _-_, _^_, _/_, _≤_, _<_}
 use native.Mathlib.Omega.{arith}
-use native.Mathlib.Decide.{decLt}
 use native.Mathlib.Nat.{mul-pos, mul-le-mul, lt-of-le-of-lt, le-of-eq, div-le-self, le-refl}
 use lib.Dec.{T, ltb, ltb→lt, nltb→le, lit<, leb→le, le→leb}
 use lib.Signed.{mag, quotZ, leZ, _<ℤ_, _≤ℤ_}
 use lib.IntN.{ℤ, pos, negsuc, negℤ, natAbs, subℕ, _+ℤ_, _-ℤ_, _*ℤ_}
-use lib.ListN.{getD}
 use Rattle.whole.specs.Numbers.{Within, AllWithin}
 use Rattle.whole.specs.Tables.{filled}
-use Rattle.whole.proofs.Tables.{filled-in, filled-out}
+use Rattle.whole.proofs.Tables.{filled-each}
 use mir.Syntax.{Width, w8, w16, w32, w64, w128}
 use mir.Val.{SFits, hbits, bits, ofZ}
 
@@ -140,8 +138,6 @@ product-nonzero {a} {b} m n e =
     let y : ⊥ = omega arith in absurd y
 
 pub all-within-filled : {n : ℕ} (size k : ℕ) (f : ℕ → ℤ) → ((i : ℕ) → i < k → Within (f i) n) → AllWithin (filled size (pos 0) k f) n
-all-within-filled {n} size k f h = record { each = λ i. go i (decLt i k) }
-  where
-    go : (i : ℕ) → Dec (i < k) → Within (getD (filled size (pos 0) k f) i (pos 0)) n
-    go i (yes l) = rw (filled-in size (pos 0) k f i l) (h i l)
-    go i (no l) = rw (filled-out size (pos 0) k f i (omega arith)) (record { within = omega arith })
+all-within-filled {n} size k f h = record {
+  each = filled-each size (pos 0) k f (λ z. Within z n) (record { within = omega arith }) h;
+}

@@ -17,31 +17,14 @@ use Rattle.whole.proofs.Bools.{true-false}
 use Rattle.whole.proofs.Tells.{Tells}
 use Rattle.rules.proofs.Evidence.Same.{multipliers-same, numerators-same}
 use Rattle.rules.proofs.Evidence.Shows.{Shown, shown-tells}
-use Rattle.rules.proofs.First.{First, Test, first-exactly, line}
-use Rattle.rules.proofs.Refused.{problemTable, room-tells}
+use Rattle.rules.proofs.First.{First, Test, Upto, first-exactly, first-kept, first-passed, line}
+use Rattle.rules.proofs.Refused.{numbered, problemTable, room-tells}
 use Rattle.rules.specs.Evidence.{accepted, checked, denominatorOf, lowerPart, upperPart, verdictOf}
 use Rattle.rules.specs.Problem.{Problem, answerLength, problem, vars, word}
 use Rattle.rules.specs.Refusal.{first, problemRefusal, problemTests, tooShort}
 use Rattle.rules.specs.Sizes.{mostRows}
 
--- ---- the first test that applies, of a list in two parts
-
-first-kept : (ts us : List (Bool × ℕ)) (k : ℕ) → first ts ≡ suc k → first (ts ++ us) ≡ suc k
-unfolding first
-first-kept [] us k e = let z : ⊥ = omega arith in absurd z
-first-kept ((true, j) ∷ ts) us k e = e
-first-kept ((false, j) ∷ ts) us k e = first-kept ts us k e
-
--- every number is from 1 to n
-abbrev Upto : ℕ → List (Bool × ℕ) → Type 0
-Upto n [] = Unit {0}
-Upto n (t ∷ ts) = (0 < t .1) × (t .1 ≤ n) × Upto n ts
-
-first-passed : (n : ℕ) (ts us : List (Bool × ℕ)) → Upto n ts → first ts ≡ 0 → first (ts ++ us) ≡ first us
-unfolding first
-first-passed n [] us h e = refl
-first-passed n ((true, j) ∷ ts) us (l, m, h) e = let z : ⊥ = omega arith in absurd z
-first-passed n ((false, j) ∷ ts) us (l, m, h) e = first-passed n ts us h e
+-- ---- the first test that applies
 
 first-most : (n : ℕ) (ts : List (Bool × ℕ)) → Upto n ts → first ts ≤ n
 unfolding first
@@ -54,10 +37,6 @@ unfolding first
 first-three true c = refl
 first-three false true = refl
 first-three false false = refl
-
-numbered : (ws : List ℤ) → Upto 6 (problemTests mostRows ws)
-unfolding problemTests
-numbered ws = omega arith
 
 -- ---- the table: refusals 1 to 6, an answer too short, evidence, and nothing else
 

@@ -49,13 +49,10 @@ module _ {P : Problem ℤ} {t : Tableau} {s : State ℤ} (St : Stands P t s) (R 
   q = columnOf t w
 
   pub movable : Cells t → Movable t (choiceAt t r w)
-  unfolding pivotedAt
   movable c = record { pivotable = pivotable turn c; row-place = swappable turn .in-rows; leaving-seat = swappable turn .leaving-seat }
 
   pub exchangeable : Swappable t p q
-  unfolding pivotedAt
-  exchangeable = let z = swappable turn in
-      record { in-rows = z .in-rows; in-columns = z .in-columns; leaving-seat = z .leaving-seat; entering-seat = z .entering-seat }
+  exchangeable = swappable turn
 
   moved-is : next ≡ turns.nextAt P t r w
   unfolding movedAt

@@ -20,8 +20,8 @@ use Rattle.rules.specs.Refusal.{Accepted, first, problemRefusal, problemTests, 
 use Rattle.rules.specs.Sizes.{mostRows}
 use Rattle.rules.specs.Step.{start}
 use Rattle.rules.proofs.Ends.{ready-start}
-use Rattle.rules.proofs.First.{first-hit, first-skip}
-use Rattle.rules.proofs.Refused.{accepted-exactly}
+use Rattle.rules.proofs.First.{first-hit, first-kept, first-passed, first-skip}
+use Rattle.rules.proofs.Refused.{accepted-exactly, numbered}
 use Rattle.tableau.specs.declared.Tableau.{Tableau}
 use Rattle.tableau.specs.Stands.{Ranged, Stands}
 use Rattle.tableau.specs.Start.{startTableau}
@@ -30,32 +30,18 @@ use Rattle.tableau.proofs.Laws.Started.{stands-start}
 use Rattle.solver.specs.Answer.{laidOver}
 use Rattle.solver.specs.Run.{Begun}
 
--- ---- more tests after others
-
-abbrev Numbers : List (Bool × ℕ) → Type 0
-Numbers [] = Unit {0}
-Numbers (t ∷ ts) = (t .1 ≢ 0) × Numbers ts
-
-first-before : (ts us : List (Bool × ℕ)) → first ts ≢ 0 → first (ts ++ us) ≡ first ts
-first-before [] us n = absurd (n (unfold first in refl))
-first-before ((true, k) ∷ ts) us n = first-hit k (ts ++ us) refl ∙ sym (first-hit k ts refl)
-first-before ((false, k) ∷ ts) us n =
-    first-skip k (ts ++ us) refl ∙ first-before ts us (λ e. n (first-skip k ts refl ∙ e)) ∙ sym (first-skip k ts refl)
-
-first-after : (ts us : List (Bool × ℕ)) → Numbers ts → first ts ≡ 0 → first (ts ++ us) ≡ first us
-first-after [] us n e = refl
-first-after ((true, k) ∷ ts) us n e = absurd (n .0 (sym (first-hit k ts refl) ∙ e))
-first-after ((false, k) ∷ ts) us n e = first-skip k (ts ++ us) refl ∙ first-after ts us (n .1) (sym (first-skip k ts refl) ∙ e)
-
 module _ (ws : List ℤ) (room : ℕ) where
   pub refusal-problem : problemRefusal ws ≢ 0 → problemRefusal ws ≡ refusal ws room
   unfolding refusal problemRefusal
-  refusal-problem n = sym (first-before (problemTests mostRows ws) ((tooShort ws room, 7) ∷ []) n)
+  refusal-problem n = go (problemRefusal ws) refl
+    where
+      go : (k : ℕ) → problemRefusal ws ≡ k → problemRefusal ws ≡ refusal ws room
+      go zero e = absurd (n e)
+      go (suc k) e = e ∙ sym (first-kept (problemTests mostRows ws) ((tooShort ws room, 7) ∷ []) k e)
 
   after-problem : problemRefusal ws ≡ 0 → refusal ws room ≡ first ((tooShort ws room, 7) ∷ [])
-  unfolding refusal problemRefusal problemTests
-  after-problem e = first-after (problemTests mostRows ws) ((tooShort ws room, 7) ∷ [])
-      (λ z. omega arith, (λ z. omega arith, (λ z. omega arith, (λ z. omega arith, (λ z. omega arith, (λ z. omega arith, tt)))))) e
+  unfolding refusal problemRefusal
+  after-problem e = first-passed 6 (problemTests mostRows ws) ((tooShort ws room, 7) ∷ []) (numbered ws) e
 
   pub refusal-short : problemRefusal ws ≡ 0 → room < answerLength ws → 7 ≡ refusal ws room
   unfolding tooShort

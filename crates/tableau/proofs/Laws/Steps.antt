@@ -1,7 +1,6 @@
 -- What the code asks for before a pivot that the rules choose, and what may be asked of it afterwards.
 --   pivotable, swappable    the pivot may be made, and its two variables may change places
 --   limit-is                the number that the leaving variable gets is the violated limit
---   end-next                as many cells are live afterwards
 --   ranged-next             a pivot that passes the range test leaves every number in range
 use Prim.Native.Nat.{ℕ, _<_}
 use native.Mathlib.Omega.{arith}
@@ -70,8 +69,7 @@ module _ {P : Problem ℤ} {t : Tableau} {s : State ℤ} {r : Leaving} {w : ℕ}
     pivot-nonzero = pivot-nonzero M;
   }
 
-  pub swappable : Swappable (turnedAt t r w) p q
-  unfolding pivotedAt
+  pub swappable : Swappable t p q
   swappable = record {
     in-rows = row-in-range M;
     in-columns = column-in-range M;
@@ -100,11 +98,6 @@ module _ {P : Problem ℤ} {t : Tableau} {s : State ℤ} {r : Leaving} {w : ℕ}
       go above = M .stands .serves .uppers-within (r .variable)
 
   -- ---- afterwards
-
-  -- as many cells are live
-  pub end-next : end next ≡ end t
-  unfolding swappedAt pivotedAt
-  end-next = refl
 
   values-next : ((j : ℕ) → Within (valueAt t j) largestLimit) → (j : ℕ) → Within (valueAt next j) largestLimit
   values-next h j = go (ℕ-discrete j q)
