@@ -76,7 +76,7 @@ module _ (ws : List ℤ) where
   unfolding badKind
   kind-tells = tells-some (varsOf ws) _ (λ v h. tells-outside 0 3 (kind ws v))
 
-  -- some limit outside its range, or a missing limit's word not 0
+  -- a variable has a bad word for its lower or for its upper limit, be that limit present or missing
   pub limits-tell : Tells (badLimit ws)
       ((v : ℕ) × (v < varsOf ws) × (BadLimit (hasLower (kind ws v)) (lowerWord ws v) ⊎ BadLimit (hasUpper (kind ws v))
       (upperWord ws v)))

@@ -1,5 +1,5 @@
--- docs/RULES.md, "Time rows", last sentence: rows where each y is the next x, the last closes on the first, no start vertex repeats, and the lengths
--- sum below 0. No rows are no bad cycle: their lengths sum to 0.
+-- docs/RULES.md, "Time rows", last sentence: rows that lead from one to the next and back to where they began, through
+-- no vertex twice, with a sum of lengths below 0. No rows are no bad cycle: their lengths sum to 0.
 use mathlib.Core.Path.{_≡_}
 use mathlib.Core.Logic.{_≢_}
 use mathlib.Core.Bool.{Bool, _&&_, not}

@@ -7,7 +7,7 @@ use lib.IntN.{ℤ, pos, natAbs}
 use Rattle.whole.specs.Numbers.{within, eqZ}
 use Rattle.rules.specs.Sizes.{largestLimit}
 
--- bit b of a kind: kind 0 is no limit, 1 lower only, 2 upper only, 3 both
+-- bit b of a kind: bit 0 tells of the lower limit, bit 1 of the upper; so the four kinds are the four ways to have them
 unfoldable pub bit : ℕ → ℤ → Bool
 bit b kind = eqb (natAbs kind / 2 ^ b % 2) 1
 

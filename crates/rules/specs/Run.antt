@@ -83,7 +83,7 @@ module _ {X : Type 0} (𝓥 : Values X) where
   unfoldable pub conflict : Problem X → Option ℕ
   conflict P = lowest (vars P) (λ v. cond (crossed (P .lower v) (P .upper v)) (some v) none)
 
-  -- a check of P from the state s: crossed limits give one lower and one upper multiplier of 1 and no pivots
+  -- a check of P from the state s: where limits cross, both multipliers of that variable are 1, and there is no run
   unfoldable pub ending : Problem X → State X → Ending X
   ending P s = elim (conflict P) [
     | some v ↦ record { how = cannot (table (vars P) (same v)) (table (vars P) (same v)); pivots = 0; last = s }

@@ -148,7 +148,7 @@ module _ {X : Type 0} (𝓥 : Values X) where
   unfoldable pub limitAt : Problem X → Leaving → X
   limitAt P r = elim (r .side) [ below ↦ seated (P .lower (r .variable)) | above ↦ seated (P .upper (r .variable)) ]
 
-  -- the pivot; w becomes basic, and the leaving variable takes the violated limit as its value
+  -- the pivot; w becomes basic, and the leaving variable is nonbasic at the limit that it violated
   unfoldable pub moved : Problem X → State X → Leaving → ℕ → State X
   moved P s r w = record {
     tableau = pivot (vars P) (s .tableau) (r .variable) w;

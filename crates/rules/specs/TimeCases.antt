@@ -4,7 +4,7 @@ use Prim.Native.Nat.{ℕ}
 use lib.IntN.{ℤ, pos}
 use Rattle.rules.specs.Expected.{Case, cycle, minus, times}
 
--- x - y <= c, or x - y < c if strict is 1
+-- the words of one row
 abbrev line : ℕ → ℕ → ℕ → ℤ → List ℤ
 line x y strict c = pos x ∷ pos y ∷ pos strict ∷ c ∷ []
 

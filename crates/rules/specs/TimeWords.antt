@@ -84,7 +84,7 @@ pub record AcceptedTimes (ws : List ℤ) (room : ℕ) : Type 0 where
 
 -- ---- what they mean
 
--- row i is an edge from x to y of length c; a strict row is read as c - 1
+-- each row as an edge, x its tail and y its head; a strict word of 1 takes 1 off the length
 abbrev pub timeEdges : List ℤ → Edges ℤ
 timeEdges ws = record {
   vertices = nOf ws;

@@ -41,7 +41,7 @@ pub record Timed (ws before : List ℤ) (r : ℕ) (after : List ℤ) : Type 0 wh
   pub written : after ≡ timesWritten r ws rows before
   pub named : r ≡ 0 → canMeet whole (timeEdges ws) ≡ false → BadCycle whole (timeEdges ws) rows
 
--- what row i says of the times t: x - y <= c, or x - y < c if strict is 1
+-- what a row says of the difference z of two times: at most c, and a strict row less than c
 abbrev pub RowSays : Bool → ℤ → ℤ → Type 0
 RowSays true z c = z <ℤ c
 RowSays false z c = z ≤ℤ c

@@ -81,8 +81,9 @@ fn pull_of(
     0
 }
 
-// The violated limit gets D; an entry's size goes to the upper limit of a variable that would have had to increase, and to
-// the lower limit of one that would have had to decrease; all other multipliers are 0.
+// The multipliers of a blocked row. D goes to the limit that its variable violates. The size of each entry goes to the
+// limit that stops the entry's variable: the upper one if it would have to rise, the lower one if it would have to
+// fall. The rest is 0.
 pub fn multipliers_of(
     entries: &[i64; Tableau::MOST_ENTRIES],
     seats: [Seat; Tableau::MOST_VARIABLES],

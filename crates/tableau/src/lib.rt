@@ -1,4 +1,5 @@
-// The tableau by place: D times each basic variable is a whole-number sum over the nonbasic ones. D is `common`.
+// The tableau by place. A row is an equation: `common`, the rules' D, times the row's basic variable is the sum of the
+// row's entries, each times its column's nonbasic variable. All of these numbers are whole.
 pub mod layout;
 pub mod pivot;
 pub mod range;

@@ -1,5 +1,5 @@
-//! The tableau: `common` times each basic variable is a whole-number sum over
-//! the nonbasic ones.
+//! The tableau. A row is an equation: `common` times its basic variable is the
+//! sum of its entries, each times the nonbasic variable of its column.
 
 use crate::words::{every, Parts};
 
