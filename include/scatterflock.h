@@ -37,7 +37,8 @@ extern "C" {
  * of range), out[1] the number of pivots, and the first 3 + 2 (n + m) words
  * are the answer of the rules: for "can" a denominator and numerators that
  * meet every row and limit, for "cannot" multipliers that show that no
- * fractions do. Words past those keep what they had.
+ * fractions do, for "out of range" zeros, which say nothing about the limits.
+ * Words past those keep what they had.
  *
  * Returns 1 to 7 when the words or the room for the answer are refused: 1
  * fewer than two words, 2 n or m out of range, 3 another count of words, 4 a
@@ -45,21 +46,31 @@ extern "C" {
  * number where a limit is missing, 7 out_count below 3 + 2 (n + m). It is the
  * first that applies, and every word of out keeps what it had.
  *
- * The result and every word of out follow from the words alone: there is no
- * other that the promise allows.
+ * The number returned follows from the words and out_count, and every word of
+ * out from these and from what out held before: the promise allows no other.
  */
 uint32_t scatterflock_solve(const int32_t *words, size_t word_count,
                             int64_t *out, size_t out_count);
 
 /*
- * Judges an answer to a limit problem, whoever gave it.
+ * Judges an answer to a limit problem, whoever gave it. Write N for n + m.
  *
- * Returns 8 exactly if the answer is right: with answer[0] = 1 the values meet
- * every row and limit, with answer[0] = 2 the multipliers show that no
- * fractions can. Returns 9 if it is not, 1 to 6 if the problem is refused as
- * in scatterflock_solve, 7 if answer_count is below 3 + 2 (n + m). answer[1]
- * and words past 3 + 2 (n + m) never matter. Nothing is written. What
- * scatterflock_solve answers with 1 or 2 gets 8.
+ * Returns 1 to 6 if the problem is refused as in scatterflock_solve, 7 if it
+ * is not and answer_count is below 3 + 2 N, else 8 (accepted) or 9 (not). 8
+ * comes exactly if
+ *
+ *   - answer[0] is 1, answer[2] is from 1 to 2,147,483,647, the next N words
+ *     are at most 515,396,075,280,000 in size, over answer[2] they meet every
+ *     row and every limit, and the N words after them are 0; or
+ *   - answer[0] is 2, answer[2] is 0, the next 2 N words are from 0 to
+ *     2,147,483,647 and 0 where the limit is missing, and as multipliers of
+ *     the lower and of the upper limits they add up to a contradiction.
+ *
+ * So 8 means that fractions meet the problem, or that none do, as answer[0]
+ * says. 9 says nothing about the problem, and does not tell which test failed:
+ * an answer with a number out of range or with a word that should be 0 gets 9
+ * as well. answer[1] and words past 3 + 2 N never matter. Nothing is written.
+ * What scatterflock_solve answers with 1 or 2 gets 8.
  */
 uint32_t scatterflock_check(const int32_t *words, size_t word_count,
                             const int64_t *answer, size_t answer_count);
