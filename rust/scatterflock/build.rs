@@ -1,7 +1,9 @@
-//! Brings in the archive: the one that the environment variable
-//! SCATTERFLOCK_ARCHIVE names, else target/staticlib/libscatterflock.a at the
-//! top of the repository. For x86-64 it is linked. For another machine the
-//! program `served.c` is built around it, with a compiler for x86-64.
+//! Brings in the archive: target/staticlib/libscatterflock.a at the top of the
+//! repository, which is code for x86-64. There it is linked. For another
+//! machine the program `served.c` is built around it, with a compiler for
+//! x86-64. The environment variable SCATTERFLOCK_ARCHIVE names an archive in
+//! its place that is code for the machine itself (tools/native makes one), and
+//! that is linked.
 
 use std::env;
 use std::path::{Path, PathBuf};
@@ -12,23 +14,29 @@ const COMPILER: &str = "x86_64-linux-gnu-gcc";
 
 fn main() {
     println!("cargo:rerun-if-env-changed=SCATTERFLOCK_ARCHIVE");
-    let archive = match env::var_os("SCATTERFLOCK_ARCHIVE") {
-        Some(path) => PathBuf::from(path),
-        None => here().join("../../target/staticlib/libscatterflock.a"),
-    };
+    println!("cargo:rustc-check-cfg=cfg(linked)");
+    match env::var_os("SCATTERFLOCK_ARCHIVE") {
+        Some(path) => link(&found(&PathBuf::from(path), "tools/native")),
+        None => {
+            let path = here().join("../../target/staticlib/libscatterflock.a");
+            let archive = found(&path, "rt staticlib scatterflock");
+            if variable("CARGO_CFG_TARGET_ARCH") == "x86_64" {
+                link(&archive);
+            } else {
+                serve(&archive);
+            }
+        }
+    }
+}
+
+/// The archive's whole path, for this build and for tests that link it too.
+fn found(archive: &Path, maker: &str) -> PathBuf {
     println!("cargo:rerun-if-changed={}", archive.display());
     let Ok(archive) = archive.canonicalize() else {
-        panic!(
-            "there is no archive {}: `rt staticlib scatterflock` writes it, or name one in \
-             SCATTERFLOCK_ARCHIVE",
-            archive.display()
-        );
+        panic!("there is no archive {}: `{maker}` makes it", archive.display());
     };
-    if variable("CARGO_CFG_TARGET_ARCH") == "x86_64" {
-        link(&archive);
-    } else {
-        serve(&archive);
-    }
+    println!("cargo:rustc-env=SCATTERFLOCK_LIBRARY={}", archive.display());
+    archive
 }
 
 fn variable(name: &str) -> String {
@@ -42,6 +50,7 @@ fn here() -> PathBuf {
 fn link(archive: &Path) {
     let folder = archive.parent().expect("a file is in a folder");
     let file = archive.file_name().expect("a file has a name");
+    println!("cargo:rustc-cfg=linked");
     println!("cargo:rustc-link-search=native={}", folder.display());
     println!("cargo:rustc-link-lib=static:+verbatim={}", file.to_string_lossy());
 }

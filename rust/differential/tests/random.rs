@@ -1,11 +1,12 @@
-//! Random problems, with a seed that is printed and can be given again: 220,000
-//! a run.
+//! Random problems, with a seed that is printed and can be given again: 360,000
+//! a run where the archive is linked, 75,000 under an emulator.
 
 use differential::report;
 use problems::random::seed;
+use scatterflock::raw::LINKED;
 
-const LIMIT_PROBLEMS: u64 = 180_000;
-const TIME_PROBLEMS: u64 = 40_000;
+const LIMIT_PROBLEMS: u64 = if LINKED { 300_000 } else { 60_000 };
+const TIME_PROBLEMS: u64 = if LINKED { 60_000 } else { 15_000 };
 
 #[test]
 fn limit_problems() {
@@ -18,10 +19,11 @@ fn limit_problems() {
     }
     assert!(report.of("range") > LIMIT_PROBLEMS / 100, "range, SEED={seed}");
     for number in 1..=7 {
-        assert!(report.of(&format!("refused {number}")) > 100, "{number}, SEED={seed}");
+        let refused = report.of(&format!("refused {number}"));
+        assert!(refused > LIMIT_PROBLEMS / 1_000, "{number}, SEED={seed}");
     }
     for number in 1..=9 {
-        assert!(report.checks[&number] > 100, "check {number}, SEED={seed}");
+        assert!(report.checks[&number] > LIMIT_PROBLEMS / 1_000, "check {number}, SEED={seed}");
     }
 }
 
@@ -35,6 +37,7 @@ fn time_rows() {
         assert!(report.of(outcome) > TIME_PROBLEMS / 10, "{outcome}, SEED={seed}");
     }
     for number in 11..=17 {
-        assert!(report.of(&format!("refused {number}")) > 50, "{number}, SEED={seed}");
+        let refused = report.of(&format!("refused {number}"));
+        assert!(refused > TIME_PROBLEMS / 1_000, "{number}, SEED={seed}");
     }
 }

@@ -2,16 +2,20 @@
 //! return.
 //!
 //! The archive holds code for x86-64. There it is linked into this program and
-//! nothing is allocated; on another machine it runs under an emulator, in a
-//! program of its own that is asked over a pipe.
+//! nothing is allocated. On another machine it runs under an emulator, in a
+//! program of its own that is asked over a pipe, unless an archive of code for
+//! that machine was named to the build, which is linked too.
 
-#[cfg(target_arch = "x86_64")]
+#[cfg(linked)]
 #[path = "raw/linked.rs"]
 mod archive;
 
-#[cfg(not(target_arch = "x86_64"))]
+#[cfg(not(linked))]
 #[path = "raw/served.rs"]
 mod archive;
+
+/// Whether the archive is linked into this program.
+pub const LINKED: bool = cfg!(linked);
 
 /// Answers a limit problem: 0 and the answer's words at the start of `out`,
 /// or a refusal from 1 to 7 and `out` as it was.

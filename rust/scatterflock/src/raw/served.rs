@@ -6,7 +6,7 @@ use std::cell::RefCell;
 use std::io::{Read, Result, Write};
 use std::process::{Child, ChildStdin, ChildStdout, Command, Stdio};
 
-/// The emulator, found along PATH; SCATTERFLOCK_EMULATOR names another.
+/// The emulator, found along PATH: Debian's qemu-user.
 const EMULATOR: &str = "qemu-x86_64";
 /// The program, built by this crate's build script.
 const PROGRAM: &str = env!("SCATTERFLOCK_SERVED");
@@ -52,13 +52,12 @@ struct Server {
 
 impl Server {
     fn start() -> Server {
-        let emulator = std::env::var("SCATTERFLOCK_EMULATOR").unwrap_or(EMULATOR.to_string());
-        let mut child = Command::new(&emulator)
+        let mut child = Command::new(EMULATOR)
             .arg(PROGRAM)
             .stdin(Stdio::piped())
             .stdout(Stdio::piped())
             .spawn()
-            .unwrap_or_else(|error| panic!("{emulator} {PROGRAM} does not start: {error}"));
+            .unwrap_or_else(|error| panic!("{EMULATOR} {PROGRAM} does not start: {error}"));
         let requests = child.stdin.take().expect("it is piped");
         let replies = child.stdout.take().expect("it is piped");
         Server { _child: child, requests, replies }
