@@ -1,7 +1,8 @@
 //! The implementations that are measured.
 
-/// An implementation: its three functions. The first contender is the
-/// yardstick that the others' ratios are taken to.
+use scatterflock::raw;
+
+/// An implementation: its three functions.
 pub struct Contender {
     pub name: &'static str,
     pub solve: fn(&[i32], &mut [i64]) -> u32,
@@ -12,25 +13,9 @@ pub struct Contender {
 const PLAIN: Contender =
     Contender { name: "plain", solve: plain::solve, check: plain::check, times: plain::times };
 
-#[cfg(target_arch = "x86_64")]
-mod all {
-    use super::{Contender, PLAIN};
-    use scatterflock::raw;
+const ARCHIVE: Contender =
+    Contender { name: "scatterflock", solve: raw::solve, check: raw::check, times: raw::times };
 
-    const ARCHIVE: Contender =
-        Contender { name: "scatterflock", solve: raw::solve, check: raw::check, times: raw::times };
-
-    pub const CONTENDERS: [Contender; 2] = [PLAIN, ARCHIVE];
-    pub const MISSING: Option<&str> = None;
-}
-
-#[cfg(not(target_arch = "x86_64"))]
-mod all {
-    use super::{Contender, PLAIN};
-
-    pub const CONTENDERS: [Contender; 1] = [PLAIN];
-    pub const MISSING: Option<&str> =
-        Some("the archive is code for x86-64 and cannot be timed on this machine: plain alone");
-}
-
-pub use all::{CONTENDERS, MISSING};
+/// The first is the yardstick that the others' ratios are taken to. The
+/// archive is there where it is linked: times under an emulator say nothing.
+pub const CONTENDERS: &[Contender] = if raw::LINKED { &[PLAIN, ARCHIVE] } else { &[PLAIN] };

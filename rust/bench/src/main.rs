@@ -7,34 +7,34 @@
 //! measured, and making them is not. The checker is measured on the answers of
 //! the first contender.
 //!
-//! `SEED=.. cargo run --release -p bench` measures other problems.
+//! `SEED=.. make bench` measures other problems.
 
 mod contenders;
 mod measure;
 mod sets;
 mod table;
 
-use contenders::{CONTENDERS, MISSING};
+use contenders::CONTENDERS;
 
 const SEED: u64 = 1;
 
 fn main() {
     let seed = problems::random::seed_or(SEED);
     println!("SEED={seed}, ns a problem, least of {} rounds", measure::ROUNDS);
-    if let Some(why) = MISSING {
-        println!("{why}");
+    if !scatterflock::raw::LINKED {
+        println!("the archive is code for another machine: plain alone");
     }
-    table::heading(&CONTENDERS);
+    table::heading(CONTENDERS);
     for set in sets::limits(seed) {
-        let times = measure::solve(&CONTENDERS, &set);
+        let times = measure::solve(CONTENDERS, &set);
         table::line("solve", set.name, &times, &set.pivots());
     }
     for set in sets::limits(seed) {
-        let times = measure::check(&CONTENDERS, &set);
+        let times = measure::check(CONTENDERS, &set);
         table::line("check", set.name, &times, "");
     }
     for set in sets::times(seed) {
-        let times = measure::times(&CONTENDERS, &set);
+        let times = measure::times(CONTENDERS, &set);
         table::line("times", set.name, &times, "");
     }
 }
