@@ -15,26 +15,39 @@ mod sets;
 mod table;
 
 use contenders::CONTENDERS;
+use std::io::{self, ErrorKind, Write};
+use std::process::ExitCode;
 
 const SEED: u64 = 1;
 
-fn main() {
-    let seed = problems::random::seed_or(SEED);
-    println!("SEED={seed}, ns a problem, least of {} rounds", measure::ROUNDS);
-    if !scatterflock::raw::LINKED {
-        println!("the archive is code for another machine: plain alone");
+fn main() -> ExitCode {
+    match print(&mut io::stdout()) {
+        Err(error) if error.kind() != ErrorKind::BrokenPipe => {
+            eprintln!("the table cannot be written: {error}");
+            ExitCode::FAILURE
+        }
+        _ => ExitCode::SUCCESS,
     }
-    table::heading(CONTENDERS);
+}
+
+fn print(to: &mut impl Write) -> io::Result<()> {
+    let seed = problems::random::seed_or(SEED);
+    writeln!(to, "SEED={seed}, ns a problem, least of {} rounds", measure::ROUNDS)?;
+    if !scatterflock::raw::LINKED {
+        writeln!(to, "the archive is code for another machine: plain alone")?;
+    }
+    writeln!(to, "{}", table::heading(CONTENDERS))?;
     for set in sets::limits(seed) {
         let times = measure::solve(CONTENDERS, &set);
-        table::line("solve", set.name, &times, &set.pivots());
+        writeln!(to, "{}", table::line("solve", set.name, &times, &set.pivots()))?;
     }
     for set in sets::limits(seed) {
         let times = measure::check(CONTENDERS, &set);
-        table::line("check", set.name, &times, "");
+        writeln!(to, "{}", table::line("check", set.name, &times, ""))?;
     }
     for set in sets::times(seed) {
         let times = measure::times(CONTENDERS, &set);
-        table::line("times", set.name, &times, "");
+        writeln!(to, "{}", table::line("times", set.name, &times, ""))?;
     }
+    Ok(())
 }
