@@ -1,0 +1,95 @@
+/*
+ * Calls the archive through include/scatterflock.h and compares what it gives:
+ * cases A, C and J of docs/RULES.md, answers that are right and wrong, and
+ * refusals. It is C and C++ at once, and header.rs compiles it as both. Each
+ * difference is a line, and any makes the program fail.
+ */
+#include "scatterflock.h"
+
+#include <stdio.h>
+
+#define COUNT(list) (sizeof(list) / sizeof *(list))
+#define ROOM 16
+
+static const int32_t A[] = {2, 3, 1, 1, 2, -1, -1, 2, 0, 0, 0, 0, 0, 0, 1, 2, 0, 1, 0, 0, 1, 1, 0};
+static const int64_t A_ANSWER[] = {1, 2, 3, 3, 3, 6, 3, 3, 0, 0, 0, 0, 0};
+static const int64_t A_WRONG[] = {1, 2, 3, 3, 3, 6, 3, 4, 0, 0, 0, 0, 0};
+
+static const int32_t C[] = {2, 3, 1, 1, -1, -2, -1, 1, 0, 0, 0, 0, 0, 0, 1, 0, 0, 1, 2, 0, 1, 1, 0};
+static const int64_t C_ANSWER[] = {2, 2, 0, 0, 0, 3, 2, 1, 0, 0, 0, 0, 0};
+static const int64_t C_WRONG[] = {2, 2, 0, 0, 0, 3, 2, 2, 0, 0, 0, 0, 0};
+
+static const int32_t J[] = {4, 6, 0, 1, 0, 5, 1, 0, 0, -5, 1, 2, 0, -2,
+                            0, 2, 0, -3, 3, 0, 0, 2, 0, 3, 0, -2};
+static const int64_t J_TIMES[] = {1, 4, 5, 0, 8, 7};
+
+static const int32_t NINE_VARIABLES[] = {9, 0};
+static const int32_t NO_SUCH_VERTEX[] = {1, 1, 0, 1, 0, 0};
+
+static int differences = 0;
+
+static void number(const char *call, uint32_t found, uint32_t expected)
+{
+    if (found != expected) {
+        printf("%s returns %lu, not %lu\n", call, (unsigned long)found, (unsigned long)expected);
+        differences++;
+    }
+}
+
+static int64_t before(size_t place)
+{
+    return -1000 - (int64_t)place;
+}
+
+/* The expected words, and then what was there before. */
+static void words(const char *call, const int64_t *out, const int64_t *expected, size_t count)
+{
+    for (size_t place = 0; place < ROOM; place++) {
+        int64_t word = place < count ? expected[place] : before(place);
+
+        if (out[place] != word) {
+            printf("%s leaves %lld in word %lu, not %lld\n", call, (long long)out[place],
+                   (unsigned long)place, (long long)word);
+            differences++;
+        }
+    }
+}
+
+static int64_t *fresh(void)
+{
+    static int64_t out[ROOM];
+
+    for (size_t place = 0; place < ROOM; place++)
+        out[place] = before(place);
+    return out;
+}
+
+int main(void)
+{
+    int64_t *out = fresh();
+
+    number("solve A", scatterflock_solve(A, COUNT(A), out, ROOM), 0);
+    words("solve A", out, A_ANSWER, COUNT(A_ANSWER));
+    out = fresh();
+    number("solve C", scatterflock_solve(C, COUNT(C), out, ROOM), 0);
+    words("solve C", out, C_ANSWER, COUNT(C_ANSWER));
+    out = fresh();
+    number("solve nine", scatterflock_solve(NINE_VARIABLES, COUNT(NINE_VARIABLES), out, ROOM), 2);
+    words("solve nine", out, NULL, 0);
+    number("solve A short", scatterflock_solve(A, COUNT(A), out, COUNT(A_ANSWER) - 1), 7);
+    words("solve A short", out, NULL, 0);
+
+    number("check A", scatterflock_check(A, COUNT(A), A_ANSWER, COUNT(A_ANSWER)), 8);
+    number("check A wrong", scatterflock_check(A, COUNT(A), A_WRONG, COUNT(A_WRONG)), 9);
+    number("check A short", scatterflock_check(A, COUNT(A), A_ANSWER, COUNT(A_ANSWER) - 1), 7);
+    number("check C", scatterflock_check(C, COUNT(C), C_ANSWER, COUNT(C_ANSWER)), 8);
+    number("check C wrong", scatterflock_check(C, COUNT(C), C_WRONG, COUNT(C_WRONG)), 9);
+
+    number("times J", scatterflock_times(J, COUNT(J), out, ROOM), 0);
+    words("times J", out, J_TIMES, COUNT(J_TIMES));
+    out = fresh();
+    number("times vertex", scatterflock_times(NO_SUCH_VERTEX, COUNT(NO_SUCH_VERTEX), out, ROOM), 14);
+    words("times vertex", out, NULL, 0);
+
+    return differences == 0 ? 0 : 1;
+}
