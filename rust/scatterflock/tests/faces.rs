@@ -30,10 +30,32 @@ fn worked_cases_and_published_problems() {
 }
 
 #[test]
+fn answers_of_every_length() {
+    for (n, m) in (1..=8).flat_map(|n| (0..=16).map(move |m| (n, m))) {
+        let rows = vec![&[0; 8][..n]; m];
+        let answer = solve(&Draft::new(n, &rows, &vec![FREE; n + m]).words()).unwrap();
+        assert_eq!(answer.verdict, Verdict::Can { over: 1, numerators: vec![0; n + m] });
+    }
+    for n in 1..=64 {
+        let mut rows: Vec<[i32; 4]> = (1..n).map(|vertex| [vertex - 1, vertex, 0, -1]).collect();
+        let chain = times(&time_words(n as usize, &rows)).unwrap();
+        assert_eq!(chain, Schedule::Times((0..i64::from(n)).collect()));
+        rows.push([n - 1, 0, 0, -1]);
+        let ring = times(&time_words(n as usize, &rows)).unwrap();
+        let Schedule::Cycle(mut listed) = ring else { panic!("{n} vertices: {ring}") };
+        listed.sort();
+        assert_eq!(listed, (0..n as usize).collect::<Vec<usize>>());
+    }
+}
+
+/// One free variable, and one row.
+fn row_words(coefficient: i32, limits: [i32; 3]) -> Vec<i32> {
+    Draft::new(1, &[&[coefficient]], &[FREE, limits]).words()
+}
+
+#[test]
 fn every_refusal() {
-    let row = |coefficient, limits: [i32; 3]| {
-        solve(&Draft::new(1, &[&[coefficient]], &[FREE, limits]).words())
-    };
+    let row = |coefficient, limits| solve(&row_words(coefficient, limits));
     assert_eq!(solve(&[1]), Err(Refusal::FewWords));
     assert_eq!(solve(&[0, 0]), Err(Refusal::Sizes));
     assert_eq!(solve(&[1, 0]), Err(Refusal::Length));
@@ -64,6 +86,50 @@ fn numbers_and_texts_of_refusals() {
     assert_eq!([TimesRefusal::of(10), TimesRefusal::of(18)], [None, None]);
     assert_eq!(Refusal::Kind.to_string(), "a kind of limit is not from 0 to 3");
     assert_eq!(TimesRefusal::Short.to_string(), "there is no room for a whole answer");
+}
+
+/// The ranges "A to B" in a text.
+fn ranges(text: &str) -> Vec<[i32; 2]> {
+    let number = |word: &str| word.replace(',', "").parse().expect("it is a number");
+    let words: Vec<&str> = text.split(' ').collect();
+    let told = words.windows(3).filter(|three| three[1] == "to");
+    told.map(|three| [three[0], three[2]].map(number)).collect()
+}
+
+/// For each range in the refusal's text, words that have a number there.
+type Spots = Vec<fn(i32) -> Vec<i32>>;
+
+/// The text tells one range for each spot, and just the numbers beyond it are
+/// refused so.
+fn tells_its_ranges(text: &str, spots: Spots, is_refused: impl Fn(&[i32]) -> bool) {
+    let told = ranges(text);
+    assert_eq!(told.len(), spots.len(), "{text}");
+    for ([low, high], spot) in told.into_iter().zip(spots) {
+        let refused = [low - 1, low, high, high + 1].map(|number| is_refused(&spot(number)));
+        assert_eq!(refused, [true, false, false, true], "{text}");
+    }
+}
+
+#[test]
+fn ranges_in_texts_of_refusals() {
+    for refusal in Refusal::ALL {
+        let spots: Spots = match refusal {
+            Refusal::Sizes => vec![|n| vec![n, 0], |m| vec![1, m]],
+            Refusal::Coefficient => vec![|coefficient| row_words(coefficient, FREE)],
+            Refusal::Kind => vec![|kind| row_words(1, [kind, 0, 0])],
+            Refusal::Limit => vec![|limit| row_words(1, at_least(limit))],
+            _ => vec![],
+        };
+        tells_its_ranges(&refusal.to_string(), spots, |words| solve(words) == Err(refusal));
+    }
+    for refusal in TimesRefusal::ALL {
+        let spots: Spots = match refusal {
+            TimesRefusal::Sizes => vec![|n| vec![n, 0], |m| vec![1, m]],
+            TimesRefusal::Bound => vec![|bound| time_words(2, &[[0, 1, 0, bound]])],
+            _ => vec![],
+        };
+        tells_its_ranges(&refusal.to_string(), spots, |rows| times(rows) == Err(refusal));
+    }
 }
 
 #[test]
