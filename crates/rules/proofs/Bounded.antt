@@ -2,12 +2,14 @@
 -- variables, each at one of three values (its first, its lower limit, its upper limit), and none comes twice.
 --   seated-moved   a move seats as many variables
 --   below-bound    demand 3, second half, from any sound state
+--   bound-some     the bound is above 0: there is a way to choose n of m + n
 use mathlib.Core.List.{List, [], _∷_}
 use mathlib.Core.Logic.{inl, inr, _≢_}
 use mathlib.Core.Option.{Option, Option·none-ne-some, none, some}
 use mathlib.Core.Path.{ap, refl, sym, _∙_, _≡_}
-use Prim.Native.Nat.{suc, zero, ℕ, _<_}
+use Prim.Native.Nat.{suc, zero, ℕ, _<_, _^_, _≤_}
 use native.Mathlib.Decide.{decLt, ℕ-discrete}
+use native.Mathlib.Nat.{mul-pos}
 use native.Mathlib.Omega.{arith}
 use lib.IntN.{one}
 use lib.ListN.{List·getD-eq-default, getD, length, length-set, set}
@@ -24,7 +26,7 @@ use Rattle.rules.proofs.Moves.{step-goes}
 use Rattle.rules.proofs.Sound.{Apart, Rowed, Sound, howManySeated}
 use Rattle.rules.proofs.Swaps.{Swap}
 use Rattle.rules.specs.Problem.{Problem, vars}
-use Rattle.rules.specs.Run.{Runs, after, bound, next}
+use Rattle.rules.specs.Run.{Runs, after, bound, choose, next}
 use Rattle.rules.specs.Step.{Leaving, Outcome, Side, State, can, cannot, goes, limitAt, moved, range, seat, seated, step}
 
 module _ {X : Type 0} where
@@ -149,3 +151,19 @@ module _ {X : Type 0} (𝓥 : Values X) where
     unfolding bound
     below-bound k runs = rw many-choices at (at-most choices (P .n) (suc k) (λ i. after 𝓥 P s i .seats) fits-after
         (λ p q h g. twice-never 𝓥 law P s A S p q h (λ i u. runs i (omega arith))))
+
+-- ---- the bound is above 0
+
+power-some : (n : ℕ) → 0 < 3 ^ n
+power-some zero = omega arith
+power-some (suc n) = let r : 0 < 3 ^ n = power-some n in omega arith
+
+choose-some : (k j : ℕ) → j ≤ k → 0 < choose k j
+unfolding choose
+choose-some k zero h = omega arith
+choose-some zero (suc j) h = let z : ⊥ = omega arith in absurd z
+choose-some (suc k) (suc j) h = let r : 0 < choose k j = choose-some k j (omega arith) in omega arith
+
+pub bound-some : {X : Type 0} (P : Problem X) → 0 < bound P
+unfolding bound
+bound-some P = mul-pos (power-some (P .n)) (choose-some (vars P) (P .n) (omega arith))

@@ -3,12 +3,13 @@
 --   cannot-leaves-none   verdict 2: no fractions do
 --   never-both           an answer that says can, and words whose problem no fractions meet, do not stand together
 --   no-twice, few-pivots, run-ends    no arrangement comes twice; the count is below the bound; the run ends
+--   count-below          word 1 is a count below the bound, crossed limits or not
 --   solve-only           any two results that the solver's promise allows are equal
 --   written-length, written-past      an answered output keeps its length and the words past the answer
 use mathlib.Core.List.{List, _++_}
 use mathlib.Core.Logic.{_≢_}
-use mathlib.Core.Option.{none}
-use mathlib.Core.Path.{ap, subst, sym, _∙_, _≡_}
+use mathlib.Core.Option.{Option, none, some}
+use mathlib.Core.Path.{ap, refl, subst, sym, _∙_, _≡_}
 use Prim.Native.Nat.{ℕ, _+_, _<_, _≤_}
 use native.Mathlib.Omega.{arith}
 use lib.IntN.{pos, ℤ}
@@ -19,9 +20,9 @@ use Rattle.whole.proofs.Tables.{table-at, table-length}
 use Rattle.whole.proofs.Values.{Laws, le-le, lt-irrefl, lt-le-trans, total-same, up-strict}
 use Rattle.whole.specs.Tables.{table}
 use Rattle.whole.specs.Values.{Values, whole}
-use Rattle.rules.proofs.AnswerIs.{Crosses, TheRun, answer-run, crosses-exactly}
+use Rattle.rules.proofs.AnswerIs.{Crosses, TheRun, answer-crossed, answer-run, crosses-exactly}
 use Rattle.rules.proofs.Answers.{Answered, answered, can-at, cannot-at, crossing, denominator-word, lower-part, other-verdict, range-at}
-use Rattle.rules.proofs.Bounded.{below-bound}
+use Rattle.rules.proofs.Bounded.{below-bound, bound-some}
 use Rattle.rules.proofs.Ends.{ready-start, start-seated}
 use Rattle.rules.proofs.Fractions.{can-is-met, cannot-is-unmet}
 use Rattle.rules.proofs.Moved.{twice-never}
@@ -130,6 +131,17 @@ module _ (ws : List ℤ) where
 
     pub run-ends : TheRun (problem ws) begin
     run-ends = answer-run (problem ws) begin c ready
+
+  -- ---- the count, of any words
+
+  pub count-below : (k : ℕ) × (word (answer ws) 1 ≡ pos k) × (k < bound (problem ws))
+  unfolding answer
+  count-below = go (conflict whole (problem ws)) refl
+    where
+      go : (o : Option ℕ) → conflict whole (problem ws) ≡ o →
+          (k : ℕ) × (word (answerFrom (problem ws) begin) 1 ≡ pos k) × (k < bound (problem ws))
+      go (some v) e = (0, ap (λ a. word a 1) (answer-crossed (problem ws) begin v e), bound-some (problem ws))
+      go none e = let R = run-ends e in (R .count, R .word-1, R .below)
 
 -- ---- the output
 
