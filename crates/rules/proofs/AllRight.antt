@@ -20,7 +20,7 @@ use Rattle.rules.specs.Step.{admit, broken, entering, evidence, leaving,
 use Rattle.rules.specs.Tableau.{divisor, divisorSize, pivot, reduced, relation, small, solved}
 use Rattle.rules.specs.TimeCases.{timeCases}
 use Rattle.rules.specs.Times.{cycleWords, timesAnswer, timesOf}
-use Rattle.rules.specs.TimeWords.{badEnd, badRowLength, badStrict, badTimeSize, badWordCount, noRoom, timeEdges, timeRefusal, timeTests}
+use Rattle.rules.specs.TimeWords.{badEnd, badRowLength, badStrict, badTimeSize, badWordCount, noRoom, timeRefusal, timeTests}
 
 pub all-right : AllRight cases
 unfolding cases limitCases timeCases comesOut wanted answer answerFrom wordsOf ending conflict crossed run bound choose step
@@ -29,6 +29,6 @@ unfolding cases limitCases timeCases comesOut wanted answer answerFrom wordsOf e
     refusal first problemTests tooFew badSize badLength badCoefficient badKind badLimit badLimitWord tooShort
     checked accepted showsCan showsCannot atLeast atMost fair column surplus
     timeRefusal timeTests badTimeSize badWordCount badEnd badStrict badRowLength noRoom
-    timesAnswer timesOf cycleWords canMeet distances passes look settled isBadCycle timeEdges
+    timesAnswer timesOf cycleWords canMeet distances passes look settled isBadCycle
     lowest someBelow allBelow foldBelow sumBy tableFrom matrix gcd gcdTurns within outside
 all-right = refl
