@@ -8,3 +8,4 @@ pub mod Refused
 pub mod Means
 pub mod Only
 pub mod Tested
+pub mod Told

@@ -3,16 +3,16 @@
 use mathlib.Core.Path.{_≡_}
 use mathlib.Core.Bool.{Bool, true, false, cond}
 use mathlib.Core.List.{List, _∷_, _++_, map}
-use Prim.Native.Nat.{ℕ, zero, suc, _-_, _<_}
-use lib.IntN.{ℤ, pos, negℤ, _-ℤ_}
+use Prim.Native.Nat.{ℕ, zero, suc, _+_, _-_, _<_, _≤_}
+use lib.IntN.{ℤ, pos, negℤ, _-ℤ_, _*ℤ_}
 use lib.ListN.{length, drop, replicate}
 use lib.Signed.{_≤ℤ_, _<ℤ_}
 use Rattle.whole.specs.Numbers.{eqZ}
 use Rattle.whole.specs.Values.{whole}
-use Rattle.rules.specs.Problem.{nOf, mOf}
-use Rattle.rules.specs.Walks.{Edges}
+use Rattle.rules.specs.Problem.{nOf, mOf, word}
+use Rattle.rules.specs.Walks.{Shortest}
 use Rattle.rules.specs.Passes.{distances, canMeet}
-use Rattle.rules.specs.Cycle.{BadCycle}
+use Rattle.rules.specs.Cycle.{BadCycle, row}
 use Rattle.rules.specs.TimeWords.{strictWord, lengthWord, timesLength, timeRefusal, timeEdges}
 
 -- the times: minus the shortest distances
@@ -52,3 +52,31 @@ MeetsRow ws t i =
 
 abbrev pub MeetsRows : List ℤ → (ℕ → ℤ) → Type 0
 MeetsRows ws t = (i : ℕ) → i < mOf ws → MeetsRow ws t i
+
+-- the fractions t v / d meet every row as it is read: a strict row says x - y <= c - 1
+abbrev pub MeetsRead : List ℤ → ℤ → (ℕ → ℤ) → Type 0
+MeetsRead ws d t = (i : ℕ) → i < mOf ws →
+    (t (timeEdges ws .tail i) -ℤ t (timeEdges ws .head i)) ≤ℤ (d *ℤ timeEdges ws .size i)
+
+-- ---- what the words of an answered output say, by word 0
+
+-- n, and times that meet every row; each is minus the shortest distance
+pub record TimesTold (ws after : List ℤ) : Type 0 where
+  pub long : timesLength ws ≤ length after
+  pub verdict : word after 0 ≡ pos 1
+  pub count : word after 1 ≡ pos (nOf ws)
+  pub meet : MeetsRows ws (λ v. word after (2 + v))
+  pub shortest : (v : ℕ) → v < nOf ws → Shortest whole (timeEdges ws) v (negℤ (word after (2 + v)))
+
+-- k, the k rows of a bad cycle, and zeros up to 2 + n; no times meet all rows
+pub record CycleTold (ws after : List ℤ) : Type 0 where
+  pub long : timesLength ws ≤ length after
+  pub rows : List ℕ
+  pub bad : BadCycle whole (timeEdges ws) rows
+  pub verdict : word after 0 ≡ pos 2
+  pub count : word after 1 ≡ pos (length rows)
+  pub few : length rows ≤ nOf ws
+  pub listed : (k : ℕ) → k < length rows → word after (2 + k) ≡ pos (row rows k)
+  pub zeros : (k : ℕ) → length rows ≤ k → k < nOf ws → word after (2 + k) ≡ pos 0
+  pub no-times : (t : ℕ → ℤ) → ¬ MeetsRows ws t
+  pub no-fractions : (d : ℤ) → pos 0 <ℤ d → (t : ℕ → ℤ) → ¬ MeetsRead ws d t

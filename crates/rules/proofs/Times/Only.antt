@@ -1,24 +1,24 @@
 -- What the promise of `times` leaves open, and what it does not.
 --   times-only      two allowed results are equal, but where no times meet all rows each may name its own bad cycle
 --   answer-long     the answer has 2 + n words
+--   times-length    the output is as long as before
 --   times-past      words past 2 + n are as they were
 use mathlib.Core.Path.{_≡_, refl, sym, _∙_, ap}
-use mathlib.Core.Bool.{Bool, true, false, cond}
-use mathlib.Core.List.{List, _∷_, _++_, map}
+use mathlib.Core.Bool.{true, false, cond}
+use mathlib.Core.List.{List, _∷_, _++_}
 use mathlib.Core.Logic.{_⊎_, inl, inr}
-use Prim.Native.Nat.{ℕ, zero, suc, _+_, _-_, _≤_}
+use Prim.Native.Nat.{ℕ, zero, suc}
 use native.Mathlib.Omega.{arith}
 use lib.IntN.{ℤ, pos, negℤ}
-use lib.ListN.{length, drop, replicate, length-append, length-map, length-replicate}
+use lib.ListN.{length, drop, length-append, length-drop, length-map, length-replicate}
 use lib.Seq.{drop-append-seam}
 use Rattle.whole.specs.Values.{whole}
 use Rattle.whole.proofs.Bools.{either}
 use Rattle.whole.proofs.Instances.{whole-laws}
 use Rattle.rules.specs.Problem.{nOf}
-use Rattle.rules.specs.Walks.{Edges}
 use Rattle.rules.specs.Passes.{distances, canMeet}
 use Rattle.rules.specs.Cycle.{BadCycle}
-use Rattle.rules.specs.TimeWords.{timesLength, timeRefusal, AcceptedTimes, timeEdges}
+use Rattle.rules.specs.TimeWords.{timesLength, AcceptedTimes, timeEdges}
 use Rattle.rules.specs.Times.{timesOf, cycleWords, timesAnswer, timesWritten, Timed}
 use Rattle.rules.proofs.Times.Decide.{cycle-short, distances-long}
 use Rattle.rules.proofs.Times.Refused.{accepted-ends, times-accepted-exactly}
@@ -72,11 +72,11 @@ times-only ws before r q a c x y = (same, go r refl (either (canMeet whole (time
 
 -- ---- the output's length, and what is past the answer
 
-times-long : {ws : List ℤ} {room : ℕ} → AcceptedTimes ws room → length (timesOf ws) ≡ nOf ws
+pub times-long : {ws : List ℤ} {room : ℕ} → AcceptedTimes ws room → length (timesOf ws) ≡ nOf ws
 unfolding timesOf
 times-long {ws} A = length-map (distances whole (timeEdges ws)) negℤ ∙ distances-long whole-laws (timeEdges ws) (accepted-ends A)
 
-cycle-long : {ws : List ℤ} {room : ℕ} → AcceptedTimes ws room → (rows : List ℕ) → BadCycle whole (timeEdges ws) rows → length (cycleWords (nOf ws) rows) ≡ nOf ws
+pub cycle-long : {ws : List ℤ} {room : ℕ} → AcceptedTimes ws room → (rows : List ℕ) → BadCycle whole (timeEdges ws) rows → length (cycleWords (nOf ws) rows) ≡ nOf ws
 unfolding cycleWords
 cycle-long {ws} A rows b = simp (length-append, length-map, length-replicate) (omega (arith, cycle-short (timeEdges ws) rows (accepted-ends A) (b .cycle)))
 
@@ -87,6 +87,19 @@ answer-long {ws} A rows b = go (either (canMeet whole (timeEdges ws)))
     go : (canMeet whole (timeEdges ws) ≡ true) ⊎ (canMeet whole (timeEdges ws) ≡ false) → length (timesAnswer ws rows) ≡ timesLength ws
     go (inl e) = ap length (answer-can ws rows e) ∙ omega (arith, times-long A)
     go (inr e) = ap length (answer-cannot ws rows e) ∙ omega (arith, cycle-long A rows (b e))
+
+pub times-length : (ws before : List ℤ) (r : ℕ) (after : List ℤ) → Timed ws before r after →
+    length after ≡ length before
+unfolding timesWritten
+times-length ws before r after x = go r refl
+  where
+    go : (k : ℕ) → r ≡ k → length after ≡ length before
+    go (suc k) e = ap length (x .written ∙ ap (λ j. timesWritten j ws (x .rows) before) e)
+    go zero e =
+        let A = times-accepted-exactly ws (length before) .0 (sym (x .refused) ∙ e) in
+        ap length (x .written ∙ ap (λ j. timesWritten j ws (x .rows) before) e)
+        ∙ length-append (timesAnswer ws (x .rows)) (drop (timesLength ws) before)
+        ∙ omega (arith, answer-long A (x .rows) (x .named e), length-drop (timesLength ws) before, A .roomy)
 
 pub times-past : (ws before : List ℤ) (r : ℕ) (after : List ℤ) → Timed ws before r after → drop (timesLength ws) after ≡ drop (timesLength ws) before
 unfolding timesWritten

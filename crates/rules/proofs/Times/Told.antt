@@ -1,0 +1,144 @@
+-- What the words of an answered output of time rows say, by word 0.
+--   times-told      it is 1: n, and times that meet every row
+--   cycle-told      it is 2: k and the rows of a bad cycle; no times meet all rows
+--   times-or-cycle  it is one of the two
+use mathlib.Core.Path.{_≡_, refl, sym, _∙_, ap, subst, subst₂}
+use mathlib.Core.Bool.{true, false}
+use mathlib.Core.List.{List, _∷_, _++_, map}
+use mathlib.Core.Logic.{_⊎_, inl, inr}
+use Prim.Native.Nat.{ℕ, suc, _+_, _-_, _≤_, _<_}
+use native.Mathlib.Omega.{arith}
+use lib.IntN.{ℤ, pos, natAbs, negℤ, _-ℤ_}
+use lib.ListN.{length, drop, replicate, length-map, getD-replicate, List·getD-append, List·getD-map}
+use lib.Seq.{getD-append-add}
+use Rattle.whole.specs.Numbers.{eqZ}
+use Rattle.whole.specs.Values.{whole}
+use Rattle.whole.proofs.Bools.{either}
+use Rattle.rules.specs.Problem.{nOf, word}
+use Rattle.rules.specs.Walks.{Shortest}
+use Rattle.rules.specs.Passes.{distances, canMeet}
+use Rattle.rules.specs.Cycle.{BadCycle, row}
+use Rattle.rules.specs.TimeWords.{timesLength, AcceptedTimes, timeEdges, strictWord, lengthWord}
+use Rattle.rules.specs.Times.{timesOf, cycleWords, timesAnswer, timesWritten}
+use Rattle.rules.specs.Times.{Timed, RowSays, TimesTold, CycleTold}
+use Rattle.rules.proofs.Times.Decide.{cycle-short}
+use Rattle.rules.proofs.Times.Means.{timeOf, times-meet, times-shortest, cycle-no-times, cycle-no-fractions}
+use Rattle.rules.proofs.Times.Only.{answer-can, answer-cannot, times-long, times-length, cycle-long}
+use Rattle.rules.proofs.Times.Refused.{accepted-ends, times-accepted-exactly}
+
+-- past the first two words
+later : (a b : ℤ) (l : List ℤ) (k : ℕ) → word (a ∷ b ∷ l) (2 + k) ≡ word l k
+later a b l k = ap (word (a ∷ b ∷ l)) (let z : 2 + k ≡ suc (suc k) = omega arith in z)
+
+module _ (ws before after : List ℤ) (x : Timed ws before 0 after) where
+  A : AcceptedTimes ws (length before)
+  A = times-accepted-exactly ws (length before) .0 (sym (x .refused))
+
+  rest : List ℤ
+  rest = drop (timesLength ws) before
+
+  is : after ≡ timesAnswer ws (x .rows) ++ rest
+  unfolding timesWritten rest
+  is = x .written
+
+  long : timesLength ws ≤ length after
+  long = omega (arith, times-length ws before 0 after x, A .roomy)
+
+  -- ---- times
+
+  module _ (e : canMeet whole (timeEdges ws) ≡ true) where
+    met : after ≡ pos 1 ∷ pos (nOf ws) ∷ timesOf ws ++ rest
+    met = is ∙ ap (λ l. l ++ rest) (answer-can ws (x .rows) e)
+
+    time-at : (v : ℕ) → v < nOf ws → timeOf A v ≡ word after (2 + v)
+    unfolding timesOf
+    time-at v h = sym (ap (λ l. word l (2 + v)) met ∙ later (pos 1) (pos (nOf ws)) (timesOf ws ++ rest) v
+        ∙ List·getD-append (timesOf ws) rest (pos 0) v (omega (arith, times-long A))
+        ∙ List·getD-map negℤ (distances whole (timeEdges ws)) v (pos 0))
+
+    pub told-times : TimesTold ws after
+    told-times = record {
+      long = long;
+      verdict = ap (λ l. word l 0) met;
+      count = ap (λ l. word l 1) met;
+      meet = λ i h. subst₂ (λ a b. RowSays (eqZ (strictWord ws i) (pos 1)) (a -ℤ b) (lengthWord ws i))
+          (time-at _ (accepted-ends A .tail-in i h)) (time-at _ (accepted-ends A .head-in i h)) (times-meet A e i h);
+      shortest = λ v h. subst (λ t. Shortest whole (timeEdges ws) v (negℤ t)) (time-at v h) (times-shortest A e v);
+    }
+
+  -- ---- a cycle
+
+  module _ (e : canMeet whole (timeEdges ws) ≡ false) where
+    unmet : after ≡ pos 2 ∷ pos (length (x .rows)) ∷ cycleWords (nOf ws) (x .rows) ++ rest
+    unmet = is ∙ ap (λ l. l ++ rest) (answer-cannot ws (x .rows) e)
+
+    bad : BadCycle whole (timeEdges ws) (x .rows)
+    bad = x .named refl e
+
+    few : length (x .rows) ≤ nOf ws
+    few = cycle-short (timeEdges ws) (x .rows) (accepted-ends A) (bad .cycle)
+
+    -- a word of the cycle's part
+    part-at : (k : ℕ) → k < nOf ws → word after (2 + k) ≡ word (cycleWords (nOf ws) (x .rows)) k
+    part-at k h = ap (λ l. word l (2 + k)) unmet
+        ∙ later (pos 2) (pos (length (x .rows))) (cycleWords (nOf ws) (x .rows) ++ rest) k
+        ∙ List·getD-append (cycleWords (nOf ws) (x .rows)) rest (pos 0) k (omega (arith, cycle-long A (x .rows) bad))
+
+    listed : (k : ℕ) → k < length (x .rows) → word after (2 + k) ≡ pos (row (x .rows) k)
+    unfolding cycleWords
+    listed k h = part-at k (omega (arith, few))
+        ∙ List·getD-append (map pos (x .rows)) (replicate (nOf ws - length (x .rows)) (pos 0)) (pos 0) k
+        (omega (arith, length-map (x .rows) pos))
+        ∙ List·getD-map pos (x .rows) k 0
+
+    zeros : (k : ℕ) → length (x .rows) ≤ k → k < nOf ws → word after (2 + k) ≡ pos 0
+    unfolding cycleWords
+    zeros k l h = part-at k h
+        ∙ ap (word (map pos (x .rows) ++ replicate (nOf ws - length (x .rows)) (pos 0))) place
+        ∙ getD-append-add (map pos (x .rows)) (replicate (nOf ws - length (x .rows)) (pos 0))
+        (k - length (x .rows)) (pos 0)
+        ∙ getD-replicate (nOf ws - length (x .rows)) (k - length (x .rows)) (pos 0) (pos 0) (omega arith)
+      where
+        place : k ≡ length (map pos (x .rows)) + (k - length (x .rows))
+        place = omega (arith, length-map (x .rows) pos)
+
+    pub told-cycle : CycleTold ws after
+    told-cycle = record {
+      long = long;
+      rows = x .rows;
+      bad = bad;
+      verdict = ap (λ l. word l 0) unmet;
+      count = ap (λ l. word l 1) unmet;
+      few = few;
+      listed = listed;
+      zeros = zeros;
+      no-times = cycle-no-times A (x .rows) bad;
+      no-fractions = cycle-no-fractions (timeEdges ws) (x .rows) bad;
+    }
+
+  -- ---- by word 0
+
+  pub times-or-cycle : TimesTold ws after ⊎ CycleTold ws after
+  times-or-cycle = go (either (canMeet whole (timeEdges ws)))
+    where
+      go : (canMeet whole (timeEdges ws) ≡ true) ⊎ (canMeet whole (timeEdges ws) ≡ false) →
+          TimesTold ws after ⊎ CycleTold ws after
+      go (inl e) = inl (told-times e)
+      go (inr e) = inr (told-cycle e)
+
+  one-two : {B : Type 0} → word after 0 ≡ pos 1 → word after 0 ≡ pos 2 → B
+  one-two p q = let z : _≡_ {A = ℕ} 1 2 = ap natAbs (sym p ∙ q) in absurd (omega arith)
+
+  pub times-told : word after 0 ≡ pos 1 → TimesTold ws after
+  times-told e = go times-or-cycle
+    where
+      go : TimesTold ws after ⊎ CycleTold ws after → TimesTold ws after
+      go (inl t) = t
+      go (inr c) = one-two e (c .verdict)
+
+  pub cycle-told : word after 0 ≡ pos 2 → CycleTold ws after
+  cycle-told e = go times-or-cycle
+    where
+      go : TimesTold ws after ⊎ CycleTold ws after → CycleTold ws after
+      go (inl t) = one-two (t .verdict) e
+      go (inr c) = c
