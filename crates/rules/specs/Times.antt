@@ -80,3 +80,11 @@ pub record CycleTold (ws after : List ℤ) : Type 0 where
   pub zeros : (k : ℕ) → length rows ≤ k → k < nOf ws → word after (2 + k) ≡ pos 0
   pub no-times : (t : ℕ → ℤ) → ¬ MeetsRows ws t
   pub no-fractions : (d : ℤ) → pos 0 <ℤ d → (t : ℕ → ℤ) → ¬ MeetsRead ws d t
+
+-- what is left free: two outputs that each name a bad cycle, with the same words past it
+pub record BothNamed (ws : List ℤ) (r : ℕ) (after other : List ℤ) : Type 0 where
+  pub answered : r ≡ 0
+  pub one : CycleTold ws after
+  pub another : CycleTold ws other
+  pub as-long : length after ≡ length other
+  pub past : drop (timesLength ws) after ≡ drop (timesLength ws) other

@@ -2,6 +2,7 @@
 --   times-told      it is 1: n, and times that meet every row
 --   cycle-told      it is 2: k and the rows of a bad cycle; no times meet all rows
 --   times-or-cycle  it is one of the two
+--   told-only       two outputs that the promise allows are equal, or both name a bad cycle and agree past it
 use mathlib.Core.Path.{_≡_, refl, sym, _∙_, ap, subst, subst₂}
 use mathlib.Core.Bool.{true, false}
 use mathlib.Core.List.{List, _∷_, _++_, map}
@@ -20,10 +21,11 @@ use Rattle.rules.specs.Passes.{distances, canMeet}
 use Rattle.rules.specs.Cycle.{BadCycle, row}
 use Rattle.rules.specs.TimeWords.{timesLength, AcceptedTimes, timeEdges, strictWord, lengthWord}
 use Rattle.rules.specs.Times.{timesOf, cycleWords, timesAnswer, timesWritten}
-use Rattle.rules.specs.Times.{Timed, RowSays, TimesTold, CycleTold}
+use Rattle.rules.specs.Times.{Timed, RowSays, TimesTold, CycleTold, BothNamed}
 use Rattle.rules.proofs.Times.Decide.{cycle-short}
 use Rattle.rules.proofs.Times.Means.{timeOf, times-meet, times-shortest, cycle-no-times, cycle-no-fractions}
-use Rattle.rules.proofs.Times.Only.{answer-can, answer-cannot, times-long, times-length, cycle-long}
+use Rattle.rules.proofs.Times.Only.{Free, times-only, answer-can, answer-cannot}
+use Rattle.rules.proofs.Times.Only.{times-long, times-length, times-past, cycle-long}
 use Rattle.rules.proofs.Times.Refused.{accepted-ends, times-accepted-exactly}
 
 -- past the first two words
@@ -142,3 +144,19 @@ module _ (ws before after : List ℤ) (x : Timed ws before 0 after) where
       go : TimesTold ws after ⊎ CycleTold ws after → CycleTold ws after
       go (inl t) = one-two (t .verdict) e
       go (inr c) = c
+
+-- ---- what is left free
+
+pub told-only : (ws before : List ℤ) (r q : ℕ) (a c : List ℤ) → Timed ws before r a → Timed ws before q c →
+    (r ≡ q) × ((a ≡ c) ⊎ BothNamed ws r a c)
+told-only ws before r q a c x y = let o = times-only ws before r q a c x y in (o .0, go (o .0) (o .1))
+  where
+    go : r ≡ q → (a ≡ c) ⊎ Free ws r (x .rows) (y .rows) → (a ≡ c) ⊎ BothNamed ws r a c
+    go n (inl e) = inl e
+    go n (inr f) = inr (record {
+      answered = f .answered;
+      one = told-cycle ws before a (subst (λ k. Timed ws before k a) (f .answered) x) (f .cannot);
+      another = told-cycle ws before c (subst (λ k. Timed ws before k c) (sym n ∙ f .answered) y) (f .cannot);
+      as-long = times-length ws before r a x ∙ sym (times-length ws before q c y);
+      past = times-past ws before r a x ∙ sym (times-past ws before q c y);
+    })
