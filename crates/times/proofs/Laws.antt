@@ -3,3 +3,4 @@ pub mod Passing
 pub mod Tracing
 pub mod Words
 pub mod Answers
+pub mod Only

@@ -1,0 +1,27 @@
+-- Two results that the promise of an entry point allows are equal, but for which bad cycle `scatterflock_times` names.
+-- The contracts themselves are compared: κs are lifetimes, x the arguments, e what lent words hold at the exit.
+--   scatterflock-solve-only    the number, and every word of the output
+--   scatterflock-check-only    the number
+--   scatterflock-times-only    the number, and every word of the output; or both name a bad cycle
+use mathlib.Core.Logic.{_⊎_}
+use mathlib.Core.Path.{_≡_, ap, sym, _∙_}
+use Rattle.rules.specs.Answer.{written}
+use Rattle.rules.specs.Times.{BothNamed}
+use Rattle.rules.proofs.Times.Told.{told-only}
+use Rattle.scatterflock.proofs.scatterflock_solve.Reads as solve
+use Rattle.scatterflock.proofs.scatterflock_check.Reads as check
+use Rattle.scatterflock.proofs.scatterflock_times.Reads as times
+
+pub scatterflock-solve-only : (κs : _) (x : _) (a b : _) (e f : _) → solve.Post κs x a e → solve.Post κs x b f →
+    (a ≡ b) × (e .1 .0 .now ≡ f .1 .0 .now)
+scatterflock-solve-only κs x a b e f h k =
+    let n : a ≡ b = h .0 ∙ sym (k .0) in
+    (n, h .1 ∙ ap (λ j. written j (x .0 .now) (x .1 .0 .now)) n ∙ sym (k .1))
+
+pub scatterflock-check-only : (κs : _) (x : _) (a b : _) (e : _) → check.Post κs x a e → check.Post κs x b e → a ≡ b
+scatterflock-check-only κs x a b e h k = h ∙ sym k
+
+pub scatterflock-times-only : (κs : _) (x : _) (a b : _) (e f : _) → times.Post κs x a e → times.Post κs x b f →
+    (a ≡ b) × ((e .1 .0 .now ≡ f .1 .0 .now) ⊎ BothNamed (x .0 .now) a (e .1 .0 .now) (f .1 .0 .now))
+scatterflock-times-only κs x a b e f h k =
+    told-only (x .0 .now) (x .1 .0 .now) a b (e .1 .0 .now) (f .1 .0 .now) h k
