@@ -2,3 +2,4 @@ pub mod Weights
 pub mod Shown
 pub mod Read
 pub mod Checks
+pub mod Only
