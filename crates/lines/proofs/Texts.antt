@@ -4,6 +4,7 @@
 --   room-left, room-right    where there is room for both, there is room for each
 --   lines-start, -more          the same for the lines of the variables below a number
 --   printed-none, -all, -only   a whole text in a slice, or none of it; bytes-fit, that it is there
+--   short-clash                 a slice of `mostText` bytes is not too short
 use mathlib.Core.Path.{_≡_, refl, sym, _∙_, ap, ap₂}
 use mathlib.Core.Bool.{Bool, true, false, cond}
 use mathlib.Core.List.{List, [], _++_}
@@ -104,3 +105,16 @@ bytes-fit {text} {before} {after} {r} {n} p e = go (leb (length text) (length be
     go false q =
         let told : TooShort ≡ Bytes n = sym (ap (λ c. cond c (Bytes (length text)) TooShort) q) ∙ sym (p .answer) ∙ e in
         let z : _≡_ {A = ℕ} 0 1 = cc in zero-one z
+
+-- a slice of as many bytes as the longest text has is not too short
+pub short-clash :
+    {text before after : List ℕ} {r : Written} → Printed text before after r → mostText ≤ length before →
+    r ≡ TooShort → ⊥
+unfolding answered
+short-clash {text} {before} p room e =
+    let fits : leb (length text) (length before) ≡ true =
+    le-leb (length text) (length before) (omega (arith, p .short)) in
+    let told : Bytes (length text) ≡ TooShort =
+    sym (ap (λ c. cond c (Bytes (length text)) TooShort) fits) ∙ sym (p .answer) ∙ e in
+    let z : _≡_ {A = ℕ} 0 1 = cc in
+    omega arith

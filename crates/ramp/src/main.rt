@@ -8,6 +8,11 @@ const MOST_INPUT: usize = 812;
 // No text has more bytes.
 const MOST_TEXT: usize = 1475;
 
+// Stands where no run comes: every text fits.
+fn unreached()
+    requires { ⌜ ⊥ ⌝ }
+{}
+
 fn main() {
     let mut input = [0u8; MOST_INPUT];
     let count = io::read_full(0, &mut input);
@@ -17,6 +22,6 @@ fn main() {
         Written::Bytes(length) => {
             io::write_all(1, &out[..length]);
         }
-        Written::TooShort => {}
+        Written::TooShort => unreached(),
     }
 }

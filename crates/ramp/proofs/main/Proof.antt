@@ -1,9 +1,10 @@
--- `ramp::main` is safe and ends: what `respond` says it wrote is in the slice. Assumes nothing but the kit's contracts of read and write.
+-- `ramp::main` is safe and ends: what `respond` says it wrote is in the slice, and the slice is never too short.
+-- Assumes nothing but the kit's contracts of read and write.
 use borrow.Author.Needs.{needs}
 use Prim.Native.Nat.{_≤_}
 use native.Mathlib.Omega.{arith}
 use lib.ListN.{length, length-take}
-use Rattle.lines.proofs.Texts.{bytes-fit}
+use Rattle.lines.proofs.Texts.{bytes-fit, short-clash}
 use Rattle.ramp.proofs.main.Statement.{statement}
 use Rattle.ramp.proofs.main.Tie as tie
 
@@ -42,6 +43,10 @@ write-all-requires c κs = search needs
 enum-told : tie.Need-enum-told
 enum-told c = search needs
 
+unreached-requires : tie.Need-unreached-requires
+unreached-requires c κs = let r = c .before .before .before in
+    short-clash (r .respond .ensures) (omega arith) (c .enum-told .given .1)
+
 returns : tie.Need-returns
 returns c = search needs
 
@@ -63,5 +68,6 @@ main-spec =
     slice-aggregate-write-all
     write-all-requires
     enum-told
+    unreached-requires
     returns
     returns-2)
