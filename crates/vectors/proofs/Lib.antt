@@ -1,2 +1,4 @@
--- A law of signed numbers that the proofs share. Nothing is assumed.
+-- Laws that the proofs share. Nothing is assumed.
 pub mod Mirror
+pub mod Listing
+pub mod Only

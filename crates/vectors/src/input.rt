@@ -1,11 +1,13 @@
 // Little-endian numbers of standard input, one after another. Past the end of the input there are zeros.
 ghost use Prim.Native.Nat.{_≤_, _<_, _^_};
 ghost use mathlib.Core.Path.{_≡_};
-ghost use lib.ListN.{length};
+ghost use lib.ListN.{drop, length};
+ghost use Rattle.rules.specs.Bytes.{joined, signed};
+ghost use Rattle.vectors.specs.Wide.{signedWide};
 
 // Four bytes as one number, the lowest first.
 fn join(a: u8, b: u8, c: u8, d: u8) -> u64
-    ensures { λ r. ⌜ r < 2 ^ 32 ⌝ }
+    ensures { λ r. ⌜ (r ≡ joined a b c d) × (r < 2 ^ 32) ⌝ }
 {
     a as u64 + 256 * (b as u64) + 65536 * (c as u64) + 16777216 * (d as u64)
 }
@@ -22,6 +24,7 @@ fn half() -> u64
 // A number of 32 bits as a signed word.
 fn short(u: u64) -> i32
     requires { ⌜ u < 2 ^ 32 ⌝ }
+    ensures { λ r. ⌜ r ≡ signed u ⌝ }
 {
     if u < 2147483648 {
         return u as i32;
@@ -31,7 +34,9 @@ fn short(u: u64) -> i32
 }
 
 // A number of 64 bits as a signed word.
-fn long(u: u64) -> i64 {
+fn long(u: u64) -> i64
+    ensures { λ r. ⌜ r ≡ signedWide u ⌝ }
+{
     if u < 9223372036854775808 {
         return u as i64;
     }
@@ -62,10 +67,11 @@ pub fn count(most: usize) -> usize
     most
 }
 
-// Fills the first words of a slice.
+// Fills the first words of a slice; the later ones stay.
 pub fn words(into: &mut [i32], count: usize)
     requires { ⌜ count ≤ length (now into) ⌝ }
-    ensures { λ _. ⌜ length (now (into .exit)) ≡ length (now (into .entry)) ⌝ }
+    ensures { λ _. ⌜ (length (now (into .exit)) ≡ length (now (into .entry)))
+        × (drop count (now (into .exit)) ≡ drop count (now (into .entry))) ⌝ }
 {
     for i in 0..count {
         let next = word();
@@ -73,10 +79,11 @@ pub fn words(into: &mut [i32], count: usize)
     }
 }
 
-// Fills the first words of a slice.
+// Fills the first words of a slice; the later ones stay.
 pub fn wide_words(into: &mut [i64], count: usize)
     requires { ⌜ count ≤ length (now into) ⌝ }
-    ensures { λ _. ⌜ length (now (into .exit)) ≡ length (now (into .entry)) ⌝ }
+    ensures { λ _. ⌜ (length (now (into .exit)) ≡ length (now (into .entry)))
+        × (drop count (now (into .exit)) ≡ drop count (now (into .entry))) ⌝ }
 {
     for i in 0..count {
         let next = wide_word();

@@ -17,7 +17,7 @@ write-all-requires c κs = search needs
 words-requires : tie.Need-words-requires
 words-requires c κs =
     let branch = c .before .before in
-    branch .before .is-told .ensures (subst T (sym (branch .if1 .taken)) tt)
+    branch .before .is-told .ensures .1 (subst T (sym (branch .if1 .taken)) tt)
 
 slice-aggregate-write-all-2 : tie.Need-slice-aggregate-write-all-2
 slice-aggregate-write-all-2 c = search needs

@@ -1,19 +1,39 @@
--- `vectors::input::short` is safe: what is too large for the type is turned round at minus one half. Assumes nothing.
-use mir.Syntax.{w32}
-use Prim.Native.Nat.{_-_, _^_, _<_}
-use native.Mathlib.Omega.{arith}
-use lib.IntN.{pos}
-use mir.Facts.{toZ-pos}
-use Rattle.vectors.proofs.Mirror.{mirror-fits}
+-- `vectors::input::short` meets its contract: what is too large for the type is turned round at minus one half.
+-- Assumes nothing.
 use borrow.Author.Needs.{needs}
+use borrow.Author.Tests.{lt-ltb, le-ltb}
+use mathlib.Core.Path.{refl}
+use Prim.Native.Nat.{ℕ, _-_, _^_, _<_}
+use native.Mathlib.Omega.{arith}
+use lib.IntN.{pos, negsuc, _-ℤ_}
+use mir.Facts.{toZ-ofZ, toZ-pos}
+use mir.Syntax.{w32}
+use mir.Val.{SFits}
+use Rattle.rules.specs.Bytes.{signed}
+use Rattle.vectors.proofs.Mirror.{mirror-fits, mirror-turned}
 use Rattle.vectors.proofs.input.short.Statement.{statement}
 use Rattle.vectors.proofs.input.short.Tie as tie
+
+module _ (c : tie.Else1) where
+  abbrev u : ℕ
+  u = c .before .args .u
+
+  abbrev size : ℕ
+  size = 4294967295 - u
+
+  low : size < 2 ^ 31
+  low = omega arith
+
+  fit : SFits w32 (negsuc 0 -ℤ pos size)
+  fit = mirror-fits (pos size) (record { sfits = low })
 
 cast-result : tie.Need-cast-result
 cast-result c = search needs
 
 returns : tie.Need-returns
-returns c = search needs
+unfolding signed
+returns c = let u = c .before .args .u in
+    rw (toZ-pos w32 (c .if1 .taken), lt-ltb u (2 ^ 31) (c .if1 .taken)) refl
 
 sub-size : tie.Need-sub-size
 sub-size c = search needs
@@ -22,13 +42,13 @@ cast-size : tie.Need-cast-size
 cast-size c = search needs
 
 sub-result : tie.Need-sub-result
-sub-result c =
-    let size = 4294967295 - c .before .args .u in
-    let low : size < 2 ^ 31 = omega arith in
-    rw (toZ-pos w32 low) (mirror-fits (pos size) (record { sfits = low }))
+sub-result c = rw (toZ-pos w32 (low c)) (fit c)
 
 returns-2 : tie.Need-returns-2
-returns-2 c = search needs
+unfolding signed
+returns-2 c =
+    rw (toZ-pos w32 (low c), toZ-ofZ (fit c), le-ltb (u c) (2 ^ 31) (c .if1 .left))
+    (mirror-turned 4294967295 (u c) (omega arith))
 
 pub short-spec : {M : Type 1} → statement M
 short-spec = tie.close (tie.spec cast-result returns sub-size cast-size sub-result returns-2)

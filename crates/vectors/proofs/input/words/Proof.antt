@@ -1,22 +1,23 @@
--- `vectors::input::words` is safe and ends, and keeps the slice's length. The invariant: i is at most the count, and the
--- length is that of the start. The measure is the number of words that are left. Assumes nothing.
+-- `vectors::input::words` meets its contract. The invariant: i is at most the count, and the length and the words
+-- past the count are those of the start. The measure is the number of words that are left. Assumes nothing.
 use borrow.Author.Needs.{needs}
-use mathlib.Core.Path.{refl, _≡_}
-use Prim.Native.Nat.{_-_, _≤_}
+use mathlib.Core.Path.{refl, _≡_, _∙_}
+use Prim.Native.Nat.{_-_, _≤_, _<_}
 use native.Mathlib.Omega.{arith}
-use lib.ListN.{length}
+use lib.ListN.{drop, length}
+use lib.Seq.{drop-set-lt}
 use Rattle.vectors.proofs.input.words.Statement.{statement}
 use Rattle.vectors.proofs.input.words.Tie as tie
 use Rattle.vectors.proofs.input.word.Reads as word-reads
 
 abbrev Inv-loop : tie.InvT-loop
-Inv-loop into₀ count i₀ into i = (i ≤ count) × (length into ≡ length into₀)
+Inv-loop into₀ count i₀ into i = (i ≤ count) × (length into ≡ length into₀) × (drop count into ≡ drop count into₀)
 
 abbrev μ-loop : tie.MeasureT-loop
 μ-loop into₀ count i₀ into i = count - i
 
 loop-holds : tie.Need-loop-holds Inv-loop μ-loop
-loop-holds c = (omega arith, refl)
+loop-holds c = (omega arith, refl, refl)
 
 word-requires : tie.Need-word-requires Inv-loop μ-loop
 word-requires c κs = search needs
@@ -34,13 +35,16 @@ loop-less : tie.Need-loop-less Inv-loop μ-loop
 loop-less c = omega arith
 
 loop-again : tie.Need-loop-again Inv-loop μ-loop
-loop-again c = (omega arith, search needs)
+loop-again c =
+    let at = c .before .before in
+    let past : at .loop .i < at .before .args .count = omega arith in
+    (omega arith, search needs, drop-set-lt _ _ _ _ past ∙ at .loop .inv .2)
 
 same-length : tie.Need-same-length Inv-loop μ-loop
 same-length c = search needs
 
 returns : tie.Need-returns Inv-loop μ-loop
-returns c = search needs
+returns c = (c .before .loop .inv .1, c .before .loop .inv .2)
 
 pub words-spec : {M : Type 1} → statement M
 words-spec =

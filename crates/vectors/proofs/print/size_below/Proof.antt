@@ -1,4 +1,5 @@
--- `vectors::print::size_below` is safe: minus one less a number below 0 is not below 0. Assumes nothing.
+-- `vectors::print::size_below` meets its contract: minus one less a number below 0 is one less than its size. Assumes
+-- nothing.
 use Prim.Native.Nat.{_^_, _<_}
 use native.Mathlib.Omega.{arith}
 use lib.IntN.{pos}
@@ -6,8 +7,7 @@ use lib.Signed.{mag}
 use mir.Facts.{toZ-ofZ}
 use mir.Syntax.{w64}
 use mir.Val.{SFits}
-use Rattle.vectors.proofs.Mirror.{mirror-fits, mirror-below}
-use borrow.Author.Needs.{needs}
+use Rattle.vectors.proofs.Mirror.{mirror-fits, mirror-below, below-size}
 use Rattle.vectors.proofs.print.size_below.Statement.{statement}
 use Rattle.vectors.proofs.print.size_below.Tie as tie
 
@@ -32,7 +32,8 @@ add-result c =
     (record { fits = omega (arith, less c) })
 
 returns : tie.Need-returns
-returns c = search needs
+returns c = rw (toZ-ofZ (c .fits .n), mirror-below (c .args .n) (c .pre), toZ-ofZ (less-fits c))
+    (below-size (c .args .n) (c .pre))
 
 pub size-below-spec : {M : Type 1} → statement M
 size-below-spec = tie.close (tie.spec sub-less cast-result add-result returns)
