@@ -32,7 +32,7 @@ pub mod Demands
 pub mod Rule
 pub mod Only
 pub mod Range
-pub mod AllRight
 pub mod Entries
 pub mod Times
 pub mod Text
+pub mod Worked

@@ -119,6 +119,9 @@ module _ {ws : List ℤ} {room : ℕ} (A : AcceptedTimes ws room) where
     head-in = λ i h. let k : natAbs (toWord ws i) ≤ nOf ws - 1 = under (nOf ws - 1) 0 _ (A .to-least i h) (A .to-most i h) in omega (arith, n-some);
   }
 
-  -- a strict row may be one longer
-  pub size-within : (i : ℕ) → i < mOf ws → Within (timeEdges ws .size i) (largestLength + 1)
-  size-within i h = within-- {b = strictWord ws i} (A .lengths i h) (record { within = under 1 0 (strictWord ws i) (A .strict-least i h) (A .strict-most i h) })
+  pub strict-within : (i : ℕ) → i < mOf ws → Within (strictWord ws i) 1
+  strict-within i h = record { within = under 1 0 (strictWord ws i) (A .strict-least i h) (A .strict-most i h) }
+
+  -- a row's length as it is read: a strict row may be one longer
+  pub size-within : (i : ℕ) → i < mOf ws → Within (lengthWord ws i -ℤ strictWord ws i) (largestLength + 1)
+  size-within i h = within-- {b = strictWord ws i} (A .lengths i h) (strict-within i h)
