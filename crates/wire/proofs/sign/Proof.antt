@@ -2,13 +2,13 @@
 -- fits 32 bits again. Assumes nothing.
 use borrow.Author.Needs.{needs}
 use borrow.Author.Tests.{lt-ltb, le-ltb}
-use mathlib.Core.Path.{_≡_, refl}
+use mathlib.Core.Path.{_≡_, refl, _∙_, ap}
 use Prim.Native.Nat.{ℕ, _^_, _≤_, _<_}
 use native.Mathlib.Omega.{arith}
 use lib.IntN.{pos, _-ℤ_}
 use mir.Facts.{toZ-ofZ, toZ-pos, sfits-widen}
 use mir.Syntax.{w32, w64}
-use mir.Val.{SFits, toZ}
+use mir.Val.{SFits, ofZ, toZ}
 use Rattle.rules.specs.Bytes.{signed}
 use Rattle.wire.proofs.sign.Statement.{statement}
 use Rattle.wire.proofs.sign.Tie as tie
@@ -32,6 +32,17 @@ module _ (c : tie.Else1) where
   fit-wide : SFits w64 (pos u -ℤ pos 4294967296)
   fit-wide = sfits-widen {w = w32} tt fit
 
+high-is : (u : ℕ) → 2 ^ 31 ≤ u → pos u -ℤ pos 4294967296 ≡ signed u
+unfolding signed
+high-is u h = rw (le-ltb u (2 ^ 31) h) refl
+
+returns-2 : tie.Need-returns-2
+returns-2 c =
+    ap (λ z. toZ w32 (ofZ w32 (toZ w64 (ofZ w64 (z -ℤ pos 4294967296))))) (wide (u c) (c .before .pre))
+    ∙ ap (λ z. toZ w32 (ofZ w32 z)) (toZ-ofZ (fit-wide c))
+    ∙ toZ-ofZ (fit c)
+    ∙ high-is (u c) (c .if1 .left)
+
 cast-wide : tie.Need-cast-wide
 cast-wide c = search needs
 
@@ -49,11 +60,6 @@ sub-result c = rw (wide (u c) (c .before .pre)) (fit-wide c)
 
 cast-result-2 : tie.Need-cast-result-2
 cast-result-2 c = rw (wide (u c) (c .before .pre), toZ-ofZ (fit-wide c)) (fit c)
-
-returns-2 : tie.Need-returns-2
-unfolding signed
-returns-2 c =
-    rw (wide (u c) (c .before .pre), toZ-ofZ (fit-wide c), toZ-ofZ (fit c), le-ltb (u c) (2 ^ 31) (c .if1 .left)) refl
 
 pub sign-spec : {M : Type 1} → statement M
 sign-spec = tie.close (tie.spec cast-wide cast-result returns sub-result cast-result-2 returns-2)
