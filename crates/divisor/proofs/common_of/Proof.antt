@@ -25,7 +25,7 @@ above : (c : tie.In-loop Inv-loop μ-loop) → 0 < c .before .loop .y
 above c = omega arith
 
 loop-less : tie.Need-loop-less Inv-loop μ-loop
-loop-less c = mod-lt (c .before .loop .x) (above c)
+loop-less c = mod-lt _ (above c)
 
 loop-again : tie.Need-loop-again Inv-loop μ-loop
 loop-again c = sym (gcd-step (c .before .loop .x) (c .before .loop .y) (above c)) ∙ c .before .loop .inv
