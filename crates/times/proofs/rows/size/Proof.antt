@@ -1,14 +1,50 @@
 -- `times::rows::size` meets its contract: c and the strict word fit 32 bits, and so 64; their difference is small. Assumes nothing.
-use borrow.Author.Needs.{needs, sfits-of}
+use borrow.Author.Needs.{needs}
+use mathlib.Core.List.{List}
+use mathlib.Core.Path.{refl}
+use Prim.Native.Nat.{ℕ}
 use lib.IntN.{ℤ, _-ℤ_}
 use mir.Facts.{toZ-ofZ, sfits-widen}
 use mir.Syntax.{w32, w64}
 use mir.Val.{SFits}
 use Rattle.whole.proofs.Sizes.{fits-by}
-use Rattle.rules.specs.TimeWords.{strictWord, lengthWord, timeEdges}
-use Rattle.rules.proofs.Times.Refused.{size-within}
+use Rattle.rules.specs.TimeWords.{lengthWord, strictWord}
+use Rattle.rules.proofs.Times.Refused.{size-within, strict-within}
 use Rattle.times.proofs.rows.size.Statement.{statement}
 use Rattle.times.proofs.rows.size.Tie as tie
+
+module _ (c : tie.Start) where
+  abbrev words : List ℤ
+  words = c .args .rows .now
+
+  abbrev i : ℕ
+  i = c .args .i
+
+  abbrev span : ℤ
+  span = lengthWord words i
+
+  abbrev strict : ℤ
+  strict = strictWord words i
+
+  span-fits : SFits w32 span
+  span-fits = fits-by (c .pre .0 .lengths i (c .pre .1)) tt
+
+  strict-fits : SFits w32 strict
+  strict-fits = fits-by (strict-within (c .pre .0) i (c .pre .1)) tt
+
+  wide-span : SFits w64 span
+  wide-span = sfits-widen {w = w32} tt span-fits
+
+  wide-strict : SFits w64 strict
+  wide-strict = sfits-widen {w = w32} tt strict-fits
+
+  fit : SFits w64 (span -ℤ strict)
+  fit = fits-by (size-within (c .pre .0) i (c .pre .1)) tt
+
+returns : tie.Need-returns
+returns c =
+    let s = c .before .before in
+    simp (toZ-ofZ (span-fits s), toZ-ofZ (wide-span s), toZ-ofZ (strict-fits s), toZ-ofZ (wide-strict s), toZ-ofZ (fit s)) refl
 
 mul-strict : tie.Need-mul-strict
 mul-strict c = search needs
@@ -28,18 +64,8 @@ mul-read c = search needs
 shared-slice-copy-out-read : tie.Need-shared-slice-copy-out-read
 shared-slice-copy-out-read c = search needs
 
-module _ (c : tie.After-read) where
-  abbrev span : ℤ
-  span = lengthWord (c .before .args .rows .now) (c .before .args .i)
-
-  span-fits : SFits w32 span
-  span-fits = sfits-of (c .read .given)
-
-  wide-span : SFits w64 span
-  wide-span = sfits-widen {w = w32} tt span-fits
-
 cast-read : tie.Need-cast-read
-cast-read c = simp (toZ-ofZ (span-fits c)) (wide-span c)
+cast-read c = simp (toZ-ofZ (span-fits (c .before))) (wide-span (c .before))
 
 mul-read-2 : tie.Need-mul-read-2
 mul-read-2 c = search needs
@@ -47,32 +73,13 @@ mul-read-2 c = search needs
 shared-slice-copy-out-read-2 : tie.Need-shared-slice-copy-out-read-2
 shared-slice-copy-out-read-2 c = search needs
 
-module _ (c : tie.After-read2) where
-  abbrev start : tie.Start
-  start = c .before .before
-
-  abbrev strict : ℤ
-  strict = strictWord (start .args .rows .now) (start .args .i)
-
-  strict-fits : SFits w32 strict
-  strict-fits = sfits-of (c .read2 .given)
-
-  wide-strict : SFits w64 strict
-  wide-strict = sfits-widen {w = w32} tt strict-fits
-
-  fit : SFits w64 (span (c .before) -ℤ strict)
-  fit = fits-by (size-within (start .pre .0) (start .args .i) (start .pre .1)) tt
-
 cast-read-2 : tie.Need-cast-read-2
-cast-read-2 c = simp (toZ-ofZ (strict-fits c)) (wide-strict c)
+cast-read-2 c = let s = c .before .before in simp (toZ-ofZ (strict-fits s)) (wide-strict s)
 
 sub-read : tie.Need-sub-read
 sub-read c =
-    simp (toZ-ofZ (span-fits (c .before)), toZ-ofZ (wide-span (c .before)), toZ-ofZ (strict-fits c), toZ-ofZ (wide-strict c)) (fit c)
-
-returns : tie.Need-returns
-returns c =
-    simp (toZ-ofZ (span-fits (c .before)), toZ-ofZ (wide-span (c .before)), toZ-ofZ (strict-fits c), toZ-ofZ (wide-strict c), toZ-ofZ (fit c))
+    let s = c .before .before in
+    simp (toZ-ofZ (span-fits s), toZ-ofZ (wide-span s), toZ-ofZ (strict-fits s), toZ-ofZ (wide-strict s)) (fit s)
 
 pub size-spec : {M : Type 1} → statement M
 size-spec =

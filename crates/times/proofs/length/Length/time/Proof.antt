@@ -1,5 +1,6 @@
 -- `times::length::Length::time` meets its contract: the negation of a modest length fits. Assumes nothing.
 use borrow.Author.Needs.{needs}
+use mathlib.Core.Path.{refl}
 use lib.IntN.{negℤ, +ℤ-idl}
 use mir.Facts.{toZ-ofZ}
 use mir.Syntax.{w64}
@@ -15,11 +16,11 @@ module _ (c : tie.Start) where
   fit : SFits w64 (negℤ (c .args .self .0))
   fit = fits-by (within-neg (c .pre)) tt
 
+returns : tie.Need-returns
+returns c = let s = c .before .before in simp (toZ-ofZ (own s), +ℤ-idl, toZ-ofZ (fit s)) refl
+
 sub-result : tie.Need-sub-result
 sub-result c = let s = c .before .before in simp (toZ-ofZ (own s), +ℤ-idl) (fit s)
-
-returns : tie.Need-returns
-returns c = let s = c .before .before in simp (toZ-ofZ (own s), +ℤ-idl, toZ-ofZ (fit s))
 
 pub time-spec : {M : Type 1} → statement M
 time-spec = tie.close (tie.spec sub-result returns)
