@@ -155,7 +155,8 @@ returns-3 c =
     let x = c .before .turned .given in
     let f = common-told (fitsBy (t d) w) (common d) (x .0 .0) (sym (turned-is d .0) ∙ x .1) in
     let fit : SFits w64 (x .0 .0) = subst (SFits w64) (f .1) (quotient-fits (movable (chosen d) .pivotable)) in (
-      simp (toZ-ofZ (fit-value d), toZ-ofZ fit) (ap₂ (λ v z. outcomes.Goes (w .row) (w .column) v z) (value-is d) (sym (f .1)) ∙ answer-is d true (f .0)),
+      ap₂ (λ v z. outcomes.Goes (w .row) (w .column) v z) (toZ-ofZ (fit-value d) ∙ value-is d) (toZ-ofZ fit ∙ sym (f .1))
+          ∙ answer-is d true (f .0),
       left-is d,
     )
 
