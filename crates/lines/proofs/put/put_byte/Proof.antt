@@ -1,6 +1,7 @@
 -- `lines::put::put_byte` meets its contract: a byte past the end is dropped. Assumes nothing.
 use borrow.Author.Needs.{needs}
 use mathlib.Core.Path.{refl, sym}
+use native.Mathlib.Omega.{arith}
 use lib.Seq.{set-out}
 use Rattle.lines.proofs.put.put_byte.Statement.{statement}
 use Rattle.lines.proofs.put.put_byte.Tie as tie
@@ -11,10 +12,10 @@ add-next c = search needs
 returns : tie.Need-returns
 returns c =
     let args = c .before .args in
-    record { bytes = sym (set-out (args .out .now) (args .at) (args .byte) (c .if1 .taken)); place = refl }
+    record { bytes = sym (set-out (args .out .now) (args .at) (args .byte) (omega arith)); place = refl }
 
 slice-write-out : tie.Need-slice-write-out
-slice-write-out c = search needs
+slice-write-out c = c .if1 .left
 
 same-length : tie.Need-same-length
 same-length c = search needs
