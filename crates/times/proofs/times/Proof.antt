@@ -13,11 +13,11 @@ use Rattle.times.proofs.times.Tie as tie
 judge-requires : tie.Need-judge-requires
 judge-requires c κs = search needs
 
-returns : tie.Need-returns
-returns c = timed-refused _ _ _ (c .before .judge .ensures) (c .if1 .taken)
-
 solve-requires : tie.Need-solve-requires
 solve-requires c κs = times-accepted-exactly _ _ .0 (sym (c .before .before .judge .ensures) ∙ c .before .if1 .left)
+
+returns : tie.Need-returns
+returns c = timed-refused _ _ _ (c .before .judge .ensures) (c .if1 .taken)
 
 same-length : tie.Need-same-length
 same-length c = search needs
