@@ -19,13 +19,13 @@ use Rattle.evidence.proofs.cannot.columns_cancel.Tie as tie
 
 abbrev Inv-loop : tie.InvT-loop
 Inv-loop entries answer rows columns j₀ j =
-    (j ≤ columns) × (allBelow j (λ j. eqZ (columnAtEntries entries answer columns rows j) (pos 0)) ≡ true)
+    (allBelow j (λ j. eqZ (columnAtEntries entries answer columns rows j) (pos 0)) ≡ true) × (j ≤ columns)
 
 abbrev μ-loop : tie.MeasureT-loop
 μ-loop entries answer rows columns j₀ j = columns - j
 
 loop-holds : tie.Need-loop-holds Inv-loop μ-loop
-loop-holds c = (omega arith, all-start _)
+loop-holds c = (all-start _, omega arith)
 
 column-sum-requires : tie.Need-column-sum-requires Inv-loop μ-loop
 column-sum-requires c κs = let s = c .before .before in
@@ -62,17 +62,17 @@ loop-less c = omega arith
 
 loop-again : tie.Need-loop-again Inv-loop μ-loop
 loop-again c = let b = c .before in (
-  omega arith,
-  all-more (place b) (test b) (b .before .before .loop .inv .1)
+  all-more (place b) (test b) (b .before .before .loop .inv .0)
       (tells-true (tells-eqZ (total b (place b)) (pos 0))
       (sym (b .column-sum .ensures) ∙ sym (toZ-ofZ (fit b)) ∙ ap (toZ w64) (c .if1 .left))),
+  omega arith,
 )
 
 all : (c : tie.After-loop Inv-loop μ-loop) → c .before .loop .j ≡ c .before .before .args .columns
 all c = omega arith
 
 returns-2 : tie.Need-returns-2 Inv-loop μ-loop
-returns-2 c = sym (rw (all c) at (c .before .loop .inv .1))
+returns-2 c = sym (rw (all c) at (c .before .loop .inv .0))
 
 pub columns-cancel-spec : {M : Type 1} → statement M
 columns-cancel-spec =
