@@ -1,4 +1,4 @@
--- docs/RULES.md, "Runs worked by hand": all cases and edges as one list. One theorem says that all are right (proofs/AllRight.antt).
+-- docs/RULES.md, "Runs worked by hand": all cases and edges as one list. One theorem says that all are right (proofs/Worked.antt).
 use mathlib.Core.List.{List, _++_}
 use Rattle.rules.specs.Expected.{Case}
 use Rattle.rules.specs.LimitCases.{limitCases}
