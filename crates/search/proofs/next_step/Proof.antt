@@ -43,7 +43,7 @@ abbrev μ-loop : tie.MeasureT-loop
 
 abbrev Inv-search : tie.InvT-search
 Inv-search entries values common rows columns seats limits end v₀ v =
-    (v ≤ end) × (lowest v (brokenAt (seen entries values seats limits (toZ w64 common) rows columns)) ≡ none)
+    (lowest v (brokenAt (seen entries values seats limits (toZ w64 common) rows columns)) ≡ none) × (v ≤ end)
 
 abbrev μ-search : tie.MeasureT-search
 μ-search entries values common rows columns seats limits end v₀ v = end - v
@@ -64,7 +64,7 @@ add-end : tie.Need-add-end Inv-loop μ-loop Inv-search μ-search
 add-end c = omega arith
 
 search-holds : tie.Need-search-holds Inv-loop μ-loop Inv-search μ-search
-search-holds c = (omega arith, lowest-start (brokenAt (read c)))
+search-holds c = (lowest-start (brokenAt (read c)), omega arith)
 
 mul-seat : tie.Need-mul-seat Inv-loop μ-loop Inv-search μ-search
 mul-seat c = omega arith
@@ -94,13 +94,13 @@ module _ (c : tie.Else1 Inv-loop μ-loop Inv-search μ-search) where
   in-range = omega arith
 
   none-before : lowest number (brokenAt old) ≡ none
-  none-before = c .before .search .inv .1
+  none-before = c .before .search .inv .0
 
 search-again : tie.Need-search-again Inv-loop μ-loop Inv-search μ-search
 search-again c = let o = c .before .before .before in (
-  omega arith,
   lowest-more (brokenAt (old o)) (number o) (none-before o)
       (broken-seated (old o) (number o) (not-true _ (c .if2 .taken))),
+  omega arith,
 )
 
 -- a basic one
@@ -168,7 +168,7 @@ search-less-2 c = let z = in-range (here (c .before .before)) in omega arith
 
 search-again-2 : tie.Need-search-again-2 Inv-loop μ-loop Inv-search μ-search
 search-again-2 c = let a = c .before .before in let o = here a in let z = in-range o in
-    (omega arith, lowest-more (brokenAt (old o)) (number o) (none-before o) (within-here a (not-true _ (c .if3 .taken))))
+    (lowest-more (brokenAt (old o)) (number o) (none-before o) (within-here a (not-true _ (c .if3 .taken))), omega arith)
 
 -- ---- a variable of the inner loop
 
@@ -266,7 +266,7 @@ loop-again-2 c = let a = looked (c .before) in let o = it a in let n = inner a i
 returns : tie.Need-returns Inv-loop μ-loop Inv-search μ-search
 unfolding leavingAt
 returns c = let t = read (c .before .before) in let e : t .rows + t .columns ≡ c .before .search .v = omega arith in
-    next-within t (ap (λ k. lowest k (brokenAt t)) e ∙ c .before .search .inv .1)
+    next-within t (ap (λ k. lowest k (brokenAt t)) e ∙ c .before .search .inv .0)
     ∙ read-is (c .before .before)
 
 returns-2 : tie.Need-returns-2 Inv-loop μ-loop Inv-search μ-search
