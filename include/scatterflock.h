@@ -40,11 +40,12 @@ extern "C" {
  * fractions do, for "out of range" zeros, which say nothing about the limits.
  * Words past those keep what they had.
  *
- * Returns 1 to 7 when the words or the room for the answer are refused: 1
- * fewer than two words, 2 n or m out of range, 3 another count of words, 4 a
- * coefficient out of range, 5 a kind that is none, 6 a limit out of range or a
- * number where a limit is missing, 7 out_count below 3 + 2 (n + m). It is the
- * first that applies, and every word of out keeps what it had.
+ * Returns another number when the words or the room for the answer are
+ * refused: 1 fewer than two words, 2 n or m out of range, 3 another count of
+ * words, 4 a coefficient out of range, 5 a kind that is none, 6 a limit out of
+ * range or a number where a limit is missing, 10 a row whose coefficients are
+ * all 0, 7 out_count below 3 + 2 (n + m). It is the first that applies, in
+ * this order, and every word of out keeps what it had.
  *
  * The number returned follows from the words and out_count, and every word of
  * out from these and from what out held before: the promise allows no other.
@@ -55,9 +56,9 @@ uint32_t scatterflock_solve(const int32_t *words, size_t word_count,
 /*
  * Judges an answer to a limit problem, whoever gave it. Write N for n + m.
  *
- * Returns 1 to 6 if the problem is refused as in scatterflock_solve, 7 if it
- * is not and answer_count is below 3 + 2 N, else 8 (accepted) or 9 (not). 8
- * comes exactly if
+ * Returns 1 to 6 or 10 if the problem is refused as in scatterflock_solve, 7
+ * if it is not and answer_count is below 3 + 2 N, else 8 (accepted) or 9
+ * (not). 8 comes exactly if
  *
  *   - answer[0] is 1, answer[2] is from 1 to 2,147,483,647, the next N words
  *     are at most 515,396,075,280,000 in size, over answer[2] they meet every

@@ -10,7 +10,7 @@ mod can;
 mod cannot;
 mod parts;
 
-// 1 to 6 by the problem, 7 where the answer is too short, 8 accepted, 9 not. Nothing is written.
+// 1 to 6 and 10 by the problem, 7 where the answer is too short, 8 accepted, 9 not. Nothing is written.
 pub fn check(words: &[i32], answer: &[i64]) -> u32
     ensures { λ r. ⌜ r ≡ checked (now (words .entry)) (now (answer .entry)) ⌝ }
 {

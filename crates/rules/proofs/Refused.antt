@@ -1,10 +1,10 @@
 -- docs/RULES.md, "Refusal numbers and their order", line by line: what each test means, and that the refusal is the first that applies.
 --   problemTable, solverTable    the lines of the table: the test, its number, its meaning
 --   refusal-exactly              the refusal is k exactly where no earlier line's meaning holds and line k's does, and 0 where none does
---   problem-refusal-exactly      the same of refusals 1 to 6
+--   problem-refusal-exactly      the same of refusals 1 to 6 and 10
 --   limit-tells, ..-tells       what each test says
---   numbered                     the numbers of refusals 1 to 6
---   accepted-exactly             refusals 1 to 6 give 0 exactly for accepted words, with any most rows
+--   numbered                     the numbers of refusals 1 to 6 and 10
+--   accepted-exactly             refusals 1 to 6 and 10 give 0 exactly for accepted words, with any most rows
 --   answered-exactly             the refusal is 0 exactly for accepted words with room enough
 use mathlib.Core.Bool.{Bool, false, true}
 use mathlib.Core.List.{List, [], _++_, _∷_}
@@ -15,16 +15,16 @@ use native.Mathlib.Omega.{arith}
 use lib.IntN.{pos, ℤ}
 use lib.ListN.{length}
 use lib.Signed.{_<ℤ_, _≤ℤ_}
-use Rattle.whole.proofs.Tells.{Tells, tells-eq, tells-eqZ, tells-lt, tells-not, tells-or, tells-outside, tells-some, tells-within}
+use Rattle.whole.proofs.Tells.{Tells, tells-all, tells-eq, tells-eqZ, tells-lt, tells-not, tells-or, tells-outside, tells-some, tells-within}
 use Rattle.whole.specs.Numbers.{Within}
 use Rattle.rules.proofs.First.{AllFine, First, Test, Upto, first-exactly, first-fine, line}
 use Rattle.rules.specs.Limit.{badLimitWord, hasLower, hasUpper}
-use Rattle.rules.specs.Problem.{answerLength, kind, lowerWord, mOf, nOf, upperWord, varsOf, word}
-use Rattle.rules.specs.Refusal.{Accepted, FineLimit, badCoefficient, badKind, badLength, badLimit, badSize, first, problemRefusal, problemTests, refusal, tooFew, tooShort}
+use Rattle.rules.specs.Problem.{answerLength, coefficientWord, kind, lowerWord, mOf, nOf, upperWord, varsOf, word}
+use Rattle.rules.specs.Refusal.{Accepted, FineLimit, badCoefficient, badKind, badLength, badLimit, badSize, blankRow, first, problemRefusal, problemTests, refusal, someBlank, tooFew, tooShort}
 use Rattle.rules.specs.Sizes.{largestCoefficient, largestLimit, mostColumns, mostRows}
 
 -- the numbers of the problem's tests
-pub numbered : (ws : List ℤ) → Upto 6 (problemTests mostRows ws)
+pub numbered : (ws : List ℤ) → Upto 10 (problemTests mostRows ws)
 unfolding problemTests
 numbered ws = omega arith
 
@@ -87,6 +87,13 @@ module _ (ws : List ℤ) where
       tells-or (limit-tells (hasLower (kind ws v)) (lowerWord ws v))
       (limit-tells (hasUpper (kind ws v)) (upperWord ws v)))
 
+  -- some blank row: each of its n coefficients is 0
+  pub blank-tells : Tells (someBlank ws)
+      ((i : ℕ) × (i < mOf ws) × ((j : ℕ) → j < nOf ws → coefficientWord ws i j ≡ pos 0))
+      ((i : ℕ) → i < mOf ws → (j : ℕ) × (j < nOf ws) × (coefficientWord ws i j ≢ pos 0))
+  unfolding someBlank blankRow
+  blank-tells = tells-some (mOf ws) _ (λ i h. tells-all (nOf ws) _ (λ j k. tells-eqZ (coefficientWord ws i j) (pos 0)))
+
   -- output, or the checker's answer, too short
   pub room-tells : (room : ℕ) → Tells (tooShort ws room) (room < answerLength ws) (answerLength ws ≤ room)
   unfolding tooShort
@@ -98,7 +105,7 @@ abbrev pub problemTable : ℕ → List ℤ → List Test
 problemTable rows ws =
     line 1 (few-tells ws) ∷ line 2 (size-tells ws rows) ∷ line 3 (length-tells ws) ∷ line 4 (coefficient-tells ws)
     ∷ line 5 (kind-tells ws)
-    ∷ line 6 (limits-tell ws) ∷ []
+    ∷ line 6 (limits-tell ws) ∷ line 10 (blank-tells ws) ∷ []
 
 abbrev pub solverTable : List ℤ → ℕ → List Test
 solverTable ws room = problemTable mostRows ws ++ (line 7 (room-tells ws room) ∷ [])
@@ -113,10 +120,10 @@ pub problem-refusal-exactly : (ws : List ℤ) (k : ℕ) → (problemRefusal ws �
 unfolding problemRefusal problemTests
 problem-refusal-exactly ws k = first-exactly (problemTable mostRows ws) k
 
--- ---- what refusals 1 to 6 leave
+-- ---- what refusals 1 to 6 and 10 leave
 
 fine-accepted : (rows : ℕ) (ws : List ℤ) → AllFine (problemTable rows ws) → Accepted rows ws
-fine-accepted rows ws (few, (size, (exact, (coefficients, (kinds, (limits, end)))))) = record {
+fine-accepted rows ws (few, (size, (exact, (coefficients, (kinds, (limits, (blank, end))))))) = record {
   enough = few;
   n-least = size .0 .0;
   n-most = size .0 .1;
@@ -128,6 +135,7 @@ fine-accepted rows ws (few, (size, (exact, (coefficients, (kinds, (limits, end))
   kind-most = λ v h. kinds v h .1;
   lowers = λ v h. limits v h .0;
   uppers = λ v h. limits v h .1;
+  no-blank = blank;
 }
 
 accepted-fine : (rows : ℕ) (ws : List ℤ) → Accepted rows ws → AllFine (problemTable rows ws)
@@ -141,7 +149,7 @@ accepted-fine rows ws A = (
         A .coefficients,
         (
           (λ v h. (A .kind-least v h, A .kind-most v h)),
-          ((λ v h. (A .lowers v h, A .uppers v h)), tt),
+          ((λ v h. (A .lowers v h, A .uppers v h)), (A .no-blank, tt)),
         ),
       ),
     ),
@@ -160,9 +168,9 @@ answered-exactly ws room = let r = first-fine (solverTable ws room) (omega arith
     (λ e. split (r .0 e), λ A. r .1 (join (accepted-fine mostRows ws (A .0)) (A .1)))
   where
     split : AllFine (solverTable ws room) → Accepted mostRows ws × (answerLength ws ≤ room)
-    split (few, (size, (exact, (coefficients, (kinds, (limits, (fits, end))))))) =
-        (fine-accepted mostRows ws (few, (size, (exact, (coefficients, (kinds, (limits, tt)))))), fits)
+    split (few, (size, (exact, (coefficients, (kinds, (limits, (blank, (fits, end)))))))) =
+        (fine-accepted mostRows ws (few, (size, (exact, (coefficients, (kinds, (limits, (blank, tt))))))), fits)
 
     join : AllFine (problemTable mostRows ws) → answerLength ws ≤ room → AllFine (solverTable ws room)
-    join (few, (size, (exact, (coefficients, (kinds, (limits, end)))))) fits =
-        (few, (size, (exact, (coefficients, (kinds, (limits, (fits, tt)))))))
+    join (few, (size, (exact, (coefficients, (kinds, (limits, (blank, end))))))) fits =
+        (few, (size, (exact, (coefficients, (kinds, (limits, (blank, (fits, tt))))))))

@@ -80,7 +80,7 @@ showsCannot P a =
     && allBelow (P .n) (λ j. eqZ (column P (λ v. lo v -ℤ up v) j) (pos 0))
     && isPos (surplus P lo up)
 
--- ---- the checker: 1 to 6 by the problem, 7 too short, 8 accepted, 9 not
+-- ---- the checker: 1 to 6 and 10 by the problem, 7 too short, 8 accepted, 9 not
 
 unfoldable pub accepted : Problem ℤ → List ℤ → Bool
 accepted P a =

@@ -84,9 +84,9 @@ caseG = gives (two (pos 1) (pos 0) ++ between (pos 1) (pos 0)) (pos 2 ∷ pos 0 
 abbrev caseH : Case
 caseH = gives (two (pos 1) (pos 0) ++ free) (pos 1 ∷ pos 0 ∷ pos 1 ∷ pos 0 ∷ pos 0 ∷ [])
 
--- one row 0x >= 1: cannot, 0, row lower 1
+-- one row 0x >= 1: refused, as a blank row
 abbrev caseI : Case
-caseI = gives (two (pos 1) (pos 1) ++ (pos 0 ∷ []) ++ free ++ atLeast (pos 1)) (pos 2 ∷ pos 0 ∷ pos 0 ∷ pos 0 ∷ pos 1 ∷ pos 0 ∷ pos 0 ∷ [])
+caseI = turnedAway (two (pos 1) (pos 1) ++ (pos 0 ∷ []) ++ free ++ atLeast (pos 1)) 10
 
 -- ---- the edges
 
@@ -104,7 +104,7 @@ edges =
     ∷ turnedAway (two (pos 9) (pos 0) ++ zeros 27) 2
     ∷ turnedAway (two (pos 0) (pos 0)) 2
     -- m 16 passes
-    ∷ gives (two (pos 1) (pos 16) ++ zeros 67) (pos 1 ∷ pos 0 ∷ pos 1 ∷ zeros 34)
+    ∷ gives (two (pos 1) (pos 16) ++ replicate 16 (pos 1) ++ zeros 51) (pos 1 ∷ pos 0 ∷ pos 1 ∷ zeros 34)
     -- kind 1 with an upper word; kind 7 together with a coefficient of 1,001
     ∷ turnedAway (oneRow (pos 1) (pos 1 ∷ pos 0 ∷ pos 5 ∷ [])) 6
     ∷ turnedAway (oneRow (pos 1001) (pos 7 ∷ pos 0 ∷ pos 0 ∷ [])) 4

@@ -1,5 +1,6 @@
 -- docs/RULES.md, "Refusal numbers and their order": a list of tests with their numbers, each over the whole input, the first that applies winning.
 use mathlib.Core.Path.{_≡_}
+use mathlib.Core.Logic.{_≢_}
 use mathlib.Core.Bool.{Bool, true, false, _||_, not}
 use mathlib.Core.List.{List, [], _∷_, _++_}
 use Prim.Native.Nat.{ℕ, _+_, _*_, _≤_, _<_}
@@ -7,11 +8,11 @@ use lib.IntN.{ℤ, pos}
 use lib.Dec.{ltb, eqb}
 use lib.ListN.{length}
 use lib.Signed.{_≤ℤ_}
-use Rattle.whole.specs.Below.{someBelow}
-use Rattle.whole.specs.Numbers.{Within, within, outside}
+use Rattle.whole.specs.Below.{allBelow, someBelow}
+use Rattle.whole.specs.Numbers.{Within, eqZ, outside, within}
 use Rattle.rules.specs.Sizes.{mostColumns, mostRows, largestCoefficient, largestLimit}
 use Rattle.rules.specs.Limit.{hasLower, hasUpper, badLimitWord}
-use Rattle.rules.specs.Problem.{word, nOf, mOf, varsOf, kind, lowerWord, upperWord, answerLength}
+use Rattle.rules.specs.Problem.{word, nOf, mOf, varsOf, coefficientWord, kind, lowerWord, upperWord, answerLength}
 
 -- the number beside the first test that applies, or 0
 unfoldable pub first : List (Bool × ℕ) → ℕ
@@ -38,14 +39,22 @@ unfoldable pub badLimit : List ℤ → Bool
 badLimit ws = someBelow (varsOf ws) (λ v.
     badLimitWord (hasLower (kind ws v)) (lowerWord ws v) || badLimitWord (hasUpper (kind ws v)) (upperWord ws v))
 
+-- a blank row: each of its n coefficients is 0
+unfoldable pub blankRow : List ℤ → ℕ → Bool
+blankRow ws i = allBelow (nOf ws) (λ j. eqZ (coefficientWord ws i j) (pos 0))
+
+unfoldable pub someBlank : List ℤ → Bool
+someBlank ws = someBelow (mOf ws) (blankRow ws)
+
 -- room is the length of the output, or of the checker's answer
 unfoldable pub tooShort : List ℤ → ℕ → Bool
 tooShort ws room = ltb room (answerLength ws)
 
--- refusals 1 to 6: the problem alone
+-- refusals 1 to 6, then 10: the problem alone
 unfoldable pub problemTests : ℕ → List ℤ → List (Bool × ℕ)
 problemTests rows ws =
-    (tooFew ws, 1) ∷ (badSize rows ws, 2) ∷ (badLength ws, 3) ∷ (badCoefficient ws, 4) ∷ (badKind ws, 5) ∷ (badLimit ws, 6) ∷ []
+    (tooFew ws, 1) ∷ (badSize rows ws, 2) ∷ (badLength ws, 3) ∷ (badCoefficient ws, 4) ∷ (badKind ws, 5) ∷ (badLimit ws, 6)
+    ∷ (someBlank ws, 10) ∷ []
 
 unfoldable pub problemRefusal : List ℤ → ℕ
 problemRefusal ws = first (problemTests mostRows ws)
@@ -53,7 +62,7 @@ problemRefusal ws = first (problemTests mostRows ws)
 unfoldable pub refusal : List ℤ → ℕ → ℕ
 refusal ws room = first (problemTests mostRows ws ++ ((tooShort ws room, 7) ∷ []))
 
--- ---- all ranges together: what refusals 1 to 6 leave
+-- ---- all ranges together: what refusals 1 to 6 and 10 leave
 
 -- a limit's word that is fine: in range, and 0 where the limit is missing
 abbrev pub FineLimit : Bool → ℤ → Type 0
@@ -72,3 +81,4 @@ pub record Accepted (rows : ℕ) (ws : List ℤ) : Type 0 where
   pub kind-most : (v : ℕ) → v < varsOf ws → kind ws v ≤ℤ pos 3
   pub lowers : (v : ℕ) → v < varsOf ws → FineLimit (hasLower (kind ws v)) (lowerWord ws v)
   pub uppers : (v : ℕ) → v < varsOf ws → FineLimit (hasUpper (kind ws v)) (upperWord ws v)
+  pub no-blank : (i : ℕ) → i < mOf ws → (j : ℕ) × (j < nOf ws) × (coefficientWord ws i j ≢ pos 0)

@@ -1,4 +1,4 @@
-// Refusals 1 to 6: whether lent words are a problem. Each test runs over the whole input before the next.
+// Refusals 1 to 6 and 10: whether lent words are a problem. Each test runs over the whole input before the next.
 ghost use mathlib.Core.Path.{_≡_};
 ghost use mathlib.Core.Bool.{_||_};
 ghost use mathlib.Core.List.{[], _∷_};
@@ -10,7 +10,7 @@ ghost use Rattle.whole.specs.Numbers.{within, outside};
 ghost use Rattle.rules.specs.Sizes.{mostRows};
 ghost use Rattle.rules.specs.Limit.{hasLower, hasUpper, badLimitWord};
 ghost use Rattle.rules.specs.Problem.{word};
-ghost use Rattle.rules.specs.Refusal.{badSize, badCoefficient, first, problemRefusal};
+ghost use Rattle.rules.specs.Refusal.{badSize, badCoefficient, blankRow, first, problemRefusal, someBlank};
 ghost use Rattle.tableau.specs.Words.{Framed, badBy, badVariable};
 use crate::Tableau;
 
@@ -136,9 +136,38 @@ fn some_bad_variable(words: &[i32], columns: usize, rows: usize, kinds: bool) ->
     bad
 }
 
-// The number of the first of refusals 4 to 6 that applies, or 0.
-fn word_refusal(coefficient: bool, kind: bool, limit: bool) -> u32
-    ensures { λ r. ⌜ r ≡ first ((coefficient, 4) ∷ (kind, 5) ∷ (limit, 6) ∷ []) ⌝ }
+// Whether all coefficients of a row are 0.
+fn is_blank_row(words: &[i32], columns: usize, rows: usize, row: usize) -> bool
+    requires { ⌜ Framed (now words) columns rows ⌝ }
+    requires { ⌜ row < rows ⌝ }
+    ensures { λ r. ⌜ r ≡ blankRow (now (words .entry)) row ⌝ }
+{
+    let from = 2 + row * columns;
+    for j in 0..columns {
+        let at = from + j;
+        if words[at] != 0 {
+            return false;
+        }
+    }
+    true
+}
+
+// Whether some row is blank.
+fn some_blank_row(words: &[i32], columns: usize, rows: usize) -> bool
+    requires { ⌜ Framed (now words) columns rows ⌝ }
+    ensures { λ r. ⌜ r ≡ someBlank (now (words .entry)) ⌝ }
+{
+    for i in 0..rows {
+        if is_blank_row(words, columns, rows, i) {
+            return true;
+        }
+    }
+    false
+}
+
+// The number of the first of refusals 4 to 6 and 10 that applies, or 0.
+fn word_refusal(coefficient: bool, kind: bool, limit: bool, blank: bool) -> u32
+    ensures { λ r. ⌜ r ≡ first ((coefficient, 4) ∷ (kind, 5) ∷ (limit, 6) ∷ (blank, 10) ∷ []) ⌝ }
 {
     if coefficient {
         return 4;
@@ -149,10 +178,13 @@ fn word_refusal(coefficient: bool, kind: bool, limit: bool) -> u32
     if limit {
         return 6;
     }
+    if blank {
+        return 10;
+    }
     0
 }
 
-// The number of the first of refusals 1 to 6 that applies, or 0.
+// The number of the first of refusals 1 to 6 and 10 that applies, or 0.
 pub fn judge(words: &[i32]) -> u32
     ensures { λ r. ⌜ r ≡ problemRefusal (now (words .entry)) ⌝ }
 {
@@ -171,5 +203,6 @@ pub fn judge(words: &[i32]) -> u32
         some_bad_coefficient(words, columns, rows),
         some_bad_variable(words, columns, rows, true),
         some_bad_variable(words, columns, rows, false),
+        some_blank_row(words, columns, rows),
     )
 }

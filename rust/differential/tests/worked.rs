@@ -8,7 +8,18 @@ use scatterflock::raw;
 const KEPT: i64 = -123_456_789;
 
 #[test]
-fn cases_a_to_i_and_the_published_problems() {
+fn case_i_is_refused() {
+    let case = worked::case_i();
+    for length in 0..10 {
+        let mut out = vec![KEPT; length];
+        let number = raw::solve(&case.words, &mut out);
+        assert_eq!((number, out), (case.number, vec![KEPT; length]));
+        assert_eq!(raw::check(&case.words, &vec![0; length]), case.number);
+    }
+}
+
+#[test]
+fn cases_a_to_h_and_the_published_problems() {
     for case in worked::limits().into_iter().chain(published()) {
         let needed = case.answer.len();
         for length in 0..needed + 3 {

@@ -13,9 +13,12 @@ pub struct Shown {
 
 /// All of them.
 pub fn all() -> Vec<Shown> {
+    let blank = worked::case_i();
     let cases = worked::limits()
         .into_iter()
-        .map(|case| Shown { name: case.name.to_lowercase(), words: case.words });
+        .map(|case| (case.name, case.words))
+        .chain([(blank.name, blank.words)])
+        .map(|(name, words)| Shown { name: name.to_lowercase(), words });
     let ovens = [
         ("oven-ramp", ramp(180)),
         ("oven-steep", ramp(260)),

@@ -6,7 +6,7 @@ use crate::words::judged;
 const LARGEST_NUMBER: i64 = 2_147_483_647;
 const LARGEST_NUMERATOR: u64 = 515_396_075_280_000;
 
-/// 1 to 6 by the problem, 7 for an answer that is too short, 8 for an
+/// 1 to 6 and 10 by the problem, 7 for an answer that is too short, 8 for an
 /// accepted answer and 9 for any other.
 pub fn check(words: &[i32], answer: &[i64]) -> u32 {
     let parts = match judged(words) {

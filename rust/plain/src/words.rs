@@ -1,4 +1,4 @@
-//! The words of a limit problem, and refusals 1 to 6.
+//! The words of a limit problem, and refusals 1 to 6 and 10.
 
 /// The words of an accepted problem, in parts.
 #[derive(Clone, Copy)]
@@ -33,6 +33,9 @@ pub fn judged(words: &[i32]) -> Result<Parts<'_>, u32> {
     }
     if !every(limits, limit_passes) {
         return Err(6);
+    }
+    if coefficients.chunks_exact(n).any(|row| row.iter().all(|&word| word == 0)) {
+        return Err(10);
     }
     Ok(Parts { n, m, coefficients, limits })
 }

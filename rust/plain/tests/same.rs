@@ -18,13 +18,21 @@ fn lent(function: fn(&[i32], &mut [i64]) -> u32, words: &[i32], length: usize) -
 }
 
 #[test]
-fn cases_a_to_i_and_the_published_problems() {
+fn cases_a_to_h_and_the_published_problems() {
     for case in worked::limits().into_iter().chain(published()) {
         let (number, out) = lent(plain::solve, &case.words, case.answer.len());
         assert_eq!((number, out), (0, case.answer.clone()), "{}", case.name);
         let accepted = if case.answer[0] == 3 { 9 } else { 8 };
         assert_eq!(plain::check(&case.words, &case.answer), accepted, "{}", case.name);
     }
+}
+
+#[test]
+fn case_i_is_refused() {
+    let case = worked::case_i();
+    let kept = (0..7).map(|place| -1_000 - place).collect();
+    assert_eq!(lent(plain::solve, &case.words, 7), (case.number, kept));
+    assert_eq!(plain::check(&case.words, &[2, 0, 0, 0, 1, 0, 0]), case.number);
 }
 
 #[test]

@@ -31,6 +31,9 @@ pub enum Family {
     Range,
     /// A variable whose limits may be crossed.
     Crossed,
+    /// Words of another family with the coefficients of some rows all 0, and
+    /// of a third of those with something else wrong besides.
+    BlankRows,
     /// Words of another family with something wrong.
     Damaged,
     /// Words of no meaning.
@@ -39,7 +42,7 @@ pub enum Family {
 
 impl Family {
     /// Every family.
-    pub const ALL: [Family; 11] = [
+    pub const ALL: [Family; 12] = [
         Family::Tiny,
         Family::Medium,
         Family::Full,
@@ -49,6 +52,7 @@ impl Family {
         Family::Degenerate,
         Family::Range,
         Family::Crossed,
+        Family::BlankRows,
         Family::Damaged,
         Family::Garbage,
     ];
@@ -78,6 +82,7 @@ impl Family {
             Family::Degenerate => "degenerate",
             Family::Range => "range",
             Family::Crossed => "crossed",
+            Family::BlankRows => "blank rows",
             Family::Damaged => "damaged",
             Family::Garbage => "garbage",
         }
@@ -86,6 +91,7 @@ impl Family {
     /// The words of a problem of this family.
     pub fn words(self, random: &mut Random) -> Vec<i32> {
         match self {
+            Family::BlankRows => blank_rows(random),
             Family::Damaged => {
                 let whole = random.pick(&Family::ACCEPTED).words(random);
                 damage::damaged(random, whole)
@@ -150,8 +156,13 @@ fn around(random: &mut Random, n: usize, m: usize, make: Make) -> Draft {
     Draft { n, rows, limits }
 }
 
+/// A row in which some coefficient is not 0.
 fn row(random: &mut Random, n: usize, make: Make) -> Vec<i32> {
-    (0..n).map(|_| coefficient(random, make)).collect()
+    let mut row: Vec<i32> = (0..n).map(|_| coefficient(random, make)).collect();
+    if row.iter().all(|&coefficient| coefficient == 0) {
+        row[random.below(n)] = random.pick(&[1, -1]);
+    }
+    row
 }
 
 fn coefficient(random: &mut Random, make: Make) -> i32 {
@@ -263,4 +274,18 @@ fn crossed(random: &mut Random) -> Draft {
         draft.limits[variable] = between(lower, lower + random.within(-2, 2));
     }
     draft
+}
+
+fn blank_rows(random: &mut Random) -> Vec<i32> {
+    let mut draft = random.pick(&Family::ACCEPTED).draft(random);
+    for row in &mut draft.rows {
+        if random.percent(25) {
+            row.fill(0);
+        }
+    }
+    if random.percent(33) {
+        damage::damaged(random, draft.words())
+    } else {
+        draft.words()
+    }
 }

@@ -12,6 +12,16 @@ pub struct Limits {
     pub answer: Vec<i64>,
 }
 
+/// A limit problem that is refused.
+pub struct Refused {
+    /// The case's letter.
+    pub name: &'static str,
+    /// The words.
+    pub words: Vec<i32>,
+    /// The refusal's number.
+    pub number: u32,
+}
+
 /// Time rows with what is right to answer.
 pub struct Times {
     /// The case's letter.
@@ -44,9 +54,15 @@ fn cannot(name: &'static str, draft: Draft, pivots: i64, lower: &[i64], upper: &
     Limits { name, words: draft.words(), answer }
 }
 
-/// Cases A to I.
+/// Cases A to H.
 pub fn limits() -> Vec<Limits> {
-    vec![case_a(), case_b(), case_c(), case_d(), case_e(), case_f(), case_g(), case_h(), case_i()]
+    vec![case_a(), case_b(), case_c(), case_d(), case_e(), case_f(), case_g(), case_h()]
+}
+
+/// Case I: a row of zeros.
+pub fn case_i() -> Refused {
+    let words = Draft::new(1, &[&[0]], &[FREE, at_least(1)]).words();
+    Refused { name: "I", words, number: 10 }
 }
 
 /// Case A alone.
@@ -91,10 +107,6 @@ fn case_g() -> Limits {
 
 fn case_h() -> Limits {
     can("H", Draft::new(1, &[], &[FREE]), 0, 1, &[0])
-}
-
-fn case_i() -> Limits {
-    cannot("I", Draft::new(1, &[&[0]], &[FREE, at_least(1)]), 0, &[0, 1], &[0, 0])
 }
 
 /// Cases J to L.

@@ -51,6 +51,9 @@ fn least_limit_shares(family: limits::Family) -> &'static [(&'static str, usize)
     match family {
         limits::Family::Range => &[("can", 8), ("cannot", 8), ("range", 12)],
         limits::Family::AnySize => &[("can", 20), ("cannot", 8), ("range", 1)],
+        limits::Family::BlankRows => {
+            &[("can", 4), ("cannot", 4), ("refused 6", 1), ("refused 10", 30)]
+        }
         limits::Family::Damaged => &[
             ("can", 4),
             ("cannot", 4),

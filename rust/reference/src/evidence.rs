@@ -9,7 +9,7 @@ use crate::problem::{Limits, Problem, LARGEST_NUMBER};
 /// The largest size of a numerator.
 const LARGEST_NUMERATOR: i128 = 515_396_075_280_000;
 
-/// 1 to 6 by the problem, 7 for an answer that is too short, 8 for an
+/// 1 to 6 and 10 by the problem, 7 for an answer that is too short, 8 for an
 /// accepted answer and 9 for any other.
 pub fn check(words: &[i32], answer: &[i64]) -> u32 {
     let problem = match Problem::read(words) {

@@ -5,7 +5,7 @@
 //! tableau of fractions in lowest terms, whole numbers of 128 bits, and maps
 //! ordered by variable, so that "the lowest" is "the first".
 //!
-//! - `problem`: the words of a limit problem, and refusals 1 to 6
+//! - `problem`: the words of a limit problem, and refusals 1 to 6 and 10
 //! - `fraction`: exact fractions
 //! - `tableau`: basic variables as sums over nonbasic ones, and the exchange
 //! - `run`: the limit solver

@@ -63,6 +63,9 @@ impl Problem {
         }
         let (coefficients, limits) = words[2..].split_at(m * n);
         judge_parts(coefficients, limits)?;
+        if coefficients.chunks(n).any(is_blank) {
+            return Err(10);
+        }
         Ok(Problem {
             n,
             rows: coefficients.chunks(n).map(row).collect(),
@@ -83,6 +86,11 @@ fn judge_parts(coefficients: &[i32], limits: &[i32]) -> Result<(), u32> {
         return Err(6);
     }
     Ok(())
+}
+
+/// Whether no variable counts in a row.
+fn is_blank(row: &[i32]) -> bool {
+    row.iter().all(|&coefficient| coefficient == 0)
 }
 
 /// Whether a present limit is in range and the word of a missing one is 0.

@@ -112,6 +112,39 @@ fn a_missing_limit_has_the_word_zero() {
 }
 
 #[test]
+fn a_row_of_zeros() {
+    assert_eq!(one_row(0, FREE, FREE), 10);
+    assert_eq!(one_row(0, FREE, at_least(1)), 10);
+    assert_eq!(one_row(0, between(1, 0), FREE), 10);
+    for coefficient in [1, -1] {
+        assert_eq!(one_row(coefficient, FREE, FREE), 0);
+    }
+    for row in 0..16 {
+        let mut words = free(8, 16);
+        words[2 + 8 * row..2 + 8 * (row + 1)].fill(0);
+        assert_eq!(returned(&words), 10);
+        for column in 0..8 {
+            let mut words = words.clone();
+            words[2 + 8 * row + column] = -1;
+            assert_eq!(returned(&words), 0);
+        }
+    }
+}
+
+#[test]
+fn a_row_of_zeros_comes_after_limits_and_before_room() {
+    assert_eq!(one_row(0, [7, 0, 0], FREE), 5);
+    assert_eq!(one_row(0, [1, 30_001, 0], FREE), 6);
+    assert_eq!(one_row(0, [1, 0, 5], FREE), 6);
+    let words = Draft::new(2, &[&[0, 0], &[1_001, 0]], &[FREE; 4]).words();
+    assert_eq!(returned(&words), 4);
+    let words = Draft::new(1, &[&[0]], &[FREE; 2]).words();
+    assert_eq!(returned(&words[..8]), 3);
+    assert_eq!(solve(&words, &mut []), 10);
+    assert_eq!(check(&words, &[]), 10);
+}
+
+#[test]
 fn an_earlier_refusal_wins_wherever_it_stands() {
     assert_eq!(one_row(1_001, [7, 0, 0], FREE), 4);
     assert_eq!(one_row(1, [1, 30_001, 0], [7, 0, 0]), 5);

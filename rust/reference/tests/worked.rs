@@ -16,14 +16,23 @@ fn solved(words: &[i32], length: usize) -> Vec<i64> {
 }
 
 #[test]
-fn cases_a_to_i_and_the_published_problems() {
+fn cases_a_to_h_and_the_published_problems() {
     let cases: Vec<_> = worked::limits().into_iter().chain(published()).collect();
-    assert_eq!(cases.len(), 9 + 6);
+    assert_eq!(cases.len(), 8 + 6);
     for case in cases {
         assert_eq!(solved(&case.words, case.answer.len()), case.answer, "{}", case.name);
         let accepted = if case.answer[0] == 3 { 9 } else { 8 };
         assert_eq!(check(&case.words, &case.answer), accepted, "{}", case.name);
     }
+}
+
+#[test]
+fn case_i_is_refused() {
+    let case = worked::case_i();
+    let mut out = [UNTOUCHED; 7];
+    assert_eq!(solve(&case.words, &mut out), case.number);
+    assert_eq!(out, [UNTOUCHED; 7]);
+    assert_eq!(check(&case.words, &[2, 0, 0, 0, 1, 0, 0]), case.number);
 }
 
 #[test]

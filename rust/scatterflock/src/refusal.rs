@@ -16,36 +16,40 @@ use std::fmt;
 #[derive(Debug, Clone, Copy, PartialEq, Eq, Hash)]
 pub enum Refusal {
     /// 1: there are not even n and m.
-    FewWords,
+    FewWords = 1,
     /// 2: n or m is out of its range.
-    Sizes,
+    Sizes = 2,
     /// 3: n and m ask for another number of words.
-    Length,
+    Length = 3,
     /// 4: a coefficient is out of its range.
-    Coefficient,
+    Coefficient = 4,
     /// 5: a kind is out of its range.
-    Kind,
+    Kind = 5,
     /// 6: a limit is out of its range, or a missing one has a number.
-    Limit,
+    Limit = 6,
+    /// 10: every coefficient of some row is 0. It is asked after 6 and
+    /// before 7.
+    BlankRow = 10,
     /// 7: the output, or the answer to check, has too few words.
-    Short,
+    Short = 7,
 }
 
 impl Refusal {
-    /// Every refusal, by number.
-    pub const ALL: [Refusal; 7] = [
+    /// Every refusal, in the order in which they are asked.
+    pub const ALL: [Refusal; 8] = [
         Refusal::FewWords,
         Refusal::Sizes,
         Refusal::Length,
         Refusal::Coefficient,
         Refusal::Kind,
         Refusal::Limit,
+        Refusal::BlankRow,
         Refusal::Short,
     ];
 
-    /// The number in docs/RULES.md, 1 to 7.
+    /// The number in docs/RULES.md: 1 to 7, or 10.
     pub fn number(self) -> u32 {
-        self as u32 + 1
+        self as u32
     }
 
     /// The refusal of this number.
@@ -65,6 +69,7 @@ impl fmt::Display for Refusal {
             Refusal::Limit => {
                 "a limit is not from -30,000 to 30,000, or a missing one is not written as 0"
             }
+            Refusal::BlankRow => "all coefficients of a row are 0",
             Refusal::Short => "there is no room for a whole answer",
         })
     }

@@ -1,6 +1,6 @@
 //! The limit problem as words, its refusals in order, and what the words mean.
 
-use crate::base::{some_below, within};
+use crate::base::{all_below, some_below, within};
 
 pub const MAX_N: i128 = 8;
 pub const MAX_M: i128 = 16;
@@ -27,6 +27,10 @@ pub fn m_of(ws: &[i128]) -> usize {
 /// All variables: the problem's, then one for each row.
 pub fn vars_of(ws: &[i128]) -> usize {
     n_of(ws) + m_of(ws)
+}
+
+pub fn coefficient_word(ws: &[i128], i: usize, j: usize) -> i128 {
+    word(ws, 2 + (i * n_of(ws) + j))
 }
 
 pub fn kind_place(ws: &[i128], v: usize) -> usize {
@@ -92,6 +96,14 @@ pub fn bad_limit(ws: &[i128]) -> bool {
     })
 }
 
+pub fn blank_row(ws: &[i128], i: usize) -> bool {
+    all_below(n_of(ws), |j| coefficient_word(ws, i, j) == 0)
+}
+
+pub fn some_blank(ws: &[i128]) -> bool {
+    some_below(m_of(ws), |i| blank_row(ws, i))
+}
+
 pub fn too_short(ws: &[i128], out: usize) -> bool {
     out < 3 + 2 * vars_of(ws)
 }
@@ -104,7 +116,7 @@ pub fn first(tests: &[Test]) -> u32 {
     tests.iter().find(|(applies, _)| applies()).map_or(0, |(_, number)| *number)
 }
 
-/// Refusals 1 to 6: the problem alone.
+/// Refusals 1 to 6, then 10: the problem alone.
 pub fn problem_tests(ws: &[i128]) -> Vec<Test<'_>> {
     vec![
         (Box::new(|| too_few(ws)), 1),
@@ -113,6 +125,7 @@ pub fn problem_tests(ws: &[i128]) -> Vec<Test<'_>> {
         (Box::new(|| bad_coefficient(ws)), 4),
         (Box::new(|| bad_kind(ws)), 5),
         (Box::new(|| bad_limit(ws)), 6),
+        (Box::new(|| some_blank(ws)), 10),
     ]
 }
 
@@ -147,7 +160,7 @@ pub fn problem(ws: &[i128]) -> Problem<'_, i128> {
     Problem {
         n: n_of(ws),
         m: m_of(ws),
-        coefficient: Box::new(|i, j| word(ws, 2 + (i * n_of(ws) + j))),
+        coefficient: Box::new(|i, j| coefficient_word(ws, i, j)),
         lower: Box::new(|v| present(has_lower(kind(ws, v)), lower_word(ws, v))),
         upper: Box::new(|v| present(has_upper(kind(ws, v)), upper_word(ws, v))),
     }

@@ -1,4 +1,4 @@
--- The checker's number, exactly: 1 to 6 by the problem, 7 for an answer too short, 8 accepted, 9 not; nothing else.
+-- The checker's number, exactly: 1 to 6 and 10 by the problem, 7 for an answer too short, 8 accepted, 9 not; nothing else.
 --   Checks, checks, checks-only    each number with the facts that it stands for; `checked` is it, and no other is
 --   checkerTable, checked-exactly  line by line: k where no earlier line's meaning holds and line k's does
 --   checked-by-problem, checked-by-answer       the number from the problem's refusal, and else from the two tests of the answer
@@ -7,7 +7,7 @@
 --   check-only                     what is allowed to come out is one number
 use mathlib.Core.Bool.{Bool, cond, false, true}
 use mathlib.Core.List.{List, [], _++_, _∷_}
-use mathlib.Core.Logic.{inl, inr, _↔_, _≢_}
+use mathlib.Core.Logic.{inl, inr, _↔_, _≢_, _⊎_}
 use mathlib.Core.Path.{refl, sym, _∙_, _≡_}
 use Prim.Native.Nat.{suc, zero, ℕ, _*_, _+_, _<_, _≤_}
 use native.Mathlib.Omega.{arith}
@@ -26,11 +26,23 @@ use Rattle.rules.specs.Sizes.{mostRows}
 
 -- ---- the first test that applies
 
-first-most : (n : ℕ) (ts : List (Bool × ℕ)) → Upto n ts → first ts ≤ n
+-- suc k is a number of the problem's: 1 to 6, or 10
+abbrev Own : ℕ → Type 0
+Own k = (k < 6) ⊎ (k ≡ 9)
+
+abbrev AllOwn : List (Bool × ℕ) → Type 0
+AllOwn [] = Unit {0}
+AllOwn (t ∷ ts) = ((k : ℕ) → t .1 ≡ suc k → Own k) × AllOwn ts
+
+own-clash : {k : ℕ} → Own k → 6 ≤ k → k ≤ 8 → ⊥
+own-clash (inl b) l m = omega arith
+own-clash (inr b) l m = omega arith
+
+first-own : (ts : List (Bool × ℕ)) → AllOwn ts → (k : ℕ) → first ts ≡ suc k → Own k
 unfolding first
-first-most n [] h = omega arith
-first-most n ((true, j) ∷ ts) (l, m, h) = m
-first-most n ((false, j) ∷ ts) (l, m, h) = first-most n ts h
+first-own [] h k e = let z : ⊥ = omega arith in absurd z
+first-own ((true, j) ∷ ts) (o, h) k e = o k e
+first-own ((false, j) ∷ ts) (o, h) k e = first-own ts h k e
 
 first-three : (b c : Bool) → first ((b, 7) ∷ (c, 8) ∷ (true, 9) ∷ []) ≡ cond b 7 (cond c 8 9)
 unfolding first
@@ -38,7 +50,7 @@ first-three true c = refl
 first-three false true = refl
 first-three false false = refl
 
--- ---- the table: refusals 1 to 6, an answer too short, evidence, and nothing else
+-- ---- the table: refusals 1 to 6 and 10, an answer too short, evidence, and nothing else
 
 abbrev pub checkerTable : List ℤ → List ℤ → List Test
 checkerTable ws a = problemTable mostRows ws
@@ -54,7 +66,7 @@ checked-exactly ws a k = first-exactly (checkerTable ws a) k
 -- ---- each number, with its facts
 
 pub data Checks (ws a : List ℤ) : ℕ → Type 0 where
-  refused : (k : ℕ) → k < 6 → problemRefusal ws ≡ suc k → Checks ws a (suc k)
+  refused : (k : ℕ) → Own k → problemRefusal ws ≡ suc k → Checks ws a (suc k)
   short : problemRefusal ws ≡ 0 → length a < answerLength ws → Checks ws a 7
   right : problemRefusal ws ≡ 0 → answerLength ws ≤ length a → Shown (problem ws) a → Checks ws a 8
   wrong : problemRefusal ws ≡ 0 → answerLength ws ≤ length a → ¬ Shown (problem ws) a → Checks ws a 9
@@ -70,13 +82,31 @@ module _ (ws a : List ℤ) where
       checked ws a ≡ cond (tooShort ws (length a)) 7 (cond (accepted (problem ws) a) 8 9)
   unfolding checked problemRefusal
   checked-by-answer e =
-      first-passed 6 (problemTests mostRows ws)
+      first-passed 10 (problemTests mostRows ws)
       ((tooShort ws (length a), 7) ∷ (accepted (problem ws) a, 8) ∷ (true, 9) ∷ []) (numbered ws) e
       ∙ first-three (tooShort ws (length a)) (accepted (problem ws) a)
 
-  most-six : problemRefusal ws ≤ 6
-  unfolding problemRefusal
-  most-six = first-most 6 (problemTests mostRows ws) (numbered ws)
+  own : (k : ℕ) → problemRefusal ws ≡ suc k → Own k
+  unfolding problemRefusal problemTests
+  own = first-own (problemTests mostRows ws) (
+    λ k e. inl (omega arith),
+    (
+      λ k e. inl (omega arith),
+      (
+        λ k e. inl (omega arith),
+        (
+          λ k e. inl (omega arith),
+          (
+            λ k e. inl (omega arith),
+            (
+              λ k e. inl (omega arith),
+              (λ k e. inr (omega arith), tt),
+            ),
+          ),
+        ),
+      ),
+    ),
+  )
 
   pub checks : Checks ws a (checked ws a)
   checks = go (problemRefusal ws) refl
@@ -89,7 +119,7 @@ module _ (ws a : List ℤ) where
 
       go : (r : ℕ) → problemRefusal ws ≡ r → Checks ws a (checked ws a)
       go zero e = rw (checked-by-answer e) (judged e (tooShort ws (length a)) (accepted (problem ws) a) refl refl)
-      go (suc k) e = rw (checked-by-problem k e) (refused k (omega (arith, most-six)) e)
+      go (suc k) e = rw (checked-by-problem k e) (refused k (own k e) e)
 
   -- two numbers with their facts are the same number
   one-number : {r t : ℕ} → Checks ws a r → Checks ws a t → r ≡ t
@@ -115,20 +145,20 @@ module _ (ws a : List ℤ) where
 
   -- ---- each number exactly
 
-  pub checked-refused : (k : ℕ) → k < 6 → (checked ws a ≡ suc k) ↔ (problemRefusal ws ≡ suc k)
+  pub checked-refused : (k : ℕ) → Own k → (checked ws a ≡ suc k) ↔ (problemRefusal ws ≡ suc k)
   checked-refused k h = (λ e. out checks e, λ e. checks-only (suc k) (refused k h e))
     where
       out : {r : ℕ} → Checks ws a r → r ≡ suc k → problemRefusal ws ≡ suc k
       out (refused j l f) e = f ∙ e
-      out (short f l) e = let z : ⊥ = omega arith in absurd z
-      out (right f l s) e = let z : ⊥ = omega arith in absurd z
-      out (wrong f l s) e = let z : ⊥ = omega arith in absurd z
+      out (short f l) e = absurd (own-clash h (omega arith) (omega arith))
+      out (right f l s) e = absurd (own-clash h (omega arith) (omega arith))
+      out (wrong f l s) e = absurd (own-clash h (omega arith) (omega arith))
 
   pub checked-short : (checked ws a ≡ 7) ↔ ((problemRefusal ws ≡ 0) × (length a < answerLength ws))
   checked-short = (λ e. out checks e, λ h. checks-only 7 (short (h .0) (h .1)))
     where
       out : {r : ℕ} → Checks ws a r → r ≡ 7 → (problemRefusal ws ≡ 0) × (length a < answerLength ws)
-      out (refused j l f) e = let z : ⊥ = omega arith in absurd z
+      out (refused j l f) e = absurd (own-clash l (omega arith) (omega arith))
       out (short f l) e = (f, l)
       out (right f l s) e = let z : ⊥ = omega arith in absurd z
       out (wrong f l s) e = let z : ⊥ = omega arith in absurd z
@@ -139,7 +169,7 @@ module _ (ws a : List ℤ) where
     where
       out : {r : ℕ} → Checks ws a r → r ≡ 8 → (problemRefusal ws ≡ 0) × (answerLength ws ≤ length a)
           × Shown (problem ws) a
-      out (refused j l f) e = let z : ⊥ = omega arith in absurd z
+      out (refused j l f) e = absurd (own-clash l (omega arith) (omega arith))
       out (short f l) e = let z : ⊥ = omega arith in absurd z
       out (right f l s) e = (f, l, s)
       out (wrong f l s) e = let z : ⊥ = omega arith in absurd z
@@ -150,7 +180,7 @@ module _ (ws a : List ℤ) where
     where
       out : {r : ℕ} → Checks ws a r → r ≡ 9 → (problemRefusal ws ≡ 0) × (answerLength ws ≤ length a)
           × (¬ Shown (problem ws) a)
-      out (refused j l f) e = let z : ⊥ = omega arith in absurd z
+      out (refused j l f) e = absurd (own-clash l (omega arith) (omega arith))
       out (short f l) e = let z : ⊥ = omega arith in absurd z
       out (right f l s) e = let z : ⊥ = omega arith in absurd z
       out (wrong f l s) e = (f, l, s)

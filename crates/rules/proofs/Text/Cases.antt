@@ -62,7 +62,7 @@ outputs =
     ∷ "cannot\npivots 0\n0 lower 1\n1 lower 1\n2 upper 1\n"
     ∷ "cannot\npivots 0\n0 lower 1\n0 upper 1\n"
     ∷ "can\npivots 0\nover 1\n0 0\n"
-    ∷ "cannot\npivots 0\n1 lower 1\n"
+    ∷ "refused 10\n"
     -- the edges
     ∷ "can\npivots 0\nover 1\n0 0\n1 0\n" ∷ "refused 4\n" ∷ "refused 6\n" ∷ "refused 2\n" ∷ "refused 2\n"
     ∷ String._++_ "can\npivots 0\nover 1\n"
@@ -79,7 +79,7 @@ unfolding inputs outputs limitCases
     Numbers.within Numbers.outside Sums.sumBy Tables.tableFrom Tables.matrix
     Limit.bit Limit.present Limit.badLimitWord Problem.problem
     Refusal.first Refusal.tooFew Refusal.badSize Refusal.badLength Refusal.badCoefficient Refusal.badKind
-    Refusal.badLimit Refusal.problemTests Refusal.problemRefusal
+    Refusal.badLimit Refusal.blankRow Refusal.someBlank Refusal.problemTests Refusal.problemRefusal
     Tableau.relation Tableau.solved Tableau.divisorSize Tableau.divisor Tableau.reduced Tableau.pivot Tableau.small
     Step.pull Step.startEntry Step.evidence Step.admit Step.seated Step.scaled Step.startValue Step.startSeat
     Step.start Step.under Step.over Step.broken Step.leaving Step.mayRise Step.mayFall Step.suits Step.entering

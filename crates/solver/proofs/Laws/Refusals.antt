@@ -41,7 +41,7 @@ module _ (ws : List ℤ) (room : ℕ) where
 
   after-problem : problemRefusal ws ≡ 0 → refusal ws room ≡ first ((tooShort ws room, 7) ∷ [])
   unfolding refusal problemRefusal
-  after-problem e = first-passed 6 (problemTests mostRows ws) ((tooShort ws room, 7) ∷ []) (numbered ws) e
+  after-problem e = first-passed 10 (problemTests mostRows ws) ((tooShort ws room, 7) ∷ []) (numbered ws) e
 
   pub refusal-short : problemRefusal ws ≡ 0 → room < answerLength ws → 7 ≡ refusal ws room
   unfolding tooShort

@@ -35,15 +35,22 @@ fn cannot(lower: &[i64], upper: &[i64]) -> Vec<i64> {
 
 /// What the solver answers, also with another word 1 and with words after it.
 fn own_answers() -> Vec<Vector> {
-    let cases = worked::limits().into_iter().chain(published());
+    let answered = |case: worked::Limits| (case.name, case.words, case.answer);
+    let blank = worked::case_i();
+    let contradiction = cannot(&[0, 1], &[0, 0]);
+    let cases = worked::limits()
+        .into_iter()
+        .map(answered)
+        .chain([(blank.name, blank.words, contradiction)])
+        .chain(published().into_iter().map(answered));
     cases
-        .flat_map(|case| {
-            let mut told = case.answer.clone();
+        .flat_map(|(name, words, answer)| {
+            let mut told = answer.clone();
             told[1] = i64::MIN;
             let long = [&told[..], &[i64::MAX, -1]].concat();
             [
-                check(format!("{}, its answer", case.name), &case.words, &case.answer),
-                check(format!("{}, another word 1 and a tail", case.name), &case.words, &long),
+                check(format!("{name}, its answer"), &words, &answer),
+                check(format!("{name}, another word 1 and a tail"), &words, &long),
             ]
         })
         .collect()
@@ -180,6 +187,7 @@ fn refused() -> Vec<Vector> {
     let limits = |kind, lower, upper| Draft::new(1, &[&[1]], &[FREE, [kind, lower, upper]]).words();
     let mut steep = limits(0, 0, 0);
     steep[2] = 1_001;
+    let blank = |kind, lower| Draft::new(1, &[&[0]], &[FREE, [kind, lower, 0]]).words();
     vec![
         check("no words", &[], &answer),
         check("one word", &[1], &[]),
@@ -190,6 +198,9 @@ fn refused() -> Vec<Vector> {
         check("kind 4", &limits(4, 0, 0), &answer),
         check("limit 30,001", &limits(1, 30_001, 0), &answer),
         check("a missing limit with a number", &limits(1, 0, 5), &answer),
+        check("a blank row", &blank(0, 0), &answer),
+        check("a blank row and limit 30,001", &blank(1, 30_001), &answer),
+        check("a blank row and an answer one word short", &blank(0, 0), &answer[..6]),
         check("an answer one word short", &limits(0, 0, 0), &answer[..6]),
         check("no answer", &limits(0, 0, 0), &[]),
         check("an answer just long enough", &limits(0, 0, 0), &answer),

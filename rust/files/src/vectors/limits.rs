@@ -15,6 +15,7 @@ pub fn all() -> Vec<Vector> {
     vectors.extend(coefficients());
     vectors.extend(kinds_and_limits());
     vectors.extend(orders());
+    vectors.extend(blank_rows());
     vectors.extend(no_rows());
     vectors.extend(crossed());
     vectors.extend(ranges());
@@ -33,13 +34,18 @@ fn roomy(name: impl Into<String>, words: Vec<i32>) -> Vector {
 /// Cases A to I and the published problems: room exactly enough, one word too
 /// little, and two too many.
 fn cases() -> Vec<Vector> {
-    let all = worked::limits().into_iter().chain(published());
-    all.flat_map(|case| {
-        let needed = case.answer.len();
+    let answered = |case: worked::Limits| (case.name, case.words, case.answer.len());
+    let blank = worked::case_i();
+    let all = worked::limits()
+        .into_iter()
+        .map(answered)
+        .chain([(blank.name, blank.words, 7)])
+        .chain(published().into_iter().map(answered));
+    all.flat_map(|(name, words, needed)| {
         [(0, "room enough"), (-1, "one word too little"), (2, "two words more")].map(
             |(more, room)| {
-                let name = format!("{}, {room}", case.name);
-                solve(name, case.words.clone(), (needed as i32 + more) as usize)
+                let name = format!("{name}, {room}");
+                solve(name, words.clone(), (needed as i32 + more) as usize)
             },
         )
     })
@@ -47,7 +53,7 @@ fn cases() -> Vec<Vector> {
 }
 
 /// A problem of n variables and m rows in which nothing is limited.
-fn blank(n: usize, m: usize) -> Draft {
+fn free(n: usize, m: usize) -> Draft {
     Draft { n, rows: vec![vec![1; n]; m], limits: vec![FREE; n + m] }
 }
 
@@ -56,18 +62,18 @@ fn sizes() -> Vec<Vector> {
         roomy("no words", vec![]),
         roomy("one word", vec![1]),
         roomy("two words, the limits missing", vec![1, 0]),
-        roomy("n 8, m 16", blank(8, 16).words()),
-        solve("n 8, m 16, one word too little", blank(8, 16).words(), 50),
-        solve("no room at all", blank(1, 0).words(), 0),
+        roomy("n 8, m 16", free(8, 16).words()),
+        solve("n 8, m 16, one word too little", free(8, 16).words(), 50),
+        solve("no room at all", free(1, 0).words(), 0),
     ];
     for (n, m) in [(0, 0), (9, 0), (-1, 0), (1, 17), (1, -1), (i32::MIN, 0), (8, i32::MAX)] {
-        let mut words = blank(1, 0).words();
+        let mut words = free(1, 0).words();
         words[..2].copy_from_slice(&[n, m]);
         vectors.push(roomy(format!("n {n}, m {m}"), words));
     }
-    vectors.push(roomy("n 9 with its own length", blank(9, 1).words()));
-    vectors.push(roomy("m 17 with its own length", blank(1, 17).words()));
-    let whole = blank(2, 3).words();
+    vectors.push(roomy("n 9 with its own length", free(9, 1).words()));
+    vectors.push(roomy("m 17 with its own length", free(1, 17).words()));
+    let whole = free(2, 3).words();
     vectors.push(roomy("one word short", whole[..whole.len() - 1].to_vec()));
     vectors.push(roomy("one word long", [&whole[..], &[0]].concat()));
     vectors
@@ -77,7 +83,7 @@ fn coefficients() -> Vec<Vector> {
     let mut vectors = Vec::new();
     for place in [0, 5] {
         for coefficient in [1_000, 1_001, -1_000, -1_001, i32::MAX, i32::MIN] {
-            let mut words = blank(2, 3).words();
+            let mut words = free(2, 3).words();
             words[2 + place] = coefficient;
             vectors.push(roomy(format!("coefficient {place} is {coefficient}"), words));
         }
@@ -86,7 +92,7 @@ fn coefficients() -> Vec<Vector> {
 }
 
 fn with_limits(variable: usize, limits: [i32; 3]) -> Vec<i32> {
-    let mut draft = blank(2, 3);
+    let mut draft = free(2, 3);
     draft.limits[variable] = limits;
     draft.words()
 }
@@ -135,7 +141,7 @@ fn orders() -> Vec<Vector> {
     let mut limit_and_kind = with_limits(0, [1, 30_001, 0]);
     let last = limit_and_kind.len() - 3;
     limit_and_kind[last] = 4;
-    let mut length_and_coefficient = blank(1, 1).words();
+    let mut length_and_coefficient = free(1, 1).words();
     length_and_coefficient[2] = 1_001;
     length_and_coefficient.push(0);
     vec![
@@ -145,6 +151,48 @@ fn orders() -> Vec<Vector> {
         solve("limit and no room", with_limits(1, [1, 30_001, 0]), 3),
         solve("n 9 and no room", vec![9, 0], 0),
     ]
+}
+
+/// A row of zeros, beside the same with one coefficient of 1 in it, in each
+/// place; then a row of zeros together with every other refusal.
+fn blank_rows() -> Vec<Vector> {
+    let with_blank = |n: usize, m: usize, row: usize| {
+        let mut draft = free(n, m);
+        draft.rows[row].fill(0);
+        draft
+    };
+    let mut vectors = Vec::new();
+    for (n, m, row) in [(1, 1, 0), (3, 4, 0), (3, 4, 2), (3, 4, 3), (8, 16, 15)] {
+        let draft = with_blank(n, m, row);
+        vectors.push(roomy(format!("row {row} of {m} is blank, {n} columns"), draft.words()));
+        for column in 0..n {
+            let mut draft = draft.clone();
+            draft.rows[row][column] = 1;
+            let name = format!("row {row} of {m} has 1 in column {column} of {n}");
+            vectors.push(roomy(name, draft.words()));
+        }
+    }
+    vectors
+        .push(roomy("both rows are blank", Draft::new(2, &[&[0, 0], &[0, 0]], &[FREE; 4]).words()));
+    let crossed = Draft::new(1, &[&[0]], &[between(1, 0), FREE]).words();
+    vectors.push(roomy("a blank row and crossed limits", crossed));
+    let blank = with_blank(2, 3, 1).words();
+    let with = |place: usize, word: i32| {
+        let mut words = blank.clone();
+        words[place] = word;
+        words
+    };
+    vectors.extend([
+        roomy("a blank row and one word of 2", blank[..1].to_vec()),
+        roomy("a blank row and m 17", with(1, 17)),
+        roomy("a blank row and one word short", blank[..blank.len() - 1].to_vec()),
+        roomy("a blank row and coefficient 1,001 after it", with(7, 1_001)),
+        roomy("a blank row and kind 4", with(20, 4)),
+        roomy("a blank row and a missing limit with a number", with(22, 1)),
+        solve("a blank row and one word too little", blank.clone(), 12),
+        solve("a blank row and no room", blank, 0),
+    ]);
+    vectors
 }
 
 fn no_rows() -> Vec<Vector> {
@@ -161,7 +209,7 @@ fn crossed() -> Vec<Vector> {
         let name = format!("variable {variable} is crossed");
         vectors.push(roomy(name, with_limits(variable, between(6, 5))));
     }
-    let mut two = blank(2, 3);
+    let mut two = free(2, 3);
     two.limits[1] = between(1, 0);
     two.limits[3] = between(30_000, -30_000);
     vectors.push(roomy("two are crossed", two.words()));

@@ -145,20 +145,24 @@ some-bad-variable-requires-2 c κs = framed (c .before .before)
 word-refusal-requires : tie.Need-word-refusal-requires
 word-refusal-requires c κs = tt
 
-abbrev by-words : Bool → Bool → Bool → ℕ
-by-words coefficient kind limit = first ((coefficient, 4) ∷ (kind, 5) ∷ (limit, 6) ∷ [])
+some-blank-row-requires : tie.Need-some-blank-row-requires
+some-blank-row-requires c κs = framed (c .before .before .before)
+
+abbrev by-words : Bool → Bool → Bool → Bool → ℕ
+by-words coefficient kind limit blank = first ((coefficient, 4) ∷ (kind, 5) ∷ (limit, 6) ∷ (blank, 10) ∷ [])
 
 returns-4 : tie.Need-returns-4
 unfolding problemTests
 returns-4 c =
-    let limit = c .before in
+    let blank = c .before in
+    let limit = blank .before in
     let kind = limit .before in
     let coefficient = kind .before in
     let ws = words (origin (coefficient .before)) in
     c .word-refusal .ensures
-    ∙ ap₂ (λ a b. by-words a b (limit .some-bad-variable2 .result))
+    ∙ ap₂ (λ a b. by-words a b (limit .some-bad-variable2 .result) (blank .some-blank-row .result))
     (coefficient .some-bad-coefficient .ensures) (kind .some-bad-variable .ensures)
-    ∙ ap (by-words (badCoefficient ws) (badKind ws)) (limit .some-bad-variable2 .ensures)
+    ∙ ap₂ (by-words (badCoefficient ws) (badKind ws)) (limit .some-bad-variable2 .ensures) (blank .some-blank-row .ensures)
     ∙ sym (skip-3 (coefficient .before))
 
 pub judge-spec : {M : Type 1} → statement M
@@ -179,5 +183,6 @@ judge-spec =
     some-bad-coefficient-requires
     some-bad-variable-requires
     some-bad-variable-requires-2
+    some-blank-row-requires
     word-refusal-requires
     returns-4)
