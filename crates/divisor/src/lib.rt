@@ -32,7 +32,7 @@ pub fn common_of(a: u64, b: u64) -> u64
     x
 }
 
-// The greatest common divisor of a number and the live cells.
+// The greatest common divisor of a number and the live cells. Once it is 1 it stays 1, and no further cell is looked at.
 pub fn divisor_of(cells: &[i64; MOST_CELLS], live: usize, common: i64) -> u64
     requires { ⌜ live ≤ mostCells ⌝ }
     requires { ⌜ Within common largestSize ⌝ }
@@ -41,6 +41,9 @@ pub fn divisor_of(cells: &[i64; MOST_CELLS], live: usize, common: i64) -> u64
 {
     let mut g = size(common);
     for k in 0..live {
+        if g == 1 {
+            return 1;
+        }
         let e = cells[k];
         g = common_of(size(e), g);
     }

@@ -161,6 +161,9 @@ impl Tableau {
         let cells = &mut self.entries[..self.m * self.n];
         let mut divisor = self.common.unsigned_abs();
         for cell in cells.iter() {
+            if divisor == 1 {
+                break;
+            }
             divisor = common_divisor(cell.unsigned_abs(), divisor);
         }
         let divisor = divisor as i64 * self.common.signum();

@@ -1,12 +1,14 @@
 -- The divisor and the quotients of the live cells.
 --   divisor-none, divisor-more          no live cells, one more
 --   divisor-divides, divisor-greatest   it divides the number and each live cell, and whatever does so divides it
+--   divisor-one                         1 stays 1
 --   divisor-above-zero, divisor-most    above 0, and no more than the number's size
 --   fits-size                           a number with a size fits 64 bits
 use Prim.Native.Nat.{ℕ, _+_, _≤_, _<_, _∣_}
-use native.Mathlib.Nat.{lt-of-le-of-lt}
+use native.Mathlib.Nat.{dvd-one, lt-of-le-of-lt}
+use native.Mathlib.Omega.{arith}
 use native.Mathlib.Numerals.{add-one}
-use mathlib.Core.Path.{_≡_, refl}
+use mathlib.Core.Path.{_≡_, refl, subst}
 use mathlib.Core.Logic.{_≢_}
 use mathlib.Core.List.{List}
 use lib.Dec.{lit<}
@@ -54,3 +56,9 @@ module _ (l : List ℤ) (common : ℤ) where
     pub divisor-most : common ≢ pos 0 → divisorBelow k l common ≤ natAbs common
     unfolding divisorBelow
     divisor-most n = fold-most k cellSize (natAbs common) (size-pos common n)
+
+  pub divisor-one : (k n : ℕ) → k ≤ n → divisorBelow k l common ≡ 1 → divisorBelow n l common ≡ 1
+  divisor-one k n h e =
+      let d = divisor-divides n in
+      dvd-one .0 (subst (λ g. divisorBelow n l common ∣ g) e
+      (divisor-greatest k (divisorBelow n l common) (d .0) (λ i b. d .1 i (omega arith))))

@@ -1,5 +1,5 @@
--- `divisor::divisor_of` meets its contract. The invariant: g is the divisor of the number and the cells passed. The
--- measure is how many are left. Assumes nothing.
+-- `divisor::divisor_of` meets its contract. The invariant: g is the divisor of the number and the cells passed. Once
+-- g is 1, so is the divisor of all. The measure is how many are left. Assumes nothing.
 use native.Mathlib.Omega.{arith}
 use mathlib.Core.Path.{_≡_, ap, ap₂, sym, _∙_}
 use Prim.Native.Nat.{ℕ, _≤_, _-_}
@@ -11,7 +11,7 @@ use mir.Syntax.{w64}
 use mir.Val.{SFits, toZ}
 use Rattle.whole.specs.Divisors.{gcd}
 use Rattle.divisor.specs.Cells.{divisorBelow}
-use Rattle.divisor.proofs.Laws.Cells.{divisor-none, divisor-more}
+use Rattle.divisor.proofs.Laws.Cells.{divisor-none, divisor-more, divisor-one}
 use Rattle.divisor.proofs.divisor_of.Statement.{statement}
 use Rattle.divisor.proofs.divisor_of.Tie as tie
 
@@ -27,6 +27,13 @@ size-requires c κs = simp (toZ-ofZ (c .fits .common)) (c .pre .1 .0)
 loop-holds : tie.Need-loop-holds Inv-loop μ-loop
 loop-holds c = (omega arith, c .size .ensures ∙ sym (divisor-none (c .before .args .cells .now) _))
 
+returns : tie.Need-returns Inv-loop μ-loop
+returns c =
+    let s = c .before .before .before .before in
+    let k = c .before .before .loop .k in
+    sym (divisor-one (s .args .cells .now) (s .args .common) k (s .args .live) (c .before .before .loop .inv .0)
+    (simp (toZ-ofZ (s .fits .common)) at (sym (c .before .before .loop .inv .1) ∙ c .if1 .taken)))
+
 mul-e : tie.Need-mul-e Inv-loop μ-loop
 mul-e c = omega arith
 
@@ -35,10 +42,10 @@ element-copy-out-e c = omega arith
 
 module _ (c : tie.After-e Inv-loop μ-loop) where
   abbrev start : tie.Start Inv-loop μ-loop
-  start = c .before .before .before .before
+  start = c .before .before .before .before .before
 
   abbrev place : ℕ
-  place = c .before .before .loop .k
+  place = c .before .before .before .loop .k
 
   fit-e : SFits w64 (getD (start .args .cells .now) place (pos 0))
   fit-e = sfits-of (c .e .given)
@@ -59,15 +66,15 @@ loop-again : tie.Need-loop-again Inv-loop μ-loop
 loop-again c = let a = c .before .before in (
   omega arith,
   c .common-of .ensures
-      ∙ ap₂ gcd (c .before .size2 .ensures ∙ ap natAbs (toZ-ofZ (fit-e a))) (a .before .before .loop .inv .1)
+      ∙ ap₂ gcd (c .before .size2 .ensures ∙ ap natAbs (toZ-ofZ (fit-e a))) (a .before .before .before .loop .inv .1)
       ∙ sym (divisor-more (start a .args .cells .now) _ (place a)),
 )
 
 all : (c : tie.After-loop Inv-loop μ-loop) → c .before .loop .k ≡ c .before .before .before .args .live
 all c = omega arith
 
-returns : tie.Need-returns Inv-loop μ-loop
-returns c =
+returns-2 : tie.Need-returns-2 Inv-loop μ-loop
+returns-2 c =
     let s = c .before .before .before in
     (simp (toZ-ofZ (s .fits .common)) at (c .before .loop .inv .1))
     ∙ ap (λ (k : ℕ). divisorBelow k (s .args .cells .now) (s .args .common)) (all c)
@@ -80,6 +87,7 @@ divisor-of-spec =
     μ-loop
     size-requires
     loop-holds
+    returns
     mul-e
     element-copy-out-e
     size-requires-2
@@ -87,4 +95,4 @@ divisor-of-spec =
     add-k
     loop-less
     loop-again
-    returns)
+    returns-2)
