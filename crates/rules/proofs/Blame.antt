@@ -116,7 +116,7 @@ module _ (N : ℕ) (σ : Side) (r : ℕ) (t : Tableau) (r-var : r < N) (D-pos : 
 -- ---- the step that ends so
 
 pub record Blamed {X : Type 0} (𝓥 : Values X) (P : Problem X) (s : State X) (ls us : List ℤ) : Type 0 where
-  pub out : Leaving
+  pub out : Leaving X
   pub leaves : leaving 𝓥 P s ≡ some out
   pub none-enters : entering 𝓥 P s out ≡ none
   pub blame : Blame (vars P) (out .side) (out .variable) (s .tableau) ls us
@@ -126,13 +126,13 @@ pub cannot-blames : {X : Type 0} (𝓥 : Values X) (P : Problem X) (s : State X)
 unfolding evidence
 cannot-blames {X} 𝓥 P s ls us S e = go (step-cannot 𝓥 P s ls us .0 e)
   where
-    lows : Leaving → List ℤ
+    lows : Leaving X → List ℤ
     lows r = table (vars P) (λ v. positive (negℤ (pull (r .side) (relation (s .tableau) (r .variable) v))))
 
-    ups : Leaving → List ℤ
+    ups : Leaving X → List ℤ
     ups r = table (vars P) (λ v. positive (pull (r .side) (relation (s .tableau) (r .variable) v)))
 
-    go : (r : Leaving) × (leaving 𝓥 P s ≡ some r) × (entering 𝓥 P s r ≡ none)
+    go : (r : Leaving X) × (leaving 𝓥 P s ≡ some r) × (entering 𝓥 P s r ≡ none)
         × (evidence {X = X} (vars P) (r .side) (relation (s .tableau) (r .variable)) ≡ cannot ls us) →
         Blamed 𝓥 P s ls us
     go (r, q, n, z) =

@@ -74,7 +74,7 @@ module _ {X : Type 0} (𝓥 : Values X) where
   limit-value P s t v (too-high e h) = inr (inr (rw e refl))
 
   -- as many are seated after a move
-  pub seated-moved : (P : Problem X) (t : State X) → Rowed 𝓥 P t → (r : Leaving) (w : ℕ) → Left 𝓥 P t r →
+  pub seated-moved : (P : Problem X) (t : State X) → Rowed 𝓥 P t → (r : Leaving X) (w : ℕ) → Left 𝓥 P t r →
       Entered 𝓥 P t r w →
       howManySeated (moved 𝓥 P t r w .seats) ≡ howManySeated (t .seats)
   unfolding moved
@@ -86,7 +86,7 @@ module _ {X : Type 0} (𝓥 : Values X) where
       q-not-w : r .variable ≢ w
       q-not-w e = Option·none-ne-some (E .value) (sym (L .was-basic) ∙ (rw (← e) at (E .was-seated)))
 
-  module _ (P : Problem X) (s t : State X) (S : Sound 𝓥 P t) (A : Among P s t) (r : Leaving) (w : ℕ) (L : Left 𝓥 P t r)
+  module _ (P : Problem X) (s t : State X) (S : Sound 𝓥 P t) (A : Among P s t) (r : Leaving X) (w : ℕ) (L : Left 𝓥 P t r)
       (E : Entered 𝓥 P t r w) where
     W : Swap (seat t) (seat (moved 𝓥 P t r w)) (r .variable) w (limitAt 𝓥 P r)
     W = swap 𝓥 P t r w (S .rowed .seats-many) L E

@@ -36,7 +36,7 @@ module _ {X : Type 0} (𝓥 : Values X) where
     pub no-rise : pos 0 <ℤ a → (u : X) × (P .upper w ≡ some u) × Le 𝓥 u x
     pub no-fall : a <ℤ pos 0 → (l : X) × (P .lower w ≡ some l) × Le 𝓥 x l
 
-  pub record Entered (P : Problem X) (s : State X) (r : Leaving) (w : ℕ) : Type 0 where
+  pub record Entered (P : Problem X) (s : State X) (r : Leaving X) (w : ℕ) : Type 0 where
     pub variable : w < vars P
     pub value : X
     pub was-seated : seat s w ≡ some value
@@ -89,7 +89,7 @@ module _ {X : Type 0} (𝓥 : Values X) where
   seated-suits P w a none e = let z : _≡_ {A = ℕ} 0 1 = cc in zero-one z
   seated-suits P w a (some x) e = (x, refl, suits-yes P w a x e)
 
-  pub entered : (P : Problem X) (s : State X) (r : Leaving) (w : ℕ) → entering 𝓥 P s r ≡ some w → Entered P s r w
+  pub entered : (P : Problem X) (s : State X) (r : Leaving X) (w : ℕ) → entering 𝓥 P s r ≡ some w → Entered P s r w
   unfolding entering
   entered P s r w e =
       let f = lowest-passes (vars P) (λ u. suits 𝓥 (a u) (seat s u) (P .lower u) (P .upper u)) w .0 e in
@@ -107,7 +107,7 @@ module _ {X : Type 0} (𝓥 : Values X) where
 
   -- ---- the swap
 
-  pub swap : (P : Problem X) (s : State X) (r : Leaving) (w : ℕ) → length (s .seats) ≡ vars P → Left 𝓥 P s r →
+  pub swap : (P : Problem X) (s : State X) (r : Leaving X) (w : ℕ) → length (s .seats) ≡ vars P → Left 𝓥 P s r →
       Entered P s r w →
       Swap (seat s) (seat (moved 𝓥 P s r w)) (r .variable) w (limitAt 𝓥 P r)
   unfolding moved
@@ -127,7 +127,7 @@ module _ {X : Type 0} (𝓥 : Values X) where
       apart : w ≢ r .variable
       apart z = Option·none-ne-some (e .value) (sym (l .was-basic) ∙ (rw z at (e .was-seated)))
 
-  pub none-enters : (P : Problem X) (s : State X) (r : Leaving) → entering 𝓥 P s r ≡ none → (u : ℕ) (x : X) →
+  pub none-enters : (P : Problem X) (s : State X) (r : Leaving X) → entering 𝓥 P s r ≡ none → (u : ℕ) (x : X) →
       u < vars P → seat s u ≡ some x →
       Stuck P u (pull (r .side) (entry (s .tableau) (r .variable) u)) x
   unfolding entering

@@ -54,9 +54,9 @@ module _ {X : Type 0} (𝓥 : Values X) where
             (up law (S .rowed .positive) (S .uppers v x u h q k))
 
     module _ (d : ℤ) (x : ℕ → X) (M : Meets 𝓥 P d x) where
-      bar : (σ : Side) (p : ℕ) → Left 𝓥 P s (leaves p σ) → entering 𝓥 P s (leaves p σ) ≡ none → Barred (sided σ 𝓥)
+      bar : (σ : Side) (p : ℕ) (f : X) → Left 𝓥 P s (leaves p σ f) → entering 𝓥 P s (leaves p σ f) ≡ none → Barred (sided σ 𝓥)
       unfolding scaled seated
-      bar σ p L e = record {
+      bar σ p f L e = record {
         N = vars P;
         lower = near σ P;
         upper = far σ P;
@@ -75,13 +75,13 @@ module _ {X : Type 0} (𝓥 : Values X) where
         seatT = seat s;
         basic-zero = λ w h q. S .rowed .basic-zero p w (L .variable) h q;
         row-of-x = row-holds 𝓥 law P s (S .rowed) x (M .rows) p (L .variable);
-        no-rise = λ w y h q. no-rise-by 𝓥 P σ w (entry (s .tableau) p w) y (none-enters 𝓥 P s (leaves p σ) e w y h q);
-        no-fall = λ w y h q. no-fall-by 𝓥 P σ w (entry (s .tableau) p w) y (none-enters 𝓥 P s (leaves p σ) e w y h q);
-        lp = limitAt 𝓥 P (leaves p σ);
+        no-rise = λ w y h q. no-rise-by 𝓥 P σ w (entry (s .tableau) p w) y (none-enters 𝓥 P s (leaves p σ f) e w y h q);
+        no-fall = λ w y h q. no-fall-by 𝓥 P σ w (entry (s .tableau) p w) y (none-enters 𝓥 P s (leaves p σ f) e w y h q);
+        lp = limitAt 𝓥 P (leaves p σ f);
         lp-is = outside-by 𝓥 P (L .outside) .0;
         p-broken = outside-by 𝓥 P (L .outside) .1;
       }
 
-    pub cannot-is-unmet : (r : Leaving) → leaving 𝓥 P s ≡ some r → entering 𝓥 P s r ≡ none → Unmet 𝓥 P
+    pub cannot-is-unmet : (r : Leaving X) → leaving 𝓥 P s ≡ some r → entering 𝓥 P s r ≡ none → Unmet 𝓥 P
     cannot-is-unmet r l e d x M = barred (sided (r .side) 𝓥) (sided-laws (r .side) law)
-        (bar d x M (r .side) (r .variable) (left 𝓥 P s r l) e)
+        (bar d x M (r .side) (r .variable) (r .shortfall) (left 𝓥 P s r l) e)

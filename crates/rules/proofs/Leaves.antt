@@ -12,7 +12,7 @@ use Rattle.whole.proofs.Bools.{zero-one}
 use Rattle.whole.proofs.Tells.{Tells, tells-present}
 use Rattle.whole.specs.Values.{Le, Lt, Values}
 use Rattle.rules.specs.Problem.{Problem, vars}
-use Rattle.rules.specs.Step.{Leaving, Side, State, above, below, broken, common, leaves, leaving, limitAt, over, scaled, seat, seated, under}
+use Rattle.rules.specs.Step.{Leaving, Side, State, above, below, broken, common, leaves, leaving, limitAt, over, scaled, seat, seated, shortfallOf, under}
 
 module _ {X : Type 0} (𝓥 : Values X) where
   -- ---- the leaving variable
@@ -52,28 +52,30 @@ module _ {X : Type 0} (𝓥 : Values X) where
         high = over-tells (common s) (scaled 𝓥 P s v) (P .upper v) .if-false q;
       }
 
-  pub record Left (P : Problem X) (s : State X) (r : Leaving) : Type 0 where
+  pub record Left (P : Problem X) (s : State X) (r : Leaving X) : Type 0 where
     pub variable : r .variable < vars P
+    pub exact : r .shortfall ≡ shortfallOf 𝓥 P s (r .variable) (r .side)
     pub was-basic : seat s (r .variable) ≡ none
     pub outside : Outside P s (r .variable) (r .side) (limitAt 𝓥 P r)
     pub inside : (u : ℕ) → u < r .variable → seat s u ≡ none → Inside P s u
 
   low-limit : (P : Problem X) (s : State X) (v : ℕ) →
       (l : X) × (P .lower v ≡ some l) × (Lt 𝓥 (scaled 𝓥 P s v) (𝓥 .scale (common s) l)) →
-      Outside P s v below (limitAt 𝓥 P (leaves v below))
+      Outside P s v below (limitAt 𝓥 P (leaves v below (shortfallOf 𝓥 P s v below)))
   unfolding limitAt seated
   low-limit P s v (l, e, h) = rw e (too-low e h)
 
   high-limit : (P : Problem X) (s : State X) (v : ℕ) →
       (u : X) × (P .upper v ≡ some u) × (Lt 𝓥 (𝓥 .scale (common s) u) (scaled 𝓥 P s v)) →
-      Outside P s v above (limitAt 𝓥 P (leaves v above))
+      Outside P s v above (limitAt 𝓥 P (leaves v above (shortfallOf 𝓥 P s v above)))
   unfolding limitAt seated
   high-limit P s v (u, e, h) = rw e (too-high e h)
 
-  Blames : Problem X → State X → ℕ → Option X → Leaving → Type 0
-  Blames P s v o r = (o ≡ none) × (r .variable ≡ v) × Outside P s (r .variable) (r .side) (limitAt 𝓥 P r)
+  Blames : Problem X → State X → ℕ → Option X → Leaving X → Type 0
+  Blames P s v o r = (o ≡ none) × (r .variable ≡ v) × (r .shortfall ≡ shortfallOf 𝓥 P s (r .variable) (r .side))
+      × Outside P s (r .variable) (r .side) (limitAt 𝓥 P r)
 
-  broken-some : (P : Problem X) (s : State X) (v : ℕ) (o : Option X) (r : Leaving) → broken 𝓥 P s v o ≡ some r →
+  broken-some : (P : Problem X) (s : State X) (v : ℕ) (o : Option X) (r : Leaving X) → broken 𝓥 P s v o ≡ some r →
       Blames P s v o r
   unfolding broken Blames
   broken-some P s v (some x) r e = let z : _≡_ {A = ℕ} 0 1 = cc in zero-one z
@@ -82,21 +84,23 @@ module _ {X : Type 0} (𝓥 : Values X) where
     where
       go : (a : Bool) → under 𝓥 (common s) (scaled 𝓥 P s v) (P .lower v) ≡ a → (b : Bool) →
           over 𝓥 (common s) (scaled 𝓥 P s v) (P .upper v) ≡ b → Blames P s v none r
-      go true p b q = let z : _≡_ {A = Leaving} (leaves v below) r = cc (rw (p, broken) at e) in
+      go true p b q = let z : _≡_ {A = Leaving X} (leaves v below (shortfallOf 𝓥 P s v below)) r = cc (rw (p, broken) at e) in
           subst (Blames P s v none) z (
+            refl,
             refl,
             refl,
             low-limit P s v (under-tells (common s) (scaled 𝓥 P s v) (P .lower v) .if-true p),
           )
-      go false p true q = let z : _≡_ {A = Leaving} (leaves v above) r = cc (rw q at (rw (p, broken) at e)) in
+      go false p true q = let z : _≡_ {A = Leaving X} (leaves v above (shortfallOf 𝓥 P s v above)) r = cc (rw q at (rw (p, broken) at e)) in
           subst (Blames P s v none) z (
+            refl,
             refl,
             refl,
             high-limit P s v (over-tells (common s) (scaled 𝓥 P s v) (P .upper v) .if-true q),
           )
       go false p false q = let z : _≡_ {A = ℕ} 0 1 = cc (rw q at (rw (p, broken) at e)) in zero-one z
 
-  pub left : (P : Problem X) (s : State X) (r : Leaving) → leaving 𝓥 P s ≡ some r → Left P s r
+  pub left : (P : Problem X) (s : State X) (r : Leaving X) → leaving 𝓥 P s ≡ some r → Left P s r
   unfolding leaving Blames
   left P s r e =
       let f = lowest-some (vars P) (λ v. broken 𝓥 P s v (seat s v)) r e in
@@ -105,7 +109,8 @@ module _ {X : Type 0} (𝓥 : Values X) where
       record {
         variable = omega arith;
         was-basic = rw w (b .0);
-        outside = b .2;
+        exact = b .2;
+        outside = b .3;
         inside = λ u h n. broken-none P s u (rw n at (f .first u (omega arith)));
       }
 

@@ -19,7 +19,7 @@ use Rattle.rules.specs.Run.{Runs, after, next}
 use Rattle.rules.specs.Step.{Leaving, Outcome, Side, State, can, cannot, goes, limitAt, moved, range, seat, step}
 
 module _ {X : Type 0} (𝓥 : Values X) where
-  module _ (Law : Laws 𝓥) (P : Problem X) (s : State X) (S : Sound 𝓥 P s) (r : Leaving) (w : ℕ) (L : Left 𝓥 P s r)
+  module _ (Law : Laws 𝓥) (P : Problem X) (s : State X) (S : Sound 𝓥 P s) (r : Leaving X) (w : ℕ) (L : Left 𝓥 P s r)
       (E : Entered 𝓥 P s r w)
       (apart : Apart 𝓥 P) where
     abbrev N : ℕ

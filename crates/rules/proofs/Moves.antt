@@ -18,18 +18,18 @@ use Rattle.rules.specs.Tableau.{relation, small}
 module _ {X : Type 0} (𝓥 : Values X) where
   pub data Stepped (P : Problem X) (s : State X) : Type 0 where
     is-can : leaving 𝓥 P s ≡ none → step 𝓥 P s ≡ can → Stepped P s
-    is-cannot : (r : Leaving) → leaving 𝓥 P s ≡ some r → entering 𝓥 P s r ≡ none →
+    is-cannot : (r : Leaving X) → leaving 𝓥 P s ≡ some r → entering 𝓥 P s r ≡ none →
         step 𝓥 P s ≡ evidence (vars P) (r .side) (relation (s .tableau) (r .variable)) → Stepped P s
-    is-range : (r : Leaving) (w : ℕ) → leaving 𝓥 P s ≡ some r → entering 𝓥 P s r ≡ some w →
+    is-range : (r : Leaving X) (w : ℕ) → leaving 𝓥 P s ≡ some r → entering 𝓥 P s r ≡ some w →
         small (vars P) (moved 𝓥 P s r w .tableau) ≡ false → step 𝓥 P s ≡ range → Stepped P s
-    is-goes : (r : Leaving) (w : ℕ) → leaving 𝓥 P s ≡ some r → entering 𝓥 P s r ≡ some w →
+    is-goes : (r : Leaving X) (w : ℕ) → leaving 𝓥 P s ≡ some r → entering 𝓥 P s r ≡ some w →
         small (vars P) (moved 𝓥 P s r w .tableau) ≡ true → step 𝓥 P s ≡ goes (moved 𝓥 P s r w) → Stepped P s
 
   pub stepped : (P : Problem X) (s : State X) → Stepped P s
   unfolding step admit
   stepped P s = leave-by (leaving 𝓥 P s) refl
     where
-      leave-by : (o : Option Leaving) → leaving 𝓥 P s ≡ o → Stepped P s
+      leave-by : (o : Option (Leaving X)) → leaving 𝓥 P s ≡ o → Stepped P s
       leave-by none q = is-can q (rw (q, step))
       leave-by (some r) q = enter-by (entering 𝓥 P s r) refl
         where
@@ -54,13 +54,13 @@ module _ {X : Type 0} (𝓥 : Values X) where
       go e (is-goes r w q y f z) = let c : _≡_ {A = ℕ} 0 1 = cc in zero-one c
 
   pub step-cannot : (P : Problem X) (s : State X) (ls us : List ℤ) → (step 𝓥 P s ≡ cannot ls us)
-      ↔ ((r : Leaving) × (leaving 𝓥 P s ≡ some r) × (entering 𝓥 P s r ≡ none)
+      ↔ ((r : Leaving X) × (leaving 𝓥 P s ≡ some r) × (entering 𝓥 P s r ≡ none)
       × (evidence {X = X} (vars P) (r .side) (relation (s .tableau) (r .variable)) ≡ cannot ls us))
   unfolding step evidence
   step-cannot P s ls us = (λ e. go e (stepped P s), λ (r, q, y, z). rw (q, step) (rw y z))
     where
       go : step 𝓥 P s ≡ cannot ls us → Stepped P s →
-          (r : Leaving) × (leaving 𝓥 P s ≡ some r) × (entering 𝓥 P s r ≡ none)
+          (r : Leaving X) × (leaving 𝓥 P s ≡ some r) × (entering 𝓥 P s r ≡ none)
           × (evidence {X = X} (vars P) (r .side) (relation (s .tableau) (r .variable)) ≡ cannot ls us)
       go e (is-can q z) = let c : _≡_ {A = ℕ} 0 1 = cc in zero-one c
       go e (is-cannot r q y z) = (r, q, y, sym z ∙ e)
@@ -68,13 +68,13 @@ module _ {X : Type 0} (𝓥 : Values X) where
       go e (is-goes r w q y f z) = let c : _≡_ {A = ℕ} 0 1 = cc in zero-one c
 
   pub step-range : (P : Problem X) (s : State X) → (step 𝓥 P s ≡ range)
-      ↔ ((r : Leaving) × (w : ℕ) × (leaving 𝓥 P s ≡ some r) × (entering 𝓥 P s r ≡ some w)
+      ↔ ((r : Leaving X) × (w : ℕ) × (leaving 𝓥 P s ≡ some r) × (entering 𝓥 P s r ≡ some w)
       × (small (vars P) (moved 𝓥 P s r w .tableau) ≡ false))
   unfolding step evidence admit
   step-range P s = (λ e. go e (stepped P s), λ (r, w, q, y, f). rw (q, step) (rw y (rw (f, admit))))
     where
       go : step 𝓥 P s ≡ range → Stepped P s →
-          (r : Leaving) × (w : ℕ) × (leaving 𝓥 P s ≡ some r) × (entering 𝓥 P s r ≡ some w)
+          (r : Leaving X) × (w : ℕ) × (leaving 𝓥 P s ≡ some r) × (entering 𝓥 P s r ≡ some w)
           × (small (vars P) (moved 𝓥 P s r w .tableau) ≡ false)
       go e (is-can q z) = let c : _≡_ {A = ℕ} 0 1 = cc in zero-one c
       go e (is-cannot r q y z) = let c : _≡_ {A = ℕ} 0 1 = cc in zero-one c
@@ -84,7 +84,7 @@ module _ {X : Type 0} (𝓥 : Values X) where
   -- ---- a step that moves
 
   pub record Goes (P : Problem X) (s t : State X) : Type 0 where
-    pub out : Leaving
+    pub out : Leaving X
     pub into : ℕ
     pub leaves : leaving 𝓥 P s ≡ some out
     pub enters : entering 𝓥 P s out ≡ some into

@@ -112,12 +112,12 @@ module _ {X : Type 0} (𝓥 : Values X) (P : Problem X) where
   -- ---- the next tableau
 
   -- t has the lowest-form tableau of the basic set after w has entered for r's variable
-  pub record Next (s : State X) (r : Leaving) (w : ℕ) (t : State X) : Type 0 where
+  pub record Next (s : State X) (r : Leaving X) (w : ℕ) (t : State X) : Type 0 where
     pub obeyed : Obeyed t
     pub lowest-form : divisorSize (vars P) (t .tableau) ≡ 1
     pub basis : (v : ℕ) → v < vars P → (seat t v ≡ none) ↔ ((v ≡ w) ⊎ ((v ≢ r .variable) × (seat s v ≡ none)))
 
-  module _ (s : State X) (S : Rowed 𝓥 P s) (r : Leaving) (w : ℕ) (L : Left 𝓥 P s r) (E : Entered 𝓥 P s r w) where
+  module _ (s : State X) (S : Rowed 𝓥 P s) (r : Leaving X) (w : ℕ) (L : Left 𝓥 P s r) (E : Entered 𝓥 P s r w) where
     W : Swap (seat s) (seat (moved 𝓥 P s r w)) (r .variable) w (limitAt 𝓥 P r)
     W = swap 𝓥 P s r w (S .seats-many) L E
 

@@ -48,7 +48,7 @@ pivot-nonzero 𝓥 P above w (negsuc k) x (may-go-down h f) = let q : suc k < 0 
     let z : ⊥ = omega arith in absurd z
 
 module _ {X : Type 0} (𝓥 : Values X) where
-  module _ (P : Problem X) (s : State X) (S : Rowed 𝓥 P s) (r : Leaving) (w : ℕ) (L : Left 𝓥 P s r)
+  module _ (P : Problem X) (s : State X) (S : Rowed 𝓥 P s) (r : Leaving X) (w : ℕ) (L : Left 𝓥 P s r)
       (E : Entered 𝓥 P s r w) where
     abbrev N : ℕ
     N = vars P

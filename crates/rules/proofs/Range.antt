@@ -37,7 +37,7 @@ use Rattle.rules.specs.Tableau.{Tableau, small}
 
 module _ {X : Type 0} (𝓥 : Values X) (P : Problem X) where
   pub record TooLarge (s : State X) : Type 0 where
-    pub out : Leaving
+    pub out : Leaving X
     pub into : ℕ
     pub leaves : leaving 𝓥 P s ≡ some out
     pub enters : entering 𝓥 P s out ≡ some into
@@ -64,7 +64,7 @@ module _ {X : Type 0} (𝓥 : Values X) (P : Problem X) where
     ),
   )
     where
-      there : (r : Leaving) × (w : ℕ) × (leaving 𝓥 P s ≡ some r) × (entering 𝓥 P s r ≡ some w)
+      there : (r : Leaving X) × (w : ℕ) × (leaving 𝓥 P s ≡ some r) × (entering 𝓥 P s r ≡ some w)
           × (small (vars P) (moved 𝓥 P s r w .tableau) ≡ false) → TooLarge s
       there (r, w, q, y, f) = record {
         out = r;

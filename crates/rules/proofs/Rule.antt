@@ -10,21 +10,21 @@
 use mathlib.Core.Bool.{false}
 use mathlib.Core.Logic.{_↔_}
 use mathlib.Core.Option.{Option, none, some}
-use mathlib.Core.Path.{refl, _≡_}
+use mathlib.Core.Path.{ap, refl, sym, _∙_, _≡_}
 use Prim.Native.Nat.{ℕ, _<_}
-use lib.IntN.{pos, ℤ}
+use lib.IntN.{negsuc, pos, ℤ}
 use lib.Signed.{_<ℤ_}
 use Rattle.whole.proofs.Below.{lowest-empty, lowest-is, lowest-passes, none-passes}
 use Rattle.whole.proofs.Bools.{zero-one}
 use Rattle.whole.proofs.Tells.{tells-false, tells-true}
 use Rattle.whole.proofs.Values.{Laws, le-le, up, weaken}
-use Rattle.whole.specs.Values.{Le, Values}
+use Rattle.whole.specs.Values.{Le, Lt, Values}
 use Rattle.rules.proofs.Enters.{Entered, Stuck, entered, none-enters, suits-tells}
 use Rattle.rules.proofs.Leaves.{Inside, Left, Outside, left, none-leaves, over-tells, too-high, too-low, under-tells}
 use Rattle.rules.proofs.Sides.{near, outside-by}
 use Rattle.rules.proofs.Sound.{Apart}
 use Rattle.rules.specs.Problem.{Problem, vars}
-use Rattle.rules.specs.Step.{Leaving, Side, State, above, below, broken, common, entering, leaves, leaving, limitAt, pull, scaled, seat, suits}
+use Rattle.rules.specs.Step.{Leaving, Side, State, above, below, broken, common, entering, gap, leaves, leaving, limitAt, pull, scaled, seat, seated, shortfallBy, shortfallOf, suits}
 use Rattle.rules.specs.Tableau.{entry}
 
 module _ {X : Type 0} (𝓥 : Values X) where
@@ -56,7 +56,7 @@ module _ {X : Type 0} (𝓥 : Values X) where
 
     -- a variable that is outside on a side
     broken-side : (v : ℕ) (σ : Side) (x : X) → Outside 𝓥 P s v σ x → (σ ≡ above → NotUnder P s v) →
-        broken 𝓥 P s v none ≡ some (leaves v σ)
+        broken 𝓥 P s v none ≡ some (leaves v σ (shortfallOf 𝓥 P s v σ))
     unfolding broken
     broken-side v below x (too-low e h) n =
         let p = tells-true (under-tells 𝓥 (common s) (scaled 𝓥 P s v) (P .lower v)) (x, e, h) in rw (p, broken) refl
@@ -65,11 +65,12 @@ module _ {X : Type 0} (𝓥 : Values X) where
         let q = tells-true (over-tells 𝓥 (common s) (scaled 𝓥 P s v) (P .upper v)) (x, e, h) in
         rw (p, broken) (rw q refl)
 
-    pub leaving-of : (r : Leaving) → Left 𝓥 P s r → (r .side ≡ above → NotUnder P s (r .variable)) →
+    pub leaving-of : (r : Leaving X) → Left 𝓥 P s r → (r .side ≡ above → NotUnder P s (r .variable)) →
         leaving 𝓥 P s ≡ some r
     unfolding leaving
     leaving-of r L n = lowest-is (vars P) (r .variable) _ r (L .variable)
-        (rw (L .was-basic) (broken-side (r .variable) (r .side) (limitAt 𝓥 P r) (L .outside) n))
+        (rw (L .was-basic) (broken-side (r .variable) (r .side) (limitAt 𝓥 P r) (L .outside) n
+        ∙ ap (λ x. some (leaves (r .variable) (r .side) x)) (sym (L .exact))))
         (λ u h. not-broken u (L .inside u h))
 
     pub none-leaving-exactly : (leaving 𝓥 P s ≡ none) ↔ ((v : ℕ) → v < vars P → seat s v ≡ none → Inside 𝓥 P s v)
@@ -77,7 +78,7 @@ module _ {X : Type 0} (𝓥 : Values X) where
     none-leaving-exactly = (none-leaves 𝓥 P s, λ I. lowest-empty (vars P) _ (λ v h. not-broken v (I v h)))
 
   -- where no limits cross, nothing is both above its upper limit and below its lower one
-  pub leaving-exactly : Laws 𝓥 → (P : Problem X) (s : State X) → Apart 𝓥 P → pos 0 <ℤ common s → (r : Leaving) →
+  pub leaving-exactly : Laws 𝓥 → (P : Problem X) (s : State X) → Apart 𝓥 P → pos 0 <ℤ common s → (r : Leaving X) →
       (leaving 𝓥 P s ≡ some r) ↔ Left 𝓥 P s r
   leaving-exactly law P s A d r = (left 𝓥 P s r, λ L. leaving-of P s r L (λ e. above-only (L .variable) (L .outside) e))
     where
@@ -88,7 +89,7 @@ module _ {X : Type 0} (𝓥 : Values X) where
 
   -- ---- who enters
 
-  module _ (P : Problem X) (s : State X) (r : Leaving) where
+  module _ (P : Problem X) (s : State X) (r : Leaving X) where
     abbrev turned-entry : ℕ → ℤ
     turned-entry u = pull (r .side) (entry (s .tableau) (r .variable) u)
 
@@ -121,6 +122,24 @@ module _ {X : Type 0} (𝓥 : Values X) where
     )
 
   -- the leaving variable's value afterwards is the limit that it violates
-  pub limit-exactly : (P : Problem X) (s : State X) (r : Leaving) → Left 𝓥 P s r →
+  pub limit-exactly : (P : Problem X) (s : State X) (r : Leaving X) → Left 𝓥 P s r →
       near (r .side) P (r .variable) ≡ some (limitAt 𝓥 P r)
   limit-exactly P s r L = outside-by 𝓥 P (L .outside) .0
+
+-- ---- by how much: D times the limit and D times the value are that far apart, and it is above 0
+
+module _ {X : Type 0} (𝓥 : Values X) (law : Laws 𝓥) (P : Problem X) (s : State X) where
+  cancel : (x : X) → 𝓥 .plus x (𝓥 .scale (negsuc 0) x) ≡ 𝓥 .nil
+  cancel x = ap (λ z. 𝓥 .plus z (𝓥 .scale (negsuc 0) x)) (sym (law .one-scale x)) ∙ sym (law .plus-scale (pos 1) (negsuc 0) x)
+      ∙ law .zero-scale x
+
+  gap-more : (x y : X) → 𝓥 .less (𝓥 .nil) (gap 𝓥 x y) ≡ 𝓥 .less y x
+  gap-more x y = ap (λ z. 𝓥 .less z (gap 𝓥 x y)) (sym (cancel y)) ∙ law .less-plus y x (𝓥 .scale (negsuc 0) y)
+
+  positive-by : {v : ℕ} {σ : Side} {x : X} → Outside 𝓥 P s v σ x → Lt 𝓥 (𝓥 .nil) (shortfallOf 𝓥 P s v σ)
+  unfolding shortfallBy seated
+  positive-by {v} (too-low {l} e h) = gap-more (𝓥 .scale (common s) (seated 𝓥 (P .lower v))) (scaled 𝓥 P s v) ∙ (rw e h)
+  positive-by {v} (too-high {u} e h) = gap-more (scaled 𝓥 P s v) (𝓥 .scale (common s) (seated 𝓥 (P .upper v))) ∙ (rw e h)
+
+  pub shortfall-positive : (r : Leaving X) → Left 𝓥 P s r → Lt 𝓥 (𝓥 .nil) (r .shortfall)
+  shortfall-positive r L = rw (L .exact) (positive-by (L .outside))

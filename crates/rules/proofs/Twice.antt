@@ -22,7 +22,7 @@ use Rattle.rules.specs.Step.{Leaving, Side, State, above, below, common,
 use Rattle.rules.specs.Tableau.{entry}
 
 module _ {X : Type 0} (𝓥 : Values X) where
-  module _ (L : Laws 𝓥) (P : Problem X) (A : State X) (SA : Sound 𝓥 P A) (r : Leaving) (LA : Left 𝓥 P A r) where
+  module _ (L : Laws 𝓥) (P : Problem X) (A : State X) (SA : Sound 𝓥 P A) (r : Leaving X) (LA : Left 𝓥 P A r) where
     low-fine : (v : ℕ) (l : X) → v < r .variable → P .lower v ≡ some l → Le 𝓥 (𝓥 .scale (common A) l) (scaled 𝓥 P A v)
     low-fine v l h e = go (seat A v) refl
       where
@@ -47,10 +47,10 @@ module _ {X : Type 0} (𝓥 : Values X) where
 
     module _ (B : State X) (SB : Sound 𝓥 P B) (value : seat B (r .variable) ≡ some (limitAt 𝓥 P r))
         (above-same : (w : ℕ) (x : X) → r .variable < w → seat B w ≡ some x → seat A w ≡ some x) where
-      facts : (σ : Side) (p : ℕ) → p < r .variable → Left 𝓥 P B (leaves p σ) →
-          Entered 𝓥 P B (leaves p σ) (r .variable) → Facts (sided σ 𝓥)
+      facts : (σ : Side) (p : ℕ) (x : X) → p < r .variable → Left 𝓥 P B (leaves p σ x) →
+          Entered 𝓥 P B (leaves p σ x) (r .variable) → Facts (sided σ 𝓥)
       unfolding scaled seated
-      facts σ p h LB EB = record {
+      facts σ p x h LB EB = record {
         N = vars P;
         lower = near σ P;
         upper = far σ P;
@@ -73,7 +73,7 @@ module _ {X : Type 0} (𝓥 : Values X) where
         row-of-S = row-holds 𝓥 L P B (SB .rowed) (scaled 𝓥 P A) (values-solve 𝓥 L P A (SA .rowed)) p (LB .variable);
         no-rise = λ w x k e. no-rise-by 𝓥 P σ w (entry (B .tableau) p w) x (EB .stuck w x k e);
         no-fall = λ w x k e. no-fall-by 𝓥 P σ w (entry (B .tableau) p w) x (EB .stuck w x k e);
-        lp = limitAt 𝓥 P (leaves p σ);
+        lp = limitAt 𝓥 P (leaves p σ x);
         lp-is = outside-by 𝓥 P (LB .outside) .0;
         p-broken = outside-by 𝓥 P (LB .outside) .1;
         xr = limitAt 𝓥 P r;
@@ -88,14 +88,14 @@ module _ {X : Type 0} (𝓥 : Values X) where
           same-value x e = cc
 
       -- the steps at A and at B do not clash
-      pub apart : (q : Leaving) → q .variable < r .variable → Left 𝓥 P B q → Entered 𝓥 P B q (r .variable) → ⊥
-      apart q h LB EB = no-clash (sided (q .side) 𝓥) (sided-laws (q .side) L) (facts (q .side) (q .variable) h LB EB)
+      pub apart : (q : Leaving X) → q .variable < r .variable → Left 𝓥 P B q → Entered 𝓥 P B q (r .variable) → ⊥
+      apart q h LB EB = no-clash (sided (q .side) 𝓥) (sided-laws (q .side) L) (facts (q .side) (q .variable) (q .shortfall) h LB EB)
 
   -- ---- no arrangement comes twice
 
   module _ (L : Laws 𝓥) (P : Problem X) (s : State X) (sound : (k : ℕ) → Sound 𝓥 P (after 𝓥 P s k)) where
-    leaves-at : ℕ → Leaving
-    leaves-at k = Option·getD (leaving 𝓥 P (after 𝓥 P s k)) (leaves 0 below)
+    leaves-at : ℕ → Leaving X
+    leaves-at k = Option·getD (leaving 𝓥 P (after 𝓥 P s k)) (leaves 0 below (𝓥 .nil))
 
     enters-at : ℕ → ℕ
     enters-at k = Option·getD (entering 𝓥 P (after 𝓥 P s k) (leaves-at k)) 0
@@ -106,7 +106,7 @@ module _ {X : Type 0} (𝓥 : Values X) where
       pub swaps : Swap (seat (after 𝓥 P s k)) (seat (after 𝓥 P s (suc k))) (leaves-at k .variable) (enters-at k)
           (limitAt 𝓥 P (leaves-at k))
 
-    make : (k : ℕ) (r : Leaving) (w : ℕ) → leaves-at k ≡ r → enters-at k ≡ w → Left 𝓥 P (after 𝓥 P s k) r →
+    make : (k : ℕ) (r : Leaving X) (w : ℕ) → leaves-at k ≡ r → enters-at k ≡ w → Left 𝓥 P (after 𝓥 P s k) r →
         Entered 𝓥 P (after 𝓥 P s k) r w →
         Swap (seat (after 𝓥 P s k)) (seat (after 𝓥 P s (suc k))) (r .variable) w (limitAt 𝓥 P r) → Step k
     make k r w e f L E W = record { out = rw e L; into = rw (e, f) E; swaps = rw (e, f) W }
@@ -117,7 +117,7 @@ module _ {X : Type 0} (𝓥 : Values X) where
       where
         from-goes : Goes 𝓥 P (after 𝓥 P s k) (after 𝓥 P s (suc k)) → Step k
         from-goes g =
-            let e : leaves-at k ≡ g .out = ap (λ o. Option·getD o (leaves 0 below)) (g .leaves) in
+            let e : leaves-at k ≡ g .out = ap (λ o. Option·getD o (leaves 0 below (𝓥 .nil))) (g .leaves) in
             let f : enters-at k ≡ g .into = ap (λ r. Option·getD (entering 𝓥 P (after 𝓥 P s k) r) 0) e
             ∙ ap (λ o. Option·getD o 0) (g .enters) in
             let L = left 𝓥 P (after 𝓥 P s k) (g .out) (g .leaves) in

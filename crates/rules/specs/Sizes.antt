@@ -28,6 +28,10 @@ largestNumber = 2147483647
 abbrev pub largestNumerator : ℕ
 largestNumerator = 515396075280000
 
+-- of a shortfall: largestNumerator and largestNumber times largestLimit
+abbrev pub largestShortfall : ℕ
+largestShortfall = 579820584690000
+
 -- ---- time rows
 
 -- the least is 1

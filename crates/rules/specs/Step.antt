@@ -28,13 +28,14 @@ common s = s .tableau .common
 pub data Side : Type 0 where
   below above : Side
 
--- the leaving variable, and the side on which it is outside
-pub record Leaving : Type 0 where
+-- the leaving variable, the side on which it is outside, and by how much, over D
+pub record Leaving (X : Type 0) : Type 0 where
   pub variable : ℕ
   pub side : Side
+  pub shortfall : X
 
-abbrev pub leaves : ℕ → Side → Leaving
-leaves v σ = record { variable = v; side = σ }
+abbrev pub leaves : {X : Type 0} → ℕ → Side → X → Leaving X
+leaves v σ x = record { variable = v; side = σ; shortfall = x }
 
 -- the entry, with its sign swapped where the leaving variable must fall
 unfoldable pub pull : Side → ℤ → ℤ
@@ -68,7 +69,7 @@ unfoldable pub admit : {X : Type 0} → ℕ → State X → Outcome X
 admit N s = elim (small N (s .tableau)) [ true ↦ goes s | false ↦ range ]
 
 module _ {X : Type 0} (𝓥 : Values X) where
-  open Values 𝓥 using (nil, scale, less)
+  open Values 𝓥 using (nil, plus, scale, less)
 
   -- a nonbasic variable's value; for a basic one 0 stands, which counts for nothing, as its entries are 0
   unfoldable pub seated : Option X → X
@@ -108,16 +109,33 @@ module _ {X : Type 0} (𝓥 : Values X) where
   over d x none = false
   over d x (some u) = less (scale d u) x
 
-  unfoldable pub broken : Problem X → State X → ℕ → Option X → Option Leaving
+  -- x less y
+  abbrev pub gap : X → X → X
+  gap x y = plus x (scale (negsuc 0) y)
+
+  -- how far D times the value is outside D times the limit on a side: below, the limit less the value; above, the value less
+  -- the limit
+  unfoldable pub shortfallBy : ℤ → X → Option X → Option X → Side → X
+  shortfallBy d x l u below = gap (scale d (seated l)) x
+  shortfallBy d x l u above = gap x (scale d (seated u))
+
+  -- .. of variable v
+  abbrev pub shortfallOf : Problem X → State X → ℕ → Side → X
+  shortfallOf P s v = shortfallBy (common s) (scaled P s v) (P .lower v) (P .upper v)
+
+  unfoldable pub broken : Problem X → State X → ℕ → Option X → Option (Leaving X)
   broken P s v (some x) = none
   broken P s v none =
       elim (under (common s) (scaled P s v) (P .lower v)) [
-        | true ↦ some (leaves v below)
+        | true ↦ some (leaves v below (shortfallOf P s v below))
         | false ↦
-            elim (over (common s) (scaled P s v) (P .upper v)) [ true ↦ some (leaves v above) | false ↦ none ]
+            elim (over (common s) (scaled P s v) (P .upper v)) [
+              | true ↦ some (leaves v above (shortfallOf P s v above))
+              | false ↦ none
+            ]
       ]
 
-  unfoldable pub leaving : Problem X → State X → Option Leaving
+  unfoldable pub leaving : Problem X → State X → Option (Leaving X)
   leaving P s = lowest (vars P) (λ v. broken P s v (seat s v))
 
   -- ---- the entering variable: the smallest-numbered nonbasic one that can move the right way
@@ -138,18 +156,18 @@ module _ {X : Type 0} (𝓥 : Values X) where
   suits (pos (suc k)) (some x) l u = mayRise x u
   suits (negsuc k) (some x) l u = mayFall x l
 
-  unfoldable pub entering : Problem X → State X → Leaving → Option ℕ
+  unfoldable pub entering : Problem X → State X → Leaving X → Option ℕ
   entering P s r = lowest (vars P) (λ w.
       cond (suits (pull (r .side) (entry (s .tableau) (r .variable) w)) (seat s w) (P .lower w) (P .upper w)) (some w) none)
 
   -- ---- one step
 
   -- the limit that the leaving variable violates
-  unfoldable pub limitAt : Problem X → Leaving → X
+  unfoldable pub limitAt : Problem X → Leaving X → X
   limitAt P r = elim (r .side) [ below ↦ seated (P .lower (r .variable)) | above ↦ seated (P .upper (r .variable)) ]
 
   -- the pivot; w becomes basic, and the leaving variable is nonbasic at the limit that it violated
-  unfoldable pub moved : Problem X → State X → Leaving → ℕ → State X
+  unfoldable pub moved : Problem X → State X → Leaving X → ℕ → State X
   moved P s r w = record {
     tableau = pivot (vars P) (s .tableau) (r .variable) w;
     seats = set (set (s .seats) w none) (r .variable) (some (limitAt P r));

@@ -5,4 +5,5 @@ pub mod Choices
 pub mod Rows
 pub mod Searches
 pub mod Seen
+pub mod Shortfalls
 pub mod Only

@@ -11,7 +11,7 @@ use Rattle.whole.specs.Numbers.{Within}
 use Rattle.whole.specs.Sums.{sum}
 use Rattle.whole.specs.Values.{whole}
 use Rattle.rules.specs.Sizes.{mostColumns, mostRows, largestLimit}
-use Rattle.rules.specs.Step.{Side, Leaving, leaves, pull, suits}
+use Rattle.rules.specs.Step.{Side, Leaving, leaves, shortfallBy, pull, suits}
 use Rattle.tableau.specs.declared.Limits.{Limits}
 use Rattle.tableau.specs.declared.Seat.{Seat}
 use Rattle.tableau.specs.declared.Tableau.{Tableau}
@@ -34,18 +34,26 @@ rowSum l x i n = partSum n l x i n
 
 -- ---- the leaving variable
 
--- the side on which variable v is outside, if it is basic
+-- D times the value of variable v, if it is basic
+abbrev pub scaledAt : Tableau → ℕ → ℤ
+scaledAt t v = rowSum (t .entries) (t .values) (rowOf t v) (t .columns)
+
+-- .. the side on which it is outside
 abbrev pub sideAt : Tableau → ℕ → Option Side
-sideAt t v = sideOf (t .common) (rowSum (t .entries) (t .values) (rowOf t v) (t .columns)) (lowerOf (t .limits) v) (upperOf (t .limits) v)
+sideAt t v = sideOf (t .common) (scaledAt t v) (lowerOf (t .limits) v) (upperOf (t .limits) v)
 
-abbrev pub tagged : ℕ → Option Side → Option Leaving
-tagged v none = none
-tagged v (some σ) = some (leaves v σ)
+-- .. and by how much, over D
+abbrev pub shortAt : Tableau → ℕ → Side → ℤ
+shortAt t v = shortfallBy whole (t .common) (scaledAt t v) (lowerOf (t .limits) v) (upperOf (t .limits) v)
 
-unfoldable pub brokenAt : Tableau → ℕ → Option Leaving
-brokenAt t v = cond (seatAt t v .basic) (tagged v (sideAt t v)) none
+abbrev pub tagged : ℕ → Option Side → (Side → ℤ) → Option (Leaving ℤ)
+tagged v none short = none
+tagged v (some σ) short = some (leaves v σ (short σ))
 
-unfoldable pub leavingAt : Tableau → Option Leaving
+unfoldable pub brokenAt : Tableau → ℕ → Option (Leaving ℤ)
+brokenAt t v = cond (seatAt t v .basic) (tagged v (sideAt t v) (shortAt t v)) none
+
+unfoldable pub leavingAt : Tableau → Option (Leaving ℤ)
 leavingAt t = lowest (t .rows + t .columns) (brokenAt t)
 
 -- ---- the entering variable
@@ -67,17 +75,22 @@ enteringAt t i σ = lowest (t .rows + t .columns) (enteringOf t i σ)
 
 -- ---- both
 
-abbrev pub blockedAt : Tableau → Leaving → Blocked
-blockedAt t r = record { row = seatAt t (r .variable) .row; rises = rising (r .side) }
+abbrev pub blockedAt : Tableau → Leaving ℤ → Blocked
+blockedAt t r = record { row = seatAt t (r .variable) .row; rises = rising (r .side); shortfall = r .shortfall }
 
-abbrev pub choiceAt : Tableau → Leaving → ℕ → Choice
-choiceAt t r w = record { row = seatAt t (r .variable) .row; column = seatAt t w .column; rises = rising (r .side) }
+abbrev pub choiceAt : Tableau → Leaving ℤ → ℕ → Choice
+choiceAt t r w = record {
+  row = seatAt t (r .variable) .row;
+  column = seatAt t w .column;
+  rises = rising (r .side);
+  shortfall = r .shortfall;
+}
 
-unfoldable pub moveBy : Tableau → Leaving → Option ℕ → Next
+unfoldable pub moveBy : Tableau → Leaving ℤ → Option ℕ → Next
 moveBy t r none = variants.Stuck (blockedAt t r)
 moveBy t r (some w) = variants.Pivot (choiceAt t r w)
 
-unfoldable pub nextBy : Tableau → Option Leaving → Next
+unfoldable pub nextBy : Tableau → Option (Leaving ℤ) → Next
 nextBy t none = variants.Within
 nextBy t (some r) = moveBy t r (enteringAt t (rowOf t (r .variable)) (r .side))
 

@@ -7,7 +7,7 @@ use lib.IntN.{ℤ, pos}
 use lib.ListN.{getD}
 use Rattle.whole.specs.Values.{whole}
 use Rattle.rules.specs.Limit.{present}
-use Rattle.rules.specs.Step.{Side, below, above, under, over, pull, suits}
+use Rattle.rules.specs.Step.{Side, below, above, under, over, shortfallBy, pull, suits}
 use Rattle.search.specs.declared.sides.Breach.{Breach}
 use Rattle.search.specs.declared.sides.LimitPair.{LimitPair}
 
@@ -29,9 +29,10 @@ abbrev pub sideBy : Bool → Side
 sideBy true = below
 sideBy false = above
 
-abbrev pub asBreach : Option Side → Breach
-asBreach none = record { violated = false; rises = false }
-asBreach (some σ) = record { violated = true; rises = rising σ }
+-- a side, with the shortfall on each side; 0 where there is none
+abbrev pub asBreach : Option Side → (Side → ℤ) → Breach
+asBreach none short = record { violated = false; rises = false; shortfall = pos 0 }
+asBreach (some σ) short = record { violated = true; rises = rising σ; shortfall = short σ }
 
 -- the two limits of a variable, which may be missing
 abbrev pub lowerIn : LimitPair → Option ℤ
@@ -44,8 +45,12 @@ abbrev pub pairAt : List Bool → List ℤ → List Bool → List ℤ → ℕ �
 pairAt lowers lower uppers upper v =
     record { lowers = getD lowers v false; lower = getD lower v (pos 0); uppers = getD uppers v false; upper = getD upper v (pos 0) }
 
+-- D, and D times a value, against two limits
+abbrev pub breachAt : ℤ → ℤ → Option ℤ → Option ℤ → Breach
+breachAt d x l u = asBreach (sideOf d x l u) (shortfallBy whole d x l u)
+
 unfoldable pub breachOf : ℤ → ℤ → LimitPair → Breach
-breachOf d x p = asBreach (sideOf d x (lowerIn p) (upperIn p))
+breachOf d x p = breachAt d x (lowerIn p) (upperIn p)
 
 unfoldable pub suitsOf : Bool → ℤ → ℤ → LimitPair → Bool
 suitsOf rises a x p = suits whole (pull (sideBy rises) a) (some x) (lowerIn p) (upperIn p)

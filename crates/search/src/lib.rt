@@ -17,17 +17,21 @@ use tableau::layout;
 
 pub mod sides;
 
-// The row and the column of a pivot, and whether the leaving variable must rise.
+// The row and the column of a pivot. The leaving variable is the one of the row: it must rise where it is below its lower limit,
+// and fall where it is above its upper one; its shortfall is how far D times its value is from D times that limit. At the
+// first step of case A of docs/RULES.md, whose D is 1, variable 2 must rise by 2: it is 0 and its lower limit is 2.
 pub struct Choice {
     pub row: RowPlace,
     pub column: ColumnPlace,
     pub rises: bool,
+    pub shortfall: i64,
 }
 
-// The row of a variable outside its limits that nothing can move.
+// The row of a variable outside its limits that nothing can move; side and shortfall as in a choice.
 pub struct Blocked {
     pub row: RowPlace,
     pub rises: bool,
+    pub shortfall: i64,
 }
 
 // What a search comes to: every variable is within its limits, one is outside and stuck, or a pivot moves it.
@@ -119,6 +123,7 @@ pub fn next_step<'a>(
             continue 'search;
         }
         let rises = outside.rises;
+        let shortfall = outside.shortfall;
         let mut w = 0usize;
         while w < end {
             let other = seats[w];
@@ -135,11 +140,20 @@ pub fn next_step<'a>(
                 w,
             );
             if can_move(entries, values, columns, row, column, rises, its) {
-                break 'search Next::Pivot(Choice { row, column, rises });
+                break 'search Next::Pivot(Choice {
+                    row,
+                    column,
+                    rises,
+                    shortfall,
+                });
             }
             w += 1;
         }
-        break 'search Next::Stuck(Blocked { row, rises });
+        break 'search Next::Stuck(Blocked {
+            row,
+            rises,
+            shortfall,
+        });
     };
     found
 }

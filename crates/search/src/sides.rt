@@ -3,17 +3,20 @@ ghost use mathlib.Core.Path.{_≡_};
 ghost use Prim.Native.Nat.{_<_};
 ghost use Rattle.whole.specs.Numbers.{Within};
 ghost use Rattle.whole.specs.Values.{whole};
-ghost use Rattle.rules.specs.Sizes.{mostVariables, largestNumber, largestLimit};
+ghost use Rattle.rules.specs.Sizes.{mostVariables, largestNumber, largestLimit, largestNumerator};
 ghost use Rattle.rules.specs.Limit.{present};
 ghost use Rattle.rules.specs.Step as step;
 ghost use Rattle.rules.specs.Step.{mayRise, mayFall};
 ghost use Rattle.search.specs.Sides.{pairAt, breachOf, suitsOf};
 use tableau::Tableau;
 
-// Whether a variable is outside its limits, and whether it must rise to come inside.
+// Whether a variable is outside its limits; whether it must rise to come inside, that is, whether it is below its lower limit
+// and not above its upper one; and how far D times its value is from D times that limit, which is above 0. A variable within its
+// limits has a shortfall of 0.
 pub struct Breach {
     pub violated: bool,
     pub rises: bool,
+    pub shortfall: i64,
 }
 
 // The two limits of one variable: whether there is one, and which.
@@ -64,26 +67,30 @@ fn over(common: i64, value: i64, uppers: bool, upper: i64) -> bool
     false
 }
 
-// By which limit a value is outside.
+// By which limit a value is outside, and by how much.
 pub fn breach_of(common: i64, value: i64, limits: LimitPair) -> Breach
     requires { ⌜ (Within common largestNumber) × (Within (limits .lower) largestLimit) × (Within (limits .upper) largestLimit) ⌝ }
+    requires { ⌜ Within value largestNumerator ⌝ }
     ensures { λ r. ⌜ r ≡ breachOf common value limits ⌝ }
 {
     if under(common, value, limits.lowers, limits.lower) {
         return Breach {
             violated: true,
             rises: true,
+            shortfall: common * limits.lower - value,
         };
     }
     if over(common, value, limits.uppers, limits.upper) {
         return Breach {
             violated: true,
             rises: false,
+            shortfall: value - common * limits.upper,
         };
     }
     Breach {
         violated: false,
         rises: false,
+        shortfall: 0,
     }
 }
 

@@ -25,5 +25,5 @@ mod times;
 
 pub use evidence::check;
 pub use program::respond;
-pub use run::solve;
+pub use run::{solve, violations, Violation};
 pub use times::{times, times_is_right};

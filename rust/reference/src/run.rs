@@ -24,6 +24,28 @@ pub fn solve(words: &[i32], out: &mut [i64]) -> u32 {
     0
 }
 
+/// The first violation of each step of a problem's run, in order: that of the
+/// step that ends in "cannot" or "out of range" too. Refused words and crossed
+/// limits have no step.
+pub fn violations(words: &[i32]) -> Vec<Violation> {
+    let Ok(problem) = Problem::read(words) else {
+        return Vec::new();
+    };
+    if problem.limits.iter().any(Limits::crossed) {
+        return Vec::new();
+    }
+    let mut state = State::start(&problem);
+    let mut found = Vec::new();
+    while let Some(violated) = state.lowest_violated() {
+        found.push(state.told(violated));
+        match state.step() {
+            Step::Moved(next) => state = next,
+            Step::Ended(_) => break,
+        }
+    }
+    found
+}
+
 /// The whole run of a problem.
 pub fn run(problem: &Problem) -> Answer {
     if let Some(crossed) = problem.limits.iter().position(Limits::crossed) {
@@ -53,6 +75,19 @@ fn conflict_of_one(problem: &Problem, crossed: Variable) -> Multipliers {
 enum Way {
     Up,
     Down,
+}
+
+/// The lowest-numbered basic variable outside its limits, as a desk shows it.
+#[derive(Debug, Clone, Copy, PartialEq, Eq)]
+pub struct Violation {
+    /// Its number.
+    pub variable: usize,
+    /// Whether it is below its lower limit; else it is above its upper one.
+    pub below: bool,
+    /// D.
+    pub over: i128,
+    /// D times how far its value is from that limit.
+    pub shortfall: i128,
 }
 
 /// A basic variable outside its limits.
@@ -115,6 +150,21 @@ impl<'a> State<'a> {
             (Some(lower), _) if value.below(lower) => violated(Way::Up, lower),
             (_, Some(upper)) if value.above(upper) => violated(Way::Down, upper),
             _ => None,
+        }
+    }
+
+    fn told(&self, violated: Violated) -> Violation {
+        let over = self.tableau.common();
+        let value = self.value(violated.variable);
+        let missing = match violated.way {
+            Way::Up => Fraction::whole(violated.limit) + -value,
+            Way::Down => value + -Fraction::whole(violated.limit),
+        };
+        Violation {
+            variable: violated.variable,
+            below: violated.way == Way::Up,
+            over,
+            shortfall: missing.times_multiple(over),
         }
     }
 

@@ -2,18 +2,22 @@
 
 use crate::evidence::checked;
 use crate::problem::refusal;
-use crate::run::answer;
+use crate::run::{answer, leavings};
+use crate::step::{Leaving, Side};
 use problems::evidence::bent;
 use problems::limits::Family;
 use problems::random::Random;
+use reference::{violations, Violation};
 use std::collections::BTreeMap;
 
-/// How many problems had each refusal or verdict, and how many right and bent
-/// answers the checker met with each number.
+/// How many problems had each refusal or verdict, how many right and bent
+/// answers the checker met with each number, and how many violations were
+/// compared.
 #[derive(Debug, Default)]
 pub struct Shares {
     pub outcomes: BTreeMap<String, u64>,
     pub checks: BTreeMap<u32, u64>,
+    pub violations: u64,
 }
 
 /// Compares every word of so many problems. A difference is an error that
@@ -46,12 +50,30 @@ fn compare_one(random: &mut Random, words: &[i32], shares: &mut Shares) -> Resul
     let expected = answer(&wide);
     let written: Vec<i128> = out.iter().map(|&word| i128::from(word)).collect();
     same("the answer", &expected[..], &written[..expected.len()])?;
+    compare_violations(words, &wide, shares)?;
     compare_check(words, &wide, &out, shares)?;
     for _ in 0..3 {
         let bent = bent(random, words, &out[..expected.len()]);
         compare_check(words, &wide, &bent, shares)?;
     }
     Ok(())
+}
+
+/// Variable, side, D and shortfall at every step of the run. A shortfall is
+/// above 0.
+fn compare_violations(words: &[i32], wide: &[i128], shares: &mut Shares) -> Result<(), String> {
+    let told = |(r, over): (Leaving<i128>, i128)| Violation {
+        variable: r.variable,
+        below: r.side == Side::Below,
+        over,
+        shortfall: r.shortfall,
+    };
+    let found: Vec<Violation> = leavings(wide).into_iter().map(told).collect();
+    shares.violations += found.len() as u64;
+    if let Some(none) = found.iter().find(|violation| violation.shortfall <= 0) {
+        return Err(format!("the shortfall of {none:?} is not above 0, which"));
+    }
+    same("a violation", found, violations(words))
 }
 
 fn compare_check(

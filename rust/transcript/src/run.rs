@@ -2,7 +2,7 @@
 
 use crate::base::{lowest, table};
 use crate::problem::{problem, vars, Problem};
-use crate::step::{den, same, scaled, start, step, Outcome, State};
+use crate::step::{den, leaving, same, scaled, start, step, Leaving, Outcome, State};
 use crate::value::{Values, WHOLE};
 
 /// In how many ways j can be chosen of k: 1 where j is 0, 0 where only k is,
@@ -82,4 +82,22 @@ pub fn words_of(p: &Problem<i128>, e: &Ending<i128>) -> Vec<i128> {
 pub fn answer(ws: &[i128]) -> Vec<i128> {
     let p = problem(ws);
     words_of(&p, &ending(&WHOLE, &p, start(&WHOLE, &p)))
+}
+
+/// Who leaves at each step of the run, with den.
+pub fn leavings(ws: &[i128]) -> Vec<(Leaving<i128>, i128)> {
+    let p = problem(ws);
+    let mut s = start(&WHOLE, &p);
+    let mut all = Vec::new();
+    if conflict(&WHOLE, &p).is_some() {
+        return all;
+    }
+    while let Some(r) = leaving(&WHOLE, &p, &s) {
+        all.push((r, den(&s)));
+        match step(&WHOLE, &p, &s) {
+            Outcome::Goes(t) => s = t,
+            _ => break,
+        }
+    }
+    all
 }

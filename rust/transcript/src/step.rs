@@ -24,13 +24,24 @@ pub fn den<X>(s: &State<X>) -> i128 {
 
 /// Below its lower limit, so it must rise; above its upper limit, so it must
 /// fall.
-#[derive(Clone, Copy, PartialEq, Eq)]
+#[derive(Debug, Clone, Copy, PartialEq, Eq)]
 pub enum Side {
     Below,
     Above,
 }
 
-pub type Leaving = (usize, Side);
+/// The leaving variable, the side on which it is outside, and by how much,
+/// over den.
+#[derive(Debug, Clone, Copy, PartialEq, Eq)]
+pub struct Leaving<X> {
+    pub variable: usize,
+    pub side: Side,
+    pub shortfall: X,
+}
+
+pub fn leaves<X>(variable: usize, side: Side, shortfall: X) -> Leaving<X> {
+    Leaving { variable, side, shortfall }
+}
 
 /// 1 where the two are the same.
 pub fn same(v: usize, w: usize) -> i128 {
@@ -155,26 +166,53 @@ pub fn over<X: Copy>(values: &Values<X>, d: i128, x: X, upper: Option<X>) -> boo
     }
 }
 
+/// x less y.
+pub fn gap<X: Copy>(values: &Values<X>, x: X, y: X) -> X {
+    (values.plus)(x, (values.scale)(-1, y))
+}
+
+/// How far den times the value is outside den times the limit on a side.
+pub fn shortfall_by<X: Copy>(
+    values: &Values<X>,
+    d: i128,
+    x: X,
+    lower: Option<X>,
+    upper: Option<X>,
+    side: Side,
+) -> X {
+    match side {
+        Side::Below => gap(values, (values.scale)(d, seated(values, lower)), x),
+        Side::Above => gap(values, x, (values.scale)(d, seated(values, upper))),
+    }
+}
+
+pub fn shortfall_of<X: Copy>(
+    values: &Values<X>,
+    p: &Problem<X>,
+    s: &State<X>,
+    v: usize,
+    side: Side,
+) -> X {
+    shortfall_by(values, den(s), scaled(values, p, s, v), (p.lower)(v), (p.upper)(v), side)
+}
+
 pub fn broken<X: Copy>(
     values: &Values<X>,
     p: &Problem<X>,
     s: &State<X>,
     v: usize,
     seat: Option<X>,
-) -> Option<Leaving> {
+) -> Option<Leaving<X>> {
+    let leaves = |side| Some(leaves(v, side, shortfall_of(values, p, s, v, side)));
     match seat {
         Some(_) => None,
-        None if under(values, den(s), scaled(values, p, s, v), (p.lower)(v)) => {
-            Some((v, Side::Below))
-        }
-        None if over(values, den(s), scaled(values, p, s, v), (p.upper)(v)) => {
-            Some((v, Side::Above))
-        }
+        None if under(values, den(s), scaled(values, p, s, v), (p.lower)(v)) => leaves(Side::Below),
+        None if over(values, den(s), scaled(values, p, s, v), (p.upper)(v)) => leaves(Side::Above),
         None => None,
     }
 }
 
-pub fn leaving<X: Copy>(values: &Values<X>, p: &Problem<X>, s: &State<X>) -> Option<Leaving> {
+pub fn leaving<X: Copy>(values: &Values<X>, p: &Problem<X>, s: &State<X>) -> Option<Leaving<X>> {
     lowest(vars(p), |v| broken(values, p, s, v, seat(s, v)))
 }
 
@@ -213,19 +251,19 @@ pub fn entering<X: Copy>(
     values: &Values<X>,
     p: &Problem<X>,
     s: &State<X>,
-    r: Leaving,
+    r: Leaving<X>,
 ) -> Option<usize> {
     lowest(vars(p), |w| {
-        let a = pull(r.1, entry(&s.tableau, r.0, w));
+        let a = pull(r.side, entry(&s.tableau, r.variable, w));
         suits(values, a, seat(s, w), (p.lower)(w), (p.upper)(w)).then_some(w)
     })
 }
 
 /// The limit that the leaving variable violates.
-pub fn limit_at<X: Copy>(values: &Values<X>, p: &Problem<X>, r: Leaving) -> X {
-    match r.1 {
-        Side::Below => seated(values, (p.lower)(r.0)),
-        Side::Above => seated(values, (p.upper)(r.0)),
+pub fn limit_at<X: Copy>(values: &Values<X>, p: &Problem<X>, r: Leaving<X>) -> X {
+    match r.side {
+        Side::Below => seated(values, (p.lower)(r.variable)),
+        Side::Above => seated(values, (p.upper)(r.variable)),
     }
 }
 
@@ -233,20 +271,20 @@ pub fn moved<X: Copy>(
     values: &Values<X>,
     p: &Problem<X>,
     s: &State<X>,
-    r: Leaving,
+    r: Leaving<X>,
     w: usize,
 ) -> State<X> {
     let mut seats = s.seats.clone();
     seats[w] = None;
-    seats[r.0] = Some(limit_at(values, p, r));
-    State { tableau: pivot(vars(p), &s.tableau, r.0, w), seats }
+    seats[r.variable] = Some(limit_at(values, p, r));
+    State { tableau: pivot(vars(p), &s.tableau, r.variable, w), seats }
 }
 
 pub fn step<X: Copy>(values: &Values<X>, p: &Problem<X>, s: &State<X>) -> Outcome<X> {
     match leaving(values, p, s) {
         None => Outcome::Can,
         Some(r) => match entering(values, p, s, r) {
-            None => evidence(vars(p), r.1, |u| relation(&s.tableau, r.0, u)),
+            None => evidence(vars(p), r.side, |u| relation(&s.tableau, r.variable, u)),
             Some(w) => admit(vars(p), moved(values, p, s, r, w)),
         },
     }

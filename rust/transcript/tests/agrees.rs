@@ -47,7 +47,8 @@ fn random_problems() {
     println!("SEED={seed}");
     let shares = compare(seed, PROBLEMS).unwrap_or_else(|difference| panic!("{difference}"));
     println!("{PROBLEMS} problems: {:?}", shares.outcomes);
-    println!("checks: {:?}", shares.checks);
+    println!("checks: {:?}, violations: {}", shares.checks, shares.violations);
+    assert!(shares.violations > PROBLEMS, "SEED={seed}");
     for (what, least) in [("can", 20), ("cannot", 20), ("range", 1)] {
         assert!(shares.outcomes[what] >= PROBLEMS * least / 100, "{what}, SEED={seed}");
     }

@@ -59,7 +59,7 @@ unfolding pull
 within-pull below h = h
 within-pull above h = within-neg h
 
-module _ (P : Problem ℤ) (s : State ℤ) (R : Rowed whole P s) (K : Kept whole P s) (r : Leaving) (L : Left whole P s r)
+module _ (P : Problem ℤ) (s : State ℤ) (R : Rowed whole P s) (K : Kept whole P s) (r : Leaving ℤ) (L : Left whole P s r)
     (none-enter : entering whole P s r ≡ none) where
   abbrev q : ℕ
   q = r .variable

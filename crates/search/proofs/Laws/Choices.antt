@@ -1,11 +1,13 @@
 -- The search by place, turn by turn.
 --   no-breach, some-breach           a breach as the side that it is on
+--   breach-short                     .. and as the shortfall on that side
 --   broken-.., enters-..             what a variable answers that the search comes to
 --   next-within, -stuck, -pivot      what the search comes to
 use mathlib.Core.Path.{_≡_, refl, sym, ap, ap₂, _∙_}
 use mathlib.Core.Bool.{Bool, true, false, cond}
 use mathlib.Core.Option.{Option, none, some}
 use Prim.Native.Nat.{ℕ}
+use lib.IntN.{ℤ}
 use Rattle.whole.proofs.Bools.{true-false}
 use Rattle.rules.specs.Step.{Side, below, above, leaves}
 use Rattle.tableau.specs.declared.Tableau.{Tableau}
@@ -13,6 +15,7 @@ use Rattle.tableau.specs.Parts.{seatAt, rowOf}
 use Rattle.search.specs.declared.Next.the-variants as variants
 use Rattle.search.specs.Sides.{sideBy, rising, asBreach}
 use Rattle.search.specs.Search.{
+  shortAt,
   sideAt,
   tagged,
   brokenAt,
@@ -29,28 +32,35 @@ rising-by : (b : Bool) → rising (sideBy b) ≡ b
 rising-by true = refl
 rising-by false = refl
 
-pub no-breach : (o : Option Side) → asBreach o .violated ≡ false → o ≡ none
-no-breach none e = refl
-no-breach (some σ) e = true-false refl e
+module _ (short : Side → ℤ) where
+  pub no-breach : (o : Option Side) → asBreach o short .violated ≡ false → o ≡ none
+  no-breach none e = refl
+  no-breach (some σ) e = true-false refl e
 
-pub some-breach : (o : Option Side) → asBreach o .violated ≡ true → o ≡ some (sideBy (asBreach o .rises))
-some-breach none e = true-false e refl
-some-breach (some below) e = refl
-some-breach (some above) e = refl
+  pub some-breach : (o : Option Side) → asBreach o short .violated ≡ true → o ≡ some (sideBy (asBreach o short .rises))
+  some-breach none e = true-false e refl
+  some-breach (some below) e = refl
+  some-breach (some above) e = refl
+
+  pub breach-short : (o : Option Side) → asBreach o short .violated ≡ true →
+      short (sideBy (asBreach o short .rises)) ≡ asBreach o short .shortfall
+  breach-short none e = true-false e refl
+  breach-short (some below) e = refl
+  breach-short (some above) e = refl
 
 module _ (t : Tableau) where
   pub broken-seated : (v : ℕ) → seatAt t v .basic ≡ false → brokenAt t v ≡ none
   unfolding brokenAt
-  broken-seated v e = ap (λ b. cond b (tagged v (sideAt t v)) none) e
+  broken-seated v e = ap (λ b. cond b (tagged v (sideAt t v) (shortAt t v)) none) e
 
   pub broken-within : (v : ℕ) → seatAt t v .basic ≡ true → sideAt t v ≡ none → brokenAt t v ≡ none
   unfolding brokenAt
-  broken-within v e f = ap₂ (λ b o. cond b (tagged v o) none) e f
+  broken-within v e f = ap₂ (λ b o. cond b (tagged v o (shortAt t v)) none) e f
 
   pub broken-outside : (v : ℕ) (σ : Side) → seatAt t v .basic ≡ true → sideAt t v ≡ some σ →
-      brokenAt t v ≡ some (leaves v σ)
+      brokenAt t v ≡ some (leaves v σ (shortAt t v σ))
   unfolding brokenAt
-  broken-outside v σ e f = ap₂ (λ b o. cond b (tagged v o) none) e f
+  broken-outside v σ e f = ap₂ (λ b o. cond b (tagged v o (shortAt t v)) none) e f
 
   module _ (i : ℕ) (σ : Side) (w : ℕ) where
     pub enters-basic : seatAt t w .basic ≡ true → enteringOf t i σ w ≡ none
@@ -69,16 +79,19 @@ module _ (t : Tableau) where
   unfolding nextAt nextBy
   next-within e = sym (ap (nextBy t) e)
 
-  module _ (v : ℕ) (b : Bool) (e : leavingAt t ≡ some (leaves v (sideBy b))) where
+  module _ (v : ℕ) (b : Bool) (x : ℤ) (e : leavingAt t ≡ some (leaves v (sideBy b) x)) where
     pub next-stuck : enteringAt t (rowOf t v) (sideBy b) ≡ none →
-        variants.Stuck (record { row = seatAt t v .row; rises = b }) ≡ nextAt t
+        variants.Stuck (record { row = seatAt t v .row; rises = b; shortfall = x }) ≡ nextAt t
     unfolding nextAt nextBy moveBy
-    next-stuck f = ap (λ a. variants.Stuck (record { row = seatAt t v .row; rises = a })) (sym (rising-by b))
-        ∙ sym (ap (nextBy t) e ∙ ap (moveBy t (leaves v (sideBy b))) f)
+    next-stuck f =
+        ap (λ a. variants.Stuck (record { row = seatAt t v .row; rises = a; shortfall = x })) (sym (rising-by b))
+        ∙ sym (ap (nextBy t) e ∙ ap (moveBy t (leaves v (sideBy b) x)) f)
 
     pub next-pivot : (w : ℕ) → enteringAt t (rowOf t v) (sideBy b) ≡ some w →
-        variants.Pivot (record { row = seatAt t v .row; column = seatAt t w .column; rises = b }) ≡ nextAt t
+        variants.Pivot (record { row = seatAt t v .row; column = seatAt t w .column; rises = b; shortfall = x })
+        ≡ nextAt t
     unfolding nextAt nextBy moveBy
     next-pivot w f =
-        ap (λ a. variants.Pivot (record { row = seatAt t v .row; column = seatAt t w .column; rises = a })) (sym (rising-by b))
-        ∙ sym (ap (nextBy t) e ∙ ap (moveBy t (leaves v (sideBy b))) f)
+        ap (λ a. variants.Pivot (record { row = seatAt t v .row; column = seatAt t w .column; rises = a; shortfall = x }))
+        (sym (rising-by b))
+        ∙ sym (ap (nextBy t) e ∙ ap (moveBy t (leaves v (sideBy b) x)) f)

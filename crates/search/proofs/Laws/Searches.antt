@@ -14,6 +14,7 @@ use Rattle.whole.proofs.Turns.{lowest-same}
 use Rattle.rules.specs.Problem.{Problem, vars}
 use Rattle.rules.specs.Step.{
   Leaving,
+  Side,
   State,
   above,
   below,
@@ -26,6 +27,7 @@ use Rattle.rules.specs.Step.{
   pull,
   scaled,
   seat,
+  shortfallOf,
   suits,
   under,
 }
@@ -38,6 +40,7 @@ use Rattle.tableau.specs.Stands.{HasRow, Stands}
 use Rattle.search.specs.declared.Next.the-variants as variants
 use Rattle.search.specs.Sides.{sideFrom, sideOf}
 use Rattle.search.specs.Search.{
+  shortAt,
   sideAt,
   tagged,
   brokenAt,
@@ -54,12 +57,15 @@ use Rattle.search.specs.Search.{
 use Rattle.search.proofs.Laws.Choices.{enters-basic}
 use Rattle.search.proofs.Laws.Rows.{row-is}
 
--- the two ways to write the side
-by-tests : (v : ℕ) (a b : Bool) →
-    tagged v (sideFrom a b) ≡ elim a [ true ↦ some (leaves v below) | false ↦ elim b [ true ↦ some (leaves v above) | false ↦ none ] ]
-by-tests v true b = refl
-by-tests v false true = refl
-by-tests v false false = refl
+-- the two ways to write the side and the shortfall
+by-tests : (v : ℕ) (a b : Bool) (short : Side → ℤ) →
+    tagged v (sideFrom a b) short ≡ elim a [
+      | true ↦ some (leaves v below (short below))
+      | false ↦ elim b [ true ↦ some (leaves v above (short above)) | false ↦ none ]
+    ]
+by-tests v true b short = refl
+by-tests v false true short = refl
+by-tests v false false short = refl
 
 none-suits : (w : ℕ) (l u : Option ℤ) (a : ℤ) → none ≡ cond (suits whole a none l u) (some w) none
 unfolding suits
@@ -69,25 +75,39 @@ module _ (P : Problem ℤ) (t : Tableau) (s : State ℤ) (St : Stands P t s) (R 
   pub all-vars : t .rows + t .columns ≡ vars P
   all-vars = ap₂ (λ a b. a + b) (St .sized .rows-is) (St .sized .columns-is) ∙ add-comm (P .m) (P .n)
 
-  side-is : (v : ℕ) → v < vars P → seat s v ≡ none →
-      sideAt t v ≡ sideFrom (under whole (common s) (scaled whole P s v) (P .lower v)) (over whole (common s) (scaled whole P s v) (P .upper v))
-  unfolding sideOf
-  side-is v h e = rw (St .serves .lower-is v h, St .serves .upper-is v h, ← row-is P t s St R v h e, ← St .numbers .common-is) refl
+  module _ (v : ℕ) (h : v < vars P) (e : seat s v ≡ none) where
+    side-is : sideAt t v ≡ sideFrom (under whole (common s) (scaled whole P s v) (P .lower v))
+        (over whole (common s) (scaled whole P s v) (P .upper v))
+    unfolding sideOf
+    side-is = rw (St .serves .lower-is v h, St .serves .upper-is v h, ← row-is P t s St R v h e, ← St .numbers .common-is)
+        refl
+
+    short-is : shortAt t v ≡ shortfallOf whole P s v
+    short-is = rw (St .serves .lower-is v h, St .serves .upper-is v h, ← row-is P t s St R v h e, ← St .numbers .common-is)
+        refl
 
   broken-is : (v : ℕ) → v < vars P → brokenAt t v ≡ broken whole P s v (seat s v)
   unfolding brokenAt broken
   broken-is v h = go (seat s v) refl
     where
-      go : (o : Option ℤ) → seat s v ≡ o → cond (seatAt t v .basic) (tagged v (sideAt t v)) none ≡ broken whole P s v o
-      go none e = ap₂ (λ b o. cond b (tagged v o) none) (St .placed .has-row v h e .flag) (side-is v h e)
-          ∙ by-tests v (under whole (common s) (scaled whole P s v) (P .lower v)) (over whole (common s) (scaled whole P s v) (P .upper v))
-      go (some x) e = ap (λ b. cond b (tagged v (sideAt t v)) none) (St .placed .has-column v x h e .flag)
+      go : (o : Option ℤ) → seat s v ≡ o →
+          cond (seatAt t v .basic) (tagged v (sideAt t v) (shortAt t v)) none ≡ broken whole P s v o
+      go none e = ap₂ (λ b o. cond b (tagged v o (shortAt t v)) none) (St .placed .has-row v h e .flag) (side-is v h e)
+          ∙ ap (tagged v (sideFrom low high)) (short-is v h e)
+          ∙ by-tests v low high (shortfallOf whole P s v)
+        where
+          low : Bool
+          low = under whole (common s) (scaled whole P s v) (P .lower v)
+
+          high : Bool
+          high = over whole (common s) (scaled whole P s v) (P .upper v)
+      go (some x) e = ap (λ b. cond b (tagged v (sideAt t v) (shortAt t v)) none) (St .placed .has-column v x h e .flag)
 
   pub leaving-is : leavingAt t ≡ leaving whole P s
   unfolding leavingAt leaving
   leaving-is = ap (λ k. lowest k (brokenAt t)) all-vars ∙ lowest-same (brokenAt t) (λ v. broken whole P s v (seat s v)) (vars P) broken-is
 
-  module _ (r : Leaving) (L : Left whole P s r) where
+  module _ (r : Leaving ℤ) (L : Left whole P s r) where
     its : HasRow P t (r .variable)
     its = St .placed .has-row (r .variable) (L .variable) (L .was-basic)
 
@@ -124,7 +144,7 @@ module _ (P : Problem ℤ) (t : Tableau) (s : State ℤ) (St : Stands P t s) (R 
   unfolding nextAt nextBy
   next-none e = ap (nextBy t) (leaving-is ∙ e)
 
-  module _ (r : Leaving) (e : leaving whole P s ≡ some r) where
+  module _ (r : Leaving ℤ) (e : leaving whole P s ≡ some r) where
     by-row : nextAt t ≡ moveBy t r (entering whole P s r)
     unfolding nextAt nextBy
     by-row = ap (nextBy t) (leaving-is ∙ e) ∙ ap (moveBy t r) (entering-is r (left whole P s r e))

@@ -4,6 +4,7 @@ use mathlib.Core.List.{List}
 use mathlib.Core.Option.{Option, none, some}
 use mathlib.Core.Path.{_≡_, refl}
 use Prim.Native.Nat.{ℕ}
+use lib.IntN.{ℤ}
 use Rattle.rules.specs.Step.{Leaving}
 use Rattle.tableau.specs.declared.Tableau.{Tableau}
 use Rattle.tableau.specs.declared.Variable.{Variable}
@@ -37,12 +38,12 @@ module _ (t : Tableau) (basic nonbasic : List Variable) where
   abbrev other : Tableau
   other = seatedAs t basic nonbasic
 
-  move-as : (r : Leaving) (o : Option ℕ) → moveBy other r o ≡ moveBy t r o
+  move-as : (r : Leaving ℤ) (o : Option ℕ) → moveBy other r o ≡ moveBy t r o
   unfolding moveBy
   move-as r none = refl
   move-as r (some w) = refl
 
-  by-as : (o : Option Leaving) → nextBy other o ≡ nextBy t o
+  by-as : (o : Option (Leaving ℤ)) → nextBy other o ≡ nextBy t o
   unfolding nextBy enteringAt enteringOf
   by-as none = refl
   by-as (some r) = move-as r (enteringAt t (rowOf t (r .variable)) (r .side))

@@ -12,15 +12,18 @@ use mir.Syntax.{w64}
 use mir.Val.{SFits, ofZ, toZ}
 use Rattle.whole.specs.Below.{lowest}
 use Rattle.whole.proofs.Turns.{lowest-start, lowest-more, lowest-here}
-use Rattle.rules.specs.Sizes.{mostRows, mostVariables}
+use Rattle.whole.specs.Numbers.{Within}
+use Rattle.rules.specs.Sizes.{largestNumerator, mostRows, mostVariables}
 use Rattle.rules.specs.Step.{leaves}
 use Rattle.tableau.specs.declared.Tableau.{Tableau}
 use Rattle.tableau.specs.Parts.{seatAt, rowOf, lowerOf, upperOf}
-use Rattle.search.specs.Sides.{sideOf, asBreach, breachOf, sideBy, suitsOf}
-use Rattle.search.specs.Search.{sideAt, movesAt, fitting, brokenAt, enteringOf, leavingAt, enteringAt, seen, nextAt}
+use Rattle.search.specs.declared.sides.Breach.{Breach}
+use Rattle.search.specs.Sides.{asBreach, breachAt, breachOf, sideBy, suitsOf}
+use Rattle.search.specs.Search.{shortAt, sideAt, movesAt, fitting, brokenAt, enteringOf, leavingAt, enteringAt, seen, nextAt}
 use Rattle.search.proofs.Laws.Choices.{
   no-breach,
   some-breach,
+  breach-short,
   broken-seated,
   broken-within,
   broken-outside,
@@ -31,15 +34,16 @@ use Rattle.search.proofs.Laws.Choices.{
   next-stuck,
   next-pivot,
 }
+use Rattle.search.proofs.Laws.Shortfalls.{scaled-within}
 use Rattle.search.proofs.next_step.Statement.{statement}
 use Rattle.search.proofs.next_step.Tie as tie
 
 abbrev Inv-loop : tie.InvT-loop
-Inv-loop entries values common rows columns seats limits end v row value rises w₀ w = (w ≤ end)
+Inv-loop entries values common rows columns seats limits end v row value rises shortfall w₀ w = (w ≤ end)
     × (lowest w (enteringOf (seen entries values seats limits (toZ w64 common) rows columns) (row .0) (sideBy rises)) ≡ none)
 
 abbrev μ-loop : tie.MeasureT-loop
-μ-loop entries values common rows columns seats limits end v row value rises w₀ w = end - w
+μ-loop entries values common rows columns seats limits end v row value rises shortfall w₀ w = end - w
 
 abbrev Inv-search : tie.InvT-search
 Inv-search entries values common rows columns seats limits end v₀ v =
@@ -129,36 +133,56 @@ module _ (c : tie.After-limits-of Inv-loop μ-loop Inv-search μ-search) where
   fit-value : SFits w64 (c .before .before .before .before .before .before .row-value .result)
   fit-value = search needs
 
+  within-value : Within (c .before .before .before .before .before .before .row-value .result) largestNumerator
+  within-value = let o = outer basic-one in
+      rw (c .before .before .before .before .before .before .row-value .ensures) (scaled-within _ (start o .pre) (number o))
+
 breach-of-requires : tie.Need-breach-of-requires Inv-loop μ-loop Inv-search μ-search
 breach-of-requires c κs = let o = outer (basic-one c) in
-    simp (toZ-ofZ (start o .fits .common), c .limits-of .ensures)
-    (start o .pre .cells .common-within, start o .pre .lowers-within (number o), start o .pre .uppers-within (number o))
+    simp (toZ-ofZ (start o .fits .common), c .limits-of .ensures, toZ-ofZ (fit-value c)) (
+      (start o .pre .cells .common-within, start o .pre .lowers-within (number o), start o .pre .uppers-within (number o)),
+      within-value c,
+    )
 
 -- .. and by which it is outside
 module _ (c : tie.After-breach-of Inv-loop μ-loop Inv-search μ-search) where
   abbrev here : tie.Else1 Inv-loop μ-loop Inv-search μ-search
   here = outer (basic-one (c .before))
 
-  breach-is : c .breach-of .result ≡ asBreach (sideAt (old here) (number here))
+  abbrev found : Breach
+  found = c .breach-of .result
+
+  fit-short : SFits w64 (found .shortfall)
+  fit-short = search needs
+
+  breach-is : found ≡ asBreach (sideAt (old here) (number here)) (shortAt (old here) (number here))
   unfolding breachOf
   breach-is =
       (simp (toZ-ofZ (fit-value (c .before)), c .before .limits-of .ensures)
       at (c .breach-of .ensures))
-      ∙ ap (λ x. asBreach (sideOf (old here .common) x (lowerOf (old here .limits) (number here))
-      (upperOf (old here .limits) (number here))))
+      ∙ ap (λ x. breachAt (old here .common) x (lowerOf (old here .limits) (number here)) (upperOf (old here .limits) (number here)))
       (c .before .before .before .before .before .before .before .row-value .ensures)
 
-  within-here : c .breach-of .result .violated ≡ false → brokenAt (old here) (number here) ≡ none
+  within-here : found .violated ≡ false → brokenAt (old here) (number here) ≡ none
   within-here e = broken-within (old here) (number here) (is-basic (basic-one (c .before)))
-      (no-breach (sideAt (old here) (number here)) (sym (ap (λ b. b .violated) breach-is) ∙ e))
+      (no-breach (shortAt (old here) (number here)) (sideAt (old here) (number here)) (sym (ap (λ b. b .violated) breach-is) ∙ e))
 
-  leaving-here : c .breach-of .result .violated ≡ true →
-      leavingAt (old here) ≡ some (leaves (number here) (sideBy (c .breach-of .result .rises)))
-  unfolding leavingAt
-  leaving-here e = lowest-here (brokenAt (old here)) (old here .rows + old here .columns) (number here) _ (in-range here)
-      (none-before here) (broken-outside (old here) (number here) (sideBy (c .breach-of .result .rises)) (is-basic (basic-one (c .before)))
-      (some-breach (sideAt (old here) (number here)) (sym (ap (λ b. b .violated) breach-is) ∙ e)
-      ∙ ap (λ b. some (sideBy (b .rises))) (sym breach-is)))
+  module _ (e : found .violated ≡ true) where
+    outside-by : asBreach (sideAt (old here) (number here)) (shortAt (old here) (number here)) .violated ≡ true
+    outside-by = sym (ap (λ b. b .violated) breach-is) ∙ e
+
+    short-here : shortAt (old here) (number here) (sideBy (found .rises)) ≡ found .shortfall
+    short-here = ap (λ b. shortAt (old here) (number here) (sideBy (b .rises))) breach-is
+        ∙ breach-short (shortAt (old here) (number here)) (sideAt (old here) (number here)) outside-by
+        ∙ ap (λ b. b .shortfall) (sym breach-is)
+
+    leaving-here : leavingAt (old here) ≡ some (leaves (number here) (sideBy (found .rises)) (found .shortfall))
+    unfolding leavingAt
+    leaving-here = lowest-here (brokenAt (old here)) (old here .rows + old here .columns) (number here) _ (in-range here)
+        (none-before here) (broken-outside (old here) (number here) (sideBy (found .rises)) (is-basic (basic-one (c .before)))
+        (some-breach (shortAt (old here) (number here)) (sideAt (old here) (number here)) outside-by
+        ∙ ap (λ b. some (sideBy (b .rises))) (sym breach-is))
+        ∙ ap (λ x. some (leaves (number here) (sideBy (found .rises)) x)) short-here)
 
 add-v-2 : tie.Need-add-v-2 Inv-loop μ-loop Inv-search μ-search
 add-v-2 c = let z = in-range (here (c .before .before)) in omega arith
@@ -177,7 +201,7 @@ loop-holds c = (omega arith, lowest-start _)
 
 module _ (c : tie.In-loop Inv-loop μ-loop Inv-search μ-search) where
   abbrev outside : tie.After-breach-of Inv-loop μ-loop Inv-search μ-search
-  outside = c .before .before .before .before
+  outside = c .before .before .before .before .before
 
   abbrev rises : Bool
   rises = outside .breach-of .result .rises
@@ -272,18 +296,22 @@ returns c = let t = read (c .before .before) in let e : t .rows + t .columns ≡
 returns-2 : tie.Need-returns-2 Inv-loop μ-loop Inv-search μ-search
 unfolding enteringAt
 returns-2 c = let a = looked (c .before) in let o = it a in let n = inner a in
-    next-pivot (old o) (number o) (rises n) (leaving-here (outside n) (not-false _ (n .before .before .if3 .left))) (other n)
+    let x = outside n in
+    simp (toZ-ofZ (fit-short x))
+    (next-pivot (old o) (number o) (rises n) (found x .shortfall)
+    (leaving-here x (not-false _ (n .before .before .before .if3 .left))) (other n)
     (lowest-here (enters n) (old o .rows + old o .columns) (other n) (other n) (other-range n) (none-yet n)
     (enters-here (old o) (rowOf (old o) (number o)) (sideBy (rises n)) (other n) (is-free a) (sym (moves-is (c .before)) ∙ c .if5 .taken)))
-    ∙ read-is (start o)
+    ∙ read-is (start o))
 
 returns-3 : tie.Need-returns-3 Inv-loop μ-loop Inv-search μ-search
 unfolding enteringAt
-returns-3 c = let a = c .before .before .before .before in let o = here a in let b = a .breach-of .result .rises in
+returns-3 c = let a = c .before .before .before .before .before in let o = here a in let b = found a .rises in
     let e : old o .rows + old o .columns ≡ c .before .loop .w = omega arith in
-    next-stuck (old o) (number o) b (leaving-here a (not-false _ (c .before .before .if3 .left)))
+    simp (toZ-ofZ (fit-short a))
+    (next-stuck (old o) (number o) b (found a .shortfall) (leaving-here a (not-false _ (c .before .before .before .if3 .left)))
     (ap (λ k. lowest k (enteringOf (old o) (rowOf (old o) (number o)) (sideBy b))) e ∙ c .before .loop .inv .1)
-    ∙ read-is (start o)
+    ∙ read-is (start o))
 
 pub next-step-spec : {M : Type 1} → statement M
 next-step-spec =

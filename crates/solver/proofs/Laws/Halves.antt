@@ -89,7 +89,7 @@ module _ {P : Problem ℤ} {t : Tableau} {s : State ℤ} (St : Stands P t s) (R 
   numerators-are = table-same (vars P) _ (scaled whole P s)
       (λ v h. filled-in mostVariables (pos 0) (t .rows + t .columns) (numeratorAt t) v (in-places v h) ∙ numerator-is v h)
 
-  module _ (r : Leaving) (L : Left whole P s r) where
+  module _ (r : Leaving ℤ) (L : Left whole P s r) where
     side-back : (σ : Side) → sideBy (rising σ) ≡ σ
     side-back below = refl
     side-back above = refl

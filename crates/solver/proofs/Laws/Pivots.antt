@@ -34,7 +34,7 @@ limit-by : (σ : Side) (l : Limits) (v : ℕ) →
 limit-by below l v = refl
 limit-by above l v = refl
 
-module _ {P : Problem ℤ} {t : Tableau} {s : State ℤ} (St : Stands P t s) (R : Rowed whole P s) (r : Leaving) (w : ℕ)
+module _ {P : Problem ℤ} {t : Tableau} {s : State ℤ} (St : Stands P t s) (R : Rowed whole P s) (r : Leaving ℤ) (w : ℕ)
     (e : leaving whole P s ≡ some r) (f : entering whole P s r ≡ some w) where
   turn : Turn P t s r w
   turn = record { stands = St; rowed = R; left = left whole P s r e; entered = entered whole P s r w f }

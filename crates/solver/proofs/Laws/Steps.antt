@@ -41,14 +41,14 @@ use Rattle.solver.proofs.Laws.Stepped.{Chosen, next-read, readOf, stepp
 -- the four cases: what the step by place comes to, and the step of the state
 pub data StepIs (P : Problem ℤ) (t : Tableau) (s : State ℤ) : Type 0 where
   ends-can : steppedAt t ≡ endedAs t ends.Can → step whole P s ≡ can → StepIs P t s
-  ends-cannot : (r : Leaving) → steppedAt t ≡ endedAs t (ends.Cannot (blockedAt t r)) → leaving whole P s ≡ some r →
+  ends-cannot : (r : Leaving ℤ) → steppedAt t ≡ endedAs t (ends.Cannot (blockedAt t r)) → leaving whole P s ≡ some r →
       step whole P s ≡ evidence (vars P) (r .side) (relation (s .tableau) (r .variable)) → StepIs P t s
   ends-range : steppedAt t ≡ endedAs t ends.Range → step whole P s ≡ range → StepIs P t s
   goes-to : (u : Tableau) (x : State ℤ) → steppedAt t ≡ record { course = on; tableau = u } → step whole P s ≡ goes x →
       Stands P u x → Ranged u → StepIs P t s
 
 module _ {P : Problem ℤ} {t : Tableau} {s : State ℤ} (St : Stands P t s) (R : Rowed whole P s) (G : Ranged t) where
-  chosen-is : (r : Leaving) (w : ℕ) → leaving whole P s ≡ some r → entering whole P s r ≡ some w →
+  chosen-is : (r : Leaving ℤ) (w : ℕ) → leaving whole P s ≡ some r → entering whole P s r ≡ some w →
       steppedAt t ≡ admitAt (fitsBy t (choiceAt t r w)) t (movedAt t (choiceAt t r w))
   chosen-is r w q y = stepped-pivot t (choiceAt t r w) (next-chosen P t s St R r q w y)
 
@@ -72,7 +72,7 @@ module _ {P : Problem ℤ} {t : Tableau} {s : State ℤ} (St : Stands P t s) (R 
   move-ready : (c : Choice) → nextAt t ≡ nexts.Pivot c → Both c
   move-ready c e = go (stepped whole P s)
     where
-      of : (r : Leaving) (w : ℕ) → leaving whole P s ≡ some r → entering whole P s r ≡ some w → Both c
+      of : (r : Leaving ℤ) (w : ℕ) → leaving whole P s ≡ some r → entering whole P s r ≡ some w → Both c
       of r w q y = let n = next-chosen P t s St R r q w y in let k : choiceAt t r w ≡ c = cc in
           subst Both k (movable St R r w q y (G .cells), exchangeable St R r w q y)
 

@@ -38,7 +38,7 @@ use Rattle.tableau.proofs.Laws.Turns.{Turn, rowPlace, columnPlace, next
 use Rattle.tableau.proofs.Laws.Turns.{common-nonzero}
 use Rattle.tableau.proofs.Laws.Turns.{placed-next, sized-next}
 
-module _ {P : Problem ℤ} {t : Tableau} {s : State ℤ} {r : Leaving} {w : ℕ} (M : Turn P t s r w) where
+module _ {P : Problem ℤ} {t : Tableau} {s : State ℤ} {r : Leaving ℤ} {w : ℕ} (M : Turn P t s r w) where
   abbrev N : ℕ
   N = vars P
 

@@ -46,7 +46,7 @@ mixed-cell : (t : Tableau) (p q i j : ℕ) → mixedCell (t .columns) (t .common
 unfolding mixedCell
 mixed-cell t p q i j = refl
 
-module _ {P : Problem ℤ} {t : Tableau} {s : State ℤ} {r : Leaving} {w : ℕ} (M : Turn P t s r w) where
+module _ {P : Problem ℤ} {t : Tableau} {s : State ℤ} {r : Leaving ℤ} {w : ℕ} (M : Turn P t s r w) where
   abbrev T : rules.Tableau
   T = s .tableau
 

@@ -41,7 +41,7 @@ unfolding present
 present-some true z x e = cc
 present-some false z x e = let y : _≡_ {A = ℕ} 0 1 = cc in zero-one y
 
-module _ {P : Problem ℤ} {t : Tableau} {s : State ℤ} {r : Leaving} {w : ℕ} (M : Turn P t s r w) where
+module _ {P : Problem ℤ} {t : Tableau} {s : State ℤ} {r : Leaving ℤ} {w : ℕ} (M : Turn P t s r w) where
   abbrev p : ℕ
   p = rowPlace t r
 

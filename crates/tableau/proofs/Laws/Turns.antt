@@ -30,27 +30,27 @@ use Rattle.tableau.proofs.Laws.Places.{basic-here, basic-other, nonbasi
 use Rattle.tableau.proofs.Laws.Places.{sized-after, placed-with, sized-with}
 
 -- t stands for s, whose rows hold; r leaves there and w enters
-pub record Turn (P : Problem ℤ) (t : Tableau) (s : State ℤ) (r : Leaving) (w : ℕ) : Type 0 where
+pub record Turn (P : Problem ℤ) (t : Tableau) (s : State ℤ) (r : Leaving ℤ) (w : ℕ) : Type 0 where
   pub stands : Stands P t s
   pub rowed : Rowed whole P s
   pub left : Left whole P s r
   pub entered : Entered whole P s r w
 
 -- the places of the leaving and the entering variable
-abbrev pub rowPlace : Tableau → Leaving → ℕ
+abbrev pub rowPlace : Tableau → Leaving ℤ → ℕ
 rowPlace t r = rowOf t (r .variable)
 
 abbrev pub columnPlace : Tableau → ℕ → ℕ
 columnPlace t w = columnOf t w
 
-abbrev pub turnedAt : Tableau → Leaving → ℕ → Tableau
+abbrev pub turnedAt : Tableau → Leaving ℤ → ℕ → Tableau
 turnedAt t r w = pivotedAt t (rowPlace t r) (columnPlace t w)
 
 -- after the pivot the two variables change places, and the leaving one gets the limit that it violates
-abbrev pub nextAt : Problem ℤ → Tableau → Leaving → ℕ → Tableau
+abbrev pub nextAt : Problem ℤ → Tableau → Leaving ℤ → ℕ → Tableau
 nextAt P t r w = swappedAt (turnedAt t r w) (rowPlace t r) (columnPlace t w) (limitAt whole P r)
 
-module _ {P : Problem ℤ} {t : Tableau} {s : State ℤ} {r : Leaving} {w : ℕ} (M : Turn P t s r w) where
+module _ {P : Problem ℤ} {t : Tableau} {s : State ℤ} {r : Leaving ℤ} {w : ℕ} (M : Turn P t s r w) where
   abbrev p : ℕ
   p = rowPlace t r
 

@@ -1,0 +1,42 @@
+//! The first violation of each step: which variable, on which side, and by how
+//! much over D.
+
+use problems::draft::{at_most, between, Draft, FREE};
+use problems::worked;
+use reference::{violations, Violation};
+
+fn below(variable: usize, shortfall: i128, over: i128) -> Violation {
+    Violation { variable, below: true, over, shortfall }
+}
+
+fn above(variable: usize, shortfall: i128, over: i128) -> Violation {
+    Violation { variable, below: false, over, shortfall }
+}
+
+fn of_case(letter: &str) -> Vec<Violation> {
+    let cases = worked::limits();
+    violations(&cases.iter().find(|case| case.name == letter).unwrap().words)
+}
+
+#[test]
+fn worked_cases() {
+    assert_eq!(of_case("A"), [below(2, 2, 1), below(4, 3, 1)]);
+    assert_eq!(of_case("D"), [above(2, 4, 1), below(0, 3, 1)]);
+    assert_eq!(of_case("F"), [above(2, 1, 1)]);
+    assert_eq!(of_case("G"), []);
+    assert_eq!(of_case("H"), []);
+}
+
+/// After the pivots D is 2 and variable 3 is 1/2 too high: 1 over 2.
+#[test]
+fn a_shortfall_is_not_divided_by_d() {
+    let rows: [&[i32]; 2] = [&[2, 1], &[1, 0]];
+    let words = Draft::new(2, &rows, &[FREE, at_most(0), between(5, 5), at_most(2)]).words();
+    assert_eq!(violations(&words), [below(2, 5, 1), above(3, 1, 2)]);
+}
+
+#[test]
+fn refused_words_have_no_step() {
+    assert_eq!(violations(&[]), []);
+    assert_eq!(violations(&worked::case_i().words), []);
+}
