@@ -22,7 +22,7 @@ unfoldable pub problemOf : List ℤ → Limits → ℕ → ℕ → Problem ℤ
 problemOf entries limits rows columns = record {
   n = columns;
   m = rows;
-  coefficient = entryIn columns entries;
+  coefficient = entryIn rows columns entries;
   lower = lowerOf limits;
   upper = upperOf limits;
 }
@@ -47,15 +47,15 @@ abbrev pub numeratorsFit : List ℤ → ℕ → Bool
 numeratorsFit a variables = allBelow variables (λ v. within largestNumerator (lowerPart a v))
 
 -- row place i over the numerators of the first k of the problem's variables
-unfoldable pub rowUpTo : List ℤ → List ℤ → ℕ → ℕ → ℕ → ℤ
-rowUpTo entries a columns i k = sum k (λ j. entryIn columns entries i j *ℤ lowerPart a j)
+unfoldable pub rowUpTo : List ℤ → List ℤ → ℕ → ℕ → ℕ → ℕ → ℤ
+rowUpTo entries a rows columns i k = sum k (λ j. entryIn rows columns entries i j *ℤ lowerPart a j)
 
-abbrev pub rowSumAt : List ℤ → List ℤ → ℕ → ℕ → ℤ
-rowSumAt entries a columns i = rowUpTo entries a columns i columns
+abbrev pub rowSumAt : List ℤ → List ℤ → ℕ → ℕ → ℕ → ℤ
+rowSumAt entries a rows columns i = rowUpTo entries a rows columns i columns
 
 abbrev pub rowsHold : List ℤ → List ℤ → ℕ → ℕ → Bool
 rowsHold entries a rows columns =
-    allBelow rows (λ i. eqZ (lowerPart a (columns + i)) (rowSumAt entries a columns i))
+    allBelow rows (λ i. eqZ (lowerPart a (columns + i)) (rowSumAt entries a rows columns i))
 
 -- a numerator over d against two limits that may be missing
 abbrev pub meetsBoth : Option ℤ → Option ℤ → ℤ → ℤ → Bool
@@ -92,16 +92,16 @@ abbrev pub balanceAt : List ℤ → ℕ → ℕ → ℤ
 balanceAt a variables v = lowerPart a v -ℤ upperPart variables a v
 
 -- column place j of the multipliers put through the first k rows
-unfoldable pub columnUpTo : List ℤ → List ℤ → ℕ → ℕ → ℕ → ℕ → ℤ
-columnUpTo entries a columns variables k j = balanceAt a variables j
-    +ℤ sum k (λ i. entryIn columns entries i j *ℤ balanceAt a variables (columns + i))
+unfoldable pub columnUpTo : List ℤ → List ℤ → ℕ → ℕ → ℕ → ℕ → ℕ → ℤ
+columnUpTo entries a rows columns variables k j = balanceAt a variables j
+    +ℤ sum k (λ i. entryIn rows columns entries i j *ℤ balanceAt a variables (columns + i))
 
 abbrev pub columnAtEntries : List ℤ → List ℤ → ℕ → ℕ → ℕ → ℤ
-columnAtEntries entries a columns rows j = columnUpTo entries a columns (columns + rows) rows j
+columnAtEntries entries a rows columns j = columnUpTo entries a rows columns (columns + rows) rows j
 
 abbrev pub columnsCancel : List ℤ → List ℤ → ℕ → ℕ → Bool
 columnsCancel entries a rows columns =
-    allBelow columns (λ j. eqZ (columnAtEntries entries a columns rows j) (pos 0))
+    allBelow columns (λ j. eqZ (columnAtEntries entries a rows columns j) (pos 0))
 
 -- lower limits times multipliers less upper limits times multipliers, of the first k variables
 unfoldable pub surplusUpTo : Limits → List ℤ → ℕ → ℕ → ℤ

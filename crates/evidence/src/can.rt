@@ -38,16 +38,17 @@ fn row_sum(
     entries: &[i64; Tableau::MOST_ENTRIES],
     answer: &[i64],
     row: RowPlace,
+    rows: usize,
     columns: usize,
 ) -> i64
-    requires { ⌜ (row .0 < mostRows) × (columns ≤ mostColumns) × (3 + columns ≤ length (now answer)) ⌝ }
+    requires { ⌜ (row .0 < rows) × (rows ≤ mostRows) × (columns ≤ mostColumns) × (3 + columns ≤ length (now answer)) ⌝ }
     requires { ⌜ AllWithin (now entries) largestCoefficient ⌝ }
     requires { ⌜ ((v : ℕ) → v < columns → Within (lowerPart (now answer) v) largestNumerator) ⌝ }
-    ensures { λ r. ⌜ r ≡ rowSumAt (now (entries .entry)) (now (answer .entry)) columns (row .0) ⌝ }
+    ensures { λ r. ⌜ r ≡ rowSumAt (now (entries .entry)) (now (answer .entry)) rows columns (row .0) ⌝ }
 {
     let mut sum = 0i64;
     for j in 0..columns {
-        let k = tableau::layout::place(columns, row, tableau::ColumnPlace(j));
+        let k = tableau::layout::place(rows, columns, row, tableau::ColumnPlace(j));
         let at = 3 + j;
         let e = entries[k];
         let x = answer[at];
@@ -72,7 +73,7 @@ fn rows_hold(
     while i < rows {
         let at = 3 + (columns + i);
         let x = answer[at];
-        if x != row_sum(entries, answer, RowPlace(i), columns) {
+        if x != row_sum(entries, answer, RowPlace(i), rows, columns) {
             return false;
         }
         i += 1;

@@ -82,13 +82,13 @@ fn column_sum(
         × (3 + 2 * (columns + rows) ≤ length (now answer)) ⌝ }
     requires { ⌜ AllWithin (now entries) largestCoefficient ⌝ }
     requires { ⌜ Multiplied (now answer) (columns + rows) ⌝ }
-    ensures { λ r. ⌜ r ≡ columnAtEntries (now (entries .entry)) (now (answer .entry)) columns rows (column .0) ⌝ }
+    ensures { λ r. ⌜ r ≡ columnAtEntries (now (entries .entry)) (now (answer .entry)) rows columns (column .0) ⌝ }
 {
     let variables = columns + rows;
     let j = column.0;
     let mut sum = balance(answer, variables, j);
     for i in 0..rows {
-        let k = tableau::layout::place(columns, RowPlace(i), column);
+        let k = tableau::layout::place(rows, columns, RowPlace(i), column);
         let e = entries[k];
         sum = sum + e * balance(answer, variables, columns + i);
     }

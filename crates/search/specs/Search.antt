@@ -24,19 +24,19 @@ use Rattle.search.specs.declared.Next.{Next}
 use Rattle.search.specs.declared.Next.the-variants as variants
 use Rattle.search.specs.Sides.{sideOf, rising, suitsOf}
 
--- the sum of the first k columns of row place i, of n columns
-unfoldable pub partSum : ℕ → List ℤ → List ℤ → ℕ → ℕ → ℤ
-partSum n l x i k = sum k (λ j. entryIn n l i j *ℤ getD x j (pos 0))
+-- the sum of the first k columns of row place i, of m rows and n columns
+unfoldable pub partSum : ℕ → ℕ → List ℤ → List ℤ → ℕ → ℕ → ℤ
+partSum m n l x i k = sum k (λ j. entryIn m n l i j *ℤ getD x j (pos 0))
 
 -- D times the value of the basic variable of row place i, from entries and values
-abbrev pub rowSum : List ℤ → List ℤ → ℕ → ℕ → ℤ
-rowSum l x i n = partSum n l x i n
+abbrev pub rowSum : ℕ → ℕ → List ℤ → List ℤ → ℕ → ℤ
+rowSum m n l x i = partSum m n l x i n
 
 -- ---- the leaving variable
 
 -- D times the value of variable v, if it is basic
 abbrev pub scaledAt : Tableau → ℕ → ℤ
-scaledAt t v = rowSum (t .entries) (t .values) (rowOf t v) (t .columns)
+scaledAt t v = rowSum (t .rows) (t .columns) (t .entries) (t .values) (rowOf t v)
 
 -- .. the side on which it is outside
 abbrev pub sideAt : Tableau → ℕ → Option Side
@@ -59,8 +59,8 @@ leavingAt t = lowest (t .rows + t .columns) (brokenAt t)
 -- ---- the entering variable
 
 -- the nonbasic variable of column place j, with these limits, can move the basic variable of row place i the right way
-unfoldable pub movesAt : ℕ → List ℤ → List ℤ → ℕ → ℕ → Bool → LimitPair → Bool
-movesAt n l x i j rises p = suitsOf rises (entryIn n l i j) (getD x j (pos 0)) p
+unfoldable pub movesAt : ℕ → ℕ → List ℤ → List ℤ → ℕ → ℕ → Bool → LimitPair → Bool
+movesAt m n l x i j rises p = suitsOf rises (entryIn m n l i j) (getD x j (pos 0)) p
 
 -- variable w can move the basic variable of row place i the right way, if it is nonbasic
 abbrev pub fitting : Tableau → ℕ → Side → ℕ → Bool
@@ -119,5 +119,5 @@ pub record Searchable (t : Tableau) : Type 0 where
   pub values-within : (j : ℕ) → Within (valueAt t j) largestLimit
   pub lowers-within : (v : ℕ) → Within (getD (t .limits .lower) v (pos 0)) largestLimit
   pub uppers-within : (v : ℕ) → Within (getD (t .limits .upper) v (pos 0)) largestLimit
-  pub row-seats : (v : ℕ) → v < t .rows + t .columns → seatAt t v .basic ≡ true → rowOf t v < mostRows
+  pub row-seats : (v : ℕ) → v < t .rows + t .columns → seatAt t v .basic ≡ true → rowOf t v < t .rows
   pub column-seats : (v : ℕ) → v < t .rows + t .columns → seatAt t v .basic ≡ false → columnOf t v < t .columns

@@ -45,17 +45,18 @@ pub enum Next {
 pub fn row_value<'a>(
     entries: &'a [i64; Tableau::MOST_ENTRIES],
     values: &'a [i64; Tableau::MOST_COLUMNS],
+    rows: usize,
     columns: usize,
     row: RowPlace,
 ) -> i64
-    requires { ⌜ (columns ≤ mostColumns) × (row .0 < mostRows) ⌝ }
+    requires { ⌜ (rows ≤ mostRows) × (columns ≤ mostColumns) × (row .0 < rows) ⌝ }
     requires { ⌜ ((k : ℕ) → Within (getD (now entries) k (pos 0)) largestNumber) ⌝ }
     requires { ⌜ ((j : ℕ) → Within (getD (now values) j (pos 0)) largestLimit) ⌝ }
-    ensures { λ r. ⌜ r ≡ rowSum (now (entries .entry)) (now (values .entry)) (row .0) columns ⌝ }
+    ensures { λ r. ⌜ r ≡ rowSum rows columns (now (entries .entry)) (now (values .entry)) (row .0) ⌝ }
 {
     let mut sum = 0i64;
     for j in 0..columns {
-        let k = layout::place(columns, row, ColumnPlace(j));
+        let k = layout::place(rows, columns, row, ColumnPlace(j));
         let e = entries[k];
         let x = values[j];
         sum = sum + e * x;
@@ -67,16 +68,18 @@ pub fn row_value<'a>(
 fn can_move<'a>(
     entries: &'a [i64; Tableau::MOST_ENTRIES],
     values: &'a [i64; Tableau::MOST_COLUMNS],
+    rows: usize,
     columns: usize,
     row: RowPlace,
     column: ColumnPlace,
     rises: bool,
     limits: LimitPair,
 ) -> bool
-    requires { ⌜ (columns ≤ mostColumns) × (row .0 < mostRows) × (column .0 < columns) ⌝ }
-    ensures { λ r. ⌜ r ≡ movesAt columns (now (entries .entry)) (now (values .entry)) (row .0) (column .0) rises limits ⌝ }
+    requires { ⌜ (row .0 < rows) × (column .0 < columns) × (rows ≤ mostRows) × (columns ≤ mostColumns) ⌝ }
+    ensures { λ r. ⌜ r
+        ≡ movesAt rows columns (now (entries .entry)) (now (values .entry)) (row .0) (column .0) rises limits ⌝ }
 {
-    let k = layout::place(columns, row, column);
+    let k = layout::place(rows, columns, row, column);
     let e = entries[k];
     let j = column.0;
     let x = values[j];
@@ -109,7 +112,7 @@ pub fn next_step<'a>(
             continue 'search;
         }
         let row = seat.row;
-        let value = row_value(entries, values, columns, row);
+        let value = row_value(entries, values, rows, columns, row);
         let own = sides::limits_of(
             &limits.lowers,
             &limits.lower,
@@ -139,7 +142,7 @@ pub fn next_step<'a>(
                 &limits.upper,
                 w,
             );
-            if can_move(entries, values, columns, row, column, rises, its) {
+            if can_move(entries, values, rows, columns, row, column, rises, its) {
                 break 'search Next::Pivot(Choice {
                     row,
                     column,

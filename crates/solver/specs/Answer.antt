@@ -26,32 +26,33 @@ abbrev pub numeratorFrom : Bool → ℤ → ℤ → ℤ
 numeratorFrom true basic seated = basic
 numeratorFrom false basic seated = seated
 
-unfoldable pub numeratorOf : List ℤ → List ℤ → ℕ → ℤ → Seat → ℤ
-numeratorOf l x columns common s =
-    numeratorFrom (s .basic) (rowSum l x (s .row .0) columns) (common *ℤ getD x (s .column .0) (pos 0))
+unfoldable pub numeratorOf : List ℤ → List ℤ → ℕ → ℕ → ℤ → Seat → ℤ
+numeratorOf l x rows columns common s =
+    numeratorFrom (s .basic) (rowSum rows columns l x (s .row .0)) (common *ℤ getD x (s .column .0) (pos 0))
 
 -- .. of every variable, by the seats
-abbrev pub numeratorIn : List ℤ → List ℤ → List Seat → ℤ → ℕ → ℕ → ℤ
-numeratorIn l x seats common columns v = numeratorOf l x columns common (getD seats v nowhere)
+abbrev pub numeratorIn : List ℤ → List ℤ → List Seat → ℤ → ℕ → ℕ → ℕ → ℤ
+numeratorIn l x seats common rows columns v = numeratorOf l x rows columns common (getD seats v nowhere)
 
 unfoldable pub numeratorsIn : List ℤ → List ℤ → List Seat → ℤ → ℕ → ℕ → List ℤ
 numeratorsIn l x seats common rows columns =
-    filled mostVariables (pos 0) (rows + columns) (numeratorIn l x seats common columns)
+    filled mostVariables (pos 0) (rows + columns) (numeratorIn l x seats common rows columns)
 
 -- .. and of a tableau
 abbrev pub numeratorAt : Tableau → ℕ → ℤ
-numeratorAt t v = numeratorIn (t .entries) (t .values) (t .seats) (t .common) (t .columns) v
+numeratorAt t v = numeratorIn (t .entries) (t .values) (t .seats) (t .common) (t .rows) (t .columns) v
 
 abbrev pub numeratorsAt : Tableau → List ℤ
 numeratorsAt t = numeratorsIn (t .entries) (t .values) (t .seats) (t .common) (t .rows) (t .columns)
 
 -- a seat that is a place, and numbers in range
-pub record Numerable (l x : List ℤ) (columns : ℕ) (common : ℤ) (s : Seat) : Type 0 where
+pub record Numerable (l x : List ℤ) (rows columns : ℕ) (common : ℤ) (s : Seat) : Type 0 where
+  pub few-rows : rows ≤ mostRows
   pub few-columns : columns ≤ mostColumns
   pub common-within : Within common largestNumber
   pub entries-within : (k : ℕ) → Within (getD l k (pos 0)) largestNumber
   pub values-within : (j : ℕ) → Within (getD x j (pos 0)) largestLimit
-  pub in-rows : s .basic ≡ true → s .row .0 < mostRows
+  pub in-rows : s .basic ≡ true → s .row .0 < rows
   pub in-columns : s .basic ≡ false → s .column .0 < columns
 
 -- ---- writing

@@ -28,31 +28,32 @@ relationFrom true false common entry = pos 0
 relationFrom false own common entry = entry
 
 -- .. turned to rise
-unfoldable pub pullOf : List ℤ → ℕ → ℤ → Blocked → Seat → ℤ
-pullOf l columns common b x = pull (sideBy (b .rises))
-    (relationFrom (x .basic) (eqb (x .row .0) (b .row .0)) common (entryIn columns l (b .row .0) (x .column .0)))
+unfoldable pub pullOf : List ℤ → ℕ → ℕ → ℤ → Blocked → Seat → ℤ
+pullOf l rows columns common b x = pull (sideBy (b .rises))
+    (relationFrom (x .basic) (eqb (x .row .0) (b .row .0)) common (entryIn rows columns l (b .row .0) (x .column .0)))
 
 -- .. at every variable, by the seats
-abbrev pub pullIn : List ℤ → List Seat → ℕ → ℤ → Blocked → ℕ → ℤ
-pullIn l seats columns common b v = pullOf l columns common b (getD seats v nowhere)
+abbrev pub pullIn : List ℤ → List Seat → ℕ → ℕ → ℤ → Blocked → ℕ → ℤ
+pullIn l seats rows columns common b v = pullOf l rows columns common b (getD seats v nowhere)
 
 unfoldable pub multipliersIn : List ℤ → List Seat → ℤ → ℕ → ℕ → Blocked → Multipliers
 multipliersIn l seats common rows columns b = record {
-  lower = filled mostVariables (pos 0) (rows + columns) (λ v. positive (negℤ (pullIn l seats columns common b v)));
-  upper = filled mostVariables (pos 0) (rows + columns) (λ v. positive (pullIn l seats columns common b v));
+  lower = filled mostVariables (pos 0) (rows + columns) (λ v. positive (negℤ (pullIn l seats rows columns common b v)));
+  upper = filled mostVariables (pos 0) (rows + columns) (λ v. positive (pullIn l seats rows columns common b v));
 }
 
 -- .. and of a tableau
 abbrev pub pullAt : Tableau → Blocked → ℕ → ℤ
-pullAt t b v = pullIn (t .entries) (t .seats) (t .columns) (t .common) b v
+pullAt t b v = pullIn (t .entries) (t .seats) (t .rows) (t .columns) (t .common) b v
 
 abbrev pub multipliersAt : Tableau → Blocked → Multipliers
 multipliersAt t b = multipliersIn (t .entries) (t .seats) (t .common) (t .rows) (t .columns) b
 
 -- a row place, and a seat that is a column place where it is not basic
-pub record Blockable (l : List ℤ) (columns : ℕ) (common : ℤ) (i : ℕ) (x : Seat) : Type 0 where
+pub record Blockable (l : List ℤ) (rows columns : ℕ) (common : ℤ) (i : ℕ) (x : Seat) : Type 0 where
+  pub few-rows : rows ≤ mostRows
   pub few-columns : columns ≤ mostColumns
   pub common-within : Within common largestNumber
   pub entries-within : (k : ℕ) → Within (getD l k (pos 0)) largestNumber
-  pub in-rows : i < mostRows
+  pub in-rows : i < rows
   pub in-columns : x .basic ≡ false → x .column .0 < columns

@@ -7,7 +7,6 @@ use lib.IntN.{ℤ, pos}
 use Rattle.whole.specs.Values.{whole}
 use Rattle.rules.specs.Problem.{Problem}
 use Rattle.rules.specs.Run.{conflict}
-use Rattle.rules.specs.Sizes.{mostRows}
 use Rattle.rules.specs.Step.{State}
 use Rattle.rules.proofs.Sound.{Ready}
 use Rattle.tableau.specs.declared.Tableau.{Tableau}
@@ -47,7 +46,7 @@ endWords ends.Range k t N = wordsAt verdicts.Range k (pos 0) N noughts noughts
 pub record Tellable (e : End) (k : ℕ) (t : Tableau) : Type 0 where
   pub searchable : Searchable t
   pub counted : k < mostCount
-  pub row-in : (b : Blocked) → e ≡ ends.Cannot b → b .row .0 < mostRows
+  pub row-in : (b : Blocked) → e ≡ ends.Cannot b → b .row .0 < t .rows
 
 -- ---- where a run may start
 

@@ -31,15 +31,16 @@ fn number_of(verdict: Verdict) -> i64
 fn numerator_of<'a>(
     entries: &'a [i64; Tableau::MOST_ENTRIES],
     values: &'a [i64; Tableau::MOST_COLUMNS],
+    rows: usize,
     columns: usize,
     common: i64,
     seat: Seat,
 ) -> i64
-    requires { ⌜ Numerable (now entries) (now values) columns common seat ⌝ }
-    ensures { λ r. ⌜ r ≡ numeratorOf (now (entries .entry)) (now (values .entry)) columns common seat ⌝ }
+    requires { ⌜ Numerable (now entries) (now values) rows columns common seat ⌝ }
+    ensures { λ r. ⌜ r ≡ numeratorOf (now (entries .entry)) (now (values .entry)) rows columns common seat ⌝ }
 {
     if seat.basic {
-        return search::row_value(entries, values, columns, seat.row);
+        return search::row_value(entries, values, rows, columns, seat.row);
     }
     let column = seat.column;
     let j = column.0;
@@ -57,14 +58,15 @@ pub fn numerators_of<'a>(
     columns: usize,
 ) -> [i64; Tableau::MOST_VARIABLES]
     requires { ⌜ (rows ≤ mostRows) × (columns ≤ mostColumns) ⌝ }
-    requires { ⌜ ((v : ℕ) → v < rows + columns → Numerable (now entries) (now values) columns common (getD seats v nowhere)) ⌝ }
+    requires { ⌜ ((v : ℕ) → v < rows + columns →
+        Numerable (now entries) (now values) rows columns common (getD seats v nowhere)) ⌝ }
     ensures { λ r. ⌜ r ≡ numeratorsIn (now (entries .entry)) (now (values .entry)) seats common rows columns ⌝ }
 {
     let variables = rows + columns;
     let mut numerators = [0i64; Tableau::MOST_VARIABLES];
     for v in 0..variables {
         let seat = seats[v];
-        numerators[v] = numerator_of(entries, values, columns, common, seat);
+        numerators[v] = numerator_of(entries, values, rows, columns, common, seat);
     }
     numerators
 }

@@ -60,17 +60,18 @@ fn turned(rises: bool, entry: i64) -> i64
 // the other basic ones.
 fn pull_of(
     entries: &[i64; Tableau::MOST_ENTRIES],
+    rows: usize,
     columns: usize,
     common: i64,
     blocked: Blocked,
     seat: Seat,
 ) -> i64
-    requires { ⌜ Blockable (now entries) columns common (blocked .row .0) seat ⌝ }
-    ensures { λ r. ⌜ r ≡ pullOf (now (entries .entry)) columns common blocked seat ⌝ }
+    requires { ⌜ Blockable (now entries) rows columns common (blocked .row .0) seat ⌝ }
+    ensures { λ r. ⌜ r ≡ pullOf (now (entries .entry)) rows columns common blocked seat ⌝ }
 {
     let row = blocked.row;
     if !seat.basic {
-        let k = layout::place(columns, row, seat.column);
+        let k = layout::place(rows, columns, row, seat.column);
         let e = entries[k];
         return turned(blocked.rises, e);
     }
@@ -93,7 +94,8 @@ pub fn multipliers_of(
     blocked: Blocked,
 ) -> Multipliers
     requires { ⌜ (rows ≤ mostRows) × (columns ≤ mostColumns) ⌝ }
-    requires { ⌜ ((v : ℕ) → v < rows + columns → Blockable (now entries) columns common (blocked .row .0) (getD seats v nowhere)) ⌝ }
+    requires { ⌜ ((v : ℕ) → v < rows + columns →
+        Blockable (now entries) rows columns common (blocked .row .0) (getD seats v nowhere)) ⌝ }
     ensures { λ r. ⌜ r ≡ multipliersIn (now (entries .entry)) seats common rows columns blocked ⌝ }
 {
     let variables = rows + columns;
@@ -101,7 +103,7 @@ pub fn multipliers_of(
     let mut upper = [0i64; Tableau::MOST_VARIABLES];
     for v in 0..variables {
         let seat = seats[v];
-        let y = pull_of(entries, columns, common, blocked, seat);
+        let y = pull_of(entries, rows, columns, common, blocked, seat);
         lower[v] = positive(-y);
         upper[v] = positive(y);
     }

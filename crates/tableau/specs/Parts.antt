@@ -27,17 +27,17 @@ column j = record { 0 = j }
 abbrev pub nowhere : Seat
 nowhere = record { basic = false; row = row 0; column = column 0 }
 
--- the places of flat place k, for n columns
-abbrev pub spotAt : ℕ → ℕ → Spot
-spotAt n k = record { row = row (rowAt n k); column = column (columnAt n k) }
+-- the places of flat place k, for m rows and n columns
+abbrev pub spotAt : ℕ → ℕ → ℕ → Spot
+spotAt m n k = record { row = row (rowAt m n k); column = column (columnAt m n k) }
 
--- the number at a row place and a column place of an array of entries, for n columns
-abbrev pub entryIn : ℕ → List ℤ → ℕ → ℕ → ℤ
-entryIn n l i j = getD l (flat n i j) (pos 0)
+-- the number at a row place and a column place of an array of entries
+abbrev pub entryIn : ℕ → ℕ → List ℤ → ℕ → ℕ → ℤ
+entryIn m n l i j = getD l (flat m n i j) (pos 0)
 
 -- .. of the tableau, and the number at flat place k
 abbrev pub cellAt : Tableau → ℕ → ℕ → ℤ
-cellAt t i j = entryIn (t .columns) (t .entries) i j
+cellAt t i j = entryIn (t .rows) (t .columns) (t .entries) i j
 
 abbrev pub cell : Tableau → ℕ → ℤ
 cell t k = getD (t .entries) k (pos 0)

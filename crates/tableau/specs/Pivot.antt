@@ -41,18 +41,18 @@ pub record Cells (t : Tableau) : Type 0 where
   pub common-within : Within (t .common) largestNumber
   pub cell-within : (k : ℕ) → Within (cell t k) largestNumber
 
--- the number of row place i and column place j after the pivot of row place p and column place q, for n columns
-unfoldable pub mixedCell : ℕ → ℤ → List ℤ → ℕ → ℕ → ℕ → ℕ → ℤ
-mixedCell n common l p q i j =
-    mixedOf (eqb i p) (eqb j q) common (entryIn n l p q) (entryIn n l i j) (entryIn n l i q) (entryIn n l p j)
+-- the number of row place i and column place j after the pivot of row place p and column place q
+unfoldable pub mixedCell : ℕ → ℕ → ℤ → List ℤ → ℕ → ℕ → ℕ → ℕ → ℤ
+mixedCell m n common l p q i j =
+    mixedOf (eqb i p) (eqb j q) common (entryIn m n l p q) (entryIn m n l i j) (entryIn m n l i q) (entryIn m n l p j)
 
 -- .. and at flat place k
-abbrev pub mixedAt : ℕ → ℤ → List ℤ → ℕ → ℕ → ℕ → ℤ
-mixedAt n common l p q k = mixedCell n common l p q (rowAt n k) (columnAt n k)
+abbrev pub mixedAt : ℕ → ℕ → ℤ → List ℤ → ℕ → ℕ → ℕ → ℤ
+mixedAt m n common l p q k = mixedCell m n common l p q (rowAt m n k) (columnAt m n k)
 
--- the first k cells after the pivot, the others 0
+-- all of them, the cells that are not in use 0
 abbrev pub mixedEntries : ℕ → ℕ → ℤ → List ℤ → ℕ → ℕ → List ℤ
-mixedEntries n k common l p q = filled mostEntries (pos 0) k (mixedAt n common l p q)
+mixedEntries m n common l p q = filled mostEntries (pos 0) (live m n) (mixedAt m n common l p q)
 
 -- ---- reduction
 
@@ -74,10 +74,10 @@ smallBelow k l common = inRange common && allBelow k (λ i. inRange (getD l i (p
 module _ (m n : ℕ) (l : List ℤ) (common : ℤ) (p q : ℕ) where
   -- the common number and the entries before reduction, and what they are divided by
   abbrev pub product : ℤ
-  product = entryIn n l p q *ℤ common
+  product = entryIn m n l p q *ℤ common
 
   abbrev pub mix : List ℤ
-  mix = mixedEntries n (live m n) common l p q
+  mix = mixedEntries m n common l p q
 
   abbrev pub by : ℤ
   by = signedBy product (divisorBelow (live m n) mix product)
@@ -111,7 +111,7 @@ pub record Pivotable (m n : ℕ) (l : List ℤ) (common : ℤ) (p q : ℕ) : Typ
   pub common-within : Within common largestNumber
   pub all-within : AllWithin l largestNumber
   pub common-nonzero : common ≢ pos 0
-  pub pivot-nonzero : entryIn n l p q ≢ pos 0
+  pub pivot-nonzero : entryIn m n l p q ≢ pos 0
 
 -- the tableau with another common number and other entries
 abbrev pub withNumbers : Tableau → ℤ → List ℤ → Tableau

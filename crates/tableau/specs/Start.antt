@@ -19,7 +19,9 @@ use Rattle.tableau.specs.Layout.{mostEntries, rowAt, columnAt, live}
 use Rattle.tableau.specs.Parts.{variable, row, column, lowerOf, upperOf}
 
 abbrev pub startEntries : Problem ℤ → List ℤ
-startEntries P = filled mostEntries (pos 0) (live (P .m) (P .n)) (λ k. P .coefficient (rowAt (P .n) k) (columnAt (P .n) k))
+startEntries P =
+    filled mostEntries (pos 0) (live (P .m) (P .n))
+    (λ k. P .coefficient (rowAt (P .m) (P .n) k) (columnAt (P .m) (P .n) k))
 
 -- ---- places, for n columns in use
 

@@ -1,9 +1,9 @@
 // Where the entry of a row place and a column place lies in the flat array, and in which order the places follow there.
 // Nothing else in the code says it.
 ghost use mathlib.Core.Path.{_≡_};
-ghost use Prim.Native.Nat.{ℕ, _+_, _*_, _≤_, _<_};
+ghost use Prim.Native.Nat.{ℕ, _+_, _≤_, _<_};
 ghost use Rattle.rules.specs.Sizes.{mostRows, mostColumns};
-ghost use Rattle.tableau.specs.Layout.{flat, rowAt, columnAt};
+ghost use Rattle.tableau.specs.Layout.{flat};
 ghost use Rattle.tableau.specs.Layout as layout;
 ghost use Rattle.tableau.specs.Parts.{spotAt};
 use crate::ColumnPlace;
@@ -16,16 +16,16 @@ pub struct Spot {
 }
 
 // The flat place.
-pub fn place(columns: usize, row: RowPlace, column: ColumnPlace) -> usize
-    requires { ⌜ (row .0 < mostRows) × (column .0 < columns) × (columns ≤ mostColumns) ⌝ }
-    ensures { λ r. ⌜ r ≡ flat columns (row .0) (column .0) ⌝ }
+pub fn place(rows: usize, columns: usize, row: RowPlace, column: ColumnPlace) -> usize
+    requires { ⌜ (row .0 < rows) × (column .0 < columns) × (rows ≤ mostRows) × (columns ≤ mostColumns) ⌝ }
+    ensures { λ r. ⌜ r ≡ flat rows columns (row .0) (column .0) ⌝ }
 {
     row.0 * columns + column.0
 }
 
 // The spot of flat place 0.
 pub fn first() -> Spot
-    ensures { λ r. ⌜ ((n : ℕ) → r ≡ spotAt n 0) ⌝ }
+    ensures { λ r. ⌜ ((m n : ℕ) → r ≡ spotAt m n 0) ⌝ }
 {
     Spot {
         row: RowPlace(0),
@@ -34,9 +34,9 @@ pub fn first() -> Spot
 }
 
 // The spot of the next flat place.
-pub fn after(columns: usize, spot: Spot) -> Spot
-    requires { ⌜ (spot .row .0 < mostRows) × (spot .column .0 < columns) ⌝ }
-    ensures { λ r. ⌜ ((k : ℕ) → spot ≡ spotAt columns k → r ≡ spotAt columns (k + 1)) ⌝ }
+pub fn after(rows: usize, columns: usize, spot: Spot) -> Spot
+    requires { ⌜ (spot .row .0 < rows) × (spot .column .0 < columns) ⌝ }
+    ensures { λ r. ⌜ ((k : ℕ) → spot ≡ spotAt rows columns k → r ≡ spotAt rows columns (k + 1)) ⌝ }
 {
     let row = spot.row;
     let column = spot.column;
@@ -51,13 +51,6 @@ pub fn after(columns: usize, spot: Spot) -> Spot
         row,
         column: ColumnPlace(next),
     }
-}
-
-// Which coefficient belongs to flat place k; they are handed in row by row.
-pub fn coefficient_for(k: usize) -> usize
-    ensures { λ r. ⌜ ((n : ℕ) → r ≡ rowAt n k * n + columnAt n k) ⌝ }
-{
-    k
 }
 
 // From here on no cell is in use.

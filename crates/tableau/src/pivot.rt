@@ -9,7 +9,6 @@ ghost use lib.IntN.{_*ℤ_, _-ℤ_};
 ghost use Rattle.whole.specs.Numbers.{Within, AllWithin};
 ghost use Rattle.divisor.specs.Cells.{largestSize};
 ghost use Rattle.rules.specs.Sizes.{mostRows, mostColumns, largestNumber};
-ghost use Rattle.tableau.specs.Layout.{live};
 ghost use Rattle.tableau.specs.Pivot.{mixedOf, mixedCell, mixedEntries, Mixable, signedBy};
 ghost use Rattle.tableau.specs.Pivot.{Pivotable, fitsAfter, commonAfter, entriesAfter, pivotedBy, entriesBy};
 use crate::ColumnPlace;
@@ -55,6 +54,7 @@ fn mixed(
 // The entry at row place i and column place j after a pivot, before reduction.
 fn mixed_at(
     entries: &[i64; Tableau::MOST_ENTRIES],
+    rows: usize,
     columns: usize,
     common: i64,
     row: RowPlace,
@@ -62,16 +62,16 @@ fn mixed_at(
     i: RowPlace,
     j: ColumnPlace,
 ) -> i64
-    requires { ⌜ (row .0 < mostRows) × (column .0 < columns) × (columns ≤ mostColumns) ⌝ }
-    requires { ⌜ (i .0 < mostRows) × (j .0 < columns) ⌝ }
+    requires { ⌜ (row .0 < rows) × (column .0 < columns) × (rows ≤ mostRows) × (columns ≤ mostColumns) ⌝ }
+    requires { ⌜ (i .0 < rows) × (j .0 < columns) ⌝ }
     requires { ⌜ Within common largestNumber ⌝ }
     requires { ⌜ AllWithin (now entries) largestNumber ⌝ }
-    ensures { λ r. ⌜ r ≡ mixedCell columns common (now (entries .entry)) (row .0) (column .0) (i .0) (j .0) ⌝ }
+    ensures { λ r. ⌜ r ≡ mixedCell rows columns common (now (entries .entry)) (row .0) (column .0) (i .0) (j .0) ⌝ }
 {
-    let at = layout::place(columns, row, column);
-    let owns = layout::place(columns, i, j);
-    let besides = layout::place(columns, i, column);
-    let aboves = layout::place(columns, row, j);
+    let at = layout::place(rows, columns, row, column);
+    let owns = layout::place(rows, columns, i, j);
+    let besides = layout::place(rows, columns, i, column);
+    let aboves = layout::place(rows, columns, row, j);
     let pivot = entries[at];
     let own = entries[owns];
     let beside = entries[besides];
@@ -96,17 +96,26 @@ fn mixed_entries(
     row: RowPlace,
     column: ColumnPlace,
 ) -> [i64; Tableau::MOST_ENTRIES]
-    requires { ⌜ (row .0 < mostRows) × (column .0 < columns) × (rows ≤ mostRows) × (columns ≤ mostColumns) ⌝ }
+    requires { ⌜ (row .0 < rows) × (column .0 < columns) × (rows ≤ mostRows) × (columns ≤ mostColumns) ⌝ }
     requires { ⌜ Within common largestNumber ⌝ }
     requires { ⌜ AllWithin (now entries) largestNumber ⌝ }
-    ensures { λ r. ⌜ r ≡ mixedEntries columns (live rows columns) common (now (entries .entry)) (row .0) (column .0) ⌝ }
+    ensures { λ r. ⌜ r ≡ mixedEntries rows columns common (now (entries .entry)) (row .0) (column .0) ⌝ }
 {
     let end = layout::live(rows, columns);
     let mut out = [0i64; Tableau::MOST_ENTRIES];
     let mut spot = layout::first();
     for k in 0..end {
-        out[k] = mixed_at(entries, columns, common, row, column, spot.row, spot.column);
-        spot = layout::after(columns, spot);
+        out[k] = mixed_at(
+            entries,
+            rows,
+            columns,
+            common,
+            row,
+            column,
+            spot.row,
+            spot.column,
+        );
+        spot = layout::after(rows, columns, spot);
     }
     out
 }
@@ -146,7 +155,7 @@ pub fn pivot(
         ≡ entriesBy (fitsAfter rows columns (now (entries .entry)) common (row .0) (column .0)) (now (entries .entry))
         (entriesAfter rows columns (now (entries .entry)) common (row .0) (column .0)) ⌝ }
 {
-    let at = layout::place(columns, row, column);
+    let at = layout::place(rows, columns, row, column);
     let end = layout::live(rows, columns);
     let product = entries[at] * common;
     let mut cells = mixed_entries(entries, rows, columns, common, row, column);

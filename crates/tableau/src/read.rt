@@ -29,6 +29,21 @@ fn number_at(words: &[i32], at: usize) -> i64
     words[at] as i64
 }
 
+// One coefficient. They are handed in row by row.
+fn coefficient_at(
+    words: &[i32],
+    columns: usize,
+    rows: usize,
+    row: RowPlace,
+    column: ColumnPlace,
+) -> i64
+    requires { ⌜ Framed (now words) columns rows ⌝ }
+    requires { ⌜ (row .0 < rows) × (column .0 < columns) ⌝ }
+    ensures { λ r. ⌜ r ≡ problem (now (words .entry)) .coefficient (row .0) (column .0) ⌝ }
+{
+    number_at(words, 2 + (row.0 * columns + column.0))
+}
+
 // All entries.
 fn start_entries(words: &[i32], columns: usize, rows: usize) -> [i64; Tableau::MOST_ENTRIES]
     requires { ⌜ Framed (now words) columns rows ⌝ }
@@ -36,8 +51,10 @@ fn start_entries(words: &[i32], columns: usize, rows: usize) -> [i64; Tableau::M
 {
     let end = layout::live(rows, columns);
     let mut entries = [0i64; Tableau::MOST_ENTRIES];
+    let mut spot = layout::first();
     for k in 0..end {
-        entries[k] = number_at(words, 2 + layout::coefficient_for(k));
+        entries[k] = coefficient_at(words, columns, rows, spot.row, spot.column);
+        spot = layout::after(rows, columns, spot);
     }
     entries
 }

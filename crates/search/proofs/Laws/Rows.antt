@@ -14,7 +14,6 @@ use Rattle.whole.proofs.Bools.{true-false}
 use Rattle.whole.proofs.Places.{sum-places}
 use Rattle.whole.proofs.Sums.{sum-same}
 use Rattle.rules.specs.Problem.{Problem, vars}
-use Rattle.rules.specs.Sizes.{mostRows}
 use Rattle.rules.specs.Step.{State, scaled, seat, seated}
 use Rattle.rules.specs.Tableau.{entry}
 use Rattle.rules.proofs.Sound.{Rowed}
@@ -48,7 +47,7 @@ module _ (P : Problem ℤ) (t : Tableau) (s : State ℤ) (St : Stands P t s) whe
             ∙ zero-*ℤ (seated whole (seat s u)))
         go (some x) f = let a = St .placed .has-column u x k f in inl (columnOf t u, a .in-columns, a .holds)
 
-    pub row-is : rowSum (t .entries) (t .values) (rowOf t v) (t .columns) ≡ scaled whole P s v
+    pub row-is : rowSum (t .rows) (t .columns) (t .entries) (t .values) (rowOf t v) ≡ scaled whole P s v
     unfolding partSum scaled term
     row-is = ap (λ n. sum n (λ j. cellAt t (rowOf t v) j *ℤ valueAt t j)) (St .sized .columns-is)
         ∙ sum-same (P .n) (λ j. cellAt t (rowOf t v) j *ℤ valueAt t j) (λ j. term (nonbasicAt t j)) term-is
@@ -72,8 +71,8 @@ module _ (P : Problem ℤ) (t : Tableau) (s : State ℤ) (St : Stands P t s) whe
     column-seats = λ v h e. in-a-column v (in-vars v h) e (seat s v) refl;
   }
     where
-      in-a-row : (v : ℕ) → v < vars P → seatAt t v .basic ≡ true → (o : Option ℤ) → seat s v ≡ o → rowOf t v < mostRows
-      in-a-row v h e none f = let a = St .placed .has-row v h f .in-rows in let b = St .sized .few-rows in omega arith
+      in-a-row : (v : ℕ) → v < vars P → seatAt t v .basic ≡ true → (o : Option ℤ) → seat s v ≡ o → rowOf t v < t .rows
+      in-a-row v h e none f = rw (St .sized .rows-is) (St .placed .has-row v h f .in-rows)
       in-a-row v h e (some x) f = true-false e (St .placed .has-column v x h f .flag)
 
       in-a-column : (v : ℕ) → v < vars P → seatAt t v .basic ≡ false → (o : Option ℤ) → seat s v ≡ o →

@@ -47,7 +47,8 @@ tagged-short Q v true (some σ) short h r e = let z : _≡_ {A = Leaving ℤ} (l
 module _ (t : Tableau) (S : Searchable t) where
   pub scaled-within : (v : ℕ) → Within (scaledAt t v) largestNumerator
   scaled-within v =
-      within-le (row-within (t .columns) (t .entries) (t .values) (rowOf t v) (S .cells .cell-within) (S .values-within) (t .columns))
+      within-le (row-within (t .rows) (t .columns) (t .entries) (t .values) (rowOf t v)
+      (S .cells .cell-within) (S .values-within) (t .columns))
       (let h : t .columns ≤ mostColumns = S .few-columns in omega arith)
 
   short-within : (v : ℕ) (σ : Side) → Within (shortAt t v σ) largestShortfall

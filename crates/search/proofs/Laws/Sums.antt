@@ -16,17 +16,17 @@ use Rattle.tableau.specs.Layout.{flat}
 use Rattle.tableau.specs.Parts.{entryIn}
 use Rattle.search.specs.Search.{partSum}
 
-module _ (n : ℕ) (l x : List ℤ) (i : ℕ) where
-  pub row-more : (j : ℕ) → partSum n l x i (j + 1) ≡ partSum n l x i j +ℤ entryIn n l i j *ℤ getD x j (pos 0)
+module _ (m n : ℕ) (l x : List ℤ) (i : ℕ) where
+  pub row-more : (j : ℕ) → partSum m n l x i (j + 1) ≡ partSum m n l x i j +ℤ entryIn m n l i j *ℤ getD x j (pos 0)
   unfolding partSum sumBy
   row-more j = rw add-one refl
 
   module _ (h : (k : ℕ) → Within (getD l k (pos 0)) largestNumber)
       (g : (j : ℕ) → Within (getD x j (pos 0)) largestLimit) where
-    term-within : (j : ℕ) → Within (entryIn n l i j *ℤ getD x j (pos 0)) (largestNumber * largestLimit)
-    term-within j = within-* (h (flat n i j)) (g j)
+    term-within : (j : ℕ) → Within (entryIn m n l i j *ℤ getD x j (pos 0)) (largestNumber * largestLimit)
+    term-within j = within-* (h (flat m n i j)) (g j)
 
-    pub row-within : (k : ℕ) → Within (partSum n l x i k) (k * (largestNumber * largestLimit))
+    pub row-within : (k : ℕ) → Within (partSum m n l x i k) (k * (largestNumber * largestLimit))
     unfolding partSum sumBy
     row-within zero = record { within = omega arith }
     row-within (suc k) = within-le (within-+ (row-within k) (term-within k))

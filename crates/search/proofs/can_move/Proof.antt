@@ -20,7 +20,8 @@ place-requires c κs = search needs
 
 place-in : (c : tie.After-place) → c .place .result < mostEntries
 place-in c = let s = c .before in
-    rw (c .place .ensures) (flat-in (s .args .columns) (s .args .row .0) (s .args .column .0) (s .pre .2) (s .pre .1) (s .pre .0))
+    rw (c .place .ensures) (flat-in (s .args .rows) (s .args .columns) (s .args .row .0) (s .args .column .0)
+    (s .pre .0) (s .pre .1) (s .pre .2) (s .pre .3))
 
 mul-e : tie.Need-mul-e
 mul-e c = let z = place-in c in omega arith

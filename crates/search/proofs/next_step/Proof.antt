@@ -13,7 +13,7 @@ use mir.Val.{SFits, ofZ, toZ}
 use Rattle.whole.specs.Below.{lowest}
 use Rattle.whole.proofs.Turns.{lowest-start, lowest-more, lowest-here}
 use Rattle.whole.specs.Numbers.{Within}
-use Rattle.rules.specs.Sizes.{largestNumerator, mostRows, mostVariables}
+use Rattle.rules.specs.Sizes.{largestNumerator, mostVariables}
 use Rattle.rules.specs.Step.{leaves}
 use Rattle.tableau.specs.declared.Tableau.{Tableau}
 use Rattle.tableau.specs.Parts.{seatAt, rowOf, lowerOf, upperOf}
@@ -115,12 +115,12 @@ module _ (c : tie.Else2 Inv-loop μ-loop Inv-search μ-search) where
   is-basic : seatAt (old outer) (number outer) .basic ≡ true
   is-basic = not-false _ (c .if2 .left)
 
-  row-small : rowOf (old outer) (number outer) < mostRows
+  row-small : rowOf (old outer) (number outer) < old outer .rows
   row-small = start outer .pre .row-seats (number outer) (in-range outer) is-basic
 
 row-value-requires : tie.Need-row-value-requires Inv-loop μ-loop Inv-search μ-search
 row-value-requires c κs = let o = c .before in let s = start (outer o) in
-    ((s .pre .few-columns, row-small o), (s .pre .cells .cell-within, s .pre .values-within))
+    ((s .pre .few-rows, s .pre .few-columns, row-small o), (s .pre .cells .cell-within, s .pre .values-within))
 
 limits-of-requires : tie.Need-limits-of-requires Inv-loop μ-loop Inv-search μ-search
 limits-of-requires c κs = omega arith
@@ -259,8 +259,12 @@ module _ (c : tie.After-limits-of2 Inv-loop μ-loop Inv-search μ-search) where
   is-free = free-one .if4 .left
 
 can-move-requires : tie.Need-can-move-requires Inv-loop μ-loop Inv-search μ-search
-can-move-requires c κs = let p = start (it c) .pre in let n = inner c in
-    (p .few-columns, row-small (basic-one (outside n .before)), p .column-seats (other n) (other-range n) (is-free c))
+can-move-requires c κs = let p = start (it c) .pre in let n = inner c in (
+  row-small (basic-one (outside n .before)),
+  p .column-seats (other n) (other-range n) (is-free c),
+  p .few-rows,
+  p .few-columns,
+)
 
 -- whether it can move the leaving one
 module _ (c : tie.After-can-move Inv-loop μ-loop Inv-search μ-search) where

@@ -21,17 +21,18 @@ use Rattle.search.proofs.row_value.Statement.{statement}
 use Rattle.search.proofs.row_value.Tie as tie
 
 abbrev Inv-loop : tie.InvT-loop
-Inv-loop entries values columns row sum₀ j₀ sum j = (j ≤ columns) × (toZ w64 sum ≡ partSum columns entries values (row .0) j)
+Inv-loop entries values rows columns row sum₀ j₀ sum j =
+    (j ≤ columns) × (toZ w64 sum ≡ partSum rows columns entries values (row .0) j)
 
 abbrev μ-loop : tie.MeasureT-loop
-μ-loop entries values columns row sum₀ j₀ sum j = columns - j
+μ-loop entries values rows columns row sum₀ j₀ sum j = columns - j
 
 loop-holds : tie.Need-loop-holds Inv-loop μ-loop
 unfolding partSum sumBy
 loop-holds c = (omega arith, refl)
 
 place-requires : tie.Need-place-requires Inv-loop μ-loop
-place-requires c κs = (omega arith, omega arith, omega arith)
+place-requires c κs = (omega arith, omega arith, omega arith, omega arith)
 
 -- at a column
 module _ (c : tie.After-place Inv-loop μ-loop) where
@@ -41,11 +42,12 @@ module _ (c : tie.After-place Inv-loop μ-loop) where
   abbrev column-at : ℕ
   column-at = c .before .before .loop .j
 
-  place-is : c .place .result ≡ flat (start .args .columns) (start .args .row .0) column-at
+  place-is : c .place .result ≡ flat (start .args .rows) (start .args .columns) (start .args .row .0) column-at
   place-is = c .place .ensures
 
   place-in : c .place .result < mostEntries
-  place-in = rw place-is (flat-in (start .args .columns) (start .args .row .0) column-at (omega arith) (omega arith) (omega arith))
+  place-in = rw place-is (flat-in (start .args .rows) (start .args .columns) (start .args .row .0) column-at
+      (omega arith) (omega arith) (omega arith) (omega arith))
 
 mul-e : tie.Need-mul-e Inv-loop μ-loop
 mul-e c = let z = place-in c in omega arith
@@ -70,7 +72,8 @@ module _ (c : tie.After-x Inv-loop μ-loop) where
   value = getD (start here .args .values .now) (column-at here) (pos 0)
 
   abbrev old : ℤ
-  old = partSum (start here .args .columns) (start here .args .entries .now) (start here .args .values .now) (start here .args .row .0) (column-at here)
+  old = let s = start here .args in
+      partSum (s .rows) (s .columns) (s .entries .now) (s .values .now) (s .row .0) (column-at here)
 
   fit-entry : SFits w64 entry
   fit-entry = sfits-of (c .before .e .given)
@@ -85,7 +88,8 @@ module _ (c : tie.After-x Inv-loop μ-loop) where
   fit-term = fits-by within-term tt
 
   within-old : Within old (mostColumns * (largestNumber * largestLimit))
-  within-old = within-le (row-within (start here .args .columns) (start here .args .entries .now) (start here .args .values .now) (start here .args .row .0)
+  within-old = let s = start here .args in
+      within-le (row-within (s .rows) (s .columns) (s .entries .now) (s .values .now) (s .row .0)
       (start here .pre .1 .0) (start here .pre .1 .1) (column-at here))
       (let h : column-at here < mostColumns = omega arith in omega arith)
 
@@ -109,7 +113,7 @@ loop-again c = let s = start (here c) .args in (
   omega arith,
   simp (toZ-ofZ (fit-entry c), toZ-ofZ (fit-value c), toZ-ofZ (fit-term c), here c .before .before .loop .inv .1, toZ-ofZ (fit-sum c))
       (ap (λ k. old c +ℤ getD (s .entries .now) k (pos 0) *ℤ value c) (place-is (here c))
-      ∙ sym (row-more (s .columns) (s .entries .now) (s .values .now) (s .row .0) (column-at (here c)))),
+      ∙ sym (row-more (s .rows) (s .columns) (s .entries .now) (s .values .now) (s .row .0) (column-at (here c)))),
 )
 
 all : (c : tie.After-loop Inv-loop μ-loop) → c .before .loop .j ≡ c .before .before .args .columns
@@ -117,7 +121,7 @@ all c = omega arith
 
 returns : tie.Need-returns Inv-loop μ-loop
 returns c = let s = c .before .before .args in
-    c .before .loop .inv .1 ∙ ap (partSum (s .columns) (s .entries .now) (s .values .now) (s .row .0)) (all c)
+    c .before .loop .inv .1 ∙ ap (partSum (s .rows) (s .columns) (s .entries .now) (s .values .now) (s .row .0)) (all c)
 
 pub row-value-spec : {M : Type 1} → statement M
 row-value-spec =

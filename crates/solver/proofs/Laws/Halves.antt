@@ -70,7 +70,7 @@ module _ {P : Problem ℤ} {t : Tableau} {s : State ℤ} (St : Stands P t s) (R 
   numerator-is v h = go (seat s v) refl
     where
       basic : ℤ
-      basic = rowSum (t .entries) (t .values) (rowOf t v) (t .columns)
+      basic = rowSum (t .rows) (t .columns) (t .entries) (t .values) (rowOf t v)
 
       seated : ℤ
       seated = t .common *ℤ valueAt t (columnOf t v)

@@ -26,9 +26,9 @@ relation-within true true d a h k = within-neg h
 relation-within true false d a h k = record { within = omega arith }
 relation-within false own d a h k = k
 
-pub pull-within : {l : List ℤ} {columns : ℕ} {d : ℤ} (b : Blocked) (x : Seat) → Blockable l columns d (b .row .0) x →
-    Within (pullOf l columns d b x) largestNumber
+pub pull-within : {l : List ℤ} {rows columns : ℕ} {d : ℤ} (b : Blocked) (x : Seat) →
+    Blockable l rows columns d (b .row .0) x → Within (pullOf l rows columns d b x) largestNumber
 unfolding pullOf
-pull-within {columns} {d} b x B = pulled-within (sideBy (b .rises)) _
+pull-within {rows} {columns} {d} b x B = pulled-within (sideBy (b .rises)) _
     (relation-within (x .basic) (eqb (x .row .0) (b .row .0)) d _ (B .common-within)
-    (B .entries-within (flat columns (b .row .0) (x .column .0))))
+    (B .entries-within (flat rows columns (b .row .0) (x .column .0))))

@@ -1,7 +1,6 @@
 -- What the numerators and the multipliers need holds of a tableau that a search could read.
 --   numerable, blockable
 use Prim.Native.Nat.{ℕ, _+_, _<_}
-use Rattle.rules.specs.Sizes.{mostRows}
 use Rattle.tableau.specs.declared.Tableau.{Tableau}
 use Rattle.tableau.specs.Parts.{seatAt}
 use Rattle.search.specs.Search.{Searchable}
@@ -9,8 +8,10 @@ use Rattle.solver.specs.Answer.{Numerable}
 use Rattle.solver.specs.Multipliers.{Blockable}
 
 module _ {t : Tableau} (S : Searchable t) where
-  pub numerable : (v : ℕ) → v < t .rows + t .columns → Numerable (t .entries) (t .values) (t .columns) (t .common) (seatAt t v)
+  pub numerable : (v : ℕ) → v < t .rows + t .columns →
+      Numerable (t .entries) (t .values) (t .rows) (t .columns) (t .common) (seatAt t v)
   numerable v h = record {
+    few-rows = S .few-rows;
     few-columns = S .few-columns;
     common-within = S .cells .common-within;
     entries-within = S .cells .cell-within;
@@ -19,9 +20,10 @@ module _ {t : Tableau} (S : Searchable t) where
     in-columns = S .column-seats v h;
   }
 
-  pub blockable : (i : ℕ) → i < mostRows → (v : ℕ) → v < t .rows + t .columns →
-      Blockable (t .entries) (t .columns) (t .common) i (seatAt t v)
+  pub blockable : (i : ℕ) → i < t .rows → (v : ℕ) → v < t .rows + t .columns →
+      Blockable (t .entries) (t .rows) (t .columns) (t .common) i (seatAt t v)
   blockable i k v h = record {
+    few-rows = S .few-rows;
     few-columns = S .few-columns;
     common-within = S .cells .common-within;
     entries-within = S .cells .cell-within;

@@ -14,7 +14,6 @@ use Rattle.whole.proofs.Instances.{whole-laws}
 use Rattle.rules.specs.Answer.{answerFrom, wordsOf}
 use Rattle.rules.specs.Problem.{Problem, vars}
 use Rattle.rules.specs.Run.{Ended, after}
-use Rattle.rules.specs.Sizes.{mostRows}
 use Rattle.rules.specs.Step.{Outcome, State, evidence, step}
 use Rattle.rules.proofs.AnswerIs.{ended, ending-run}
 use Rattle.rules.proofs.Leaves.{left}
@@ -110,11 +109,11 @@ module _ {t : Tableau} (S : Startable t) {e : End} {k : ℕ} {u : Tableau} (F : 
     row-in = λ b g. go b g cases;
   }
     where
-      go : (b : Blocked) → e ≡ ends.Cannot b → StepIs P here at-end → b .row .0 < mostRows
+      go : (b : Blocked) → e ≡ ends.Cannot b → StepIs P here at-end → b .row .0 < u .rows
       go b g (ends-can q z) = let f = end-is ends.Can q in let c : _≡_ {A = ℕ} 0 1 = cc in zero-one c
       go b g (ends-cannot l q y z) = let f = end-is (ends.Cannot (blockedAt here l)) q in let c : rowOf here (l .variable) ≡ b .row .0 = cc in
-          rw (← c) (let L = left whole P at-end l y in
-          let a = goes .stands .placed .has-row (l .variable) (L .variable) (L .was-basic) .in-rows in
-          let d = goes .stands .sized .few-rows in omega arith)
+          let L = left whole P at-end l y in
+          rw (F .last, ← c, goes .stands .sized .rows-is)
+          (goes .stands .placed .has-row (l .variable) (L .variable) (L .was-basic) .in-rows)
       go b g (ends-range q z) = let f = end-is ends.Range q in let c : _≡_ {A = ℕ} 0 1 = cc in zero-one c
       go b g (goes-to y x q z st rg) = no-going y q

@@ -85,7 +85,7 @@ module _ (P : Problem ℤ) (F : Fitting P) where
   }
 
   abbrev coefficient-at : ℕ → ℤ
-  coefficient-at k = P .coefficient (rowAt (P .n) k) (columnAt (P .n) k)
+  coefficient-at k = P .coefficient (rowAt (P .m) (P .n) k) (columnAt (P .m) (P .n) k)
 
   -- at the start every entry is a coefficient, or 0
   pub coefficients-start : (k : ℕ) → Within (cell (startTableau P) k) largestCoefficient
@@ -97,8 +97,9 @@ module _ (P : Problem ℤ) (F : Fitting P) where
   pub coefficient-start : (i j : ℕ) → i < P .m → j < P .n → cellAt (startTableau P) i j ≡ P .coefficient i j
   unfolding startTableau
   coefficient-start i j h k =
-      filled-in mostEntries (pos 0) (live (P .m) (P .n)) coefficient-at (flat (P .n) i j) (flat-live (P .m) (P .n) i j h k)
-      ∙ ap₂ (P .coefficient) (row-flat (P .n) i j k) (column-flat (P .n) i j k)
+      filled-in mostEntries (pos 0) (live (P .m) (P .n)) coefficient-at (flat (P .m) (P .n) i j)
+      (flat-live (P .m) (P .n) i j h k)
+      ∙ ap₂ (P .coefficient) (row-flat (P .m) (P .n) i j h k) (column-flat (P .m) (P .n) i j h k)
 
   pub ranged-start : Ranged (startTableau P)
   unfolding startTableau

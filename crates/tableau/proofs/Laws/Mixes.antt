@@ -28,15 +28,16 @@ mixed-of-within false false common pivot own beside above m =
     within-le (within-- (within-* (m .pivot-within) (m .own-within)) (within-* (m .beside-within) (m .above-within)))
     (lit≤ tt)
 
-module _ {common : ℤ} {l : List ℤ} (c : Within common largestNumber) (s : AllWithin l largestNumber) (n p q i j : ℕ) where
-  pub mixed-within : Within (mixedCell n common l p q i j) largestSize
+module _ {common : ℤ} {l : List ℤ} (c : Within common largestNumber) (s : AllWithin l largestNumber)
+    (m n p q i j : ℕ) where
+  pub mixed-within : Within (mixedCell m n common l p q i j) largestSize
   unfolding mixedCell
   mixed-within = mixed-of-within (eqb i p) (eqb j q) _ _ _ _ _ (record {
     common-within = c;
-    pivot-within = s .each (flat n p q);
-    own-within = s .each (flat n i j);
-    beside-within = s .each (flat n i q);
-    above-within = s .each (flat n p j);
+    pivot-within = s .each (flat m n p q);
+    own-within = s .each (flat m n i j);
+    beside-within = s .each (flat m n i q);
+    above-within = s .each (flat m n p j);
   })
 
 pub signed-down : (common : ℤ) (g : ℕ) → isNeg common ≡ true → signedBy common g ≡ negℤ (pos g)

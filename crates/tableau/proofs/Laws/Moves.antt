@@ -58,20 +58,23 @@ module _ {P : Problem ℤ} {t : Tableau} {s : State ℤ} {r : Leaving ℤ} {w : 
   T1 = solved N (s .tableau) (r .variable) w
 
   -- the parts of the pivot
+  abbrev m : ℕ
+  m = t .rows
+
   abbrev n : ℕ
   n = t .columns
 
   abbrev mixed : ℕ → ℤ
-  mixed = mixedAt n (t .common) (t .entries) p q
+  mixed = mixedAt m n (t .common) (t .entries) p q
 
   abbrev new : ℤ
-  new = product (t .rows) n (t .entries) (t .common) p q
+  new = product m n (t .entries) (t .common) p q
 
   abbrev mixes : List ℤ
-  mixes = mix (t .rows) n (t .entries) (t .common) p q
+  mixes = mix m n (t .entries) (t .common) p q
 
   abbrev part : ℤ
-  part = by (t .rows) n (t .entries) (t .common) p q
+  part = by m n (t .entries) (t .common) p q
 
   abbrev g : ℕ
   g = divisorBelow (end t) mixes new
@@ -94,10 +97,11 @@ module _ {P : Problem ℤ} {t : Tableau} {s : State ℤ} {r : Leaving ℤ} {w : 
   pub cell-mixed : (k : ℕ) → k < end t → getD mixes k (pos 0) ≡ mixed k
   cell-mixed k h = filled-in mostEntries (pos 0) (end t) mixed k h
 
-  pub mixed-flat : (i j : ℕ) → i < P .m → j < P .n → mixed (flat n i j) ≡ entry T1 (basicAt next i) (nonbasicAt next j)
+  pub mixed-flat : (i j : ℕ) → i < P .m → j < P .n →
+      mixed (flat m n i j) ≡ entry T1 (basicAt next i) (nonbasicAt next j)
   mixed-flat i j h k =
-      let b = place-back (M .stands .sized) i j k in
-      ap₂ (mixedCell n (t .common) (t .entries) p q) (b .0) (b .1) ∙ mixed-is M i j h k
+      let b = place-back (M .stands .sized) i j h k in
+      ap₂ (mixedCell m n (t .common) (t .entries) p q) (b .0) (b .1) ∙ mixed-is M i j h k
 
   -- ---- the divisor of the cells divides every number of the solved tableau
 
@@ -115,17 +119,17 @@ module _ {P : Problem ℤ} {t : Tableau} {s : State ℤ} {r : Leaving ℤ} {w : 
       go (none-there e) = rw (sym (F .of-entry v u h k) ∙ ap (λ z. F .by *ℤ z) e ∙ *ℤ-zero (F .by)) (dvd-zero g)
       go (own e) = rw (sym (F .of-entry v u h k) ∙ ap (λ z. F .by *ℤ z) e ∙ F .of-common) g-common
       go (cell-there i j a b e f) = rw (← e, ← f, ← mixed-flat i j a b)
-          (g-cell (flat n i j) (live-place (M .stands .sized) i j a b))
+          (g-cell (flat m n i j) (live-place (M .stands .sized) i j a b))
 
   -- ---- the divisor of the whole tableau divides each cell
 
   whole-cell : (k : ℕ) → k < end t → divisorSize N T1 ∣ natAbs (getD mixes k (pos 0))
   whole-cell k h =
-      let a : rowAt n k < P .m = rw (← M .stands .sized .rows-is) (row-live (t .rows) n k h) in
-      let b : columnAt n k < P .n = rw (← M .stands .sized .columns-is) (column-live (t .rows) n k h) in
-      rw (cell-mixed k h, mixed-is M (rowAt n k) (columnAt n k) a b)
-      (divisor-divides N T1 .1 (basicAt next (rowAt n k)) (nonbasicAt next (columnAt n k))
-      (placed-next M .in-row (rowAt n k) a .variable-in) (placed-next M .in-column (columnAt n k) b .variable-in))
+      let a : rowAt m n k < P .m = rw (← M .stands .sized .rows-is) (row-live m n k h) in
+      let b : columnAt m n k < P .n = rw (← M .stands .sized .columns-is) (column-live m n k h) in
+      rw (cell-mixed k h, mixed-is M (rowAt m n k) (columnAt m n k) a b)
+      (divisor-divides N T1 .1 (basicAt next (rowAt m n k)) (nonbasicAt next (columnAt m n k))
+      (placed-next M .in-row (rowAt m n k) a .variable-in) (placed-next M .in-column (columnAt m n k) b .variable-in))
 
   pub divisor-is : g ≡ divisorSize N T1
   divisor-is = dvd-antisymm (divisor-greatest N T1 g g-common g-entry)
@@ -155,14 +159,14 @@ module _ {P : Problem ℤ} {t : Tableau} {s : State ℤ} {r : Leaving ℤ} {w : 
   unfolding moved pivot
   entry-next v u h k = reduced-entry N T1 v u h k
 
-  same-place : (i j : ℕ) → cellAt next i j ≡ cell next (flat n i j)
+  same-place : (i j : ℕ) → cellAt next i j ≡ cell next (flat m n i j)
   unfolding swappedAt pivotedAt
   same-place i j = refl
 
   cell-next : (i j : ℕ) → i < P .m → j < P .n →
       cellAt next i j ≡ entry (after .tableau) (basicAt next i) (nonbasicAt next j)
   cell-next i j h k =
-      same-place i j ∙ cell-live (flat n i j) (live-place (M .stands .sized) i j h k)
+      same-place i j ∙ cell-live (flat m n i j) (live-place (M .stands .sized) i j h k)
       ∙ ap (λ z. quotZ z (divisor N T1)) (mixed-flat i j h k)
       ∙ sym (entry-next (basicAt next i) (nonbasicAt next j) (placed-next M .in-row i h .variable-in)
       (placed-next M .in-column j k .variable-in))

@@ -5,7 +5,6 @@ use Rattle.tableau.proofs.Laws.Layout.{spot-here}
 use Rattle.tableau.proofs.layout.place.Reads as place
 use Rattle.tableau.proofs.layout.first.Reads as first
 use Rattle.tableau.proofs.layout.after.Reads as after
-use Rattle.tableau.proofs.layout.coefficient_for.Reads as coefficient-for
 use Rattle.tableau.proofs.layout.live.Reads as live
 use Rattle.tableau.proofs.pivot.pivot.Reads as pivot
 use Rattle.tableau.proofs.range.all_in_range.Reads as all-in-range
@@ -19,13 +18,10 @@ pub place-only : (κs : _) (x : _) (a b : _) (e : _) → place.Post κs x a e �
 place-only κs x a b e h k = h ∙ sym k
 
 pub first-only : (κs : _) (x : _) (a b : _) (e : _) → first.Post κs x a e → first.Post κs x b e → a ≡ b
-first-only κs x a b e h k = h 0 ∙ sym (k 0)
+first-only κs x a b e h k = h 0 0 ∙ sym (k 0 0)
 
 pub after-only : (κs : _) (x : _) (a b : _) (e : _) → after.Pre κs x → after.Post κs x a e → after.Post κs x b e → a ≡ b
-after-only κs x a b e p h k = let i = spot-here (x .0) (x .1 .0) (p .1) in h _ i ∙ sym (k _ i)
-
-pub coefficient-for-only : (κs : _) (x : _) (a b : _) (e : _) → coefficient-for.Post κs x a e → coefficient-for.Post κs x b e → a ≡ b
-coefficient-for-only κs x a b e h k = h 0 ∙ sym (k 0)
+after-only κs x a b e p h k = let i = spot-here (x .0) (x .1 .0) (x .1 .1 .0) (p .0) (p .1) in h _ i ∙ sym (k _ i)
 
 pub live-only : (κs : _) (x : _) (a b : _) (e : _) → live.Post κs x a e → live.Post κs x b e → a ≡ b
 live-only κs x a b e h k = h ∙ sym k

@@ -1,5 +1,5 @@
 -- The parts of a pivot by place: the product that is the new common number, the mixed entries, their divisor.
---   row-place, pivot-in, end-in                  places in range
+--   pivot-in, end-in                             places in range
 --   within-product, within-size, mix-within      what bounds each number
 --   size-most, quotient-fits                     .. and the divisor and the new common number
 --   nonzero-product, nonzero-by                  neither the product nor the divisor is 0
@@ -9,7 +9,7 @@ use mathlib.Core.Path.{_≡_, ap}
 use mathlib.Core.List.{List, _++_}
 use mathlib.Core.Logic.{_≢_}
 use Prim.Native.Nat.{ℕ, _*_, _≤_, _<_}
-use native.Mathlib.Nat.{le-trans, lt-of-lt-of-le}
+use native.Mathlib.Nat.{le-trans}
 use lib.Dec.{lit≤}
 use lib.IntN.{ℤ, pos, _*ℤ_}
 use lib.ListN.{getD}
@@ -23,7 +23,7 @@ use Rattle.whole.proofs.Sizes.{within-*, within-le, product-nonzero, all-within
 use Rattle.divisor.specs.Cells.{largestSize, dividedCells, divisorBelow, quotients}
 use Rattle.divisor.proofs.Laws.Cells.{divisor-above-zero, divisor-most, fits-size}
 use Rattle.rules.specs.Problem.{Problem}
-use Rattle.rules.specs.Sizes.{mostRows, largestNumber}
+use Rattle.rules.specs.Sizes.{largestNumber}
 use Rattle.tableau.specs.declared.Tableau.{Tableau}
 use Rattle.tableau.specs.Layout.{mostEntries, flat, rowAt, columnAt, live}
 use Rattle.tableau.specs.Pivot.{mixedAt, product, mix, by, commonAfter, Pivotable}
@@ -38,11 +38,8 @@ module _ {m n : ℕ} {l : List ℤ} {c : ℤ} {p q : ℕ} (h : Pivotable m n l c
   abbrev mixes : List ℤ
   mixes = mix m n l c p q
 
-  pub row-place : p < mostRows
-  row-place = lt-of-lt-of-le (h .in-rows) (h .few-rows)
-
-  pub pivot-in : flat n p q < mostEntries
-  pivot-in = flat-in n p q (h .in-columns) row-place (h .few-columns)
+  pub pivot-in : flat m n p q < mostEntries
+  pivot-in = flat-in m n p q (h .in-rows) (h .in-columns) (h .few-rows) (h .few-columns)
 
   pub end-in : live m n ≤ mostEntries
   end-in = live-most m n (h .few-rows) (h .few-columns)
@@ -51,7 +48,7 @@ module _ {m n : ℕ} {l : List ℤ} {c : ℤ} {p q : ℕ} (h : Pivotable m n l c
   within-product k = within-* (h .all-within .each k) (h .common-within)
 
   pub within-size : Within new largestSize
-  within-size = within-le (within-product (flat n p q)) (lit≤ tt)
+  within-size = within-le (within-product (flat m n p q)) (lit≤ tt)
 
   pub nonzero-product : new ≢ pos 0
   nonzero-product = product-nonzero (h .pivot-nonzero) (h .common-nonzero)
@@ -63,8 +60,8 @@ module _ {m n : ℕ} {l : List ℤ} {c : ℤ} {p q : ℕ} (h : Pivotable m n l c
   nonzero-by = signed-nonzero new (divisorBelow (live m n) mixes new) (divisor-above-zero mixes new (live m n) nonzero-product)
 
   pub mix-within : AllWithin mixes largestSize
-  mix-within = all-within-filled mostEntries (live m n) (mixedAt n c l p q)
-      (λ k d. mixed-within (h .common-within) (h .all-within) n p q (rowAt n k) (columnAt n k))
+  mix-within = all-within-filled mostEntries (live m n) (mixedAt m n c l p q)
+      (λ k d. mixed-within (h .common-within) (h .all-within) m n p q (rowAt m n k) (columnAt m n k))
 
   pub quotient-fits : SFits w64 (commonAfter m n l c p q)
   quotient-fits = fits-size (within-quot (by m n l c p q) within-size)
@@ -81,9 +78,12 @@ abbrev pub end : Tableau → ℕ
 end t = live (t .rows) (t .columns)
 
 module _ {P : Problem ℤ} {t : Tableau} (Z : Sized P t) where
-  pub live-place : (i j : ℕ) → i < P .m → j < P .n → flat (t .columns) i j < end t
+  pub live-place : (i j : ℕ) → i < P .m → j < P .n → flat (t .rows) (t .columns) i j < end t
   live-place i j h k = rw (Z .rows-is, Z .columns-is) (flat-live (P .m) (P .n) i j h k)
 
-  pub place-back : (i j : ℕ) → j < P .n →
-      (rowAt (t .columns) (flat (t .columns) i j) ≡ i) × (columnAt (t .columns) (flat (t .columns) i j) ≡ j)
-  place-back i j k = let b : j < t .columns = rw (Z .columns-is) k in (row-flat (t .columns) i j b, column-flat (t .columns) i j b)
+  pub place-back : (i j : ℕ) → i < P .m → j < P .n →
+      (rowAt (t .rows) (t .columns) (flat (t .rows) (t .columns) i j) ≡ i)
+      × (columnAt (t .rows) (t .columns) (flat (t .rows) (t .columns) i j) ≡ j)
+  place-back i j h k =
+      let a : i < t .rows = rw (Z .rows-is) h in let b : j < t .columns = rw (Z .columns-is) k in
+      (row-flat (t .rows) (t .columns) i j a b, column-flat (t .rows) (t .columns) i j a b)

@@ -38,18 +38,23 @@ module _ {P : Problem ℤ} {t : Tableau} {s : State ℤ} (St : Stands P t s) whe
   abbrev fine : ℕ → Bool
   fine k = inRange (cell t k)
 
+  abbrev m : ℕ
+  m = t .rows
+
   abbrev n : ℕ
   n = t .columns
 
-  row-used : (k : ℕ) → k < end t → rowAt n k < P .m
-  row-used k h = rw (← St .sized .rows-is) (row-live (t .rows) n k h)
+  row-used : (k : ℕ) → k < end t → rowAt m n k < P .m
+  row-used k h = rw (← St .sized .rows-is) (row-live m n k h)
 
-  column-used : (k : ℕ) → k < end t → columnAt n k < P .n
-  column-used k h = rw (← St .sized .columns-is) (column-live (t .rows) n k h)
+  column-used : (k : ℕ) → k < end t → columnAt m n k < P .n
+  column-used k h = rw (← St .sized .columns-is) (column-live m n k h)
 
   -- the entry at a live place
-  cell-used : (k : ℕ) → k < end t → cell t k ≡ entry (s .tableau) (basicAt t (rowAt n k)) (nonbasicAt t (columnAt n k))
-  cell-used k h = ap (cell t) (sym (flat-back n k)) ∙ St .numbers .cell-is (rowAt n k) (columnAt n k) (row-used k h) (column-used k h)
+  cell-used : (k : ℕ) → k < end t →
+      cell t k ≡ entry (s .tableau) (basicAt t (rowAt m n k)) (nonbasicAt t (columnAt m n k))
+  cell-used k h = ap (cell t) (sym (flat-back m n k))
+      ∙ St .numbers .cell-is (rowAt m n k) (columnAt m n k) (row-used k h) (column-used k h)
 
   pub small-is : Rowed whole P s → smallBelow (end t) (t .entries) (t .common) ≡ small N (s .tableau)
   unfolding smallBelow small
@@ -68,9 +73,9 @@ module _ {P : Problem ℤ} {t : Tableau} {s : State ℤ} (St : Stands P t s) whe
               go : Kind P t s v u → inRange (entry (s .tableau) v u) ≡ true
               go (none-there z) = rw z zero-in
               go (own z) = rw (z, ← St .numbers .common-is) c
-              go (cell-there i j l m f d) =
-                  rw (← f, ← d, ← St .numbers .cell-is i j l m)
-                  (all-each (end t) fine a (flat n i j) (live-place (St .sized) i j l m))
+              go (cell-there i j l r f d) =
+                  rw (← f, ← d, ← St .numbers .cell-is i j l r)
+                  (all-each (end t) fine a (flat m n i j) (live-place (St .sized) i j l r))
 
       back : small N (s .tableau) ≡ true → smallBelow (end t) (t .entries) (t .common) ≡ true
       back e =
@@ -81,8 +86,9 @@ module _ {P : Problem ℤ} {t : Tableau} {s : State ℤ} (St : Stands P t s) whe
           each : (k : ℕ) → allBelow N (λ v. allBelow N (λ u. within largestNumber (entry (s .tableau) v u))) ≡ true →
               k < end t → fine k ≡ true
           each k a h = rw (cell-used k h)
-              (all-each N _ (all-each N _ a (basicAt t (rowAt n k)) (St .placed .in-row (rowAt n k) (row-used k h) .variable-in))
-              (nonbasicAt t (columnAt n k)) (St .placed .in-column (columnAt n k) (column-used k h) .variable-in))
+              (all-each N _ (all-each N _ a (basicAt t (rowAt m n k))
+              (St .placed .in-row (rowAt m n k) (row-used k h) .variable-in))
+              (nonbasicAt t (columnAt m n k)) (St .placed .in-column (columnAt m n k) (column-used k h) .variable-in))
 
   pub cells-small : smallBelow (end t) (t .entries) (t .common) ≡ true → Cells t
   unfolding smallBelow

@@ -41,7 +41,7 @@ in-leaving-row D p a = ring-at (D ∷ p ∷ a ∷ []) (search reify depth 30) re
 in-entering-column : (D p b : ℤ) → b *ℤ D ≡ p *ℤ pos 0 -ℤ b *ℤ negℤ D
 in-entering-column D p b = ring-at (D ∷ p ∷ b ∷ []) (search reify depth 30) refl
 
-mixed-cell : (t : Tableau) (p q i j : ℕ) → mixedCell (t .columns) (t .common) (t .entries) p q i j
+mixed-cell : (t : Tableau) (p q i j : ℕ) → mixedCell (t .rows) (t .columns) (t .common) (t .entries) p q i j
     ≡ mixedOf (eqb i p) (eqb j q) (t .common) (cellAt t p q) (cellAt t i j) (cellAt t i q) (cellAt t p j)
 unfolding mixedCell
 mixed-cell t p q i j = refl
@@ -99,7 +99,7 @@ module _ {P : Problem ℤ} {t : Tableau} {s : State ℤ} {r : Leaving ℤ} {w : 
       ∙ ap (entry T (basicAt t i)) (entering-column M .holds)
 
   pub mixed-is : (i j : ℕ) → i < P .m → j < P .n →
-      mixedCell (t .columns) (t .common) (t .entries) p q i j ≡ entry T1 (basicAt next i) (nonbasicAt next j)
+      mixedCell (t .rows) (t .columns) (t .common) (t .entries) p q i j ≡ entry T1 (basicAt next i) (nonbasicAt next j)
   mixed-is i j h k = mixed-cell t p q i j ∙ go (ℕ-discrete i p) (ℕ-discrete j q)
     where
       v-var : basicAt t i < N

@@ -23,18 +23,18 @@ use Rattle.evidence.proofs.can.row_sum.Statement.{statement}
 use Rattle.evidence.proofs.can.row_sum.Tie as tie
 
 abbrev Inv-loop : tie.InvT-loop
-Inv-loop entries answer row columns sum₀ j₀ sum j =
-    (j ≤ columns) × (toZ w64 sum ≡ rowUpTo entries answer columns (row .0) j)
+Inv-loop entries answer row rows columns sum₀ j₀ sum j =
+    (j ≤ columns) × (toZ w64 sum ≡ rowUpTo entries answer rows columns (row .0) j)
 
 abbrev μ-loop : tie.MeasureT-loop
-μ-loop entries answer row columns sum₀ j₀ sum j = columns - j
+μ-loop entries answer row rows columns sum₀ j₀ sum j = columns - j
 
 loop-holds : tie.Need-loop-holds Inv-loop μ-loop
 unfolding rowUpTo sumBy
 loop-holds c = (omega arith, refl)
 
 place-requires : tie.Need-place-requires Inv-loop μ-loop
-place-requires c κs = (omega arith, omega arith, omega arith)
+place-requires c κs = (omega arith, omega arith, omega arith, omega arith)
 
 add-at : tie.Need-add-at Inv-loop μ-loop
 add-at c = omega arith
@@ -44,7 +44,8 @@ module _ (c : tie.After-place Inv-loop μ-loop) where
   in-entries : c .place .result < mostEntries
   in-entries = let o = c .before .before .before .args in
       rw (c .place .ensures)
-      (flat-in (o .columns) (o .row .0) (c .before .before .loop .j) (omega arith) (omega arith) (omega arith))
+      (flat-in (o .rows) (o .columns) (o .row .0) (c .before .before .loop .j)
+      (omega arith) (omega arith) (omega arith) (omega arith))
 
 mul-e : tie.Need-mul-e Inv-loop μ-loop
 mul-e c = let h = in-entries c in omega arith
@@ -66,11 +67,11 @@ module _ (c : tie.After-x Inv-loop μ-loop) where
   j = c .before .before .before .before .loop .j
 
   abbrev term : ℕ → ℤ
-  term k = entryIn (start .args .columns) (start .args .entries .now) (start .args .row .0) k
+  term k = entryIn (start .args .rows) (start .args .columns) (start .args .entries .now) (start .args .row .0) k
       *ℤ lowerPart (start .args .answer .now) k
 
   abbrev upTo : ℕ → ℤ
-  upTo k = rowUpTo (start .args .entries .now) (start .args .answer .now) (start .args .columns) (start .args .row .0) k
+  upTo k = let a = start .args in rowUpTo (a .entries .now) (a .answer .now) (a .rows) (a .columns) (a .row .0) k
 
   abbrev read : ℤ
   read = getD (start .args .entries .now) (c .before .before .place .result) (pos 0)
@@ -142,7 +143,7 @@ all c = omega arith
 returns : tie.Need-returns Inv-loop μ-loop
 returns c = let o = c .before .before .args in
     c .before .loop .inv .1
-    ∙ ap (λ (k : ℕ). rowUpTo (o .entries .now) (o .answer .now) (o .columns) (o .row .0) k) (all c)
+    ∙ ap (λ (k : ℕ). rowUpTo (o .entries .now) (o .answer .now) (o .rows) (o .columns) (o .row .0) k) (all c)
 
 pub row-sum-spec : {M : Type 1} → statement M
 row-sum-spec =

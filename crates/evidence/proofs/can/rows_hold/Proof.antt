@@ -20,7 +20,8 @@ use Rattle.evidence.proofs.can.rows_hold.Tie as tie
 
 abbrev Inv-loop : tie.InvT-loop
 Inv-loop entries answer rows columns i₀ i =
-    (i ≤ rows) × (allBelow i (λ i. eqZ (lowerPart answer (columns + i)) (rowSumAt entries answer columns i)) ≡ true)
+    (i ≤ rows)
+    × (allBelow i (λ i. eqZ (lowerPart answer (columns + i)) (rowSumAt entries answer rows columns i)) ≡ true)
 
 abbrev μ-loop : tie.MeasureT-loop
 μ-loop entries answer rows columns i₀ i = rows - i
@@ -42,7 +43,7 @@ shared-slice-copy-out-x c = omega arith
 
 row-sum-requires : tie.Need-row-sum-requires Inv-loop μ-loop
 row-sum-requires c κs = let s = c .before .before .before in
-    ((omega arith, omega arith, omega arith), (s .pre .1 .0, s .pre .1 .1))
+    ((omega arith, omega arith, omega arith, omega arith), (s .pre .1 .0, s .pre .1 .1))
 
 module _ (c : tie.After-row-sum Inv-loop μ-loop) where
   abbrev start : tie.Start Inv-loop μ-loop
@@ -56,7 +57,7 @@ module _ (c : tie.After-row-sum Inv-loop μ-loop) where
 
   abbrev test : ℕ → Bool
   test i = eqZ (lowerPart (start .args .answer .now) (start .args .columns + i))
-      (rowSumAt (start .args .entries .now) (start .args .answer .now) (start .args .columns) i)
+      (rowSumAt (start .args .entries .now) (start .args .answer .now) (start .args .rows) (start .args .columns) i)
 
   fit-number : SFits w64 number
   fit-number = sfits-of (c .before .x .given)

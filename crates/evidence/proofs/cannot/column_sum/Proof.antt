@@ -24,7 +24,7 @@ use Rattle.evidence.proofs.cannot.column_sum.Tie as tie
 
 abbrev Inv-loop : tie.InvT-loop
 Inv-loop entries answer rows columns column variables j sum₀ i₀ sum i =
-    (i ≤ rows) × (toZ w64 sum ≡ columnUpTo entries answer columns variables i (column .0))
+    (i ≤ rows) × (toZ w64 sum ≡ columnUpTo entries answer rows columns variables i (column .0))
 
 abbrev μ-loop : tie.MeasureT-loop
 μ-loop entries answer rows columns column variables j sum₀ i₀ sum i = rows - i
@@ -43,14 +43,15 @@ unfolding columnUpTo sumBy
 loop-holds c = (omega arith, toZ-ofZ (fit-first c) ∙ c .balance .ensures ∙ sym (+ℤ-idr _))
 
 place-requires : tie.Need-place-requires Inv-loop μ-loop
-place-requires c κs = (omega arith, omega arith, omega arith)
+place-requires c κs = (omega arith, omega arith, omega arith, omega arith)
 
 -- the flat place
 module _ (c : tie.After-place Inv-loop μ-loop) where
   in-entries : c .place .result < mostEntries
   in-entries = let o = c .before .before .before .before .args in
       rw (c .place .ensures)
-      (flat-in (o .columns) (c .before .before .loop .i) (o .column .0) (omega arith) (omega arith) (omega arith))
+      (flat-in (o .rows) (o .columns) (c .before .before .loop .i) (o .column .0)
+      (omega arith) (omega arith) (omega arith) (omega arith))
 
 mul-e : tie.Need-mul-e Inv-loop μ-loop
 mul-e c = let h = in-entries c in omega arith
@@ -78,11 +79,11 @@ module _ (c : tie.After-balance2 Inv-loop μ-loop) where
   variables = start .args .columns + start .args .rows
 
   abbrev upTo : ℕ → ℤ
-  upTo k = columnUpTo (start .args .entries .now) (start .args .answer .now) (start .args .columns) variables k
-      (start .args .column .0)
+  upTo k = let a = start .args in
+      columnUpTo (a .entries .now) (a .answer .now) (a .rows) (a .columns) variables k (a .column .0)
 
   abbrev term : ℕ → ℤ
-  term k = entryIn (start .args .columns) (start .args .entries .now) k (start .args .column .0)
+  term k = entryIn (start .args .rows) (start .args .columns) (start .args .entries .now) k (start .args .column .0)
       *ℤ balanceAt (start .args .answer .now) variables (start .args .columns + k)
 
   abbrev read : ℤ
@@ -159,7 +160,8 @@ all c = omega arith
 returns : tie.Need-returns Inv-loop μ-loop
 returns c = let o = c .before .before .before .args in
     c .before .loop .inv .1
-    ∙ ap (λ (k : ℕ). columnUpTo (o .entries .now) (o .answer .now) (o .columns) (o .columns + o .rows) k (o .column .0))
+    ∙ ap (λ (k : ℕ). columnUpTo (o .entries .now) (o .answer .now) (o .rows) (o .columns) (o .columns + o .rows) k
+    (o .column .0))
     (all c)
 
 pub column-sum-spec : {M : Type 1} → statement M

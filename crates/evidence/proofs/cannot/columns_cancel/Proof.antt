@@ -19,7 +19,7 @@ use Rattle.evidence.proofs.cannot.columns_cancel.Tie as tie
 
 abbrev Inv-loop : tie.InvT-loop
 Inv-loop entries answer rows columns j₀ j =
-    (allBelow j (λ j. eqZ (columnAtEntries entries answer columns rows j) (pos 0)) ≡ true) × (j ≤ columns)
+    (allBelow j (λ j. eqZ (columnAtEntries entries answer rows columns j) (pos 0)) ≡ true) × (j ≤ columns)
 
 abbrev μ-loop : tie.MeasureT-loop
 μ-loop entries answer rows columns j₀ j = columns - j
@@ -39,8 +39,8 @@ module _ (c : tie.After-column-sum Inv-loop μ-loop) where
   place = c .before .before .loop .j
 
   abbrev total : ℕ → ℤ
-  total j = columnAtEntries (start .args .entries .now) (start .args .answer .now) (start .args .columns)
-      (start .args .rows) j
+  total j = columnAtEntries (start .args .entries .now) (start .args .answer .now) (start .args .rows)
+      (start .args .columns) j
 
   abbrev test : ℕ → Bool
   test j = eqZ (total j) (pos 0)

@@ -14,7 +14,10 @@ use Rattle.solver.proofs.answer.numerator_of.Statement.{statement}
 use Rattle.solver.proofs.answer.numerator_of.Tie as tie
 
 row-value-requires : tie.Need-row-value-requires
-row-value-requires c κs = let p = c .before .pre in ((p .few-columns, p .in-rows (c .if1 .taken)), (p .entries-within, p .values-within))
+row-value-requires c κs = let p = c .before .pre in (
+  (p .few-rows, p .few-columns, p .in-rows (c .if1 .taken)),
+  (p .entries-within, p .values-within),
+)
 
 fit-row : (c : tie.After-row-value) → SFits w64 (c .row-value .result)
 fit-row c = search needs
@@ -23,7 +26,7 @@ returns : tie.Need-returns
 unfolding numeratorOf
 returns c = let s = c .before .before .args in
     toZ-ofZ (fit-row c) ∙ c .row-value .ensures
-    ∙ sym (ap (λ b. numeratorFrom b (rowSum (s .entries .now) (s .values .now) (s .seat .row .0) (s .columns))
+    ∙ sym (ap (λ b. numeratorFrom b (rowSum (s .rows) (s .columns) (s .entries .now) (s .values .now) (s .seat .row .0))
     (s .common *ℤ getD (s .values .now) (s .seat .column .0) (pos 0))) (c .before .if1 .taken))
 
 mul-x : tie.Need-mul-x
@@ -49,7 +52,7 @@ returns-2 : tie.Need-returns-2
 unfolding numeratorOf
 returns-2 c = let s = start c .args in
     simp (toZ-ofZ (start c .fits .common), toZ-ofZ (fit-value c), toZ-ofZ (fit-product c))
-    (sym (ap (λ b. numeratorFrom b (rowSum (s .entries .now) (s .values .now) (s .seat .row .0) (s .columns))
+    (sym (ap (λ b. numeratorFrom b (rowSum (s .rows) (s .columns) (s .entries .now) (s .values .now) (s .seat .row .0))
     (s .common *ℤ getD (s .values .now) (s .seat .column .0) (pos 0))) (c .before .before .if1 .left)))
 
 pub numerator-of-spec : {M : Type 1} → statement M

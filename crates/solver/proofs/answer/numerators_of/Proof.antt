@@ -17,7 +17,7 @@ use Rattle.solver.proofs.answer.numerators_of.Tie as tie
 
 abbrev Inv-loop : tie.InvT-loop
 Inv-loop entries values common rows columns seats variables numerators₀ v₀ numerators v = (v ≤ variables)
-    × (numerators ≡ filled mostVariables (pos 0) v (numeratorIn entries values seats (toZ w64 common) columns))
+    × (numerators ≡ filled mostVariables (pos 0) v (numeratorIn entries values seats (toZ w64 common) rows columns))
 
 abbrev μ-loop : tie.MeasureT-loop
 μ-loop entries values common rows columns seats variables numerators₀ v₀ numerators v = variables - v
@@ -25,7 +25,7 @@ abbrev μ-loop : tie.MeasureT-loop
 -- the numerator of a variable, the common number by its bits
 abbrev read : tie.Start Inv-loop μ-loop → ℕ → ℤ
 read s = let a = s .args in
-    numeratorIn (a .entries .now) (a .values .now) (a .t3) (toZ w64 (ofZ w64 (a .common))) (a .columns)
+    numeratorIn (a .entries .now) (a .values .now) (a .t3) (toZ w64 (ofZ w64 (a .common))) (a .rows) (a .columns)
 
 add-variables : tie.Need-add-variables Inv-loop μ-loop
 add-variables c = omega arith
@@ -91,7 +91,7 @@ unfolding numeratorsIn
 returns c = let s = c .before .before in let a = s .args in
     let e : c .before .loop .v ≡ a .rows + a .columns = omega arith in
     c .before .loop .inv .1 ∙ ap (λ k. filled mostVariables (pos 0) k (read s)) e
-    ∙ ap (λ d. filled mostVariables (pos 0) (a .rows + a .columns) (numeratorIn (a .entries .now) (a .values .now) (a .t3) d (a .columns)))
+    ∙ ap (λ d. numeratorsIn (a .entries .now) (a .values .now) (a .t3) d (a .rows) (a .columns))
     (toZ-ofZ (s .fits .common))
 
 pub numerators-of-spec : {M : Type 1} → statement M

@@ -23,15 +23,18 @@ use Rattle.solver.proofs.multipliers.multipliers_of.Tie as tie
 
 abbrev Inv-loop : tie.InvT-loop
 Inv-loop entries common rows columns blocked seats variables lower₀ upper₀ v₀ lower upper v = (v ≤ variables)
-    × (lower ≡ filled mostVariables (pos 0) v (λ v. positive (negℤ (pullIn entries seats columns (toZ w64 common) blocked v))))
-    × (upper ≡ filled mostVariables (pos 0) v (λ v. positive (pullIn entries seats columns (toZ w64 common) blocked v)))
+    × (lower ≡ filled mostVariables (pos 0) v
+    (λ v. positive (negℤ (pullIn entries seats rows columns (toZ w64 common) blocked v))))
+    × (upper ≡ filled mostVariables (pos 0) v
+    (λ v. positive (pullIn entries seats rows columns (toZ w64 common) blocked v)))
 
 abbrev μ-loop : tie.MeasureT-loop
 μ-loop entries common rows columns blocked seats variables lower₀ upper₀ v₀ lower upper v = variables - v
 
 -- the pull at a variable, the common number by its bits
 abbrev read : tie.Start Inv-loop μ-loop → ℕ → ℤ
-read s = let a = s .args in pullIn (a .entries .now) (a .t2) (a .columns) (toZ w64 (ofZ w64 (a .common))) (a .blocked)
+read s = let a = s .args in
+    pullIn (a .entries .now) (a .t2) (a .rows) (a .columns) (toZ w64 (ofZ w64 (a .common))) (a .blocked)
 
 add-variables : tie.Need-add-variables Inv-loop μ-loop
 add-variables c = omega arith
@@ -57,7 +60,8 @@ module _ (c : tie.In-loop Inv-loop μ-loop) where
   few = omega arith
 
   blockable : let a = start .args in
-      Blockable (a .entries .now) (a .columns) (toZ w64 (ofZ w64 (a .common))) (a .blocked .row .0) (getD (a .t2) number nowhere)
+      Blockable (a .entries .now) (a .rows) (a .columns) (toZ w64 (ofZ w64 (a .common))) (a .blocked .row .0)
+      (getD (a .t2) number nowhere)
   blockable = simp (toZ-ofZ (start .fits .common)) (start .pre .1 number in-range)
 
 mul-seat : tie.Need-mul-seat Inv-loop μ-loop

@@ -26,7 +26,7 @@ use Rattle.solver.proofs.multipliers.pull_of.Tie as tie
 abbrev relation : tie.Start → Bool → Bool → ℤ
 relation s basic own = let a = s .args in
     pull (sideBy (a .blocked .rises)) (relationFrom basic own (a .common)
-    (entryIn (a .columns) (a .entries .now) (a .blocked .row .0) (a .seat .column .0)))
+    (entryIn (a .rows) (a .columns) (a .entries .now) (a .blocked .row .0) (a .seat .column .0)))
 
 pull-zero : (b : Bool) → pull (sideBy b) (pos 0) ≡ pos 0
 unfolding pull
@@ -38,12 +38,13 @@ in-columns : (c : tie.Then1) → let a = c .before .before .before .args in a .s
 in-columns c = c .before .before .before .pre .in-columns (not-true _ (c .if1 .taken))
 
 place-requires : tie.Need-place-requires
-place-requires c κs = let p = c .before .before .before .pre in (p .in-rows, in-columns c, p .few-columns)
+place-requires c κs = let p = c .before .before .before .pre in (p .in-rows, in-columns c, p .few-rows, p .few-columns)
 
 place-in : (c : tie.After-place) → c .place .result < mostEntries
 place-in c = let s = c .before .before .before .before in
-    rw (c .place .ensures) (flat-in (s .args .columns) (s .args .blocked .row .0) (s .args .seat .column .0)
-    (in-columns (c .before)) (s .pre .in-rows) (s .pre .few-columns))
+    rw (c .place .ensures)
+    (flat-in (s .args .rows) (s .args .columns) (s .args .blocked .row .0) (s .args .seat .column .0)
+    (s .pre .in-rows) (in-columns (c .before)) (s .pre .few-rows) (s .pre .few-columns))
 
 mul-e : tie.Need-mul-e
 mul-e c = let z = place-in c in omega arith

@@ -8,16 +8,16 @@ use Rattle.tableau.proofs.layout.after.Tie as tie
 add-next : tie.Need-add-next
 add-next c = search needs
 
-add-t7 : tie.Need-add-t7
-add-t7 c = search needs
+add-t8 : tie.Need-add-t8
+add-t8 c = search needs
 
 returns : tie.Need-returns
 returns c k e = let s = c .before .before .before .before .before in
-    spot-below (s .args .columns) k (s .args .spot) e (omega arith)
+    spot-below (s .args .rows) (s .args .columns) k (s .args .spot) e (omega arith)
 
 returns-2 : tie.Need-returns-2
 returns-2 c k e = let s = c .before .before .before .before in
-    spot-after (s .args .columns) k (s .args .spot) e (let h = s .pre .1 in omega arith)
+    spot-after (s .args .rows) (s .args .columns) k (s .args .spot) e (let h = s .pre .1 in omega arith)
 
 pub after-spec : {M : Type 1} → statement M
-after-spec = tie.close (tie.spec add-next add-t7 returns returns-2)
+after-spec = tie.close (tie.spec add-next add-t8 returns returns-2)

@@ -4,7 +4,7 @@ use Rattle.tableau.proofs.layout.first.Statement.{statement}
 use Rattle.tableau.proofs.layout.first.Tie as tie
 
 returns : tie.Need-returns
-returns c n = spot-first n
+returns c m n = spot-first m n
 
 pub first-spec : {M : Type 1} → statement M
 first-spec = tie.close (tie.spec returns)

@@ -7,8 +7,10 @@ use Rattle.tableau.proofs.Laws.Layout.{flat-in}
 use Rattle.tableau.proofs.layout.place.Statement.{statement}
 use Rattle.tableau.proofs.layout.place.Tie as tie
 
-in-array : (s : tie.Start) → flat (s .args .columns) (s .args .row .0) (s .args .column .0) < mostEntries
-in-array s = flat-in (s .args .columns) (s .args .row .0) (s .args .column .0) (s .pre .1) (s .pre .0) (s .pre .2)
+in-array : (s : tie.Start) →
+    flat (s .args .rows) (s .args .columns) (s .args .row .0) (s .args .column .0) < mostEntries
+in-array s = flat-in (s .args .rows) (s .args .columns) (s .args .row .0) (s .args .column .0)
+    (s .pre .0) (s .pre .1) (s .pre .2) (s .pre .3)
 
 mul-result : tie.Need-mul-result
 unfolding flat

@@ -34,6 +34,9 @@ module _ (c : tie.After-place4) where
   abbrev start : tie.Start
   start = c .before .before .before .before
 
+  abbrev m : ℕ
+  m = start .args .rows
+
   abbrev n : ℕ
   n = start .args .columns
 
@@ -51,19 +54,19 @@ module _ (c : tie.After-place4) where
 
   at-in : at < mostEntries
   at-in = rw (c .before .before .before .place .ensures)
-      (flat-in n _ _ (start .pre .0 .1) (start .pre .0 .0) (start .pre .0 .2))
+      (flat-in m n _ _ (start .pre .0 .0) (start .pre .0 .1) (start .pre .0 .2) (start .pre .0 .3))
 
   owns-in : owns < mostEntries
   owns-in = rw (c .before .before .place2 .ensures)
-      (flat-in n _ _ (start .pre .1 .0 .1) (start .pre .1 .0 .0) (start .pre .0 .2))
+      (flat-in m n _ _ (start .pre .1 .0 .0) (start .pre .1 .0 .1) (start .pre .0 .2) (start .pre .0 .3))
 
   besides-in : besides < mostEntries
   besides-in = rw (c .before .place3 .ensures)
-      (flat-in n _ _ (start .pre .0 .1) (start .pre .1 .0 .0) (start .pre .0 .2))
+      (flat-in m n _ _ (start .pre .1 .0 .0) (start .pre .0 .1) (start .pre .0 .2) (start .pre .0 .3))
 
   aboves-in : aboves < mostEntries
   aboves-in = rw (c .place4 .ensures)
-      (flat-in n _ _ (start .pre .1 .0 .1) (start .pre .0 .0) (start .pre .0 .2))
+      (flat-in m n _ _ (start .pre .0 .0) (start .pre .1 .0 .1) (start .pre .0 .2) (start .pre .0 .3))
 
 mul-pivot : tie.Need-mul-pivot
 mul-pivot c = omega (arith, at-in c)
@@ -130,12 +133,12 @@ mixed-requires c κs =
     })
 
 -- the definition's number, from what stands at the places found
-joined : (n : ℕ) (common : ℤ) (l : List ℤ) (p q i j at owns besides aboves : ℕ) →
-    at ≡ flat n p q → owns ≡ flat n i j → besides ≡ flat n i q → aboves ≡ flat n p j →
+joined : (m n : ℕ) (common : ℤ) (l : List ℤ) (p q i j at owns besides aboves : ℕ) →
+    at ≡ flat m n p q → owns ≡ flat m n i j → besides ≡ flat m n i q → aboves ≡ flat m n p j →
     mixedOf (eqb i p) (eqb j q) common (getD l at (pos 0)) (getD l owns (pos 0)) (getD l besides (pos 0)) (getD l aboves (pos 0))
-    ≡ mixedCell n common l p q i j
+    ≡ mixedCell m n common l p q i j
 unfolding mixedCell
-joined n common l p q i j at owns besides aboves a b c d = rw (a, b, c, d) refl
+joined m n common l p q i j at owns besides aboves a b c d = rw (a, b, c, d) refl
 
 fit-result : (c : tie.After-mixed) → SFits w64 (c .mixed .result)
 fit-result c = search needs
@@ -153,8 +156,9 @@ returns c =
       toZ-ofZ (fit-beside a),
       toZ-ofZ (fit-above a),
     ) at (c .mixed .ensures))
-    ∙ joined (n d) (s .args .common) (s .args .entries .now) _ _ _ _ _ _ _ _ (d .before .before .before .place .ensures)
-    (d .before .before .place2 .ensures) (d .before .place3 .ensures) (d .place4 .ensures))
+    ∙ joined (m d) (n d) (s .args .common) (s .args .entries .now) _ _ _ _ _ _ _ _
+    (d .before .before .before .place .ensures) (d .before .before .place2 .ensures)
+    (d .before .place3 .ensures) (d .place4 .ensures))
 
 pub mixed-at-spec : {M : Type 1} → statement M
 mixed-at-spec =

@@ -11,19 +11,19 @@ use mir.Syntax.{w64}
 use mir.Val.{SFits, toZ}
 use Rattle.whole.specs.Tables.{filled}
 use Rattle.whole.proofs.Prefix.{filled-start, filled-more}
-use Rattle.rules.specs.Sizes.{mostRows}
 use Rattle.tableau.specs.declared.layout.Spot.{Spot}
-use Rattle.tableau.specs.Layout.{columnAt, live, mostEntries, rowAt}
+use Rattle.tableau.specs.Layout.{live, mostEntries}
 use Rattle.tableau.specs.Parts.{spotAt}
 use Rattle.tableau.specs.Pivot.{mixedAt, mixedCell}
-use Rattle.tableau.proofs.Laws.Layout.{column-live, live-most, row-live}
+use Rattle.tableau.proofs.Laws.Layout.{column-used, live-most, row-used}
 use Rattle.tableau.proofs.pivot.mixed_entries.Statement.{statement}
 use Rattle.tableau.proofs.pivot.mixed_entries.Tie as tie
 
 abbrev Inv-loop : tie.InvT-loop
 Inv-loop entries rows columns common row column end out₀ spot₀ k₀ out spot k =
-    (k ≤ end) × (out ≡ filled mostEntries (pos 0) k (mixedAt columns (toZ w64 common) entries (row .0) (column .0)))
-    × (spot ≡ spotAt columns k)
+    (k ≤ end)
+    × (out ≡ filled mostEntries (pos 0) k (mixedAt rows columns (toZ w64 common) entries (row .0) (column .0)))
+    × (spot ≡ spotAt rows columns k)
 
 abbrev μ-loop : tie.MeasureT-loop
 μ-loop entries rows columns common row column end out₀ spot₀ k₀ out spot k = end - k
@@ -35,14 +35,8 @@ first-requires : tie.Need-first-requires Inv-loop μ-loop
 first-requires c κs = search needs
 
 loop-holds : tie.Need-loop-holds Inv-loop μ-loop
-loop-holds c = (omega arith, filled-start mostEntries (pos 0) _, c .first .ensures (c .before .before .args .columns))
-
--- the places of a spot that is at hand
-row-below : (n k : ℕ) {b : ℕ} {s : Spot} → s ≡ spotAt n k → rowAt n k < b → s .row .0 < b
-row-below n k e h = rw e h
-
-column-below : (n k : ℕ) {b : ℕ} {s : Spot} → s ≡ spotAt n k → columnAt n k < b → s .column .0 < b
-column-below n k e h = rw e h
+loop-holds c = let a = c .before .before .args in
+    (omega arith, filled-start mostEntries (pos 0) _, c .first .ensures (a .rows) (a .columns))
 
 -- a live cell
 module _ (c : tie.In-loop Inv-loop μ-loop) where
@@ -67,15 +61,15 @@ module _ (c : tie.In-loop Inv-loop μ-loop) where
   in-array : k < mostEntries
   in-array = lt-of-lt-of-le is-live (live-most m n (start .pre .0 .2) (start .pre .0 .3))
 
-  row-small : spot .row .0 < mostRows
-  row-small = row-below n k (c .before .loop .inv .2) (lt-of-lt-of-le (row-live m n k is-live) (start .pre .0 .2))
+  row-small : spot .row .0 < m
+  row-small = row-used m n k spot (c .before .loop .inv .2) is-live
 
   column-small : spot .column .0 < n
-  column-small = column-below n k (c .before .loop .inv .2) (column-live m n k is-live)
+  column-small = column-used m n k spot (c .before .loop .inv .2) is-live
 
 mixed-at-requires : tie.Need-mixed-at-requires Inv-loop μ-loop
 mixed-at-requires c κs = let s = start c in (
-  (s .pre .0 .0, s .pre .0 .1, s .pre .0 .3),
+  s .pre .0,
   ((row-small c, column-small c), (simp (toZ-ofZ (s .fits .common)) (s .pre .1 .0), s .pre .1 .1)),
 )
 
@@ -100,15 +94,15 @@ module _ (c : tie.After-mixed-at Inv-loop μ-loop) where
   begun = start (c .before)
 
   abbrev cell : ℕ → ℤ
-  cell = mixedAt (begun .args .columns) (begun .args .common) (begun .args .entries .now) (begun .args .row .0) (begun .args .column .0)
+  cell = let a = begun .args in mixedAt (a .rows) (a .columns) (a .common) (a .entries .now) (a .row .0) (a .column .0)
 
   fit : SFits w64 (c .mixed-at .result)
   fit = search needs
 
   right : c .mixed-at .result ≡ cell (k (c .before))
   right = (simp (toZ-ofZ (begun .fits .common)) at (c .mixed-at .ensures))
-      ∙ ap (λ (s : Spot). mixedCell (begun .args .columns) (begun .args .common) (begun .args .entries .now) (begun .args .row .0)
-      (begun .args .column .0) (s .row .0) (s .column .0)) (c .before .before .loop .inv .2)
+      ∙ (let a = begun .args in ap (λ (s : Spot). mixedCell (a .rows) (a .columns) (a .common) (a .entries .now)
+      (a .row .0) (a .column .0) (s .row .0) (s .column .0)) (c .before .before .loop .inv .2))
 
 loop-again : tie.Need-loop-again Inv-loop μ-loop
 loop-again c = let o = c .before in (
@@ -124,8 +118,9 @@ returns c =
     let s = c .before .before .before .before in
     let e : c .before .loop .k ≡ c .before .before .before .live .result = omega arith in
     (simp (toZ-ofZ (s .fits .common)) at (c .before .loop .inv .1))
-    ∙ ap (λ k. filled mostEntries (pos 0) k (mixedAt (s .args .columns) (s .args .common) (s .args .entries .now) (s .args .row .0)
-    (s .args .column .0))) (e ∙ c .before .before .before .live .ensures)
+    ∙ ap (λ k. filled mostEntries (pos 0) k
+    (mixedAt (s .args .rows) (s .args .columns) (s .args .common) (s .args .entries .now)
+    (s .args .row .0) (s .args .column .0))) (e ∙ c .before .before .before .live .ensures)
 
 pub mixed-entries-spec : {M : Type 1} → statement M
 mixed-entries-spec =

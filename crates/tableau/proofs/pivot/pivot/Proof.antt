@@ -21,13 +21,13 @@ use Rattle.tableau.specs.declared.pivot.Pivoted.the-variants as pivots
 use Rattle.tableau.specs.Layout.{live, mostEntries}
 use Rattle.tableau.specs.Pivot.{signedBy, smallBelow, product, mix, by, commonAfter, entriesAfter, fitsAfter}
 use Rattle.tableau.specs.Pivot.{pivotedBy, entriesBy}
-use Rattle.tableau.proofs.Laws.Reductions.{row-place, pivot-in, end-in, within-product, within-size}
+use Rattle.tableau.proofs.Laws.Reductions.{pivot-in, end-in, within-product, within-size}
 use Rattle.tableau.proofs.Laws.Reductions.{mix-within, size-most, nonzero-by, quotient-fits, divided-all}
 use Rattle.tableau.proofs.pivot.pivot.Statement.{statement}
 use Rattle.tableau.proofs.pivot.pivot.Tie as tie
 
 place-requires : tie.Need-place-requires
-place-requires c κs = let h = c .pre in (row-place h, h .in-columns, h .few-columns)
+place-requires c κs = let h = c .pre in (h .in-rows, h .in-columns, h .few-rows, h .few-columns)
 
 live-requires : tie.Need-live-requires
 live-requires c κs = search needs
@@ -98,7 +98,7 @@ mul-product-2 c = simp (toZ-ofZ (fit-pivot c), toZ-ofZ (fit-common c)) (fit-prod
 
 mixed-entries-requires : tie.Need-mixed-entries-requires
 mixed-entries-requires c κs = let o = c .before in let h = start o .pre in (
-  (row-place h, h .in-columns, h .few-rows, h .few-columns),
+  (h .in-rows, h .in-columns, h .few-rows, h .few-columns),
   (simp (toZ-ofZ (fit-common o)) (h .common-within), h .all-within),
 )
 
