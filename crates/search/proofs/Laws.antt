@@ -6,4 +6,5 @@ pub mod Rows
 pub mod Searches
 pub mod Seen
 pub mod Shortfalls
+pub mod TwoOrders
 pub mod Only

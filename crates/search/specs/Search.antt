@@ -15,7 +15,8 @@ use Rattle.rules.specs.Step.{Side, Leaving, leaves, shortfallBy, pull, suits}
 use Rattle.tableau.specs.declared.Limits.{Limits}
 use Rattle.tableau.specs.declared.Seat.{Seat}
 use Rattle.tableau.specs.declared.Tableau.{Tableau}
-use Rattle.tableau.specs.Parts.{cellAt, entryIn, valueAt, seatAt, rowOf, columnOf, lowerOf, upperOf}
+use Rattle.tableau.specs.Layout.{Order, inUse}
+use Rattle.tableau.specs.Parts.{cellLaid, entryLaid, entryIn, valueAt, seatAt, rowOf, columnOf, lowerOf, upperOf}
 use Rattle.tableau.specs.Pivot.{Cells}
 use Rattle.search.specs.declared.sides.LimitPair.{LimitPair}
 use Rattle.search.specs.declared.Blocked.{Blocked}
@@ -24,56 +25,9 @@ use Rattle.search.specs.declared.Next.{Next}
 use Rattle.search.specs.declared.Next.the-variants as variants
 use Rattle.search.specs.Sides.{sideOf, rising, suitsOf}
 
--- the sum of the first k columns of row place i, of m rows and n columns
-unfoldable pub partSum : ℕ → ℕ → List ℤ → List ℤ → ℕ → ℕ → ℤ
-partSum m n l x i k = sum k (λ j. entryIn m n l i j *ℤ getD x j (pos 0))
-
--- D times the value of the basic variable of row place i, from entries and values
-abbrev pub rowSum : ℕ → ℕ → List ℤ → List ℤ → ℕ → ℤ
-rowSum m n l x i = partSum m n l x i n
-
--- ---- the leaving variable
-
--- D times the value of variable v, if it is basic
-abbrev pub scaledAt : Tableau → ℕ → ℤ
-scaledAt t v = rowSum (t .rows) (t .columns) (t .entries) (t .values) (rowOf t v)
-
--- .. the side on which it is outside
-abbrev pub sideAt : Tableau → ℕ → Option Side
-sideAt t v = sideOf (t .common) (scaledAt t v) (lowerOf (t .limits) v) (upperOf (t .limits) v)
-
--- .. and by how much, over D
-abbrev pub shortAt : Tableau → ℕ → Side → ℤ
-shortAt t v = shortfallBy whole (t .common) (scaledAt t v) (lowerOf (t .limits) v) (upperOf (t .limits) v)
-
 abbrev pub tagged : ℕ → Option Side → (Side → ℤ) → Option (Leaving ℤ)
 tagged v none short = none
 tagged v (some σ) short = some (leaves v σ (short σ))
-
-unfoldable pub brokenAt : Tableau → ℕ → Option (Leaving ℤ)
-brokenAt t v = cond (seatAt t v .basic) (tagged v (sideAt t v) (shortAt t v)) none
-
-unfoldable pub leavingAt : Tableau → Option (Leaving ℤ)
-leavingAt t = lowest (t .rows + t .columns) (brokenAt t)
-
--- ---- the entering variable
-
--- the nonbasic variable of column place j, with these limits, can move the basic variable of row place i the right way
-unfoldable pub movesAt : ℕ → ℕ → List ℤ → List ℤ → ℕ → ℕ → Bool → LimitPair → Bool
-movesAt m n l x i j rises p = suitsOf rises (entryIn m n l i j) (getD x j (pos 0)) p
-
--- variable w can move the basic variable of row place i the right way, if it is nonbasic
-abbrev pub fitting : Tableau → ℕ → Side → ℕ → Bool
-fitting t i σ w =
-    suits whole (pull σ (cellAt t i (columnOf t w))) (some (valueAt t (columnOf t w))) (lowerOf (t .limits) w) (upperOf (t .limits) w)
-
-unfoldable pub enteringOf : Tableau → ℕ → Side → ℕ → Option ℕ
-enteringOf t i σ w = cond (seatAt t w .basic) none (cond (fitting t i σ w) (some w) none)
-
-unfoldable pub enteringAt : Tableau → ℕ → Side → Option ℕ
-enteringAt t i σ = lowest (t .rows + t .columns) (enteringOf t i σ)
-
--- ---- both
 
 abbrev pub blockedAt : Tableau → Leaving ℤ → Blocked
 blockedAt t r = record { row = seatAt t (r .variable) .row; rises = rising (r .side); shortfall = r .shortfall }
@@ -90,12 +44,100 @@ unfoldable pub moveBy : Tableau → Leaving ℤ → Option ℕ → Next
 moveBy t r none = variants.Stuck (blockedAt t r)
 moveBy t r (some w) = variants.Pivot (choiceAt t r w)
 
-unfoldable pub nextBy : Tableau → Option (Leaving ℤ) → Next
-nextBy t none = variants.Within
-nextBy t (some r) = moveBy t r (enteringAt t (rowOf t (r .variable)) (r .side))
+module _ (o : Order) where
+  -- the sum of the first k columns of row place i, of m rows and n columns
+  unfoldable pub sumLaid : ℕ → ℕ → List ℤ → List ℤ → ℕ → ℕ → ℤ
+  sumLaid m n l x i k = sum k (λ j. entryLaid o m n l i j *ℤ getD x j (pos 0))
 
-unfoldable pub nextAt : Tableau → Next
-nextAt t = nextBy t (leavingAt t)
+  -- D times the value of the basic variable of row place i, from entries and values
+  abbrev pub rowSumLaid : ℕ → ℕ → List ℤ → List ℤ → ℕ → ℤ
+  rowSumLaid m n l x i = sumLaid m n l x i n
+
+  -- ---- the leaving variable
+
+  -- D times the value of variable v, if it is basic
+  abbrev pub scaledLaid : Tableau → ℕ → ℤ
+  scaledLaid t v = rowSumLaid (t .rows) (t .columns) (t .entries) (t .values) (rowOf t v)
+
+  -- .. the side on which it is outside
+  abbrev pub sideLaid : Tableau → ℕ → Option Side
+  sideLaid t v = sideOf (t .common) (scaledLaid t v) (lowerOf (t .limits) v) (upperOf (t .limits) v)
+
+  -- .. and by how much, over D
+  abbrev pub shortLaid : Tableau → ℕ → Side → ℤ
+  shortLaid t v = shortfallBy whole (t .common) (scaledLaid t v) (lowerOf (t .limits) v) (upperOf (t .limits) v)
+
+  unfoldable pub brokenLaid : Tableau → ℕ → Option (Leaving ℤ)
+  brokenLaid t v = cond (seatAt t v .basic) (tagged v (sideLaid t v) (shortLaid t v)) none
+
+  unfoldable pub leavingLaid : Tableau → Option (Leaving ℤ)
+  leavingLaid t = lowest (t .rows + t .columns) (brokenLaid t)
+
+  -- ---- the entering variable
+
+  -- variable w can move the basic variable of row place i the right way, if it is nonbasic
+  abbrev pub fittingLaid : Tableau → ℕ → Side → ℕ → Bool
+  fittingLaid t i σ w = suits whole (pull σ (cellLaid o t i (columnOf t w))) (some (valueAt t (columnOf t w)))
+      (lowerOf (t .limits) w) (upperOf (t .limits) w)
+
+  unfoldable pub entersLaid : Tableau → ℕ → Side → ℕ → Option ℕ
+  entersLaid t i σ w = cond (seatAt t w .basic) none (cond (fittingLaid t i σ w) (some w) none)
+
+  unfoldable pub enteringLaid : Tableau → ℕ → Side → Option ℕ
+  enteringLaid t i σ = lowest (t .rows + t .columns) (entersLaid t i σ)
+
+  -- ---- both
+
+  unfoldable pub nextByLaid : Tableau → Option (Leaving ℤ) → Next
+  nextByLaid t none = variants.Within
+  nextByLaid t (some r) = moveBy t r (enteringLaid t (rowOf t (r .variable)) (r .side))
+
+  unfoldable pub nextLaid : Tableau → Next
+  nextLaid t = nextByLaid t (leavingLaid t)
+
+-- ---- the same in the order in use
+
+abbrev pub partSum : ℕ → ℕ → List ℤ → List ℤ → ℕ → ℕ → ℤ
+partSum = sumLaid inUse
+
+abbrev pub rowSum : ℕ → ℕ → List ℤ → List ℤ → ℕ → ℤ
+rowSum = rowSumLaid inUse
+
+abbrev pub scaledAt : Tableau → ℕ → ℤ
+scaledAt = scaledLaid inUse
+
+abbrev pub sideAt : Tableau → ℕ → Option Side
+sideAt = sideLaid inUse
+
+abbrev pub shortAt : Tableau → ℕ → Side → ℤ
+shortAt = shortLaid inUse
+
+abbrev pub brokenAt : Tableau → ℕ → Option (Leaving ℤ)
+brokenAt = brokenLaid inUse
+
+abbrev pub leavingAt : Tableau → Option (Leaving ℤ)
+leavingAt = leavingLaid inUse
+
+abbrev pub fitting : Tableau → ℕ → Side → ℕ → Bool
+fitting = fittingLaid inUse
+
+abbrev pub enteringOf : Tableau → ℕ → Side → ℕ → Option ℕ
+enteringOf = entersLaid inUse
+
+abbrev pub enteringAt : Tableau → ℕ → Side → Option ℕ
+enteringAt = enteringLaid inUse
+
+abbrev pub nextBy : Tableau → Option (Leaving ℤ) → Next
+nextBy = nextByLaid inUse
+
+abbrev pub nextAt : Tableau → Next
+nextAt = nextLaid inUse
+
+-- ---- what the code reads
+
+-- the nonbasic variable of column place j, with these limits, can move the basic variable of row place i the right way
+unfoldable pub movesAt : ℕ → ℕ → List ℤ → List ℤ → ℕ → ℕ → Bool → LimitPair → Bool
+movesAt m n l x i j rises p = suitsOf rises (entryIn m n l i j) (getD x j (pos 0)) p
 
 -- the tableau as the search reads it: which variable is at which place is not asked
 abbrev pub seen : List ℤ → List ℤ → List Seat → Limits → ℤ → ℕ → ℕ → Tableau

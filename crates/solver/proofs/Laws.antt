@@ -10,4 +10,5 @@ pub mod Halves
 pub mod Crossings
 pub mod Told
 pub mod Refusals
+pub mod TwoOrders
 pub mod Only

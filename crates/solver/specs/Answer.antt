@@ -10,8 +10,9 @@ use Rattle.whole.specs.Tables.{table, filled}
 use Rattle.rules.specs.Sizes.{mostColumns, mostRows, mostVariables, largestLimit, largestNumber}
 use Rattle.tableau.specs.declared.Seat.{Seat}
 use Rattle.tableau.specs.declared.Tableau.{Tableau}
+use Rattle.tableau.specs.Layout.{Order, inUse}
 use Rattle.tableau.specs.Parts.{nowhere}
-use Rattle.search.specs.Search.{rowSum}
+use Rattle.search.specs.Search.{rowSumLaid}
 use Rattle.solver.specs.declared.answer.Verdict.{Verdict}
 use Rattle.solver.specs.declared.answer.Verdict.the-variants as verdicts
 
@@ -26,17 +27,24 @@ abbrev pub numeratorFrom : Bool → ℤ → ℤ → ℤ
 numeratorFrom true basic seated = basic
 numeratorFrom false basic seated = seated
 
-unfoldable pub numeratorOf : List ℤ → List ℤ → ℕ → ℕ → ℤ → Seat → ℤ
-numeratorOf l x rows columns common s =
-    numeratorFrom (s .basic) (rowSum rows columns l x (s .row .0)) (common *ℤ getD x (s .column .0) (pos 0))
+unfoldable pub numeratorLaid : Order → List ℤ → List ℤ → ℕ → ℕ → ℤ → Seat → ℤ
+numeratorLaid o l x rows columns common s =
+    numeratorFrom (s .basic) (rowSumLaid o rows columns l x (s .row .0)) (common *ℤ getD x (s .column .0) (pos 0))
 
 -- .. of every variable, by the seats
+unfoldable pub numeratorsLaid : Order → List ℤ → List ℤ → List Seat → ℤ → ℕ → ℕ → List ℤ
+numeratorsLaid o l x seats common rows columns =
+    filled mostVariables (pos 0) (rows + columns) (λ v. numeratorLaid o l x rows columns common (getD seats v nowhere))
+
+-- .. in the order in use
+abbrev pub numeratorOf : List ℤ → List ℤ → ℕ → ℕ → ℤ → Seat → ℤ
+numeratorOf = numeratorLaid inUse
+
 abbrev pub numeratorIn : List ℤ → List ℤ → List Seat → ℤ → ℕ → ℕ → ℕ → ℤ
 numeratorIn l x seats common rows columns v = numeratorOf l x rows columns common (getD seats v nowhere)
 
-unfoldable pub numeratorsIn : List ℤ → List ℤ → List Seat → ℤ → ℕ → ℕ → List ℤ
-numeratorsIn l x seats common rows columns =
-    filled mostVariables (pos 0) (rows + columns) (numeratorIn l x seats common rows columns)
+abbrev pub numeratorsIn : List ℤ → List ℤ → List Seat → ℤ → ℕ → ℕ → List ℤ
+numeratorsIn = numeratorsLaid inUse
 
 -- .. and of a tableau
 abbrev pub numeratorAt : Tableau → ℕ → ℤ

@@ -4,3 +4,4 @@ pub mod Multipliers
 pub mod Answer
 pub mod Step
 pub mod Run
+pub mod TwoOrders

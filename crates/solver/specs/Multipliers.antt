@@ -12,7 +12,8 @@ use Rattle.rules.specs.Sizes.{mostColumns, mostRows, mostVariables, largestNumb
 use Rattle.rules.specs.Step.{pull, positive}
 use Rattle.tableau.specs.declared.Seat.{Seat}
 use Rattle.tableau.specs.declared.Tableau.{Tableau}
-use Rattle.tableau.specs.Parts.{entryIn, nowhere}
+use Rattle.tableau.specs.Layout.{Order, inUse}
+use Rattle.tableau.specs.Parts.{entryLaid, nowhere}
 use Rattle.search.specs.declared.Blocked.{Blocked}
 use Rattle.search.specs.Sides.{sideBy}
 use Rattle.solver.specs.declared.multipliers.Multipliers.{Multipliers}
@@ -28,19 +29,31 @@ relationFrom true false common entry = pos 0
 relationFrom false own common entry = entry
 
 -- .. turned to rise
-unfoldable pub pullOf : List ℤ → ℕ → ℕ → ℤ → Blocked → Seat → ℤ
-pullOf l rows columns common b x = pull (sideBy (b .rises))
-    (relationFrom (x .basic) (eqb (x .row .0) (b .row .0)) common (entryIn rows columns l (b .row .0) (x .column .0)))
+unfoldable pub pullLaid : Order → List ℤ → ℕ → ℕ → ℤ → Blocked → Seat → ℤ
+pullLaid o l rows columns common b x = pull (sideBy (b .rises))
+    (relationFrom (x .basic) (eqb (x .row .0) (b .row .0)) common
+    (entryLaid o rows columns l (b .row .0) (x .column .0)))
 
 -- .. at every variable, by the seats
-abbrev pub pullIn : List ℤ → List Seat → ℕ → ℕ → ℤ → Blocked → ℕ → ℤ
-pullIn l seats rows columns common b v = pullOf l rows columns common b (getD seats v nowhere)
+abbrev pub pullInLaid : Order → List ℤ → List Seat → ℕ → ℕ → ℤ → Blocked → ℕ → ℤ
+pullInLaid o l seats rows columns common b v = pullLaid o l rows columns common b (getD seats v nowhere)
 
-unfoldable pub multipliersIn : List ℤ → List Seat → ℤ → ℕ → ℕ → Blocked → Multipliers
-multipliersIn l seats common rows columns b = record {
-  lower = filled mostVariables (pos 0) (rows + columns) (λ v. positive (negℤ (pullIn l seats rows columns common b v)));
-  upper = filled mostVariables (pos 0) (rows + columns) (λ v. positive (pullIn l seats rows columns common b v));
+unfoldable pub multipliersLaid : Order → List ℤ → List Seat → ℤ → ℕ → ℕ → Blocked → Multipliers
+multipliersLaid o l seats common rows columns b = record {
+  lower = filled mostVariables (pos 0) (rows + columns)
+      (λ v. positive (negℤ (pullInLaid o l seats rows columns common b v)));
+  upper = filled mostVariables (pos 0) (rows + columns) (λ v. positive (pullInLaid o l seats rows columns common b v));
 }
+
+-- .. in the order in use
+abbrev pub pullOf : List ℤ → ℕ → ℕ → ℤ → Blocked → Seat → ℤ
+pullOf = pullLaid inUse
+
+abbrev pub pullIn : List ℤ → List Seat → ℕ → ℕ → ℤ → Blocked → ℕ → ℤ
+pullIn = pullInLaid inUse
+
+abbrev pub multipliersIn : List ℤ → List Seat → ℤ → ℕ → ℕ → Blocked → Multipliers
+multipliersIn = multipliersLaid inUse
 
 -- .. and of a tableau
 abbrev pub pullAt : Tableau → Blocked → ℕ → ℤ

@@ -10,37 +10,56 @@ use Rattle.rules.specs.Run.{conflict}
 use Rattle.rules.specs.Step.{State}
 use Rattle.rules.proofs.Sound.{Ready}
 use Rattle.tableau.specs.declared.Tableau.{Tableau}
+use Rattle.tableau.specs.Layout.{Order, inUse}
 use Rattle.tableau.specs.Stands.{Ranged, Stands}
 use Rattle.search.specs.declared.Blocked.{Blocked}
 use Rattle.search.specs.Search.{Searchable}
+use Rattle.solver.specs.declared.multipliers.Multipliers.{Multipliers}
 use Rattle.solver.specs.declared.answer.Verdict.the-variants as verdicts
 use Rattle.solver.specs.declared.step.End.{End}
 use Rattle.solver.specs.declared.step.End.the-variants as ends
-use Rattle.solver.specs.Answer.{mostCount, noughts, numeratorsAt, wordsAt}
-use Rattle.solver.specs.Multipliers.{multipliersAt}
-use Rattle.solver.specs.Step.{on, over, steppedAt}
+use Rattle.solver.specs.Answer.{mostCount, noughts, numeratorsLaid, wordsAt}
+use Rattle.solver.specs.Multipliers.{multipliersLaid}
+use Rattle.solver.specs.Step.{on, over, steppedLaid}
 
 -- the tableau after k steps
-unfoldable pub afterAt : Tableau → ℕ → Tableau
-afterAt t zero = t
-afterAt t (suc k) = steppedAt (afterAt t k) .tableau
+unfoldable pub afterLaid : Order → Tableau → ℕ → Tableau
+afterLaid o t zero = t
+afterLaid o t (suc k) = steppedLaid o (afterLaid o t k) .tableau
 
 -- the first k steps go on
-abbrev pub GoesOn : Tableau → ℕ → Type 0
-GoesOn t k = (i : ℕ) → i < k → steppedAt (afterAt t i) .course ≡ on
+abbrev pub GoesOnLaid : Order → Tableau → ℕ → Type 0
+GoesOnLaid o t k = (i : ℕ) → i < k → steppedLaid o (afterLaid o t i) .course ≡ on
 
 -- the run: k steps that go on, the step that ends it, and the last tableau
-pub record Finished (t : Tableau) (e : End) (k : ℕ) (u : Tableau) : Type 0 where
-  pub goes-on : GoesOn t k
-  pub ended : steppedAt (afterAt t k) .course ≡ over e
-  pub last : u ≡ afterAt t k
+pub record FinishedLaid (o : Order) (t : Tableau) (e : End) (k : ℕ) (u : Tableau) : Type 0 where
+  pub goes-on : GoesOnLaid o t k
+  pub ended : steppedLaid o (afterLaid o t k) .course ≡ over e
+  pub last : u ≡ afterLaid o t k
 
 -- ---- the words of a run that ended
 
-unfoldable pub endWords : End → ℕ → Tableau → ℕ → List ℤ
-endWords ends.Can k t N = wordsAt verdicts.Can k (t .common) N (numeratorsAt t) noughts
-endWords (ends.Cannot b) k t N = wordsAt verdicts.Cannot k (pos 0) N (multipliersAt t b .lower) (multipliersAt t b .upper)
-endWords ends.Range k t N = wordsAt verdicts.Range k (pos 0) N noughts noughts
+unfoldable pub wordsLaid : Order → End → ℕ → Tableau → ℕ → List ℤ
+wordsLaid o ends.Can k t N = wordsAt verdicts.Can k (t .common) N
+    (numeratorsLaid o (t .entries) (t .values) (t .seats) (t .common) (t .rows) (t .columns)) noughts
+wordsLaid o (ends.Cannot b) k t N =
+    let M : Multipliers = multipliersLaid o (t .entries) (t .seats) (t .common) (t .rows) (t .columns) b in
+    wordsAt verdicts.Cannot k (pos 0) N (M .lower) (M .upper)
+wordsLaid o ends.Range k t N = wordsAt verdicts.Range k (pos 0) N noughts noughts
+
+-- ---- the same in the order in use
+
+abbrev pub afterAt : Tableau → ℕ → Tableau
+afterAt = afterLaid inUse
+
+abbrev pub GoesOn : Tableau → ℕ → Type 0
+GoesOn = GoesOnLaid inUse
+
+abbrev pub Finished : Tableau → End → ℕ → Tableau → Type 0
+Finished = FinishedLaid inUse
+
+abbrev pub endWords : End → ℕ → Tableau → ℕ → List ℤ
+endWords = wordsLaid inUse
 
 -- a last tableau that a search could read, and a blocked row that is one
 pub record Tellable (e : End) (k : ℕ) (t : Tableau) : Type 0 where

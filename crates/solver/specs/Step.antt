@@ -14,13 +14,14 @@ use Rattle.tableau.specs.declared.Limits.{Limits}
 use Rattle.tableau.specs.declared.Seat.{Seat}
 use Rattle.tableau.specs.declared.Tableau.{Tableau}
 use Rattle.tableau.specs.declared.Variable.{Variable}
+use Rattle.tableau.specs.Layout.{Order, inUse}
 use Rattle.tableau.specs.Parts.{basicAt}
-use Rattle.tableau.specs.Pivot.{Pivotable, commonAfter, entriesAfter, entriesBy, fitsAfter, pivotedAt, swappedAt}
+use Rattle.tableau.specs.Pivot.{Pivotable, commonAfter, entriesAfter, entriesBy, fitsLaid, pivotedLaid, swappedAt}
 use Rattle.tableau.specs.Stands.{Ranged, Stands}
 use Rattle.search.specs.declared.Choice.{Choice}
 use Rattle.search.specs.declared.Next.{Next}
 use Rattle.search.specs.declared.Next.the-variants as nexts
-use Rattle.search.specs.Search.{Searchable, nextAt}
+use Rattle.search.specs.Search.{Searchable, nextAt, nextLaid}
 use Rattle.solver.specs.declared.step.End.{End}
 use Rattle.solver.specs.declared.step.End.the-variants as ends
 use Rattle.solver.specs.declared.step.Outcome.{Outcome}
@@ -37,8 +38,11 @@ valueAfter t c = let v : ℕ = basicAt t (c .row .0) in
     limitOf (c .rises) (getD (t .limits .lower) v (pos 0)) (getD (t .limits .upper) v (pos 0))
 
 -- the tableau after the chosen pivot, whose leaving variable gets the limit that it violates
-unfoldable pub movedAt : Tableau → Choice → Tableau
-movedAt t c = swappedAt (pivotedAt t (c .row .0) (c .column .0)) (c .row .0) (c .column .0) (valueAfter t c)
+unfoldable pub movedLaid : Order → Tableau → Choice → Tableau
+movedLaid o t c = swappedAt (pivotedLaid o t (c .row .0) (c .column .0)) (c .row .0) (c .column .0) (valueAfter t c)
+
+abbrev pub movedAt : Tableau → Choice → Tableau
+movedAt = movedLaid inUse
 
 -- a pivot whose row, column and variables are places and numbers of the tableau
 pub record Movable (t : Tableau) (c : Choice) : Type 0 where
@@ -67,16 +71,26 @@ admitAt true t u = record { course = on; tableau = u }
 admitAt false t u = endedAs t ends.Range
 
 -- the range test of the numbers after the chosen pivot
+abbrev pub fitsByLaid : Order → Tableau → Choice → Bool
+fitsByLaid o t c = fitsLaid o (t .rows) (t .columns) (t .entries) (t .common) (c .row .0) (c .column .0)
+
+unfoldable pub stepLaid : Order → Tableau → Next → Stepped
+stepLaid o t nexts.Within = endedAs t ends.Can
+stepLaid o t (nexts.Stuck b) = endedAs t (ends.Cannot b)
+stepLaid o t (nexts.Pivot c) = admitAt (fitsByLaid o t c) t (movedLaid o t c)
+
+unfoldable pub steppedLaid : Order → Tableau → Stepped
+steppedLaid o t = stepLaid o t (nextLaid o t)
+
+-- .. in the order in use
 abbrev pub fitsBy : Tableau → Choice → Bool
-fitsBy t c = fitsAfter (t .rows) (t .columns) (t .entries) (t .common) (c .row .0) (c .column .0)
+fitsBy = fitsByLaid inUse
 
-unfoldable pub stepBy : Tableau → Next → Stepped
-stepBy t nexts.Within = endedAs t ends.Can
-stepBy t (nexts.Stuck b) = endedAs t (ends.Cannot b)
-stepBy t (nexts.Pivot c) = admitAt (fitsBy t c) t (movedAt t c)
+abbrev pub stepBy : Tableau → Next → Stepped
+stepBy = stepLaid inUse
 
-unfoldable pub steppedAt : Tableau → Stepped
-steppedAt t = stepBy t (nextAt t)
+abbrev pub steppedAt : Tableau → Stepped
+steppedAt = steppedLaid inUse
 
 -- ---- a step as the code makes it: its answer, and the entries that it leaves
 

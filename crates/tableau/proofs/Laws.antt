@@ -15,3 +15,4 @@ pub mod Judged
 pub mod Reading
 pub mod Fitting
 pub mod Started
+pub mod TwoOrders

@@ -1,6 +1,6 @@
 -- Where the entry of a row place and a column place lies in the flat array, and back, for m rows and n columns:
--- row after row, with nothing between. Beside this file only src/layout.rt says so, and proofs/Laws/Layout.antt
--- uses it.
+-- row after row or column after column, with nothing between. The code's entries lie by columns. Beside this file only
+-- src/layout.rt says so, and proofs/Laws/Layout.antt uses it.
 use Prim.Native.Nat.{ℕ, _+_, _*_, _/_, _%_}
 use Rattle.divisor.specs.Cells.{mostCells}
 
@@ -8,15 +8,39 @@ use Rattle.divisor.specs.Cells.{mostCells}
 abbrev pub mostEntries : ℕ
 mostEntries = mostCells
 
-unfoldable pub flat : ℕ → ℕ → ℕ → ℕ → ℕ
-flat m n i j = i * n + j
+-- the two orders, and the one in use
+pub data Order : Type 0 where
+  byRows : Order
+  byColumns : Order
 
-unfoldable pub rowAt : ℕ → ℕ → ℕ → ℕ
-rowAt m n k = k / n
+abbrev pub inUse : Order
+inUse = byColumns
 
-unfoldable pub columnAt : ℕ → ℕ → ℕ → ℕ
-columnAt m n k = k % n
+-- ---- places in an order. Here and elsewhere a name that ends in Laid is for entries that lie in the order it is told
 
--- the cells from here on are not in use
+unfoldable pub flatLaid : Order → ℕ → ℕ → ℕ → ℕ → ℕ
+flatLaid byRows m n i j = i * n + j
+flatLaid byColumns m n i j = j * m + i
+
+unfoldable pub rowLaid : Order → ℕ → ℕ → ℕ → ℕ
+rowLaid byRows m n k = k / n
+rowLaid byColumns m n k = k % m
+
+unfoldable pub columnLaid : Order → ℕ → ℕ → ℕ → ℕ
+columnLaid byRows m n k = k % n
+columnLaid byColumns m n k = k / m
+
+-- the cells from here on are not in use, in either order
 unfoldable pub live : ℕ → ℕ → ℕ
 live m n = m * n
+
+-- ---- .. and in the order in use
+
+abbrev pub flat : ℕ → ℕ → ℕ → ℕ → ℕ
+flat = flatLaid inUse
+
+abbrev pub rowAt : ℕ → ℕ → ℕ → ℕ
+rowAt = rowLaid inUse
+
+abbrev pub columnAt : ℕ → ℕ → ℕ → ℕ
+columnAt = columnLaid inUse

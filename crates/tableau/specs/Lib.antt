@@ -5,3 +5,4 @@ pub mod Pivot
 pub mod Start
 pub mod Stands
 pub mod Words
+pub mod TwoOrders

@@ -13,7 +13,7 @@ use Rattle.tableau.specs.declared.Seat.{Seat}
 use Rattle.tableau.specs.declared.Limits.{Limits}
 use Rattle.tableau.specs.declared.Tableau.{Tableau}
 use Rattle.tableau.specs.declared.layout.Spot.{Spot}
-use Rattle.tableau.specs.Layout.{flat, rowAt, columnAt}
+use Rattle.tableau.specs.Layout.{Order, inUse, flatLaid, rowAt, columnAt}
 
 abbrev pub variable : ℕ → Variable
 variable v = record { 0 = v }
@@ -31,13 +31,19 @@ nowhere = record { basic = false; row = row 0; column = column 0 }
 abbrev pub spotAt : ℕ → ℕ → ℕ → Spot
 spotAt m n k = record { row = row (rowAt m n k); column = column (columnAt m n k) }
 
--- the number at a row place and a column place of an array of entries
-abbrev pub entryIn : ℕ → ℕ → List ℤ → ℕ → ℕ → ℤ
-entryIn m n l i j = getD l (flat m n i j) (pos 0)
+-- the number at a row place and a column place of an array of entries, and of a tableau
+abbrev pub entryLaid : Order → ℕ → ℕ → List ℤ → ℕ → ℕ → ℤ
+entryLaid o m n l i j = getD l (flatLaid o m n i j) (pos 0)
 
--- .. of the tableau, and the number at flat place k
+abbrev pub cellLaid : Order → Tableau → ℕ → ℕ → ℤ
+cellLaid o t i j = entryLaid o (t .rows) (t .columns) (t .entries) i j
+
+-- .. in the order in use, and the number at flat place k
+abbrev pub entryIn : ℕ → ℕ → List ℤ → ℕ → ℕ → ℤ
+entryIn = entryLaid inUse
+
 abbrev pub cellAt : Tableau → ℕ → ℕ → ℤ
-cellAt t i j = entryIn (t .rows) (t .columns) (t .entries) i j
+cellAt = cellLaid inUse
 
 abbrev pub cell : Tableau → ℕ → ℤ
 cell t k = getD (t .entries) k (pos 0)

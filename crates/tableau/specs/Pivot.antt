@@ -16,8 +16,8 @@ use Rattle.tableau.specs.declared.Variable.{Variable}
 use Rattle.tableau.specs.declared.Tableau.{Tableau}
 use Rattle.tableau.specs.declared.pivot.Pivoted.{Pivoted}
 use Rattle.tableau.specs.declared.pivot.Pivoted.the-variants as pivots
-use Rattle.tableau.specs.Layout.{mostEntries, rowAt, columnAt, live}
-use Rattle.tableau.specs.Parts.{variable, row, column, entryIn, cell, basicAt, nonbasicAt}
+use Rattle.tableau.specs.Layout.{Order, inUse, mostEntries, rowLaid, columnLaid, rowAt, columnAt, live}
+use Rattle.tableau.specs.Parts.{variable, row, column, entryLaid, entryIn, cell, basicAt, nonbasicAt}
 
 -- ---- one entry before reduction: `own` is the entry, `beside` stands in its row and the entering column, `above` in
 -- its column and the leaving row
@@ -42,17 +42,24 @@ pub record Cells (t : Tableau) : Type 0 where
   pub cell-within : (k : ℕ) → Within (cell t k) largestNumber
 
 -- the number of row place i and column place j after the pivot of row place p and column place q
-unfoldable pub mixedCell : ℕ → ℕ → ℤ → List ℤ → ℕ → ℕ → ℕ → ℕ → ℤ
-mixedCell m n common l p q i j =
-    mixedOf (eqb i p) (eqb j q) common (entryIn m n l p q) (entryIn m n l i j) (entryIn m n l i q) (entryIn m n l p j)
+unfoldable pub mixedLaid : Order → ℕ → ℕ → ℤ → List ℤ → ℕ → ℕ → ℕ → ℕ → ℤ
+mixedLaid o m n common l p q i j = mixedOf (eqb i p) (eqb j q) common
+    (entryLaid o m n l p q) (entryLaid o m n l i j) (entryLaid o m n l i q) (entryLaid o m n l p j)
 
--- .. and at flat place k
+-- .. at every flat place, the cells that are not in use 0
+abbrev pub mixLaid : Order → ℕ → ℕ → ℤ → List ℤ → ℕ → ℕ → List ℤ
+mixLaid o m n common l p q =
+    filled mostEntries (pos 0) (live m n) (λ k. mixedLaid o m n common l p q (rowLaid o m n k) (columnLaid o m n k))
+
+-- .. in the order in use
+abbrev pub mixedCell : ℕ → ℕ → ℤ → List ℤ → ℕ → ℕ → ℕ → ℕ → ℤ
+mixedCell = mixedLaid inUse
+
 abbrev pub mixedAt : ℕ → ℕ → ℤ → List ℤ → ℕ → ℕ → ℕ → ℤ
 mixedAt m n common l p q k = mixedCell m n common l p q (rowAt m n k) (columnAt m n k)
 
--- all of them, the cells that are not in use 0
 abbrev pub mixedEntries : ℕ → ℕ → ℤ → List ℤ → ℕ → ℕ → List ℤ
-mixedEntries m n common l p q = filled mostEntries (pos 0) (live m n) (mixedAt m n common l p q)
+mixedEntries = mixLaid inUse
 
 -- ---- reduction
 
@@ -71,27 +78,44 @@ smallBelow k l common = inRange common && allBelow k (λ i. inRange (getD l i (p
 
 -- ---- the whole pivot, of m rows and n columns with these entries and this common number
 
-module _ (m n : ℕ) (l : List ℤ) (common : ℤ) (p q : ℕ) where
-  -- the common number and the entries before reduction, and what they are divided by
-  abbrev pub product : ℤ
-  product = entryIn m n l p q *ℤ common
+module _ (o : Order) (m n : ℕ) (l : List ℤ) (common : ℤ) (p q : ℕ) where
+  -- the common number before reduction, and what it and the entries are divided by
+  abbrev pub productLaid : ℤ
+  productLaid = entryLaid o m n l p q *ℤ common
 
-  abbrev pub mix : List ℤ
-  mix = mixedEntries m n common l p q
+  abbrev pub byLaid : ℤ
+  byLaid = signedBy productLaid (divisorBelow (live m n) (mixLaid o m n common l p q) productLaid)
 
-  abbrev pub by : ℤ
-  by = signedBy product (divisorBelow (live m n) mix product)
+  -- .. and the numbers after it
+  abbrev pub commonLaid : ℤ
+  commonLaid = quotZ productLaid byLaid
 
-  -- .. and after it
-  abbrev pub commonAfter : ℤ
-  commonAfter = quotZ product by
-
-  abbrev pub entriesAfter : List ℤ
-  entriesAfter = filled mostEntries (pos 0) (live m n) (quotients mix by)
+  abbrev pub entriesLaid : List ℤ
+  entriesLaid = filled mostEntries (pos 0) (live m n) (quotients (mixLaid o m n common l p q) byLaid)
 
   -- whether they are in range
+  abbrev pub fitsLaid : Bool
+  fitsLaid = smallBelow (live m n) entriesLaid commonLaid
+
+-- .. in the order in use
+module _ (m n : ℕ) (l : List ℤ) (common : ℤ) (p q : ℕ) where
+  abbrev pub product : ℤ
+  product = productLaid inUse m n l common p q
+
+  abbrev pub mix : List ℤ
+  mix = mixLaid inUse m n common l p q
+
+  abbrev pub by : ℤ
+  by = byLaid inUse m n l common p q
+
+  abbrev pub commonAfter : ℤ
+  commonAfter = commonLaid inUse m n l common p q
+
+  abbrev pub entriesAfter : List ℤ
+  entriesAfter = entriesLaid inUse m n l common p q
+
   abbrev pub fitsAfter : Bool
-  fitsAfter = smallBelow (live m n) entriesAfter commonAfter
+  fitsAfter = fitsLaid inUse m n l common p q
 
 -- what the code answers, and the entries that it leaves
 abbrev pub pivotedBy : Bool → ℤ → Pivoted
@@ -128,9 +152,12 @@ withNumbers t c l = record {
 }
 
 -- the tableau after the pivot of row place p and column place q: entries and common number in lowest form
-unfoldable pub pivotedAt : Tableau → ℕ → ℕ → Tableau
-pivotedAt t p q = withNumbers t (commonAfter (t .rows) (t .columns) (t .entries) (t .common) p q)
-    (entriesAfter (t .rows) (t .columns) (t .entries) (t .common) p q)
+unfoldable pub pivotedLaid : Order → Tableau → ℕ → ℕ → Tableau
+pivotedLaid o t p q = withNumbers t (commonLaid o (t .rows) (t .columns) (t .entries) (t .common) p q)
+    (entriesLaid o (t .rows) (t .columns) (t .entries) (t .common) p q)
+
+abbrev pub pivotedAt : Tableau → ℕ → ℕ → Tableau
+pivotedAt = pivotedLaid inUse
 
 -- the variables of row place p and column place q change places, and the one that leaves gets the value x
 unfoldable pub swappedAt : Tableau → ℕ → ℕ → ℤ → Tableau

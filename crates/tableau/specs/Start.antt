@@ -15,13 +15,15 @@ use Rattle.tableau.specs.declared.Variable.{Variable}
 use Rattle.tableau.specs.declared.Seat.{Seat}
 use Rattle.tableau.specs.declared.Limits.{Limits}
 use Rattle.tableau.specs.declared.Tableau.{Tableau}
-use Rattle.tableau.specs.Layout.{mostEntries, rowAt, columnAt, live}
+use Rattle.tableau.specs.Layout.{Order, inUse, mostEntries, rowLaid, columnLaid, live}
 use Rattle.tableau.specs.Parts.{variable, row, column, lowerOf, upperOf}
 
+abbrev pub startEntriesLaid : Order → Problem ℤ → List ℤ
+startEntriesLaid o P = filled mostEntries (pos 0) (live (P .m) (P .n))
+    (λ k. P .coefficient (rowLaid o (P .m) (P .n) k) (columnLaid o (P .m) (P .n) k))
+
 abbrev pub startEntries : Problem ℤ → List ℤ
-startEntries P =
-    filled mostEntries (pos 0) (live (P .m) (P .n))
-    (λ k. P .coefficient (rowAt (P .m) (P .n) k) (columnAt (P .m) (P .n) k))
+startEntries = startEntriesLaid inUse
 
 -- ---- places, for n columns in use
 
@@ -60,15 +62,18 @@ valuesFor l n = filled mostColumns (pos 0) n (λ j. startValue whole (lowerOf l 
 
 -- ---- the whole
 
-unfoldable pub startTableau : Problem ℤ → Tableau
-startTableau P = record {
+unfoldable pub startLaid : Order → Problem ℤ → Tableau
+startLaid o P = record {
   rows = P .m;
   columns = P .n;
   common = pos 1;
-  entries = startEntries P;
+  entries = startEntriesLaid o P;
   basic = startBasic (P .n);
   nonbasic = startNonbasic;
   values = startValues P;
   seats = startSeats (P .n);
   limits = limitsFor P;
 }
+
+abbrev pub startTableau : Problem ℤ → Tableau
+startTableau = startLaid inUse

@@ -1,5 +1,5 @@
-// Where the entry of a row place and a column place lies in the flat array, and in which order the places follow there.
-// Nothing else in the code says it.
+// Where the entry of a row place and a column place lies in the flat array, and in which order the places follow there:
+// column after column. Nothing else in the code says it; callers give both sizes, whichever order needs them.
 ghost use mathlib.Core.Path.{_≡_};
 ghost use Prim.Native.Nat.{ℕ, _+_, _≤_, _<_};
 ghost use Rattle.rules.specs.Sizes.{mostRows, mostColumns};
@@ -20,7 +20,7 @@ pub fn place(rows: usize, columns: usize, row: RowPlace, column: ColumnPlace) ->
     requires { ⌜ (row .0 < rows) × (column .0 < columns) × (rows ≤ mostRows) × (columns ≤ mostColumns) ⌝ }
     ensures { λ r. ⌜ r ≡ flat rows columns (row .0) (column .0) ⌝ }
 {
-    row.0 * columns + column.0
+    column.0 * rows + row.0
 }
 
 // The spot of flat place 0.
@@ -40,16 +40,16 @@ pub fn after(rows: usize, columns: usize, spot: Spot) -> Spot
 {
     let row = spot.row;
     let column = spot.column;
-    let next = column.0 + 1;
-    if next == columns {
+    let next = row.0 + 1;
+    if next == rows {
         return Spot {
-            row: RowPlace(row.0 + 1),
-            column: ColumnPlace(0),
+            row: RowPlace(0),
+            column: ColumnPlace(column.0 + 1),
         };
     }
     Spot {
-        row,
-        column: ColumnPlace(next),
+        row: RowPlace(next),
+        column,
     }
 }
 

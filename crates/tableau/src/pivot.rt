@@ -39,14 +39,14 @@ fn mixed(
     requires { ⌜ Mixable common pivot own beside above ⌝ }
     ensures { λ r. ⌜ r ≡ mixedOf in_row in_column common pivot own beside above ⌝ }
 {
-    if in_row {
-        if in_column {
+    if in_column {
+        if in_row {
             return crossed(common, common, 0, 0);
         }
-        return crossed(0, 0, common, above);
-    }
-    if in_column {
         return crossed(common, beside, 0, 0);
+    }
+    if in_row {
+        return crossed(0, 0, common, above);
     }
     crossed(pivot, own, beside, above)
 }

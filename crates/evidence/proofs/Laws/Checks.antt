@@ -16,11 +16,11 @@ use Rattle.rules.specs.Evidence.{verdictOf, showsCan, showsCannot, accepted, ch
 use Rattle.rules.proofs.Refused.{room-tells}
 use Rattle.rules.proofs.Evidence.Checked.{checked-by-answer}
 use Rattle.tableau.specs.declared.Tableau.{Tableau}
-use Rattle.tableau.specs.Start.{startTableau}
+use Rattle.tableau.specs.Start.{startTableau, startLaid}
 
 pub long-is : (ws : List ℤ) (t : Tableau) → t ≡ startTableau (problem ws) →
     3 + 2 * (t .columns + t .rows) ≡ answerLength ws
-unfolding startTableau problem
+unfolding startLaid problem
 long-is ws t e = ap (λ (t : Tableau). 3 + 2 * (t .columns + t .rows)) e
 
 module _ (ws a : List ℤ) (fine : problemRefusal ws ≡ 0) where

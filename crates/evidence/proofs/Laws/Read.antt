@@ -19,7 +19,7 @@ use Rattle.rules.specs.Step.{seated}
 use Rattle.rules.specs.Evidence.{denominatorOf, lowerPart, upperPart, rowSum, fair, column, surplus}
 use Rattle.rules.specs.Evidence.{showsCan, showsCannot}
 use Rattle.tableau.specs.declared.Tableau.{Tableau}
-use Rattle.tableau.specs.Start.{startTableau}
+use Rattle.tableau.specs.Start.{startTableau, startLaid}
 use Rattle.tableau.proofs.Laws.Fitting.{Fitting, coefficient-start, coefficients-start, serves-start}
 use Rattle.tableau.proofs.Laws.Reading.{lower-of, upper-of}
 use Rattle.evidence.specs.Reads.{problemOf, Readable, meetsBoth}
@@ -35,18 +35,18 @@ module _ (P : Problem ℤ) (F : Fitting P) (a : List ℤ) where
 
   rows-same : (x : ℕ → ℤ) → allBelow (P .m) (λ i. eqZ (x (P .n + i)) (rowSum whole read x i))
       ≡ allBelow (P .m) (λ i. eqZ (x (P .n + i)) (rowSum whole P x i))
-  unfolding problemOf startTableau
+  unfolding problemOf startLaid
   rows-same x = all-same (P .m) _ _ (λ i h. ap (eqZ (x (P .n + i))) (sum-same (P .n) _ (λ j. P .coefficient i j *ℤ x j)
       (λ j k. ap (λ z. z *ℤ x j) (coefficient-start P F i j h k))))
 
   limits-same : (d : ℤ) (x : ℕ → ℤ) → allBelow (vars P) (λ v. meetsBoth (read .lower v) (read .upper v) d (x v))
       ≡ allBelow (vars P) (λ v. meetsBoth (P .lower v) (P .upper v) d (x v))
-  unfolding problemOf startTableau
+  unfolding problemOf startLaid
   limits-same d x = all-same (vars P) _ _
       (λ v h. ap₂ (λ l u. meetsBoth l u d (x v)) (lower-of P v h) (upper-of P v h))
 
   can-start : showsCan read a ≡ showsCan P a
-  unfolding showsCan problemOf startTableau
+  unfolding showsCan problemOf startLaid
   can-start = ap₂ (λ (r l : Bool). not (outside 1 largestNumber (denominatorOf a))
       && allBelow (vars P) (λ v. within largestNumerator (lowerPart a v)) && r && l
       && allBelow (vars P) (λ v. eqZ (upperPart (vars P) a v) (pos 0)))
@@ -64,12 +64,12 @@ module _ (P : Problem ℤ) (F : Fitting P) (a : List ℤ) where
   extra Q = surplus Q (lowerPart a) (upperPart (vars P) a)
 
   fairs-same : fairs read ≡ fairs P
-  unfolding problemOf startTableau
+  unfolding problemOf startLaid
   fairs-same = all-same (vars P) _ _ (λ v h. ap₂ (λ l u. fair l (lowerPart a v) && fair u (upperPart (vars P) a v))
       (lower-of P v h) (upper-of P v h))
 
   columns-same : cancels read ≡ cancels P
-  unfolding problemOf startTableau column
+  unfolding problemOf startLaid column
   columns-same = all-same (P .n) _ _ (λ j h. ap (λ z. eqZ (y j +ℤ z) (pos 0))
       (sum-same (P .m) _ (λ i. P .coefficient i j *ℤ y (P .n + i))
       (λ i k. ap (λ z. z *ℤ y (P .n + i)) (coefficient-start P F i j k h))))
@@ -78,14 +78,14 @@ module _ (P : Problem ℤ) (F : Fitting P) (a : List ℤ) where
       y v = lowerPart a v -ℤ upperPart (vars P) a v
 
   surplus-same : extra read ≡ extra P
-  unfolding problemOf startTableau surplus
+  unfolding problemOf startLaid surplus
   surplus-same = sum-same (vars P) _
       (λ v. seated whole (P .lower v) *ℤ lowerPart a v -ℤ seated whole (P .upper v) *ℤ upperPart (vars P) a v)
       (λ v h. ap₂ (λ l u. seated whole l *ℤ lowerPart a v -ℤ seated whole u *ℤ upperPart (vars P) a v)
       (lower-of P v h) (upper-of P v h))
 
   cannot-start : showsCannot read a ≡ showsCannot P a
-  unfolding showsCannot problemOf startTableau
+  unfolding showsCannot problemOf startLaid
   cannot-start = ap₂ (λ (f c : Bool). eqZ (denominatorOf a) (pos 0) && f && c && isPos (extra read))
       fairs-same columns-same
       ∙ ap (λ z. eqZ (denominatorOf a) (pos 0) && fairs P && cancels P && isPos z) surplus-same
@@ -94,7 +94,7 @@ module _ (P : Problem ℤ) (F : Fitting P) (a : List ℤ) where
 
   module _ (t : Tableau) (e : t ≡ startTableau P) where
     pub readable : 3 + 2 * vars P ≤ length a → Readable (t .entries) (t .limits) (t .rows) (t .columns) a
-    unfolding startTableau
+    unfolding startLaid
     readable h = subst (λ (t : Tableau). Readable (t .entries) (t .limits) (t .rows) (t .columns) a) (sym e) (record {
       few-rows = F .few-rows;
       few-columns = F .few-columns;

@@ -19,7 +19,7 @@ use Rattle.rules.specs.Evidence.{verdictOf, showsCan, showsCannot, checked}
 use Rattle.rules.proofs.Refused.{accepted-exactly}
 use Rattle.rules.proofs.Evidence.Checked.{checked-by-problem}
 use Rattle.tableau.specs.declared.Tableau.{Tableau}
-use Rattle.tableau.specs.Start.{startTableau}
+use Rattle.tableau.specs.Start.{startLaid}
 use Rattle.tableau.proofs.Laws.Fitting.{Fitting, fitting-accepted}
 use Rattle.evidence.specs.Reads.{Readable}
 use Rattle.evidence.proofs.Laws.Read.{held, readable, can-same, cannot-same}
@@ -65,7 +65,7 @@ module _ (c : tie.After-new) where
   t = c .new .result
 
   few : (t .columns ≤ mostColumns) × (t .rows ≤ mostRows)
-  unfolding startTableau
+  unfolding startLaid
   few = rw (c .new .ensures) (fitting (c .before) .few-columns, fitting (c .before) .few-rows)
 
   long-here : 3 + 2 * (t .columns + t .rows) ≡ answerLength (words start)

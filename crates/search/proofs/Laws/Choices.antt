@@ -14,19 +14,8 @@ use Rattle.tableau.specs.declared.Tableau.{Tableau}
 use Rattle.tableau.specs.Parts.{seatAt, rowOf}
 use Rattle.search.specs.declared.Next.the-variants as variants
 use Rattle.search.specs.Sides.{sideBy, rising, asBreach}
-use Rattle.search.specs.Search.{
-  shortAt,
-  sideAt,
-  tagged,
-  brokenAt,
-  leavingAt,
-  fitting,
-  enteringOf,
-  enteringAt,
-  moveBy,
-  nextBy,
-  nextAt,
-}
+use Rattle.search.specs.Search.{shortAt, sideAt, tagged, brokenAt, brokenLaid, leavingAt, fitting, enteringOf}
+use Rattle.search.specs.Search.{entersLaid, enteringAt, moveBy, nextBy, nextByLaid, nextAt, nextLaid}
 
 rising-by : (b : Bool) → rising (sideBy b) ≡ b
 rising-by true = refl
@@ -50,39 +39,39 @@ module _ (short : Side → ℤ) where
 
 module _ (t : Tableau) where
   pub broken-seated : (v : ℕ) → seatAt t v .basic ≡ false → brokenAt t v ≡ none
-  unfolding brokenAt
+  unfolding brokenLaid
   broken-seated v e = ap (λ b. cond b (tagged v (sideAt t v) (shortAt t v)) none) e
 
   pub broken-within : (v : ℕ) → seatAt t v .basic ≡ true → sideAt t v ≡ none → brokenAt t v ≡ none
-  unfolding brokenAt
+  unfolding brokenLaid
   broken-within v e f = ap₂ (λ b o. cond b (tagged v o (shortAt t v)) none) e f
 
   pub broken-outside : (v : ℕ) (σ : Side) → seatAt t v .basic ≡ true → sideAt t v ≡ some σ →
       brokenAt t v ≡ some (leaves v σ (shortAt t v σ))
-  unfolding brokenAt
+  unfolding brokenLaid
   broken-outside v σ e f = ap₂ (λ b o. cond b (tagged v o (shortAt t v)) none) e f
 
   module _ (i : ℕ) (σ : Side) (w : ℕ) where
     pub enters-basic : seatAt t w .basic ≡ true → enteringOf t i σ w ≡ none
-    unfolding enteringOf
+    unfolding entersLaid
     enters-basic e = ap (λ b. cond b none (cond (fitting t i σ w) (some w) none)) e
 
     pub enters-not : seatAt t w .basic ≡ false → fitting t i σ w ≡ false → enteringOf t i σ w ≡ none
-    unfolding enteringOf
+    unfolding entersLaid
     enters-not e f = ap₂ (λ b g. cond b none (cond g (some w) none)) e f
 
     pub enters-here : seatAt t w .basic ≡ false → fitting t i σ w ≡ true → enteringOf t i σ w ≡ some w
-    unfolding enteringOf
+    unfolding entersLaid
     enters-here e f = ap₂ (λ b g. cond b none (cond g (some w) none)) e f
 
   pub next-within : leavingAt t ≡ none → variants.Within ≡ nextAt t
-  unfolding nextAt nextBy
+  unfolding nextLaid nextByLaid
   next-within e = sym (ap (nextBy t) e)
 
   module _ (v : ℕ) (b : Bool) (x : ℤ) (e : leavingAt t ≡ some (leaves v (sideBy b) x)) where
     pub next-stuck : enteringAt t (rowOf t v) (sideBy b) ≡ none →
         variants.Stuck (record { row = seatAt t v .row; rises = b; shortfall = x }) ≡ nextAt t
-    unfolding nextAt nextBy moveBy
+    unfolding nextLaid nextByLaid moveBy
     next-stuck f =
         ap (λ a. variants.Stuck (record { row = seatAt t v .row; rises = a; shortfall = x })) (sym (rising-by b))
         ∙ sym (ap (nextBy t) e ∙ ap (moveBy t (leaves v (sideBy b) x)) f)
@@ -90,7 +79,7 @@ module _ (t : Tableau) where
     pub next-pivot : (w : ℕ) → enteringAt t (rowOf t v) (sideBy b) ≡ some w →
         variants.Pivot (record { row = seatAt t v .row; column = seatAt t w .column; rises = b; shortfall = x })
         ≡ nextAt t
-    unfolding nextAt nextBy moveBy
+    unfolding nextLaid nextByLaid moveBy
     next-pivot w f =
         ap (λ a. variants.Pivot (record { row = seatAt t v .row; column = seatAt t w .column; rises = a; shortfall = x }))
         (sym (rising-by b))

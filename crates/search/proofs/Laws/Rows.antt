@@ -20,7 +20,7 @@ use Rattle.rules.proofs.Sound.{Rowed}
 use Rattle.tableau.specs.declared.Tableau.{Tableau}
 use Rattle.tableau.specs.Parts.{cellAt, nonbasicAt, valueAt, seatAt, rowOf, columnOf}
 use Rattle.tableau.specs.Stands.{HasRow, Ranged, Stands}
-use Rattle.search.specs.Search.{partSum, rowSum, Searchable}
+use Rattle.search.specs.Search.{sumLaid, rowSum, Searchable}
 
 module _ (P : Problem ℤ) (t : Tableau) (s : State ℤ) (St : Stands P t s) where
   -- D times the value of a basic variable is the sum of its row
@@ -48,7 +48,7 @@ module _ (P : Problem ℤ) (t : Tableau) (s : State ℤ) (St : Stands P t s) whe
         go (some x) f = let a = St .placed .has-column u x k f in inl (columnOf t u, a .in-columns, a .holds)
 
     pub row-is : rowSum (t .rows) (t .columns) (t .entries) (t .values) (rowOf t v) ≡ scaled whole P s v
-    unfolding partSum scaled term
+    unfolding sumLaid scaled term
     row-is = ap (λ n. sum n (λ j. cellAt t (rowOf t v) j *ℤ valueAt t j)) (St .sized .columns-is)
         ∙ sum-same (P .n) (λ j. cellAt t (rowOf t v) j *ℤ valueAt t j) (λ j. term (nonbasicAt t j)) term-is
         ∙ sym (sum-places (vars P) (P .n) term (nonbasicAt t) (λ j k. St .placed .in-column j k .variable-in)

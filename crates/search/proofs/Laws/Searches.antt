@@ -39,21 +39,9 @@ use Rattle.tableau.specs.Parts.{cellAt, valueAt, seatAt, rowOf, columnOf}
 use Rattle.tableau.specs.Stands.{HasRow, Stands}
 use Rattle.search.specs.declared.Next.the-variants as variants
 use Rattle.search.specs.Sides.{sideFrom, sideOf}
-use Rattle.search.specs.Search.{
-  shortAt,
-  sideAt,
-  tagged,
-  brokenAt,
-  leavingAt,
-  fitting,
-  enteringOf,
-  enteringAt,
-  blockedAt,
-  choiceAt,
-  moveBy,
-  nextBy,
-  nextAt,
-}
+use Rattle.search.specs.Search.{shortAt, sideAt, tagged, brokenAt, brokenLaid, leavingAt, leavingLaid, fitting}
+use Rattle.search.specs.Search.{enteringOf, entersLaid, enteringAt, enteringLaid, blockedAt, choiceAt, moveBy}
+use Rattle.search.specs.Search.{nextBy, nextByLaid, nextAt, nextLaid}
 use Rattle.search.proofs.Laws.Choices.{enters-basic}
 use Rattle.search.proofs.Laws.Rows.{row-is}
 
@@ -87,7 +75,7 @@ module _ (P : Problem ℤ) (t : Tableau) (s : State ℤ) (St : Stands P t s) (R 
         refl
 
   broken-is : (v : ℕ) → v < vars P → brokenAt t v ≡ broken whole P s v (seat s v)
-  unfolding brokenAt broken
+  unfolding brokenLaid broken
   broken-is v h = go (seat s v) refl
     where
       go : (o : Option ℤ) → seat s v ≡ o →
@@ -104,7 +92,7 @@ module _ (P : Problem ℤ) (t : Tableau) (s : State ℤ) (St : Stands P t s) (R 
       go (some x) e = ap (λ b. cond b (tagged v (sideAt t v) (shortAt t v)) none) (St .placed .has-column v x h e .flag)
 
   pub leaving-is : leavingAt t ≡ leaving whole P s
-  unfolding leavingAt leaving
+  unfolding leavingLaid leaving
   leaving-is = ap (λ k. lowest k (brokenAt t)) all-vars ∙ lowest-same (brokenAt t) (λ v. broken whole P s v (seat s v)) (vars P) broken-is
 
   module _ (r : Leaving ℤ) (L : Left whole P s r) where
@@ -125,7 +113,7 @@ module _ (P : Problem ℤ) (t : Tableau) (s : State ℤ) (St : Stands P t s) (R 
         rw (k, y, St .serves .lower-is w h, St .serves .upper-is w h) refl
 
     entering-one : (w : ℕ) → w < vars P → enteringOf t (rowOf t (r .variable)) (r .side) w ≡ cond (test w (seat s w)) (some w) none
-    unfolding enteringOf
+    unfolding entersLaid
     entering-one w h = go (seat s w) refl
       where
         go : (o : Option ℤ) → seat s w ≡ o → enteringOf t (rowOf t (r .variable)) (r .side) w ≡ cond (test w o) (some w) none
@@ -134,19 +122,19 @@ module _ (P : Problem ℤ) (t : Tableau) (s : State ℤ) (St : Stands P t s) (R 
         go (some x) e = ap₂ (λ b g. cond b none (cond g (some w) none)) (St .placed .has-column w x h e .flag) (fitting-is w x h e)
 
     pub entering-is : enteringAt t (rowOf t (r .variable)) (r .side) ≡ entering whole P s r
-    unfolding enteringAt entering
+    unfolding enteringLaid entering
     entering-is = ap (λ k. lowest k (enteringOf t (rowOf t (r .variable)) (r .side))) all-vars
         ∙ lowest-same (enteringOf t (rowOf t (r .variable)) (r .side)) (λ w. cond (test w (seat s w)) (some w) none) (vars P) entering-one
 
   -- ---- what the search comes to, by the choices of the rules
 
   pub next-none : leaving whole P s ≡ none → nextAt t ≡ variants.Within
-  unfolding nextAt nextBy
+  unfolding nextLaid nextByLaid
   next-none e = ap (nextBy t) (leaving-is ∙ e)
 
   module _ (r : Leaving ℤ) (e : leaving whole P s ≡ some r) where
     by-row : nextAt t ≡ moveBy t r (entering whole P s r)
-    unfolding nextAt nextBy
+    unfolding nextLaid nextByLaid
     by-row = ap (nextBy t) (leaving-is ∙ e) ∙ ap (moveBy t r) (entering-is r (left whole P s r e))
 
     pub next-blocked : entering whole P s r ≡ none → nextAt t ≡ variants.Stuck (blockedAt t r)

@@ -9,16 +9,8 @@ use Rattle.rules.specs.Step.{Leaving}
 use Rattle.tableau.specs.declared.Tableau.{Tableau}
 use Rattle.tableau.specs.declared.Variable.{Variable}
 use Rattle.tableau.specs.Parts.{rowOf}
-use Rattle.search.specs.Search.{
-  Searchable,
-  brokenAt,
-  leavingAt,
-  enteringOf,
-  enteringAt,
-  moveBy,
-  nextBy,
-  nextAt,
-}
+use Rattle.search.specs.Search.{Searchable, brokenLaid, leavingAt, leavingLaid, entersLaid, enteringAt}
+use Rattle.search.specs.Search.{enteringLaid, moveBy, nextBy, nextByLaid, nextAt, nextLaid}
 
 -- a tableau with other variables at its places
 abbrev pub seatedAs : Tableau → List Variable → List Variable → Tableau
@@ -44,12 +36,12 @@ module _ (t : Tableau) (basic nonbasic : List Variable) where
   move-as r (some w) = refl
 
   by-as : (o : Option (Leaving ℤ)) → nextBy other o ≡ nextBy t o
-  unfolding nextBy enteringAt enteringOf
+  unfolding nextByLaid enteringLaid entersLaid
   by-as none = refl
   by-as (some r) = move-as r (enteringAt t (rowOf t (r .variable)) (r .side))
 
   pub next-as : nextAt other ≡ nextAt t
-  unfolding nextAt leavingAt brokenAt
+  unfolding nextLaid leavingLaid brokenLaid
   next-as = by-as (leavingAt t)
 
   pub searchable-as : Searchable t → Searchable other

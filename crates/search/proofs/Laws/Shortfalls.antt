@@ -25,7 +25,8 @@ use Rattle.rules.proofs.Sound.{Rowed}
 use Rattle.tableau.specs.declared.Tableau.{Tableau}
 use Rattle.tableau.specs.Parts.{rowOf, seatAt}
 use Rattle.tableau.specs.Stands.{Stands}
-use Rattle.search.specs.Search.{Searchable, brokenAt, leavingAt, scaledAt, shortAt, sideAt, tagged}
+use Rattle.search.specs.Search.{Searchable, brokenAt, brokenLaid, leavingAt, leavingLaid, scaledAt, shortAt}
+use Rattle.search.specs.Search.{sideAt, tagged}
 use Rattle.search.proofs.Laws.Searches.{leaving-is}
 use Rattle.search.proofs.Laws.Sides.{gap-is}
 use Rattle.search.proofs.Laws.Sums.{row-within}
@@ -59,7 +60,7 @@ module _ (t : Tableau) (S : Searchable t) where
       (within-- (scaled-within v) (within-* (S .cells .common-within) (seated-within _ (S .uppers-within v))))
 
   pub shortfall-within : (r : Leaving ℤ) → leavingAt t ≡ some r → Within (r .shortfall) largestShortfall
-  unfolding leavingAt brokenAt
+  unfolding leavingLaid brokenLaid
   shortfall-within r e = let f = lowest-some (t .rows + t .columns) (brokenAt t) r e in
       tagged-short (λ z. Within z largestShortfall) (f .at) (seatAt t (f .at) .basic) (sideAt t (f .at)) (shortAt t (f .at))
       (short-within (f .at)) r (f .is)

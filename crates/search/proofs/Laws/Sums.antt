@@ -14,11 +14,11 @@ use Rattle.whole.proofs.Sizes.{within-+, within-*, within-le}
 use Rattle.rules.specs.Sizes.{largestNumber, largestLimit}
 use Rattle.tableau.specs.Layout.{flat}
 use Rattle.tableau.specs.Parts.{entryIn}
-use Rattle.search.specs.Search.{partSum}
+use Rattle.search.specs.Search.{partSum, sumLaid}
 
 module _ (m n : ℕ) (l x : List ℤ) (i : ℕ) where
   pub row-more : (j : ℕ) → partSum m n l x i (j + 1) ≡ partSum m n l x i j +ℤ entryIn m n l i j *ℤ getD x j (pos 0)
-  unfolding partSum sumBy
+  unfolding sumLaid sumBy
   row-more j = rw add-one refl
 
   module _ (h : (k : ℕ) → Within (getD l k (pos 0)) largestNumber)
@@ -27,7 +27,7 @@ module _ (m n : ℕ) (l x : List ℤ) (i : ℕ) where
     term-within j = within-* (h (flat m n i j)) (g j)
 
     pub row-within : (k : ℕ) → Within (partSum m n l x i k) (k * (largestNumber * largestLimit))
-    unfolding partSum sumBy
+    unfolding sumLaid sumBy
     row-within zero = record { within = omega arith }
     row-within (suc k) = within-le (within-+ (row-within k) (term-within k))
         (omega (arith, suc-mul k (largestNumber * largestLimit)))

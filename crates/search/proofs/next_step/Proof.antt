@@ -19,7 +19,8 @@ use Rattle.tableau.specs.declared.Tableau.{Tableau}
 use Rattle.tableau.specs.Parts.{seatAt, rowOf, lowerOf, upperOf}
 use Rattle.search.specs.declared.sides.Breach.{Breach}
 use Rattle.search.specs.Sides.{asBreach, breachAt, breachOf, sideBy, suitsOf}
-use Rattle.search.specs.Search.{shortAt, sideAt, movesAt, fitting, brokenAt, enteringOf, leavingAt, enteringAt, seen, nextAt}
+use Rattle.search.specs.Search.{shortAt, sideAt, movesAt, fitting, brokenAt, enteringOf, leavingAt, leavingLaid}
+use Rattle.search.specs.Search.{enteringLaid, seen, nextAt}
 use Rattle.search.proofs.Laws.Choices.{
   no-breach,
   some-breach,
@@ -177,7 +178,7 @@ module _ (c : tie.After-breach-of Inv-loop μ-loop Inv-search μ-search) where
         ∙ ap (λ b. b .shortfall) (sym breach-is)
 
     leaving-here : leavingAt (old here) ≡ some (leaves (number here) (sideBy (found .rises)) (found .shortfall))
-    unfolding leavingAt
+    unfolding leavingLaid
     leaving-here = lowest-here (brokenAt (old here)) (old here .rows + old here .columns) (number here) _ (in-range here)
         (none-before here) (broken-outside (old here) (number here) (sideBy (found .rises)) (is-basic (basic-one (c .before)))
         (some-breach (shortAt (old here) (number here)) (sideAt (old here) (number here)) outside-by
@@ -292,13 +293,13 @@ loop-again-2 c = let a = looked (c .before) in let o = it a in let n = inner a i
 -- ---- what is found
 
 returns : tie.Need-returns Inv-loop μ-loop Inv-search μ-search
-unfolding leavingAt
+unfolding leavingLaid
 returns c = let t = read (c .before .before) in let e : t .rows + t .columns ≡ c .before .search .v = omega arith in
     next-within t (ap (λ k. lowest k (brokenAt t)) e ∙ c .before .search .inv .0)
     ∙ read-is (c .before .before)
 
 returns-2 : tie.Need-returns-2 Inv-loop μ-loop Inv-search μ-search
-unfolding enteringAt
+unfolding enteringLaid
 returns-2 c = let a = looked (c .before) in let o = it a in let n = inner a in
     let x = outside n in
     simp (toZ-ofZ (fit-short x))
@@ -309,7 +310,7 @@ returns-2 c = let a = looked (c .before) in let o = it a in let n = inner a in
     ∙ read-is (start o))
 
 returns-3 : tie.Need-returns-3 Inv-loop μ-loop Inv-search μ-search
-unfolding enteringAt
+unfolding enteringLaid
 returns-3 c = let a = c .before .before .before .before .before in let o = here a in let b = found a .rises in
     let e : old o .rows + old o .columns ≡ c .before .loop .w = omega arith in
     simp (toZ-ofZ (fit-short a))

@@ -14,7 +14,7 @@ use Rattle.whole.specs.Sums.{sumBy}
 use Rattle.whole.proofs.Sizes.{within-+, within-*, within-le, fits-by}
 use Rattle.rules.specs.Sizes.{mostColumns, largestNumber, largestLimit}
 use Rattle.tableau.specs.Layout.{flat, mostEntries}
-use Rattle.search.specs.Search.{partSum}
+use Rattle.search.specs.Search.{partSum, sumLaid}
 use Rattle.tableau.proofs.Laws.Layout.{flat-in}
 use Rattle.search.proofs.Laws.Sums.{row-more, row-within}
 use Rattle.search.proofs.row_value.Statement.{statement}
@@ -28,7 +28,7 @@ abbrev μ-loop : tie.MeasureT-loop
 μ-loop entries values rows columns row sum₀ j₀ sum j = columns - j
 
 loop-holds : tie.Need-loop-holds Inv-loop μ-loop
-unfolding partSum sumBy
+unfolding sumLaid sumBy
 loop-holds c = (omega arith, refl)
 
 place-requires : tie.Need-place-requires Inv-loop μ-loop

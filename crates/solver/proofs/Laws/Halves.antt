@@ -32,8 +32,8 @@ use Rattle.search.specs.Search.{blockedAt, rowSum}
 use Rattle.search.specs.Sides.{rising, sideBy}
 use Rattle.search.proofs.Laws.Rows.{row-is}
 use Rattle.search.proofs.Laws.Searches.{all-vars}
-use Rattle.solver.specs.Answer.{firstOf, numeratorAt, numeratorFrom, numeratorOf, numeratorsAt, numeratorsIn}
-use Rattle.solver.specs.Multipliers.{multipliersAt, multipliersIn, pullAt, pullOf, relationFrom, unitAt}
+use Rattle.solver.specs.Answer.{firstOf, numeratorAt, numeratorFrom, numeratorLaid, numeratorsAt, numeratorsLaid}
+use Rattle.solver.specs.Multipliers.{multipliersAt, multipliersLaid, pullAt, pullLaid, relationFrom, unitAt}
 
 -- ---- plain arrays
 
@@ -66,7 +66,7 @@ module _ {P : Problem ℤ} {t : Tableau} {s : State ℤ} (St : Stands P t s) (R 
   in-places v h = rw (all-vars P t s St R) h
 
   numerator-is : (v : ℕ) → v < vars P → numeratorAt t v ≡ scaled whole P s v
-  unfolding numeratorOf
+  unfolding numeratorLaid
   numerator-is v h = go (seat s v) refl
     where
       basic : ℤ
@@ -85,7 +85,7 @@ module _ {P : Problem ℤ} {t : Tableau} {s : State ℤ} (St : Stands P t s) (R 
           ∙ ap₂ (λ d u. d *ℤ u) (St .numbers .common-is) z ∙ sym (seated-scaled whole whole-laws P s R v x h e)
 
   pub numerators-are : firstOf (vars P) (numeratorsAt t) ≡ table (vars P) (scaled whole P s)
-  unfolding numeratorsIn
+  unfolding numeratorsLaid
   numerators-are = table-same (vars P) _ (scaled whole P s)
       (λ v h. filled-in mostVariables (pos 0) (t .rows + t .columns) (numeratorAt t) v (in-places v h) ∙ numerator-is v h)
 
@@ -127,12 +127,12 @@ module _ {P : Problem ℤ} {t : Tableau} {s : State ℤ} (St : Stands P t s) (R 
             ∙ sym (relation-off (s .tableau) own v n)
 
     pull-is : (v : ℕ) → v < vars P → pullAt t (blockedAt t r) v ≡ pull (r .side) (relation (s .tableau) own v)
-    unfolding pullOf
+    unfolding pullLaid
     pull-is v h = ap₂ pull (side-back (r .side)) (relation-is v h)
 
     pub lowers-are : firstOf (vars P) (multipliersAt t (blockedAt t r) .lower)
         ≡ table (vars P) (λ v. positive (negℤ (pull (r .side) (relation (s .tableau) own v))))
-    unfolding multipliersIn
+    unfolding multipliersLaid
     lowers-are = table-same (vars P) _ _
         (λ v h. filled-in mostVariables (pos 0) (t .rows + t .columns) (λ v. positive (negℤ (pullAt t (blockedAt t r) v))) v
         (in-places v h)
@@ -140,7 +140,7 @@ module _ {P : Problem ℤ} {t : Tableau} {s : State ℤ} (St : Stands P t s) (R 
 
     pub uppers-are : firstOf (vars P) (multipliersAt t (blockedAt t r) .upper)
         ≡ table (vars P) (λ v. positive (pull (r .side) (relation (s .tableau) own v)))
-    unfolding multipliersIn
+    unfolding multipliersLaid
     uppers-are = table-same (vars P) _ _
         (λ v h. filled-in mostVariables (pos 0) (t .rows + t .columns) (λ v. positive (pullAt t (blockedAt t r) v)) v
         (in-places v h)

@@ -18,7 +18,7 @@ use Rattle.rules.proofs.Sound.{Rowed}
 use Rattle.tableau.specs.declared.Limits.{Limits}
 use Rattle.tableau.specs.declared.Tableau.{Tableau}
 use Rattle.tableau.specs.Parts.{basicAt, columnOf, rowOf}
-use Rattle.tableau.specs.Pivot.{Cells, Swappable, pivotedAt, swappedAt}
+use Rattle.tableau.specs.Pivot.{Cells, Swappable, pivotedAt, pivotedLaid, swappedAt}
 use Rattle.tableau.specs.Stands.{Ranged, Stands}
 use Rattle.tableau.proofs.Laws.Moves.{stands-next}
 use Rattle.tableau.proofs.Laws.Smalls.{small-is}
@@ -27,7 +27,7 @@ use Rattle.tableau.proofs.Laws.Turns as turns
 use Rattle.tableau.proofs.Laws.Turns.{Turn, leaving-row}
 use Rattle.search.specs.Sides.{rising}
 use Rattle.search.specs.Search.{choiceAt}
-use Rattle.solver.specs.Step.{Movable, fitsBy, limitOf, movedAt}
+use Rattle.solver.specs.Step.{Movable, fitsBy, limitOf, movedAt, movedLaid}
 
 limit-by : (σ : Side) (l : Limits) (v : ℕ) →
     limitOf (rising σ) (getD (l .lower) v (pos 0)) (getD (l .upper) v (pos 0)) ≡ limitNumber σ l v
@@ -55,7 +55,7 @@ module _ {P : Problem ℤ} {t : Tableau} {s : State ℤ} (St : Stands P t s) (R 
   exchangeable = swappable turn
 
   moved-is : next ≡ turns.nextAt P t r w
-  unfolding movedAt
+  unfolding movedLaid
   moved-is =
       ap (λ v. swappedAt (pivotedAt t p q) p q
       (limitOf (rising (r .side)) (getD (t .limits .lower) v (pos 0)) (getD (t .limits .upper) v (pos 0))))
@@ -66,9 +66,9 @@ module _ {P : Problem ℤ} {t : Tableau} {s : State ℤ} (St : Stands P t s) (R 
   stands-moved = rw moved-is (stands-next turn)
 
   pub fitting-is : fitsBy t (choiceAt t r w) ≡ small (vars P) (moved whole P s r w .tableau)
-  unfolding movedAt swappedAt pivotedAt
+  unfolding movedLaid swappedAt pivotedLaid
   fitting-is = small-is stands-moved (rowed-moved whole P s R r w (turn .left) (turn .entered))
 
   pub ranged-moved : Ranged t → fitsBy t (choiceAt t r w) ≡ true → Ranged next
-  unfolding swappedAt pivotedAt
+  unfolding swappedAt pivotedLaid
   ranged-moved g h = rw moved-is (ranged-next turn g h)

@@ -14,7 +14,7 @@ use Rattle.tableau.specs.declared.Seat.{Seat}
 use Rattle.tableau.specs.Layout.{flat}
 use Rattle.search.specs.declared.Blocked.{Blocked}
 use Rattle.search.specs.Sides.{sideBy}
-use Rattle.solver.specs.Multipliers.{Blockable, pullOf, relationFrom}
+use Rattle.solver.specs.Multipliers.{Blockable, pullOf, pullLaid, relationFrom}
 
 pulled-within : {n : ℕ} (σ : Side) (z : ℤ) → Within z n → Within (pull σ z) n
 unfolding pull
@@ -28,7 +28,7 @@ relation-within false own d a h k = k
 
 pub pull-within : {l : List ℤ} {rows columns : ℕ} {d : ℤ} (b : Blocked) (x : Seat) →
     Blockable l rows columns d (b .row .0) x → Within (pullOf l rows columns d b x) largestNumber
-unfolding pullOf
+unfolding pullLaid
 pull-within {rows} {columns} {d} b x B = pulled-within (sideBy (b .rises)) _
     (relation-within (x .basic) (eqb (x .row .0) (b .row .0)) d _ (B .common-within)
     (B .entries-within (flat rows columns (b .row .0) (x .column .0))))

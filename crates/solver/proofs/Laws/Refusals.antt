@@ -24,7 +24,7 @@ use Rattle.rules.proofs.First.{first-hit, first-kept, first-passed, first-skip}
 use Rattle.rules.proofs.Refused.{accepted-exactly, numbered}
 use Rattle.tableau.specs.declared.Tableau.{Tableau}
 use Rattle.tableau.specs.Stands.{Ranged, Stands}
-use Rattle.tableau.specs.Start.{startTableau}
+use Rattle.tableau.specs.Start.{startTableau, startLaid}
 use Rattle.tableau.proofs.Laws.Fitting.{fitting-accepted, ranged-start}
 use Rattle.tableau.proofs.Laws.Started.{stands-start}
 use Rattle.solver.specs.Answer.{laidOver}
@@ -73,7 +73,7 @@ module _ (ws : List ℤ) (t : Tableau) (e : t ≡ startTableau (problem ws)) (f 
   }
 
   pub start-many : t .rows + t .columns ≡ varsOf ws
-  unfolding startTableau problem
+  unfolding startLaid problem
   start-many = ap (λ u. u .rows + u .columns) e ∙ add-comm (mOf ws) (nOf ws)
 
   -- the answer over the output is what the rules say is written

@@ -24,7 +24,7 @@ use Rattle.rules.proofs.Started.{no-conflict}
 use Rattle.tableau.specs.declared.Tableau.{Tableau}
 use Rattle.tableau.specs.Stands.{Ranged, Stands}
 use Rattle.solver.specs.Answer.{mostCount}
-use Rattle.solver.specs.Run.{Begun, GoesOn, Startable, afterAt}
+use Rattle.solver.specs.Run.{Begun, GoesOn, Startable, afterAt, afterLaid}
 use Rattle.solver.specs.Step.{Held, on, steppedAt}
 use Rattle.solver.proofs.Laws.Steps.{StepIs, ends-can, ends-cannot, ends-range, goes-to, step-is}
 
@@ -66,7 +66,7 @@ module _ {t : Tableau} (B : Begun t) where
           one i h (no j) = G .runs i (omega arith)
 
   pub going : (k : ℕ) → GoesOn t k → Going P s (afterAt t k) k
-  unfolding afterAt after
+  unfolding afterLaid after
   going zero g = record { stands = B .stands; runs = λ i h. let z : ⊥ = omega arith in absurd z; ranged = B .ranged }
   going (suc k) g = turn k (afterAt t k) (going k (λ i h. g i (omega arith))) (g k (omega arith))
 
@@ -82,11 +82,11 @@ goes-more t k g e i h = one (ℕ-discrete i k)
     one (no j) = g i (omega arith)
 
 pub after-none : (t : Tableau) → t ≡ afterAt t 0
-unfolding afterAt
+unfolding afterLaid
 after-none t = refl
 
 pub after-more : (t : Tableau) (k : ℕ) → steppedAt (afterAt t k) .tableau ≡ afterAt t (k + 1)
-unfolding afterAt
+unfolding afterLaid
 after-more t k = rw add-one refl
 
 -- ---- the bound

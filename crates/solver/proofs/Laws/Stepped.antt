@@ -15,7 +15,7 @@ use Rattle.tableau.specs.declared.RowPlace.{RowPlace}
 use Rattle.tableau.specs.declared.Seat.{Seat}
 use Rattle.tableau.specs.declared.Tableau.{Tableau}
 use Rattle.tableau.specs.Parts.{variable}
-use Rattle.tableau.specs.Pivot.{commonAfter, entriesAfter, entriesBy, pivotedAt, swappedAt, withNumbers}
+use Rattle.tableau.specs.Pivot.{commonAfter, entriesAfter, entriesBy, pivotedLaid, swappedAt, withNumbers}
 use Rattle.search.specs.declared.Blocked.{Blocked}
 use Rattle.search.specs.declared.Choice.{Choice}
 use Rattle.search.specs.declared.Next.{Next}
@@ -25,20 +25,21 @@ use Rattle.search.proofs.Laws.Seen.{next-as}
 use Rattle.solver.specs.declared.step.End.{End}
 use Rattle.solver.specs.declared.step.End.the-variants as ends
 use Rattle.solver.specs.declared.step.Outcome.the-variants as outcomes
-use Rattle.solver.specs.Step.{Stepped, admitAt, answerBy, endedAs, entriesLeft, fitsBy, leftAt, movedAt, on}
-use Rattle.solver.specs.Step.{outcomeAt, outcomeBy, readAs, stepBy, steppedAt, valueAfter}
+use Rattle.solver.specs.Step.{Stepped, admitAt, answerBy, endedAs, entriesLeft, fitsBy, leftAt, movedAt}
+use Rattle.solver.specs.Step.{movedLaid, on}
+use Rattle.solver.specs.Step.{outcomeAt, outcomeBy, readAs, stepBy, stepLaid, steppedAt, steppedLaid, valueAfter}
 
 module _ (t : Tableau) where
   pub stepped-none : nextAt t ≡ nexts.Within → steppedAt t ≡ endedAs t ends.Can
-  unfolding steppedAt stepBy
+  unfolding steppedLaid stepLaid
   stepped-none e = ap (stepBy t) e
 
   pub stepped-stuck : (b : Blocked) → nextAt t ≡ nexts.Stuck b → steppedAt t ≡ endedAs t (ends.Cannot b)
-  unfolding steppedAt stepBy
+  unfolding steppedLaid stepLaid
   stepped-stuck b e = ap (stepBy t) e
 
   pub stepped-pivot : (c : Choice) → nextAt t ≡ nexts.Pivot c → steppedAt t ≡ admitAt (fitsBy t c) t (movedAt t c)
-  unfolding steppedAt stepBy
+  unfolding steppedLaid stepLaid
   stepped-pivot c e = ap (stepBy t) e
 
 -- ---- what a step reads
@@ -62,11 +63,11 @@ module _ (t : Tableau) where
       (withNumbers t (commonAfter (t .rows) (t .columns) (t .entries) (t .common) (c .row .0) (c .column .0))
       (entriesAfter (t .rows) (t .columns) (t .entries) (t .common) (c .row .0) (c .column .0)))
       (c .row .0) (c .column .0) (valueAfter t c)
-  unfolding movedAt pivotedAt
+  unfolding movedLaid pivotedLaid
   moved-parts c = refl
 
   ended-by : (n : Next) (e : End) → outcomeBy (readOf t) n ≡ outcomes.Ended e → stepBy t n ≡ endedAs t e
-  unfolding outcomeBy stepBy
+  unfolding outcomeBy stepLaid
   ended-by nexts.Within e q = let z : ends.Can ≡ e = cc in ap (endedAs t) z
   ended-by (nexts.Stuck b) e q = let z : ends.Cannot b ≡ e = cc in ap (endedAs t) z
   ended-by (nexts.Pivot c) e q = go (fitsBy t c) q
@@ -76,7 +77,7 @@ module _ (t : Tableau) where
       go false q = let z : ends.Range ≡ e = cc in ap (endedAs t) z
 
   pub outcome-ended : (e : End) → outcomeAt (readOf t) ≡ outcomes.Ended e → steppedAt t ≡ endedAs t e
-  unfolding steppedAt
+  unfolding steppedLaid
   outcome-ended e q = ended-by (nextAt t) e (ap (outcomeBy (readOf t)) (sym (next-read t)) ∙ q)
 
   -- .. and then the entries stay
@@ -107,7 +108,7 @@ module _ (t : Tableau) where
           ≡ record { course = on; tableau = swappedAt (withNumbers t common (entriesLeft (readOf t) n)) (row .0) (column .0) value }
 
     goes-by : (n : Next) → outcomeBy (readOf t) n ≡ outcomes.Goes row column value common → Chosen n
-    unfolding outcomeBy stepBy entriesLeft
+    unfolding outcomeBy stepLaid entriesLeft
     goes-by nexts.Within q = let z : _≡_ {A = ℕ} 0 1 = cc in zero-one z
     goes-by (nexts.Stuck b) q = let z : _≡_ {A = ℕ} 0 1 = cc in zero-one z
     goes-by (nexts.Pivot c) q = go (fitsBy t c) refl q
@@ -135,7 +136,7 @@ module _ (t : Tableau) where
     outcome-goes q = goes-by (nextAt t) (ap (outcomeBy (readOf t)) (sym (next-read t)) ∙ q)
 
     pub going : Chosen (nextAt t) → steppedAt t .course ≡ on
-    unfolding steppedAt
+    unfolding steppedLaid
     going K = ap (λ (s : Stepped). s .course) (K .step-is)
 
     -- the tableau after the exchange, as the code leaves it
@@ -154,7 +155,7 @@ module _ (t : Tableau) where
           seats = set (set (t .seats) (enters .0) in-row) (leaves .0) in-column;
           limits = t .limits;
         } ≡ steppedAt t .tableau
-    unfolding steppedAt swappedAt
+    unfolding steppedLaid swappedAt
     exchanged K {l} {in-row} {in-column} e f g =
         let h : l ≡ entriesLeft (readOf t) (nextAt t) = e ∙ ap (entriesLeft (readOf t)) (next-read t) in
         rw (h, f, g) (sym (ap (λ (s : Stepped). s .tableau) (K .step-is)))

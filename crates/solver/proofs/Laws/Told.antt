@@ -28,7 +28,7 @@ use Rattle.search.proofs.Laws.Searches.{all-vars}
 use Rattle.solver.specs.declared.step.End.{End}
 use Rattle.solver.specs.declared.step.End.the-variants as ends
 use Rattle.solver.specs.Answer.{numberOf, wordsAt}
-use Rattle.solver.specs.Run.{Finished, Startable, Tellable, afterAt, endWords}
+use Rattle.solver.specs.Run.{Finished, Startable, Tellable, afterAt, endWords, wordsLaid}
 use Rattle.solver.specs.Step.{endedAs, on, over, steppedAt}
 use Rattle.solver.proofs.Laws.Halves.{lowers-are, numerators-are, uppers-are, zeros-are}
 use Rattle.solver.proofs.Laws.Runs.{Going, count-small, going, sound}
@@ -85,7 +85,7 @@ module _ {t : Tableau} (S : Startable t) {e : End} {k : ℕ} {u : Tableau} (F : 
       ∙ ap (λ (u : Outcome ℤ). wordsOf P (record { how = u; pivots = k; last = at-end })) q
 
   pub told : endWords e k u (u .rows + u .columns) ≡ answerFrom P s
-  unfolding endWords wordsAt numberOf wordsOf evidence
+  unfolding wordsLaid wordsAt numberOf wordsOf evidence
   told = ap (λ x. endWords e k x (x .rows + x .columns)) (F .last) ∙ ap (endWords e k here) here-many ∙ go cases
     where
       go : StepIs P here at-end → endWords e k here (vars P) ≡ answerFrom P s

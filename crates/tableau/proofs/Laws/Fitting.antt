@@ -25,7 +25,7 @@ use Rattle.tableau.proofs.Laws.Reading.{lower-of, upper-of}
 use Rattle.tableau.specs.Layout.{columnAt, flat, live, mostEntries, rowAt}
 use Rattle.tableau.specs.Parts.{cell, cellAt}
 use Rattle.tableau.specs.Stands.{Ranged, Serves}
-use Rattle.tableau.specs.Start.{limitsFor, startTableau}
+use Rattle.tableau.specs.Start.{limitsFor, startTableau, startLaid}
 
 -- a problem within the sizes of the rules
 pub record Fitting (P : Problem ℤ) : Type 0 where
@@ -89,20 +89,20 @@ module _ (P : Problem ℤ) (F : Fitting P) where
 
   -- at the start every entry is a coefficient, or 0
   pub coefficients-start : (k : ℕ) → Within (cell (startTableau P) k) largestCoefficient
-  unfolding startTableau
+  unfolding startLaid
   coefficients-start = filled-each mostEntries (pos 0) (live (P .m) (P .n)) coefficient-at
       (λ z. Within z largestCoefficient) zero-within
       (λ k h. F .coefficient-within _ _ (row-live (P .m) (P .n) k h) (column-live (P .m) (P .n) k h))
 
   pub coefficient-start : (i j : ℕ) → i < P .m → j < P .n → cellAt (startTableau P) i j ≡ P .coefficient i j
-  unfolding startTableau
+  unfolding startLaid
   coefficient-start i j h k =
       filled-in mostEntries (pos 0) (live (P .m) (P .n)) coefficient-at (flat (P .m) (P .n) i j)
       (flat-live (P .m) (P .n) i j h k)
       ∙ ap₂ (P .coefficient) (row-flat (P .m) (P .n) i j h k) (column-flat (P .m) (P .n) i j h k)
 
   pub ranged-start : Ranged (startTableau P)
-  unfolding startTableau
+  unfolding startLaid
   ranged-start = record {
     cells = record {
       common-within = record { within = omega arith };

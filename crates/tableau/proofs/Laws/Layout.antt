@@ -1,21 +1,23 @@
 -- Flat places and the places of rows and columns, for m rows and n columns. Only this file and the proofs of
--- src/layout.rt know which way the entries lie; the statements are true of either way.
---   row-flat, column-flat, flat-back    from places to the flat place and back, and the other way round
---   spot-first, spot-after, spot-below  the places of flat place 0, and of the next one; spot-here
---   row-used, column-used               a spot whose flat place is live is in use
---   flat-in                             places that are in range
---   flat-live, row-live, column-live    the place of a row and a column in use is live, and the other way round
---   live-most                           the live cells fit the array
+-- src/layout.rt know which way the entries lie; the laws of places are proved for either way.
+--   row-laid, column-laid, flat-laid-back   from places to the flat place and back, and the other way round
+--   flat-laid-live, row-laid-live, ..       the place of a row and a column in use is live, and the other way round
+--   live-most, flat-in                      the live cells fit the array, and so does a place in use
+--   row-flat, column-flat, flat-back, ..    the same in the order in use
+--   spot-first, spot-below, spot-beside     the places of flat place 0, and of the next one; spot-here
+--   row-used, column-used                   a spot whose flat place is live is in use
 use Prim.Native.Nat.{ℕ, zero, suc, _+_, _*_, _/_, _%_, _≤_, _<_}
 use native.Mathlib.Nat.{add-comm, add-mul-div-right, add-mul-mod-self-right, div-add-mod', div-eq-of-lt}
 use native.Mathlib.Nat.{div-lt-iff-lt-mul}
-use native.Mathlib.Nat.{lt-of-lt-of-le, mod-eq-of-lt, mod-lt, mul-le-mul, mul-zero, suc-mul, zero-div, zero-mod}
+use native.Mathlib.Nat.{lt-of-lt-of-le, mod-eq-of-lt, mod-lt, mul-comm, mul-le-mul, mul-zero, suc-mul, zero-div}
+use native.Mathlib.Nat.{zero-mod}
 use native.Mathlib.Omega.{arith}
 use mathlib.Core.Path.{_≡_, ap, ap₂, refl, sym, _∙_}
 use lib.Arith.{digits-lt}
 use Rattle.rules.specs.Sizes.{mostColumns, mostRows}
 use Rattle.tableau.specs.declared.layout.Spot.{Spot}
-use Rattle.tableau.specs.Layout.{mostEntries, flat, rowAt, columnAt, live}
+use Rattle.tableau.specs.Layout.{Order, byRows, byColumns, inUse, mostEntries, flatLaid, rowLaid, columnLaid}
+use Rattle.tableau.specs.Layout.{flat, rowAt, columnAt, live}
 use Rattle.tableau.specs.Parts.{row, column, spotAt}
 
 -- ---- a number by its quotient and its remainder
@@ -28,56 +30,87 @@ module _ (n a b : ℕ) (h : b < n) where
   remainder-of : (a * n + b) % n ≡ b
   remainder-of = ap (λ x. x % n) (add-comm (a * n) b) ∙ add-mul-mod-self-right b a n ∙ mod-eq-of-lt h
 
--- ---- places
+-- ---- places, in either order
 
-module _ (m n i j : ℕ) (h : i < m) (k : j < n) where
-  pub row-flat : rowAt m n (flat m n i j) ≡ i
-  unfolding flat rowAt
-  row-flat = quotient-of n i j k
+pub row-laid : (o : Order) (m n i j : ℕ) → i < m → j < n → rowLaid o m n (flatLaid o m n i j) ≡ i
+unfolding flatLaid rowLaid
+row-laid byRows m n i j h k = quotient-of n i j k
+row-laid byColumns m n i j h k = remainder-of m j i h
 
-  pub column-flat : columnAt m n (flat m n i j) ≡ j
-  unfolding flat columnAt
-  column-flat = remainder-of n i j k
+pub column-laid : (o : Order) (m n i j : ℕ) → i < m → j < n → columnLaid o m n (flatLaid o m n i j) ≡ j
+unfolding flatLaid columnLaid
+column-laid byRows m n i j h k = remainder-of n i j k
+column-laid byColumns m n i j h k = quotient-of m j i h
 
-  pub flat-live : flat m n i j < live m n
-  unfolding flat live
-  flat-live = digits-lt h k
+pub flat-laid-live : (o : Order) (m n i j : ℕ) → i < m → j < n → flatLaid o m n i j < live m n
+unfolding flatLaid live
+flat-laid-live byRows m n i j h k = digits-lt h k
+flat-laid-live byColumns m n i j h k = rw (mul-comm m n) (digits-lt k h)
+
+pub flat-laid-back : (o : Order) (m n k : ℕ) → flatLaid o m n (rowLaid o m n k) (columnLaid o m n k) ≡ k
+unfolding flatLaid rowLaid columnLaid
+flat-laid-back byRows m n k = div-add-mod' k n
+flat-laid-back byColumns m n k = div-add-mod' k m
 
 pub live-most : (m n : ℕ) → m ≤ mostRows → n ≤ mostColumns → live m n ≤ mostEntries
 unfolding live
 live-most m n h k = mul-le-mul h k
 
+-- a quotient and a remainder below a product
+module _ (a n k : ℕ) (h : k < a * n) where
+  above-zero : 0 < n
+  above-zero = go n h
+    where
+      go : (n : ℕ) → k < a * n → 0 < n
+      go zero l = let z : ⊥ = omega (arith, mul-zero a) in absurd z
+      go (suc n) l = omega arith
+
+  quotient-below : k / n < a
+  quotient-below = div-lt-iff-lt-mul above-zero .1 h
+
+  remainder-below : k % n < n
+  remainder-below = mod-lt k above-zero
+
+pub row-laid-live : (o : Order) (m n k : ℕ) → k < live m n → rowLaid o m n k < m
+unfolding live rowLaid
+row-laid-live byRows m n k h = quotient-below m n k h
+row-laid-live byColumns m n k h = remainder-below n m k (rw (mul-comm n m) h)
+
+pub column-laid-live : (o : Order) (m n k : ℕ) → k < live m n → columnLaid o m n k < n
+unfolding live columnLaid
+column-laid-live byRows m n k h = remainder-below m n k h
+column-laid-live byColumns m n k h = quotient-below n m k (rw (mul-comm n m) h)
+
+-- ---- places, in the order in use
+
+pub row-flat : (m n i j : ℕ) → i < m → j < n → rowAt m n (flat m n i j) ≡ i
+row-flat = row-laid inUse
+
+pub column-flat : (m n i j : ℕ) → i < m → j < n → columnAt m n (flat m n i j) ≡ j
+column-flat = column-laid inUse
+
+pub flat-back : (m n k : ℕ) → flat m n (rowAt m n k) (columnAt m n k) ≡ k
+flat-back = flat-laid-back inUse
+
+pub flat-live : (m n i j : ℕ) → i < m → j < n → flat m n i j < live m n
+flat-live = flat-laid-live inUse
+
+pub row-live : (m n k : ℕ) → k < live m n → rowAt m n k < m
+row-live = row-laid-live inUse
+
+pub column-live : (m n k : ℕ) → k < live m n → columnAt m n k < n
+column-live = column-laid-live inUse
+
 pub flat-in : (m n i j : ℕ) → i < m → j < n → m ≤ mostRows → n ≤ mostColumns → flat m n i j < mostEntries
 flat-in m n i j h k r c = lt-of-lt-of-le (flat-live m n i j h k) (live-most m n r c)
 
-pub flat-back : (m n k : ℕ) → flat m n (rowAt m n k) (columnAt m n k) ≡ k
-unfolding flat rowAt columnAt
-flat-back m n k = div-add-mod' k n
+-- ---- spots, in the order in use
 
-module _ (m n k : ℕ) (h : k < live m n) where
-  some-columns : 0 < n
-  unfolding live
-  some-columns = go n h
-    where
-      go : (n : ℕ) → k < m * n → 0 < n
-      go zero l = let z : ⊥ = omega (arith, mul-zero m) in absurd z
-      go (suc n) l = omega arith
-
-  pub row-live : rowAt m n k < m
-  unfolding live rowAt
-  row-live = div-lt-iff-lt-mul some-columns .1 h
-
-  pub column-live : columnAt m n k < n
-  unfolding columnAt
-  column-live = mod-lt k some-columns
-
--- ---- spots
-
--- the spot of a row and a column whose flat place is k; the row may be the one behind the last
-spot-flat : (m n k i j : ℕ) → j < n → flat m n i j ≡ k → record { row = row i; column = column j } ≡ spotAt m n k
-unfolding flat rowAt columnAt
+-- the spot of a row and a column whose flat place is k; the column may be the one behind the last
+spot-flat : (m n k i j : ℕ) → i < m → flat m n i j ≡ k → record { row = row i; column = column j } ≡ spotAt m n k
+unfolding flatLaid rowLaid columnLaid
 spot-flat m n k i j h e = ap₂ (λ a b. record { row = row a; column = column b })
-    (sym (quotient-of n i j h) ∙ ap (rowAt m n) e) (sym (remainder-of n i j h) ∙ ap (columnAt m n) e)
+    (sym (remainder-of m j i h) ∙ ap (rowAt m n) e) (sym (quotient-of m j i h) ∙ ap (columnAt m n) e)
 
 module _ (m n k : ℕ) (spot : Spot) (e : spot ≡ spotAt m n k) where
   abbrev i : ℕ
@@ -97,20 +130,20 @@ module _ (m n k : ℕ) (spot : Spot) (e : spot ≡ spotAt m n k) where
     pub column-used : j < n
     column-used = rw e (column-live m n k h)
 
-  -- the spot of the next flat place: in the same row, or first in the next
-  pub spot-after : j + 1 < n → record { row = spot .row; column = column (j + 1) } ≡ spotAt m n (k + 1)
-  unfolding flat
-  spot-after h = spot-flat m n (k + 1) i (j + 1) h (let z = here in omega arith)
+  -- the spot of the next flat place: in the same column, or first in the next
+  pub spot-below : i + 1 < m → record { row = row (i + 1); column = spot .column } ≡ spotAt m n (k + 1)
+  unfolding flatLaid
+  spot-below h = spot-flat m n (k + 1) (i + 1) j h (let z = here in omega arith)
 
-  pub spot-below : j + 1 ≡ n → record { row = row (i + 1); column = column 0 } ≡ spotAt m n (k + 1)
-  unfolding flat
-  spot-below h = spot-flat m n (k + 1) (i + 1) 0 (omega arith) (let z = here in omega (arith, suc-mul i n))
+  pub spot-beside : i + 1 ≡ m → record { row = row 0; column = column (j + 1) } ≡ spotAt m n (k + 1)
+  unfolding flatLaid
+  spot-beside h = spot-flat m n (k + 1) 0 (j + 1) (omega arith) (let z = here in omega (arith, suc-mul j m))
 
 -- a spot in use is that of its flat place
 pub spot-here : (m n : ℕ) (spot : Spot) → spot .row .0 < m → spot .column .0 < n →
     spot ≡ spotAt m n (flat m n (spot .row .0) (spot .column .0))
-spot-here m n spot h k = spot-flat m n _ (spot .row .0) (spot .column .0) k refl
+spot-here m n spot h k = spot-flat m n _ (spot .row .0) (spot .column .0) h refl
 
 pub spot-first : (m n : ℕ) → record { row = row 0; column = column 0 } ≡ spotAt m n 0
-unfolding rowAt columnAt
-spot-first m n = ap₂ (λ a b. record { row = row a; column = column b }) (sym (zero-div n)) (sym (zero-mod n))
+unfolding rowLaid columnLaid
+spot-first m n = ap₂ (λ a b. record { row = row a; column = column b }) (sym (zero-mod m)) (sym (zero-div m))

@@ -14,7 +14,7 @@ use Rattle.whole.proofs.Sizes.{within-*, within--, within-neg, within-le}
 use Rattle.divisor.specs.Cells.{largestSize}
 use Rattle.rules.specs.Sizes.{largestNumber}
 use Rattle.tableau.specs.Layout.{flat}
-use Rattle.tableau.specs.Pivot.{mixedOf, mixedCell, Mixable, signedBy}
+use Rattle.tableau.specs.Pivot.{mixedOf, mixedCell, mixedLaid, Mixable, signedBy}
 
 pub mixed-of-within : (a b : Bool) (common pivot own beside above : ℤ) → Mixable common pivot own beside above →
     Within (mixedOf a b common pivot own beside above) largestSize
@@ -31,7 +31,7 @@ mixed-of-within false false common pivot own beside above m =
 module _ {common : ℤ} {l : List ℤ} (c : Within common largestNumber) (s : AllWithin l largestNumber)
     (m n p q i j : ℕ) where
   pub mixed-within : Within (mixedCell m n common l p q i j) largestSize
-  unfolding mixedCell
+  unfolding mixedLaid
   mixed-within = mixed-of-within (eqb i p) (eqb j q) _ _ _ _ _ (record {
     common-within = c;
     pivot-within = s .each (flat m n p q);

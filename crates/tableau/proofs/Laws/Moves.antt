@@ -28,7 +28,7 @@ use Rattle.rules.proofs.Sound.{Rowed}
 use Rattle.tableau.specs.declared.Tableau.{Tableau}
 use Rattle.tableau.specs.Layout.{mostEntries, flat, rowAt, columnAt, live}
 use Rattle.tableau.specs.Parts.{cell, cellAt, basicAt, nonbasicAt}
-use Rattle.tableau.specs.Pivot.{mixedCell, mixedAt, signedBy, product, mix, by, pivotedAt, swappedAt}
+use Rattle.tableau.specs.Pivot.{mixedCell, mixedAt, signedBy, product, mix, by, pivotedLaid, swappedAt}
 use Rattle.tableau.specs.Stands.{Serves, Stands}
 use Rattle.tableau.proofs.Laws.Kinds.{Kind, none-there, own, cell-there, kind}
 use Rattle.tableau.proofs.Laws.Layout.{row-live, column-live}
@@ -143,16 +143,16 @@ module _ {P : Problem ℤ} {t : Tableau} {s : State ℤ} {r : Leaving ℤ} {w : 
   -- ---- the numbers afterwards
 
   common-next : next .common ≡ common after
-  unfolding swappedAt pivotedAt moved pivot reduced
+  unfolding swappedAt pivotedLaid moved pivot reduced
   common-next = ap₂ quotZ product-is by-is
 
   cell-live : (k : ℕ) → k < end t → cell next k ≡ quotZ (mixed k) (divisor N T1)
-  unfolding swappedAt pivotedAt
+  unfolding swappedAt pivotedLaid
   cell-live k h = filled-in mostEntries (pos 0) (end t) (quotients mixes part) k h
       ∙ ap₂ quotZ (cell-mixed k h) by-is
 
   cell-past : (k : ℕ) → end t ≤ k → cell next k ≡ pos 0
-  unfolding swappedAt pivotedAt
+  unfolding swappedAt pivotedLaid
   cell-past k h = filled-out mostEntries (pos 0) (end t) (quotients mixes part) k h
 
   entry-next : (v u : ℕ) → v < N → u < N → entry (after .tableau) v u ≡ quotZ (entry T1 v u) (divisor N T1)
@@ -160,7 +160,7 @@ module _ {P : Problem ℤ} {t : Tableau} {s : State ℤ} {r : Leaving ℤ} {w : 
   entry-next v u h k = reduced-entry N T1 v u h k
 
   same-place : (i j : ℕ) → cellAt next i j ≡ cell next (flat m n i j)
-  unfolding swappedAt pivotedAt
+  unfolding swappedAt pivotedLaid
   same-place i j = refl
 
   cell-next : (i j : ℕ) → i < P .m → j < P .n →
@@ -175,7 +175,7 @@ module _ {P : Problem ℤ} {t : Tableau} {s : State ℤ} {r : Leaving ℤ} {w : 
   unused-next k h = cell-past k (rw (M .stands .sized .rows-is, M .stands .sized .columns-is) h)
 
   serves-next : Serves P (next .limits)
-  unfolding swappedAt pivotedAt
+  unfolding swappedAt pivotedLaid
   serves-next = M .stands .serves
 
   pub stands-next : Stands P next after

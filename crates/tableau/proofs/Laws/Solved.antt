@@ -24,7 +24,7 @@ use Rattle.rules.proofs.Relation.{relation-own, relation-off}
 use Rattle.tableau.specs.declared.Tableau.{Tableau}
 use Rattle.tableau.specs.Layout.{flat}
 use Rattle.tableau.specs.Parts.{cellAt, basicAt, nonbasicAt, columnOf}
-use Rattle.tableau.specs.Pivot.{mixedOf, mixedCell}
+use Rattle.tableau.specs.Pivot.{mixedOf, mixedCell, mixedLaid}
 use Rattle.tableau.proofs.Laws.Layout.{row-flat, column-flat}
 use Rattle.tableau.proofs.Laws.Turns.{Turn, rowPlace, columnPlace, nextAt, leaving-row, entering-column}
 use Rattle.tableau.proofs.Laws.Turns.{row-in-range, column-in-range}
@@ -43,7 +43,7 @@ in-entering-column D p b = ring-at (D ∷ p ∷ b ∷ []) (search reify depth 30
 
 mixed-cell : (t : Tableau) (p q i j : ℕ) → mixedCell (t .rows) (t .columns) (t .common) (t .entries) p q i j
     ≡ mixedOf (eqb i p) (eqb j q) (t .common) (cellAt t p q) (cellAt t i j) (cellAt t i q) (cellAt t p j)
-unfolding mixedCell
+unfolding mixedLaid
 mixed-cell t p q i j = refl
 
 module _ {P : Problem ℤ} {t : Tableau} {s : State ℤ} {r : Leaving ℤ} {w : ℕ} (M : Turn P t s r w) where

@@ -19,7 +19,7 @@ use Rattle.tableau.specs.Layout.{live, mostEntries}
 use Rattle.tableau.specs.Parts.{basicAt, cell, cellAt, columnOf, nonbasicAt, nowhere}
 use Rattle.tableau.specs.Parts.{rowOf, seatAt, valueAt, variable}
 use Rattle.tableau.specs.Stands.{HasColumn, HasRow, InColumn, InRow, Stands}
-use Rattle.tableau.specs.Start.{seatFor, startTableau}
+use Rattle.tableau.specs.Start.{seatFor, startTableau, startLaid}
 use Rattle.tableau.specs.declared.Seat.{Seat}
 use Rattle.tableau.specs.declared.Tableau.{Tableau}
 use Rattle.tableau.specs.declared.Variable.{Variable}
@@ -31,19 +31,19 @@ module _ (P : Problem ℤ) (F : Fitting P) where
   -- ---- places
 
   basic-is : (i : ℕ) → i < mostRows → basicAt t i ≡ P .n + i
-  unfolding startTableau
+  unfolding startLaid
   basic-is i h = ap (λ (v : Variable). v .0) (table-at mostRows (λ i. variable (P .n + i)) (variable 0) i h)
 
   nonbasic-is : (j : ℕ) → j < mostColumns → nonbasicAt t j ≡ j
-  unfolding startTableau
+  unfolding startLaid
   nonbasic-is j h = ap (λ (v : Variable). v .0) (table-at mostColumns variable (variable 0) j h)
 
   value-is : (j : ℕ) → j < P .n → valueAt t j ≡ startValue whole (P .lower j) (P .upper j)
-  unfolding startTableau
+  unfolding startLaid
   value-is j h = filled-in mostColumns (pos 0) (P .n) (λ j. startValue whole (P .lower j) (P .upper j)) j h
 
   seat-is : (v : ℕ) → v < mostVariables → seatAt t v ≡ seatFor (P .n) v
-  unfolding startTableau
+  unfolding startLaid
   seat-is v h = table-at mostVariables (seatFor (P .n)) nowhere v h
 
   seat-basic : (v : ℕ) → P .n ≤ v → startSeat whole P v ≡ none
@@ -115,13 +115,13 @@ module _ (P : Problem ℤ) (F : Fitting P) where
       ∙ sym (ap₂ (entry (start whole P .tableau)) (basic-is i (omega arith)) (nonbasic-is j (omega arith)))
 
   unused-start : (k : ℕ) → live (P .m) (P .n) ≤ k → cell t k ≡ pos 0
-  unfolding startTableau
+  unfolding startLaid
   unused-start k h = filled-out mostEntries (pos 0) (live (P .m) (P .n)) _ k h
 
   -- ---- the whole
 
   pub stands-start : Stands P t (start whole P)
-  unfolding startTableau
+  unfolding startLaid
   stands-start = record {
     sized = record {
       rows-is = refl;

@@ -21,7 +21,7 @@ use Rattle.rules.proofs.Leaves.{Outside, too-low, too-high}
 use Rattle.tableau.specs.declared.Limits.{Limits}
 use Rattle.tableau.specs.declared.Tableau.{Tableau}
 use Rattle.tableau.specs.Parts.{valueAt, basicAt, nonbasicAt}
-use Rattle.tableau.specs.Pivot.{Cells, Pivotable, Swappable, pivotedAt, swappedAt, smallBelow}
+use Rattle.tableau.specs.Pivot.{Cells, Pivotable, Swappable, pivotedLaid, swappedAt, smallBelow}
 use Rattle.tableau.specs.Stands.{Ranged}
 use Rattle.tableau.proofs.Laws.Moves.{stands-next}
 use Rattle.tableau.proofs.Laws.Places.{value-here, value-other}
@@ -103,10 +103,10 @@ module _ {P : Problem ℤ} {t : Tableau} {s : State ℤ} {r : Leaving ℤ} {w : 
   values-next h j = go (ℕ-discrete j q)
     where
       long : q < length (turnedAt t r w .values)
-      long = unfold pivotedAt in (rw (M .stands .sized .values-long) (column-in-range M))
+      long = unfold pivotedLaid in (rw (M .stands .sized .values-long) (column-in-range M))
 
       before : (j : ℕ) → Within (valueAt (turnedAt t r w) j) largestLimit
-      before = unfold pivotedAt in h
+      before = unfold pivotedLaid in h
 
       go : Dec (j ≡ q) → Within (valueAt next j) largestLimit
       go (yes e) = rw (e, value-here (turnedAt t r w) p q x long) limit-within

@@ -24,7 +24,7 @@ use Rattle.rules.proofs.Sound.{Rowed}
 use Rattle.rules.proofs.Swaps.{Swap}
 use Rattle.tableau.specs.declared.Tableau.{Tableau}
 use Rattle.tableau.specs.Parts.{cellAt, basicAt, nonbasicAt, rowOf, columnOf}
-use Rattle.tableau.specs.Pivot.{pivotedAt, swappedAt}
+use Rattle.tableau.specs.Pivot.{pivotedAt, pivotedLaid, swappedAt}
 use Rattle.tableau.specs.Stands.{HasRow, HasColumn, Sized, Placed, Stands}
 use Rattle.tableau.proofs.Laws.Places.{basic-here, basic-other, nonbasic-here, nonbasic-other, placed-after}
 use Rattle.tableau.proofs.Laws.Places.{sized-after, placed-with, sized-with}
@@ -93,19 +93,19 @@ module _ {P : Problem ℤ} {t : Tableau} {s : State ℤ} {r : Leaving ℤ} {w : 
   -- ---- the places after the pivot, and after the exchange
 
   placed-turned : Placed P turned s
-  unfolding pivotedAt
+  unfolding pivotedLaid
   placed-turned = placed-with P t _ _ s (M .stands .placed)
 
   sized-turned : Sized P turned
-  unfolding pivotedAt
+  unfolding pivotedLaid
   sized-turned = sized-with P t _ _ (M .stands .sized)
 
   r-there : basicAt turned p ≡ r .variable
-  unfolding pivotedAt
+  unfolding pivotedLaid
   r-there = leaving-row .holds
 
   w-there : nonbasicAt turned q ≡ w
-  unfolding pivotedAt
+  unfolding pivotedLaid
   w-there = entering-column .holds
 
   exchange : Swap (seat s) (seat (moved whole P s r w)) (r .variable) w x
@@ -123,7 +123,7 @@ module _ {P : Problem ℤ} {t : Tableau} {s : State ℤ} {r : Leaving ℤ} {w : 
   basic-left = basic-here turned p q (r .variable) w x r-there w-there (rw (sized-turned .basic-long) row-in-range)
 
   pub basic-stays : (i : ℕ) → i ≢ p → basicAt next i ≡ basicAt t i
-  unfolding pivotedAt
+  unfolding pivotedLaid
   basic-stays i n = basic-other turned p q (r .variable) w x r-there w-there i n
 
   pub nonbasic-entered : nonbasicAt next q ≡ r .variable
@@ -131,5 +131,5 @@ module _ {P : Problem ℤ} {t : Tableau} {s : State ℤ} {r : Leaving ℤ} {w : 
       (rw (sized-turned .nonbasic-long) column-in-range)
 
   pub nonbasic-stays : (j : ℕ) → j ≢ q → nonbasicAt next j ≡ nonbasicAt t j
-  unfolding pivotedAt
+  unfolding pivotedLaid
   nonbasic-stays j n = nonbasic-other turned p q (r .variable) w x r-there w-there j n

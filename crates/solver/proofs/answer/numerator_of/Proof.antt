@@ -9,7 +9,7 @@ use mir.Syntax.{w64}
 use mir.Val.{SFits}
 use Rattle.whole.proofs.Sizes.{fits-by, within-*}
 use Rattle.search.specs.Search.{rowSum}
-use Rattle.solver.specs.Answer.{numeratorFrom, numeratorOf}
+use Rattle.solver.specs.Answer.{numeratorFrom, numeratorLaid}
 use Rattle.solver.proofs.answer.numerator_of.Statement.{statement}
 use Rattle.solver.proofs.answer.numerator_of.Tie as tie
 
@@ -23,7 +23,7 @@ fit-row : (c : tie.After-row-value) → SFits w64 (c .row-value .result)
 fit-row c = search needs
 
 returns : tie.Need-returns
-unfolding numeratorOf
+unfolding numeratorLaid
 returns c = let s = c .before .before .args in
     toZ-ofZ (fit-row c) ∙ c .row-value .ensures
     ∙ sym (ap (λ b. numeratorFrom b (rowSum (s .rows) (s .columns) (s .entries .now) (s .values .now) (s .seat .row .0))
@@ -49,7 +49,7 @@ mul-result : tie.Need-mul-result
 mul-result c = simp (toZ-ofZ (start c .fits .common), toZ-ofZ (fit-value c)) (fit-product c)
 
 returns-2 : tie.Need-returns-2
-unfolding numeratorOf
+unfolding numeratorLaid
 returns-2 c = let s = start c .args in
     simp (toZ-ofZ (start c .fits .common), toZ-ofZ (fit-value c), toZ-ofZ (fit-product c))
     (sym (ap (λ b. numeratorFrom b (rowSum (s .rows) (s .columns) (s .entries .now) (s .values .now) (s .seat .row .0))

@@ -10,7 +10,7 @@ use mir.Syntax.{w64}
 use mir.Val.{SFits, ofZ, toZ}
 use Rattle.whole.specs.Tables.{filled}
 use Rattle.rules.specs.Sizes.{mostVariables}
-use Rattle.solver.specs.Answer.{numeratorIn, numeratorsIn}
+use Rattle.solver.specs.Answer.{numeratorIn, numeratorsIn, numeratorsLaid}
 use Rattle.whole.proofs.Prefix.{filled-start, filled-more}
 use Rattle.solver.proofs.answer.numerators_of.Statement.{statement}
 use Rattle.solver.proofs.answer.numerators_of.Tie as tie
@@ -87,7 +87,7 @@ loop-again c = let z = in-range (here c) in (
 )
 
 returns : tie.Need-returns Inv-loop μ-loop
-unfolding numeratorsIn
+unfolding numeratorsLaid
 returns c = let s = c .before .before in let a = s .args in
     let e : c .before .loop .v ≡ a .rows + a .columns = omega arith in
     c .before .loop .inv .1 ∙ ap (λ k. filled mostVariables (pos 0) k (read s)) e

@@ -15,7 +15,7 @@ use Rattle.whole.proofs.Sizes.{fits-by, within-neg}
 use Rattle.rules.specs.Sizes.{largestNumber, mostVariables}
 use Rattle.rules.specs.Step.{positive}
 use Rattle.tableau.specs.Parts.{nowhere}
-use Rattle.solver.specs.Multipliers.{Blockable, multipliersIn, pullIn}
+use Rattle.solver.specs.Multipliers.{Blockable, multipliersIn, multipliersLaid, pullIn}
 use Rattle.whole.proofs.Prefix.{filled-start, filled-more}
 use Rattle.solver.proofs.Laws.Pulls.{pull-within}
 use Rattle.solver.proofs.multipliers.multipliers_of.Statement.{statement}
@@ -149,7 +149,7 @@ loop-again c = let o = it c in let z = in-range o in (
 )
 
 returns : tie.Need-returns Inv-loop μ-loop
-unfolding multipliersIn
+unfolding multipliersLaid
 returns c = let s = c .before .before in let a = s .args in
     let e : c .before .loop .v ≡ a .rows + a .columns = omega arith in
     ap₂ (λ l u. record { lower = l; upper = u })

@@ -18,7 +18,7 @@ use Rattle.tableau.specs.Layout.{mostEntries}
 use Rattle.tableau.specs.Parts.{entryIn}
 use Rattle.tableau.proofs.Laws.Layout.{flat-in}
 use Rattle.search.specs.Sides.{sideBy}
-use Rattle.solver.specs.Multipliers.{pullOf, relationFrom}
+use Rattle.solver.specs.Multipliers.{pullLaid, relationFrom}
 use Rattle.solver.proofs.multipliers.pull_of.Statement.{statement}
 use Rattle.solver.proofs.multipliers.pull_of.Tie as tie
 
@@ -66,7 +66,7 @@ fit-turned : (c : tie.After-turned) → SFits w64 (c .turned .result)
 fit-turned c = search needs
 
 returns : tie.Need-returns
-unfolding pullOf
+unfolding pullLaid
 returns c = let s = c .before .before .before .before .before .before in
     toZ-ofZ (fit-turned c) ∙ (simp (toZ-ofZ (fit-entry (c .before))) at (c .turned .ensures))
     ∙ ap (λ k. pull (sideBy (s .args .blocked .rises)) (getD (s .args .entries .now) k (pos 0))) (c .before .before .place .ensures)
@@ -90,14 +90,14 @@ basic-is : (c : tie.Else1) → c .before .before .before .args .seat .basic ≡ 
 basic-is c = not-false _ (c .if1 .left)
 
 returns-2 : tie.Need-returns-2
-unfolding pullOf
+unfolding pullLaid
 returns-2 c = let s = c .before .before .before .before .before .before .before .before in
     toZ-ofZ (fit-own c) ∙ (simp (toZ-ofZ (s .fits .common), +ℤ-idl, toZ-ofZ (fit-common s)) at (c .turned2 .ensures))
     ∙ sym (ap₂ (relation s) (basic-is (c .before .before .before .before .before))
     (eq-eqb (s .args .seat .row .0) (s .args .blocked .row .0) (c .before .if2 .taken)))
 
 returns-3 : tie.Need-returns-3
-unfolding pullOf
+unfolding pullLaid
 returns-3 c = let s = c .before .before .before .before .before .before .before in
     sym (ap₂ (relation s) (basic-is (c .before .before .before .before))
     (ne-eqb (s .args .seat .row .0) (s .args .blocked .row .0) (c .if2 .left))

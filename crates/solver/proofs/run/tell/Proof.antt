@@ -15,7 +15,7 @@ use Rattle.search.specs.declared.Blocked.{Blocked}
 use Rattle.solver.specs.declared.answer.Verdict.the-variants as verdicts
 use Rattle.solver.specs.declared.step.End.{End}
 use Rattle.solver.specs.Answer.{laidOver, noughts, wordsAt}
-use Rattle.solver.specs.Run.{endWords}
+use Rattle.solver.specs.Run.{endWords, wordsLaid}
 use Rattle.solver.proofs.Laws.Readable.{blockable, numerable}
 use Rattle.solver.proofs.run.tell.Statement.{statement}
 use Rattle.solver.proofs.run.tell.Tie as tie
@@ -67,7 +67,7 @@ same-length : tie.Need-same-length
 same-length c = search needs
 
 returns : tie.Need-returns
-unfolding endWords
+unfolding wordsLaid
 returns c = let o = c .before .before .before .before .before .before .before .before .before in let s = start o in
     (simp (toZ-ofZ (fit-common s)) at (c .before .write .ensures))
     ∙ ap (λ l. over s (wordsAt verdicts.Can (s .args .count) (last s .common) (many s) l noughts))
@@ -101,7 +101,7 @@ same-length-2 : tie.Need-same-length-2
 same-length-2 c = search needs
 
 returns-2 : tie.Need-returns-2
-unfolding endWords
+unfolding wordsLaid
 returns-2 c = let o = c .before .before .before .before .before .before .before .before .before .before in let s = entry o in
     c .before .write2 .ensures
     ∙ ap (λ m. over s (wordsAt verdicts.Cannot (s .args .count) (pos 0) (many s) (m .lower) (m .upper)))
@@ -120,7 +120,7 @@ same-length-3 : tie.Need-same-length-3
 same-length-3 c = search needs
 
 returns-3 : tie.Need-returns-3
-unfolding endWords
+unfolding wordsLaid
 returns-3 c = let o = c .before .before .before .before .before in let s = o .before .before .before .before in
     c .before .write3 .ensures ∙ sym (ap (told s) (o .enum-told2 .given .1))
 

@@ -17,7 +17,7 @@ use Rattle.tableau.specs.declared.Seat.{Seat}
 use Rattle.tableau.specs.declared.Tableau.{Tableau}
 use Rattle.tableau.specs.declared.Variable.{Variable}
 use Rattle.tableau.specs.Start.{limitsFor, startBasic, startEntries, startNonbasic, startSeats}
-use Rattle.tableau.specs.Start.{startTableau, startValues, valuesFor}
+use Rattle.tableau.specs.Start.{startTableau, startLaid, startValues, valuesFor}
 use Rattle.tableau.specs.Words.{Framed}
 use Rattle.tableau.proofs.Laws.Judged.{accepted-framed}
 use Rattle.tableau.proofs.Laws.Reading.{values-same}
@@ -88,7 +88,7 @@ joined : (P : Problem ℤ) {rows columns : ℕ} {entries values : List ℤ} {bas
       limits = limits;
     })
     (startTableau P)
-unfolding startTableau
+unfolding startLaid
 joined P rows-are columns-are entries-are basic-are nonbasic-are values-are seats-are limits-are = cc
 
 returns : tie.Need-returns

@@ -1,28 +1,31 @@
--- `tableau::layout::place` meets its contract. Assumes nothing.
-use Prim.Native.Nat.{_<_}
+-- `tableau::layout::place` meets its contract. Places and sizes are small, so neither the product nor the sum leaves 64
+-- bits. Assumes nothing.
+use Prim.Native.Nat.{ℕ, _+_, _*_, _≤_}
+use native.Mathlib.Nat.{mul-le-mul}
 use native.Mathlib.Omega.{arith}
-use borrow.Author.Needs.{needs}
-use Rattle.tableau.specs.Layout.{flat, mostEntries}
-use Rattle.tableau.proofs.Laws.Layout.{flat-in}
+use mathlib.Core.Path.{refl}
+use mir.Syntax.{w64}
+use mir.Val.{Fits}
+use Rattle.rules.specs.Sizes.{mostRows}
+use Rattle.tableau.specs.Layout.{flatLaid}
 use Rattle.tableau.proofs.layout.place.Statement.{statement}
 use Rattle.tableau.proofs.layout.place.Tie as tie
 
-in-array : (s : tie.Start) →
-    flat (s .args .rows) (s .args .columns) (s .args .row .0) (s .args .column .0) < mostEntries
-in-array s = flat-in (s .args .rows) (s .args .columns) (s .args .row .0) (s .args .column .0)
-    (s .pre .0) (s .pre .1) (s .pre .2) (s .pre .3)
+product-fits : {a b : ℕ} → a ≤ mostRows → b ≤ mostRows → Fits w64 (a * b)
+product-fits {a} {b} h k = let z : a * b ≤ mostRows * mostRows = mul-le-mul h k in omega arith
+
+sum-fits : {a b c : ℕ} → a ≤ mostRows → b ≤ mostRows → c ≤ mostRows → Fits w64 (a * b + c)
+sum-fits {a} {b} h k l = let z : a * b ≤ mostRows * mostRows = mul-le-mul h k in omega arith
 
 mul-result : tie.Need-mul-result
-unfolding flat
-mul-result c = omega (arith, in-array (c .before))
+mul-result c = product-fits (omega arith) (omega arith)
 
 add-result : tie.Need-add-result
-unfolding flat
-add-result c = omega (arith, in-array (c .before .before))
+add-result c = sum-fits (omega arith) (omega arith) (omega arith)
 
 returns : tie.Need-returns
-unfolding flat
-returns c = search needs
+unfolding flatLaid
+returns c = refl
 
 pub place-spec : {M : Type 1} → statement M
 place-spec = tie.close (tie.spec mul-result add-result returns)

@@ -37,7 +37,8 @@ fit2 c = search needs
 returns-2 : tie.Need-returns-2
 returns-2 c = let s = c .before .before .before in
     simp (toZ-ofZ (fit2 c), c .before .before .if1 .taken, c .before .if2 .left)
-    ((simp (toZ-ofZ (s .fits .common), toZ-ofZ (s .fits .above)) at (c .crossed2 .ensures)) ∙ second-alone (s .args .common) (s .args .above))
+    ((simp (toZ-ofZ (s .fits .common), toZ-ofZ (s .fits .beside)) at (c .crossed2 .ensures))
+    ∙ first-alone (s .args .common) (s .args .beside))
 
 crossed-requires-3 : tie.Need-crossed-requires-3
 crossed-requires-3 c κs = search needs
@@ -48,7 +49,8 @@ fit3 c = search needs
 returns-3 : tie.Need-returns-3
 returns-3 c = let s = c .before .before .before in
     simp (toZ-ofZ (fit3 c), c .before .before .if1 .left, c .before .if3 .taken)
-    ((simp (toZ-ofZ (s .fits .common), toZ-ofZ (s .fits .beside)) at (c .crossed3 .ensures)) ∙ first-alone (s .args .common) (s .args .beside))
+    ((simp (toZ-ofZ (s .fits .common), toZ-ofZ (s .fits .above)) at (c .crossed3 .ensures))
+    ∙ second-alone (s .args .common) (s .args .above))
 
 crossed-requires-4 : tie.Need-crossed-requires-4
 crossed-requires-4 c κs = search needs

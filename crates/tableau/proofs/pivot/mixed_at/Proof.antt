@@ -12,7 +12,7 @@ use mir.Facts.{toZ-ofZ}
 use mir.Syntax.{w64}
 use mir.Val.{SFits}
 use Rattle.tableau.specs.Layout.{mostEntries, flat}
-use Rattle.tableau.specs.Pivot.{mixedOf, mixedCell}
+use Rattle.tableau.specs.Pivot.{mixedOf, mixedCell, mixedLaid}
 use Rattle.tableau.proofs.Laws.Layout.{flat-in}
 use Rattle.tableau.proofs.pivot.mixed_at.Statement.{statement}
 use Rattle.tableau.proofs.pivot.mixed_at.Tie as tie
@@ -137,7 +137,7 @@ joined : (m n : ℕ) (common : ℤ) (l : List ℤ) (p q i j at owns besides abov
     at ≡ flat m n p q → owns ≡ flat m n i j → besides ≡ flat m n i q → aboves ≡ flat m n p j →
     mixedOf (eqb i p) (eqb j q) common (getD l at (pos 0)) (getD l owns (pos 0)) (getD l besides (pos 0)) (getD l aboves (pos 0))
     ≡ mixedCell m n common l p q i j
-unfolding mixedCell
+unfolding mixedLaid
 joined m n common l p q i j at owns besides aboves a b c d = rw (a, b, c, d) refl
 
 fit-result : (c : tie.After-mixed) → SFits w64 (c .mixed .result)
