@@ -30,6 +30,15 @@ unfoldable pub columnLaid : Order → ℕ → ℕ → ℕ → ℕ
 columnLaid byRows m n k = k % n
 columnLaid byColumns m n k = k / m
 
+-- the cells in use lie in lines, whole rows or whole columns, and every line has as many steps as the others
+unfoldable pub linesLaid : Order → ℕ → ℕ → ℕ
+linesLaid byRows m n = m
+linesLaid byColumns m n = n
+
+unfoldable pub stepsLaid : Order → ℕ → ℕ → ℕ
+stepsLaid byRows m n = n
+stepsLaid byColumns m n = m
+
 -- the cells from here on are not in use, in either order
 unfoldable pub live : ℕ → ℕ → ℕ
 live m n = m * n
@@ -44,3 +53,13 @@ rowAt = rowLaid inUse
 
 abbrev pub columnAt : ℕ → ℕ → ℕ → ℕ
 columnAt = columnLaid inUse
+
+abbrev pub lines : ℕ → ℕ → ℕ
+lines = linesLaid inUse
+
+abbrev pub steps : ℕ → ℕ → ℕ
+steps = stepsLaid inUse
+
+-- the flat place at which a line begins
+abbrev pub lineAt : ℕ → ℕ → ℕ → ℕ
+lineAt m n line = line * steps m n

@@ -61,6 +61,10 @@ mixedAt m n common l p q k = mixedCell m n common l p q (rowAt m n k) (columnAt 
 abbrev pub mixedEntries : ℕ → ℕ → ℤ → List ℤ → ℕ → ℕ → List ℤ
 mixedEntries = mixLaid inUse
 
+-- .. the first k cells alone; the others are 0
+abbrev pub mixedUpTo : ℕ → ℕ → ℤ → List ℤ → ℕ → ℕ → ℕ → List ℤ
+mixedUpTo m n common l p q k = filled mostEntries (pos 0) k (mixedAt m n common l p q)
+
 -- ---- reduction
 
 -- a divisor with the sign of the common number

@@ -15,7 +15,7 @@ use Rattle.tableau.specs.declared.Variable.{Variable}
 use Rattle.tableau.specs.declared.Seat.{Seat}
 use Rattle.tableau.specs.declared.Limits.{Limits}
 use Rattle.tableau.specs.declared.Tableau.{Tableau}
-use Rattle.tableau.specs.Layout.{Order, inUse, mostEntries, rowLaid, columnLaid, live}
+use Rattle.tableau.specs.Layout.{Order, inUse, mostEntries, rowLaid, columnLaid, rowAt, columnAt, live}
 use Rattle.tableau.specs.Parts.{variable, row, column, lowerOf, upperOf}
 
 abbrev pub startEntriesLaid : Order → Problem ℤ → List ℤ
@@ -24,6 +24,10 @@ startEntriesLaid o P = filled mostEntries (pos 0) (live (P .m) (P .n))
 
 abbrev pub startEntries : Problem ℤ → List ℤ
 startEntries = startEntriesLaid inUse
+
+-- .. the first k cells alone, for m rows and n columns; the others are 0
+abbrev pub startUpTo : Problem ℤ → ℕ → ℕ → ℕ → List ℤ
+startUpTo P m n k = filled mostEntries (pos 0) k (λ k. P .coefficient (rowAt m n k) (columnAt m n k))
 
 -- ---- places, for n columns in use
 

@@ -1,9 +1,10 @@
 // Where the entry of a row place and a column place lies in the flat array, and in which order the places follow there:
-// column after column. Nothing else in the code says it; callers give both sizes, whichever order needs them.
+// line after line, and a line is a column. Nothing else in the code says it; callers give both sizes, whichever order
+// needs them.
 ghost use mathlib.Core.Path.{_≡_};
-ghost use Prim.Native.Nat.{ℕ, _+_, _≤_, _<_};
+ghost use Prim.Native.Nat.{_+_, _≤_, _<_};
 ghost use Rattle.rules.specs.Sizes.{mostRows, mostColumns};
-ghost use Rattle.tableau.specs.Layout.{flat};
+ghost use Rattle.tableau.specs.Layout.{flat, lineAt};
 ghost use Rattle.tableau.specs.Layout as layout;
 ghost use Rattle.tableau.specs.Parts.{spotAt};
 use crate::ColumnPlace;
@@ -23,33 +24,28 @@ pub fn place(rows: usize, columns: usize, row: RowPlace, column: ColumnPlace) ->
     column.0 * rows + row.0
 }
 
-// The spot of flat place 0.
-pub fn first() -> Spot
-    ensures { λ r. ⌜ ((m n : ℕ) → r ≡ spotAt m n 0) ⌝ }
+// How many lines there are: the columns.
+pub fn lines(rows: usize, columns: usize) -> usize
+    ensures { λ r. ⌜ r ≡ layout.lines rows columns ⌝ }
 {
-    Spot {
-        row: RowPlace(0),
-        column: ColumnPlace(0),
-    }
+    columns
 }
 
-// The spot of the next flat place.
-pub fn after(rows: usize, columns: usize, spot: Spot) -> Spot
-    requires { ⌜ (spot .row .0 < rows) × (spot .column .0 < columns) ⌝ }
-    ensures { λ r. ⌜ ((k : ℕ) → spot ≡ spotAt rows columns k → r ≡ spotAt rows columns (k + 1)) ⌝ }
+// How many steps each line has: the rows.
+pub fn steps(rows: usize, columns: usize) -> usize
+    ensures { λ r. ⌜ r ≡ layout.steps rows columns ⌝ }
 {
-    let row = spot.row;
-    let column = spot.column;
-    let next = row.0 + 1;
-    if next == rows {
-        return Spot {
-            row: RowPlace(0),
-            column: ColumnPlace(column.0 + 1),
-        };
-    }
+    rows
+}
+
+// The spot of a step of a line.
+pub fn spot_at(rows: usize, columns: usize, line: usize, step: usize) -> Spot
+    requires { ⌜ step < layout.steps rows columns ⌝ }
+    ensures { λ r. ⌜ r ≡ spotAt rows columns (lineAt rows columns line + step) ⌝ }
+{
     Spot {
-        row: RowPlace(next),
-        column,
+        row: RowPlace(step),
+        column: ColumnPlace(line),
     }
 }
 

@@ -4,12 +4,13 @@
 //   D x = .. + p w + c u ..     the leaving row, solved for w: p w = D x - c u ..
 //   D y = .. + b w + a u ..     another row, times p: D p y = b D x + (p a - b c) u ..
 ghost use mathlib.Core.Path.{_≡_};
-ghost use Prim.Native.Nat.{_≤_, _<_};
+ghost use Prim.Native.Nat.{_+_, _≤_, _<_};
 ghost use lib.IntN.{_*ℤ_, _-ℤ_};
 ghost use Rattle.whole.specs.Numbers.{Within, AllWithin};
 ghost use Rattle.divisor.specs.Cells.{largestSize};
 ghost use Rattle.rules.specs.Sizes.{mostRows, mostColumns, largestNumber};
-ghost use Rattle.tableau.specs.Pivot.{mixedOf, mixedCell, mixedEntries, Mixable, signedBy};
+ghost use Rattle.tableau.specs.Layout.{lines, lineAt};
+ghost use Rattle.tableau.specs.Pivot.{mixedOf, mixedCell, mixedUpTo, mixedEntries, Mixable, signedBy};
 ghost use Rattle.tableau.specs.Pivot.{Pivotable, fitsAfter, commonAfter, entriesAfter, pivotedBy, entriesBy};
 use crate::ColumnPlace;
 use crate::RowPlace;
@@ -87,6 +88,43 @@ fn mixed_at(
     )
 }
 
+// The entries of one line after a pivot, before reduction, where those of the lines before it are there.
+fn mixed_line(
+    out: &mut [i64; Tableau::MOST_ENTRIES],
+    entries: &[i64; Tableau::MOST_ENTRIES],
+    rows: usize,
+    columns: usize,
+    common: i64,
+    row: RowPlace,
+    column: ColumnPlace,
+    line: usize,
+)
+    requires { ⌜ (row .0 < rows) × (column .0 < columns) × (rows ≤ mostRows) × (columns ≤ mostColumns) ⌝ }
+    requires { ⌜ Within common largestNumber ⌝ }
+    requires { ⌜ AllWithin (now entries) largestNumber ⌝ }
+    requires { ⌜ line < lines rows columns ⌝ }
+    requires { ⌜ now out
+        ≡ mixedUpTo rows columns common (now entries) (row .0) (column .0) (lineAt rows columns line) ⌝ }
+    ensures { λ r. ⌜ now (out .exit) ≡ mixedUpTo rows columns common (now (entries .entry)) (row .0) (column .0)
+        (lineAt rows columns (line + 1)) ⌝ }
+{
+    let steps = layout::steps(rows, columns);
+    for step in 0..steps {
+        let spot = layout::spot_at(rows, columns, line, step);
+        let at = layout::place(rows, columns, spot.row, spot.column);
+        out[at] = mixed_at(
+            entries,
+            rows,
+            columns,
+            common,
+            row,
+            column,
+            spot.row,
+            spot.column,
+        );
+    }
+}
+
 // All live entries after a pivot, before reduction.
 fn mixed_entries(
     entries: &[i64; Tableau::MOST_ENTRIES],
@@ -101,21 +139,10 @@ fn mixed_entries(
     requires { ⌜ AllWithin (now entries) largestNumber ⌝ }
     ensures { λ r. ⌜ r ≡ mixedEntries rows columns common (now (entries .entry)) (row .0) (column .0) ⌝ }
 {
-    let end = layout::live(rows, columns);
+    let lines = layout::lines(rows, columns);
     let mut out = [0i64; Tableau::MOST_ENTRIES];
-    let mut spot = layout::first();
-    for k in 0..end {
-        out[k] = mixed_at(
-            entries,
-            rows,
-            columns,
-            common,
-            row,
-            column,
-            spot.row,
-            spot.column,
-        );
-        spot = layout::after(rows, columns, spot);
+    for line in 0..lines {
+        mixed_line(&mut out, entries, rows, columns, common, row, column, line);
     }
     out
 }

@@ -1,7 +1,7 @@
 // The tableau at the start of a run, from accepted words: entries, places, limits and values.
 ghost use mathlib.Core.Path.{_≡_};
 ghost use mathlib.Core.Option.{none};
-ghost use Prim.Native.Nat.{_≤_, _<_};
+ghost use Prim.Native.Nat.{_+_, _≤_, _<_};
 ghost use lib.ListN.{length};
 ghost use Rattle.whole.specs.Values.{whole};
 ghost use Rattle.rules.specs.Sizes.{mostColumns, mostRows};
@@ -10,7 +10,8 @@ ghost use Rattle.rules.specs.Problem.{problem, word};
 ghost use Rattle.rules.specs.Refusal.{Accepted, problemRefusal};
 ghost use Rattle.rules.specs.Step.{startValue};
 ghost use Rattle.tableau.specs.Words.{Framed};
-ghost use Rattle.tableau.specs.Start.{startEntries, startBasic, startNonbasic, seatFor, startSeats};
+ghost use Rattle.tableau.specs.Layout.{lines, lineAt};
+ghost use Rattle.tableau.specs.Start.{startUpTo, startEntries, startBasic, startNonbasic, seatFor, startSeats};
 ghost use Rattle.tableau.specs.Start.{limitsFor, valuesFor, startTableau};
 use crate::ColumnPlace;
 use crate::Limits;
@@ -44,17 +45,37 @@ fn coefficient_at(
     number_at(words, 2 + (row.0 * columns + column.0))
 }
 
+// The entries of one line, where those of the lines before it are there.
+fn start_line(
+    entries: &mut [i64; Tableau::MOST_ENTRIES],
+    words: &[i32],
+    columns: usize,
+    rows: usize,
+    line: usize,
+)
+    requires { ⌜ Framed (now words) columns rows ⌝ }
+    requires { ⌜ line < lines rows columns ⌝ }
+    requires { ⌜ now entries ≡ startUpTo (problem (now words)) rows columns (lineAt rows columns line) ⌝ }
+    ensures { λ r. ⌜ now (entries .exit)
+        ≡ startUpTo (problem (now (words .entry))) rows columns (lineAt rows columns (line + 1)) ⌝ }
+{
+    let steps = layout::steps(rows, columns);
+    for step in 0..steps {
+        let spot = layout::spot_at(rows, columns, line, step);
+        let at = layout::place(rows, columns, spot.row, spot.column);
+        entries[at] = coefficient_at(words, columns, rows, spot.row, spot.column);
+    }
+}
+
 // All entries.
 fn start_entries(words: &[i32], columns: usize, rows: usize) -> [i64; Tableau::MOST_ENTRIES]
     requires { ⌜ Framed (now words) columns rows ⌝ }
     ensures { λ r. ⌜ r ≡ startEntries (problem (now (words .entry))) ⌝ }
 {
-    let end = layout::live(rows, columns);
+    let lines = layout::lines(rows, columns);
     let mut entries = [0i64; Tableau::MOST_ENTRIES];
-    let mut spot = layout::first();
-    for k in 0..end {
-        entries[k] = coefficient_at(words, columns, rows, spot.row, spot.column);
-        spot = layout::after(rows, columns, spot);
+    for line in 0..lines {
+        start_line(&mut entries, words, columns, rows, line);
     }
     entries
 }

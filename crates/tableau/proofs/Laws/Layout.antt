@@ -4,20 +4,20 @@
 --   flat-laid-live, row-laid-live, ..       the place of a row and a column in use is live, and the other way round
 --   live-most, flat-in                      the live cells fit the array, and so does a place in use
 --   row-flat, column-flat, flat-back, ..    the same in the order in use
---   spot-first, spot-below, spot-beside     the places of flat place 0, and of the next one; spot-here
---   row-used, column-used                   a spot whose flat place is live is in use
+--   spot-along, step-live                   the spot of a step of a line, and that it is live
+--   lines-live, line-next                   all lines are what is live; a line ends where the next begins
+--   flat-spot, spot-used                    the flat place of a spot; one whose flat place is live is in use
 use Prim.Native.Nat.{ℕ, zero, suc, _+_, _*_, _/_, _%_, _≤_, _<_}
 use native.Mathlib.Nat.{add-comm, add-mul-div-right, add-mul-mod-self-right, div-add-mod', div-eq-of-lt}
 use native.Mathlib.Nat.{div-lt-iff-lt-mul}
-use native.Mathlib.Nat.{lt-of-lt-of-le, mod-eq-of-lt, mod-lt, mul-comm, mul-le-mul, mul-zero, suc-mul, zero-div}
-use native.Mathlib.Nat.{zero-mod}
+use native.Mathlib.Nat.{lt-of-lt-of-le, mod-eq-of-lt, mod-lt, mul-comm, mul-le-mul, mul-zero, suc-mul}
 use native.Mathlib.Omega.{arith}
-use mathlib.Core.Path.{_≡_, ap, ap₂, refl, sym, _∙_}
+use mathlib.Core.Path.{_≡_, ap, ap₂, sym, _∙_}
 use lib.Arith.{digits-lt}
 use Rattle.rules.specs.Sizes.{mostColumns, mostRows}
 use Rattle.tableau.specs.declared.layout.Spot.{Spot}
 use Rattle.tableau.specs.Layout.{Order, byRows, byColumns, inUse, mostEntries, flatLaid, rowLaid, columnLaid}
-use Rattle.tableau.specs.Layout.{flat, rowAt, columnAt, live}
+use Rattle.tableau.specs.Layout.{linesLaid, stepsLaid, flat, rowAt, columnAt, lines, steps, lineAt, live}
 use Rattle.tableau.specs.Parts.{row, column, spotAt}
 
 -- ---- a number by its quotient and its remainder
@@ -104,13 +104,26 @@ column-live = column-laid-live inUse
 pub flat-in : (m n i j : ℕ) → i < m → j < n → m ≤ mostRows → n ≤ mostColumns → flat m n i j < mostEntries
 flat-in m n i j h k r c = lt-of-lt-of-le (flat-live m n i j h k) (live-most m n r c)
 
--- ---- spots, in the order in use
+-- ---- lines and their steps, in the order in use
 
--- the spot of a row and a column whose flat place is k; the column may be the one behind the last
-spot-flat : (m n k i j : ℕ) → i < m → flat m n i j ≡ k → record { row = row i; column = column j } ≡ spotAt m n k
-unfolding flatLaid rowLaid columnLaid
-spot-flat m n k i j h e = ap₂ (λ a b. record { row = row a; column = column b })
-    (sym (remainder-of m j i h) ∙ ap (rowAt m n) e) (sym (quotient-of m j i h) ∙ ap (columnAt m n) e)
+module _ (m n line step : ℕ) (h : step < steps m n) where
+  pub spot-along : record { row = row step; column = column line } ≡ spotAt m n (lineAt m n line + step)
+  unfolding stepsLaid rowLaid columnLaid
+  spot-along = ap₂ (λ a b. record { row = row a; column = column b })
+      (sym (remainder-of m line step h)) (sym (quotient-of m line step h))
+
+  pub step-live : line < lines m n → lineAt m n line + step < live m n
+  unfolding linesLaid stepsLaid live
+  step-live k = rw (mul-comm m n) (digits-lt k h)
+
+pub lines-live : (m n : ℕ) → lineAt m n (lines m n) ≡ live m n
+unfolding linesLaid stepsLaid live
+lines-live m n = mul-comm n m
+
+pub line-next : (m n line : ℕ) → lineAt m n line + steps m n ≡ lineAt m n (line + 1)
+line-next m n line = omega (arith, suc-mul line (steps m n))
+
+-- ---- spots, in the order in use
 
 module _ (m n k : ℕ) (spot : Spot) (e : spot ≡ spotAt m n k) where
   abbrev i : ℕ
@@ -119,31 +132,8 @@ module _ (m n k : ℕ) (spot : Spot) (e : spot ≡ spotAt m n k) where
   abbrev j : ℕ
   j = spot .column .0
 
-  here : flat m n i j ≡ k
-  here = ap (λ (s : Spot). flat m n (s .row .0) (s .column .0)) e ∙ flat-back m n k
+  pub flat-spot : flat m n i j ≡ k
+  flat-spot = ap (λ (s : Spot). flat m n (s .row .0) (s .column .0)) e ∙ flat-back m n k
 
-  -- .. which is live
-  module _ (h : k < live m n) where
-    pub row-used : i < m
-    row-used = rw e (row-live m n k h)
-
-    pub column-used : j < n
-    column-used = rw e (column-live m n k h)
-
-  -- the spot of the next flat place: in the same column, or first in the next
-  pub spot-below : i + 1 < m → record { row = row (i + 1); column = spot .column } ≡ spotAt m n (k + 1)
-  unfolding flatLaid
-  spot-below h = spot-flat m n (k + 1) (i + 1) j h (let z = here in omega arith)
-
-  pub spot-beside : i + 1 ≡ m → record { row = row 0; column = column (j + 1) } ≡ spotAt m n (k + 1)
-  unfolding flatLaid
-  spot-beside h = spot-flat m n (k + 1) 0 (j + 1) (omega arith) (let z = here in omega (arith, suc-mul j m))
-
--- a spot in use is that of its flat place
-pub spot-here : (m n : ℕ) (spot : Spot) → spot .row .0 < m → spot .column .0 < n →
-    spot ≡ spotAt m n (flat m n (spot .row .0) (spot .column .0))
-spot-here m n spot h k = spot-flat m n _ (spot .row .0) (spot .column .0) h refl
-
-pub spot-first : (m n : ℕ) → record { row = row 0; column = column 0 } ≡ spotAt m n 0
-unfolding rowLaid columnLaid
-spot-first m n = ap₂ (λ a b. record { row = row a; column = column b }) (sym (zero-mod m)) (sym (zero-div m))
+  pub spot-used : k < live m n → (i < m) × (j < n)
+  spot-used h = (rw e (row-live m n k h), rw e (column-live m n k h))

@@ -1,10 +1,10 @@
 -- Two results that a promise of this crate's public functions allows are equal: NAME-only for each.
 -- The contracts themselves are compared: κs are lifetimes, x the arguments, e what lent words hold at the exit.
 use mathlib.Core.Path.{_≡_, sym, _∙_}
-use Rattle.tableau.proofs.Laws.Layout.{spot-here}
 use Rattle.tableau.proofs.layout.place.Reads as place
-use Rattle.tableau.proofs.layout.first.Reads as first
-use Rattle.tableau.proofs.layout.after.Reads as after
+use Rattle.tableau.proofs.layout.lines.Reads as lines
+use Rattle.tableau.proofs.layout.steps.Reads as steps
+use Rattle.tableau.proofs.layout.spot_at.Reads as spot-at
 use Rattle.tableau.proofs.layout.live.Reads as live
 use Rattle.tableau.proofs.pivot.pivot.Reads as pivot
 use Rattle.tableau.proofs.range.all_in_range.Reads as all-in-range
@@ -17,11 +17,14 @@ use Rattle.tableau.proofs.Tableau.new.Reads as new
 pub place-only : (κs : _) (x : _) (a b : _) (e : _) → place.Post κs x a e → place.Post κs x b e → a ≡ b
 place-only κs x a b e h k = h ∙ sym k
 
-pub first-only : (κs : _) (x : _) (a b : _) (e : _) → first.Post κs x a e → first.Post κs x b e → a ≡ b
-first-only κs x a b e h k = h 0 0 ∙ sym (k 0 0)
+pub lines-only : (κs : _) (x : _) (a b : _) (e : _) → lines.Post κs x a e → lines.Post κs x b e → a ≡ b
+lines-only κs x a b e h k = h ∙ sym k
 
-pub after-only : (κs : _) (x : _) (a b : _) (e : _) → after.Pre κs x → after.Post κs x a e → after.Post κs x b e → a ≡ b
-after-only κs x a b e p h k = let i = spot-here (x .0) (x .1 .0) (x .1 .1 .0) (p .0) (p .1) in h _ i ∙ sym (k _ i)
+pub steps-only : (κs : _) (x : _) (a b : _) (e : _) → steps.Post κs x a e → steps.Post κs x b e → a ≡ b
+steps-only κs x a b e h k = h ∙ sym k
+
+pub spot-at-only : (κs : _) (x : _) (a b : _) (e : _) → spot-at.Post κs x a e → spot-at.Post κs x b e → a ≡ b
+spot-at-only κs x a b e h k = h ∙ sym k
 
 pub live-only : (κs : _) (x : _) (a b : _) (e : _) → live.Post κs x a e → live.Post κs x b e → a ≡ b
 live-only κs x a b e h k = h ∙ sym k

@@ -1,0 +1,150 @@
+-- `tableau::read::start_line` meets its contract. The invariant: the cells before this step of the line are the
+-- definition's, the others 0. The measure is the steps left. Assumes nothing.
+use mathlib.Core.Path.{_≡_, _∙_, ap}
+use Prim.Native.Nat.{ℕ, _+_, _-_, _≤_, _<_}
+use native.Mathlib.Nat.{lt-of-lt-of-le}
+use native.Mathlib.Omega.{arith}
+use borrow.Author.Needs.{needs}
+use lib.IntN.{ℤ}
+use mir.Facts.{toZ-ofZ}
+use mir.Syntax.{w64}
+use mir.Val.{SFits}
+use Rattle.rules.specs.Problem.{problem}
+use Rattle.tableau.specs.declared.layout.Spot.{Spot}
+use Rattle.tableau.specs.Layout.{mostEntries, rowAt, columnAt, steps, lineAt, live}
+use Rattle.tableau.specs.Start.{startUpTo}
+use Rattle.tableau.proofs.Laws.Layout.{flat-spot, live-most, spot-used, step-live}
+use Rattle.tableau.proofs.Laws.Lines.{line-all, line-more, line-start}
+use Rattle.tableau.proofs.read.start_line.Statement.{statement}
+use Rattle.tableau.proofs.read.start_line.Tie as tie
+
+abbrev Inv-loop : tie.InvT-loop
+Inv-loop entries₀ words columns rows line end step₀ entries step =
+    (step ≤ end) × (entries ≡ startUpTo (problem words) rows columns (lineAt rows columns line + step))
+
+abbrev μ-loop : tie.MeasureT-loop
+μ-loop entries₀ words columns rows line end step₀ entries step = end - step
+
+steps-requires : tie.Need-steps-requires Inv-loop μ-loop
+steps-requires c κs = search needs
+
+module _ (s : tie.Start Inv-loop μ-loop) where
+  abbrev m : ℕ
+  m = s .args .rows
+
+  abbrev n : ℕ
+  n = s .args .columns
+
+  abbrev line : ℕ
+  line = s .args .line
+
+  abbrev cell : ℕ → ℤ
+  cell k = problem (s .args .words .now) .coefficient (rowAt m n k) (columnAt m n k)
+
+loop-holds : tie.Need-loop-holds Inv-loop μ-loop
+loop-holds c = let s = c .before in (omega arith, line-start (m s) (n s) (cell s) (line s) (s .pre .1 .1))
+
+-- a step
+module _ (c : tie.In-loop Inv-loop μ-loop) where
+  abbrev start : tie.Start Inv-loop μ-loop
+  start = c .before .before .before
+
+  abbrev step : ℕ
+  step = c .before .loop .step
+
+  -- its flat place
+  abbrev k : ℕ
+  k = lineAt (m start) (n start) (line start) + step
+
+  in-line : step < steps (m start) (n start)
+  in-line = rw (← c .before .before .steps .ensures) (omega arith)
+
+  is-live : k < live (m start) (n start)
+  is-live = step-live (m start) (n start) (line start) step in-line (start .pre .1 .0)
+
+  in-array : k < mostEntries
+  in-array = lt-of-lt-of-le is-live
+      (live-most (m start) (n start) (start .pre .0 .few-rows) (start .pre .0 .few-columns))
+
+spot-at-requires : tie.Need-spot-at-requires Inv-loop μ-loop
+spot-at-requires c κs = in-line c
+
+-- its spot
+module _ (c : tie.After-spot-at Inv-loop μ-loop) where
+  abbrev begun : tie.Start Inv-loop μ-loop
+  begun = start (c .before)
+
+  abbrev spot : Spot
+  spot = c .spot-at .result
+
+  places : (spot .row .0 < m begun) × (spot .column .0 < n begun)
+  places = spot-used (m begun) (n begun) (k (c .before)) spot (c .spot-at .ensures) (is-live (c .before))
+
+place-requires : tie.Need-place-requires Inv-loop μ-loop
+place-requires c κs = (places c .0, places c .1, begun c .pre .0 .few-rows, begun c .pre .0 .few-columns)
+
+coefficient-at-requires : tie.Need-coefficient-at-requires Inv-loop μ-loop
+coefficient-at-requires c κs = (begun (c .before) .pre .0, places (c .before))
+
+-- what the call gives is the definition's number at this place
+module _ (c : tie.After-coefficient-at Inv-loop μ-loop) where
+  abbrev found : tie.After-spot-at Inv-loop μ-loop
+  found = c .before .before
+
+  place-is : c .before .place .result ≡ k (found .before)
+  place-is = c .before .place .ensures
+      ∙ flat-spot (m (begun found)) (n (begun found)) (k (found .before)) (spot found) (found .spot-at .ensures)
+
+  in-cells : c .before .place .result < mostEntries
+  in-cells = rw place-is (in-array (found .before))
+
+  fit : SFits w64 (c .coefficient-at .result)
+  fit = search needs
+
+  right : c .coefficient-at .result ≡ cell (begun found) (k (found .before))
+  right = c .coefficient-at .ensures
+      ∙ ap (λ (s : Spot). problem (begun found .args .words .now) .coefficient (s .row .0) (s .column .0))
+      (found .spot-at .ensures)
+
+mul-t12 : tie.Need-mul-t12 Inv-loop μ-loop
+mul-t12 c = omega (arith, in-cells c)
+
+element-set-from-entries : tie.Need-element-set-from-entries Inv-loop μ-loop
+element-set-from-entries c = in-cells c
+
+add-step : tie.Need-add-step Inv-loop μ-loop
+add-step c = omega arith
+
+loop-less : tie.Need-loop-less Inv-loop μ-loop
+loop-less c = omega arith
+
+loop-again : tie.Need-loop-again Inv-loop μ-loop
+loop-again c = let s = begun (found c) in let i = found c .before in (
+  omega arith,
+  simp (toZ-ofZ (fit c)) (line-more (m s) (n s) (cell s) (line s) (step i) (place-is c) (in-array i)
+      (i .before .loop .inv .1) (right c)),
+)
+
+returns : tie.Need-returns Inv-loop μ-loop
+returns c =
+    let s = c .before .before .before in
+    let e : c .before .loop .step ≡ c .before .before .steps .result = omega arith in
+    line-all (m s) (n s) (cell s) (line s) (e ∙ c .before .before .steps .ensures) (c .before .loop .inv .1)
+
+pub start-line-spec : {M : Type 1} → statement M
+start-line-spec =
+    tie.close
+    (tie.spec
+    Inv-loop
+    μ-loop
+    steps-requires
+    loop-holds
+    spot-at-requires
+    place-requires
+    coefficient-at-requires
+    mul-t12
+    element-set-from-entries
+    add-step
+    loop-less
+    loop-again
+    returns)
