@@ -16,6 +16,5 @@ const PLAIN: Contender =
 const ARCHIVE: Contender =
     Contender { name: "scatterflock", solve: raw::solve, check: raw::check, times: raw::times };
 
-/// The first is the yardstick that the others' ratios are taken to. The
-/// archive is there where it is linked: times under an emulator say nothing.
-pub const CONTENDERS: &[Contender] = if raw::LINKED { &[PLAIN, ARCHIVE] } else { &[PLAIN] };
+/// The first is the yardstick that the others' ratios are taken to.
+pub const CONTENDERS: &[Contender] = &[PLAIN, ARCHIVE];

@@ -33,9 +33,6 @@ fn main() -> ExitCode {
 fn print(to: &mut impl Write) -> io::Result<()> {
     let seed = problems::random::seed_or(SEED);
     writeln!(to, "SEED={seed}, ns a problem, least of {} rounds", measure::ROUNDS)?;
-    if !scatterflock::raw::LINKED {
-        writeln!(to, "the archive is code for another machine: plain alone")?;
-    }
     writeln!(to, "{}", table::heading(CONTENDERS))?;
     for set in sets::limits(seed) {
         let times = measure::solve(CONTENDERS, &set);

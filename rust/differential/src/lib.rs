@@ -1,11 +1,13 @@
 //! The archive against `reference`: solver, checker and time rows, on random
 //! problems of every family, every word compared.
 //!
+//! - [`archive`]: the archive's functions, linked or served
 //! - `lent`: lends an output with guards around it and looks at all of it
 //! - `limits`: one limit problem through the solver and the checker
 //! - `times`: time rows through the time solver
 //! - `report`: many of them, counted
 
+pub mod archive;
 mod lent;
 pub mod limits;
 pub mod report;

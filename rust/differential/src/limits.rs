@@ -1,10 +1,10 @@
 //! One limit problem through the solver and the checker.
 
+use crate::archive;
 use crate::lent::{fresh, length, lent};
 use problems::evidence::bent;
 use problems::limits::Family;
 use problems::random::Random;
-use scatterflock::raw;
 
 /// How many bent answers each answered problem is checked with.
 const BENT: usize = 3;
@@ -30,7 +30,7 @@ fn compare_words(random: &mut Random, words: &[i32]) -> Result<Outcome, String> 
     let length = length(random, needed(words));
     let before = fresh(random, length);
     let expected = lent(reference::solve, words, &before)?;
-    let found = lent(raw::solve, words, &before)?;
+    let found = lent(archive::solve, words, &before)?;
     if found != expected {
         return Err(format!("solve gives {found:?}, the reference {expected:?}"));
     }
@@ -58,7 +58,7 @@ fn needed(words: &[i32]) -> usize {
 
 fn compare_check(words: &[i32], answer: &[i64]) -> Result<u32, String> {
     let (read_words, read_answer) = (words.to_vec(), answer.to_vec());
-    let found = raw::check(&read_words, &read_answer);
+    let found = archive::check(&read_words, &read_answer);
     if read_words != words || read_answer != answer {
         return Err(format!("check has changed what it read, answer {answer:?}"));
     }

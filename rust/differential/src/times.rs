@@ -1,10 +1,10 @@
 //! Time rows through the time solver. Which bad cycle is named is free, so
 //! the output is judged and not compared word by word.
 
+use crate::archive;
 use crate::lent::{fresh, length, lent};
 use problems::random::Random;
 use problems::times::Family;
-use scatterflock::raw;
 
 /// What became of time rows: the number, and the verdict where it is 0.
 pub struct Outcome {
@@ -23,7 +23,7 @@ pub fn compare(random: &mut Random, family: Family) -> Result<Outcome, String> {
     };
     let length = length(random, needed);
     let before = fresh(random, length);
-    let (number, after) = lent(raw::times, &words, &before)?;
+    let (number, after) = lent(archive::times, &words, &before)?;
     if !reference::times_is_right(&words, &before, &after, number) {
         return Err(format!("times returns {number} and leaves {after:?}: {words:?}"));
     }

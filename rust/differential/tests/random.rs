@@ -1,9 +1,9 @@
 //! Random problems, with a seed that is printed and can be given again: 360,000
 //! a run where the archive is linked, 75,000 under an emulator.
 
+use differential::archive::LINKED;
 use differential::report;
 use problems::random::seed;
-use scatterflock::raw::LINKED;
 
 const LIMIT_PROBLEMS: u64 = if LINKED { 300_000 } else { 60_000 };
 const TIME_PROBLEMS: u64 = if LINKED { 60_000 } else { 15_000 };

@@ -1,9 +1,9 @@
 //! The worked cases and the published problems through the archive, in
 //! outputs of every length from none to a few words more than needed.
 
+use differential::archive;
 use problems::published::published;
 use problems::worked;
-use scatterflock::raw;
 
 const KEPT: i64 = -123_456_789;
 
@@ -12,9 +12,9 @@ fn case_i_is_refused() {
     let case = worked::case_i();
     for length in 0..10 {
         let mut out = vec![KEPT; length];
-        let number = raw::solve(&case.words, &mut out);
+        let number = archive::solve(&case.words, &mut out);
         assert_eq!((number, out), (case.number, vec![KEPT; length]));
-        assert_eq!(raw::check(&case.words, &vec![0; length]), case.number);
+        assert_eq!(archive::check(&case.words, &vec![0; length]), case.number);
     }
 }
 
@@ -24,7 +24,7 @@ fn cases_a_to_h_and_the_published_problems() {
         let needed = case.answer.len();
         for length in 0..needed + 3 {
             let mut out = vec![KEPT; length];
-            let number = raw::solve(&case.words, &mut out);
+            let number = archive::solve(&case.words, &mut out);
             if length < needed {
                 assert_eq!((number, out), (7, vec![KEPT; length]), "{}", case.name);
             } else {
@@ -41,7 +41,7 @@ fn cases_j_to_l() {
         let needed = 2 + case.words[0] as usize;
         for length in 0..needed + 3 {
             let mut out = vec![KEPT; length];
-            let number = raw::times(&case.words, &mut out);
+            let number = archive::times(&case.words, &mut out);
             if length < needed {
                 assert_eq!((number, out), (17, vec![KEPT; length]), "{}", case.name);
             } else {

@@ -2,10 +2,8 @@
 
 use crate::raw;
 use crate::refusal::Refusal;
+use crate::sizes::MOST_ANSWER;
 use std::fmt;
-
-/// The most words that an answer has: 3, and 2 for each of 24 variables.
-const LONGEST_ANSWER: usize = 51;
 
 /// The answer to a limit problem.
 #[derive(Debug, Clone, PartialEq, Eq, Hash)]
@@ -19,6 +17,7 @@ pub struct Answer {
 /// How a run ended. Lists go by variable: the problem's own first, then one
 /// for each row.
 #[derive(Debug, Clone, PartialEq, Eq, Hash)]
+#[non_exhaustive]
 pub enum Verdict {
     /// All limits hold at these values: each numerator over `over`.
     Can {
@@ -41,6 +40,7 @@ pub enum Verdict {
 
 /// What the checker says of an answer that is long enough.
 #[derive(Debug, Clone, Copy, PartialEq, Eq, Hash)]
+#[must_use]
 pub enum Judgement {
     /// The answer is right, whoever gave it.
     Accepted,
@@ -64,14 +64,18 @@ pub enum Judgement {
 /// );
 /// # Ok::<(), scatterflock::Refusal>(())
 /// ```
+///
+/// # Errors
+///
+/// The refusal of words that are no problem: the first that applies.
 pub fn solve(words: &[i32]) -> Result<Answer, Refusal> {
-    let mut out = [0; LONGEST_ANSWER];
+    let mut out = [0; MOST_ANSWER];
     match raw::solve(words, &mut out) {
         0 => {
             let variables = (words[0] + words[1]) as usize;
             Ok(Answer::read(&out[..3 + 2 * variables]))
         }
-        number => Err(Refusal::of(number).expect("solve returns 0 to 7")),
+        number => Err(Refusal::try_from(number).expect("solve returns 0 or a refusal")),
     }
 }
 
@@ -86,11 +90,16 @@ pub fn solve(words: &[i32]) -> Result<Answer, Refusal> {
 /// assert_eq!(check(&words, &[1, 0, 1, 4, 0]), Ok(Judgement::Rejected));
 /// assert_eq!(check(&words, &[]), Err(Refusal::Short));
 /// ```
+///
+/// # Errors
+///
+/// The refusal of words that are no problem, or else [`Refusal::Short`] of an
+/// answer that has too few words.
 pub fn check(words: &[i32], answer: &[i64]) -> Result<Judgement, Refusal> {
     match raw::check(words, answer) {
         8 => Ok(Judgement::Accepted),
         9 => Ok(Judgement::Rejected),
-        number => Err(Refusal::of(number).expect("check returns 1 to 9")),
+        number => Err(Refusal::try_from(number).expect("check returns 8, 9 or a refusal")),
     }
 }
 
@@ -108,6 +117,7 @@ impl Answer {
 
     /// The words of the answer, as [`check`] takes them. An answer that is out
     /// of range is evidence of nothing.
+    #[must_use]
     pub fn evidence(&self) -> Option<Vec<i64>> {
         let pivots = self.pivots as i64;
         match &self.verdict {
@@ -124,7 +134,8 @@ impl Answer {
 
 impl Verdict {
     /// The number in docs/RULES.md, 1 to 3.
-    pub fn number(&self) -> i64 {
+    #[must_use]
+    pub const fn number(&self) -> u32 {
         match self {
             Verdict::Can { .. } => 1,
             Verdict::Cannot { .. } => 2,
@@ -136,17 +147,20 @@ impl Verdict {
 /// One line in plain words.
 impl fmt::Display for Answer {
     fn fmt(&self, to: &mut fmt::Formatter) -> fmt::Result {
-        let pivots = self.pivots;
+        let pivots = match self.pivots {
+            1 => "1 pivot".to_string(),
+            pivots => format!("{pivots} pivots"),
+        };
         match &self.verdict {
             Verdict::Can { over, numerators } => {
                 let values: Vec<String> =
                     numerators.iter().map(|number| format!("{number}/{over}")).collect();
-                write!(to, "can, after {pivots} pivots: {}", values.join(", "))
+                write!(to, "can, after {pivots}: {}", values.join(", "))
             }
             Verdict::Cannot { lower, upper } => {
-                write!(to, "cannot, after {pivots} pivots: {}", counted(lower, upper).join(", "))
+                write!(to, "cannot, after {pivots}: {}", counted(lower, upper).join(", "))
             }
-            Verdict::OutOfRange => write!(to, "out of range, after {pivots} pivots"),
+            Verdict::OutOfRange => write!(to, "out of range, after {pivots}"),
         }
     }
 }

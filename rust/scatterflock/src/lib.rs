@@ -8,7 +8,29 @@
 //! Three limits on two variables, x + y >= 2, 2x - y >= 0 and -x + 2y >= 1:
 //!
 //! ```
-//! use scatterflock::{solve, Verdict};
+//! use scatterflock::{Judgement, Problem, Verdict};
+//!
+//! let problem = Problem::new(2)?
+//!     .row(&[1, 1])?
+//!     .at_least(2, 2)?
+//!     .row(&[2, -1])?
+//!     .at_least(3, 0)?
+//!     .row(&[-1, 2])?
+//!     .at_least(4, 1)?;
+//! let answer = problem.solve();
+//! assert_eq!(answer.pivots, 2);
+//! assert_eq!(answer.verdict, Verdict::Can { over: 3, numerators: vec![3, 3, 6, 3, 3] });
+//!
+//! // Both x and y are 3/3. An answer is evidence that can be checked alone.
+//! let evidence = answer.evidence().expect("it is not out of range");
+//! assert_eq!(problem.check(&evidence)?, Judgement::Accepted);
+//! # Ok::<(), Box<dyn std::error::Error>>(())
+//! ```
+//!
+//! The same as the words that the archive takes (docs/formats/problem.md):
+//!
+//! ```
+//! use scatterflock::solve;
 //!
 //! let words = [
 //!     2, 3, // two variables, three rows
@@ -21,35 +43,32 @@
 //!     1, 0, 0, // the second at least 0
 //!     1, 1, 0, // the third at least 1
 //! ];
-//! let answer = solve(&words)?;
-//! assert_eq!(answer.pivots, 2);
-//! assert_eq!(answer.verdict, Verdict::Can { over: 3, numerators: vec![3, 3, 6, 3, 3] });
+//! assert_eq!(solve(&words)?.to_string(), "can, after 2 pivots: 3/3, 3/3, 6/3, 3/3, 3/3");
 //! # Ok::<(), scatterflock::Refusal>(())
 //! ```
 //!
-//! Both x and y are 3/3. An answer is evidence that can be checked on its own:
-//!
-//! ```
-//! use scatterflock::{check, solve, Judgement};
-//!
-//! // x is at least 1 and at most 0
-//! let words = [1, 0, 3, 1, 0];
-//! let evidence = solve(&words)?.evidence().expect("it is not out of range");
-//! assert_eq!(check(&words, &evidence)?, Judgement::Accepted);
-//! assert_eq!(check(&words, &[2, 0, 0, 1, 0])?, Judgement::Rejected);
-//! # Ok::<(), scatterflock::Refusal>(())
-//! ```
-//!
-//! - `answer`: limit problems, answers and their judgement
-//! - `refusal`: why words are refused
-//! - `times`: time rows
+//! - [`Problem`], [`solve()`], [`check`]: limit problems, answers and their
+//!   judgement
+//! - [`TimeRows`], [`times()`]: time rows
+//! - [`Refusal`], [`TimesRefusal`]: why words are refused
+//! - [`sizes`]: how large everything may be
 //! - [`raw`]: the archive's functions as they are, over lent words
+//!
+//! The archive is linked into the program. Where it is taken from, build.rs
+//! says.
 
 mod answer;
+mod build_error;
+mod problem;
 pub mod raw;
 mod refusal;
+mod rows;
+pub mod sizes;
 mod times;
 
 pub use answer::{check, solve, Answer, Judgement, Verdict};
+pub use build_error::BuildError;
+pub use problem::Problem;
 pub use refusal::{Refusal, TimesRefusal};
+pub use rows::TimeRows;
 pub use times::{times, Schedule};

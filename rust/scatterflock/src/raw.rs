@@ -1,24 +1,33 @@
 //! The archive's three functions over lent words, with the numbers that they
-//! return.
-//!
-//! The archive holds code for x86-64. There it is linked into this program and
-//! nothing is allocated. On another machine it runs under an emulator, in a
-//! program of its own that is asked over a pipe, unless an archive of code for
-//! that machine was named to the build, which is linked too.
+//! return. Nothing is allocated.
 
-#[cfg(linked)]
-#[path = "raw/linked.rs"]
-mod archive;
+mod archive {
+    extern "C" {
+        pub fn scatterflock_solve(
+            words: *const i32,
+            word_count: usize,
+            out: *mut i64,
+            out_count: usize,
+        ) -> u32;
 
-#[cfg(not(linked))]
-#[path = "raw/served.rs"]
-mod archive;
+        pub fn scatterflock_check(
+            words: *const i32,
+            word_count: usize,
+            answer: *const i64,
+            answer_count: usize,
+        ) -> u32;
 
-/// Whether the archive is linked into this program.
-pub const LINKED: bool = cfg!(linked);
+        pub fn scatterflock_times(
+            words: *const i32,
+            word_count: usize,
+            out: *mut i64,
+            out_count: usize,
+        ) -> u32;
+    }
+}
 
 /// Answers a limit problem: 0 and the answer's words at the start of `out`,
-/// or a refusal from 1 to 7 and `out` as it was.
+/// or the number of a [`Refusal`](crate::Refusal) and `out` as it was.
 ///
 /// ```
 /// let mut out = [-1; 6];
@@ -27,24 +36,32 @@ pub const LINKED: bool = cfg!(linked);
 /// assert_eq!(scatterflock::raw::solve(&[9, 0], &mut out), 2);
 /// assert_eq!(out, [1, 0, 1, 0, 0, -1]);
 /// ```
+#[must_use = "where it is not 0, nothing was written"]
 pub fn solve(words: &[i32], out: &mut [i64]) -> u32 {
-    archive::solve(words, out)
+    // SAFETY: both pointers are valid for their lengths, and a lent slice that
+    // may be written overlaps no other.
+    unsafe { archive::scatterflock_solve(words.as_ptr(), words.len(), out.as_mut_ptr(), out.len()) }
 }
 
-/// Judges an answer to a limit problem: a refusal from 1 to 7, 8 for accepted
-/// or 9 for not.
+/// Judges an answer to a limit problem: 8 for accepted, 9 for not, or the
+/// number of a [`Refusal`](crate::Refusal).
 ///
 /// ```
 /// assert_eq!(scatterflock::raw::check(&[1, 0, 0, 0, 0], &[1, 0, 1, 7, 0]), 8);
 /// assert_eq!(scatterflock::raw::check(&[1, 0, 0, 0, 0], &[1, 0, 0, 7, 0]), 9);
 /// assert_eq!(scatterflock::raw::check(&[1, 0, 0, 0, 0], &[1]), 7);
 /// ```
+#[must_use = "it is all that the checker says"]
 pub fn check(words: &[i32], answer: &[i64]) -> u32 {
-    archive::check(words, answer)
+    // SAFETY: both pointers are valid for their lengths, and neither is
+    // written through.
+    unsafe {
+        archive::scatterflock_check(words.as_ptr(), words.len(), answer.as_ptr(), answer.len())
+    }
 }
 
-/// Answers time rows: 0 and times or a cycle at the start of `out`, or a
-/// refusal from 11 to 17 and `out` as it was.
+/// Answers time rows: 0 and times or a cycle at the start of `out`, or the
+/// number of a [`TimesRefusal`](crate::TimesRefusal) and `out` as it was.
 ///
 /// ```
 /// let mut out = [-1; 5];
@@ -52,6 +69,8 @@ pub fn check(words: &[i32], answer: &[i64]) -> u32 {
 /// assert_eq!(out, [1, 2, 0, 3, -1]);
 /// assert_eq!(scatterflock::raw::times(&[], &mut out), 11);
 /// ```
+#[must_use = "where it is not 0, nothing was written"]
 pub fn times(rows: &[i32], out: &mut [i64]) -> u32 {
-    archive::times(rows, out)
+    // SAFETY: as in `solve`.
+    unsafe { archive::scatterflock_times(rows.as_ptr(), rows.len(), out.as_mut_ptr(), out.len()) }
 }

@@ -14,6 +14,7 @@ use std::fmt;
 /// assert_eq!(refusal.to_string(), "there must be 1 to 8 variables and 0 to 16 rows");
 /// ```
 #[derive(Debug, Clone, Copy, PartialEq, Eq, Hash)]
+#[non_exhaustive]
 pub enum Refusal {
     /// 1: there are not even n and m.
     FewWords = 1,
@@ -48,13 +49,18 @@ impl Refusal {
     ];
 
     /// The number in docs/RULES.md: 1 to 7, or 10.
-    pub fn number(self) -> u32 {
+    #[must_use]
+    pub const fn number(self) -> u32 {
         self as u32
     }
+}
 
-    /// The refusal of this number.
-    pub fn of(number: u32) -> Option<Refusal> {
-        Refusal::ALL.into_iter().find(|refusal| refusal.number() == number)
+/// The refusal of this number. A number that is none comes back.
+impl TryFrom<u32> for Refusal {
+    type Error = u32;
+
+    fn try_from(number: u32) -> Result<Refusal, u32> {
+        Refusal::ALL.into_iter().find(|refusal| refusal.number() == number).ok_or(number)
     }
 }
 
@@ -88,21 +94,22 @@ impl Error for Refusal {}
 /// assert_eq!(refusal.to_string(), "a row names a vertex that there is not");
 /// ```
 #[derive(Debug, Clone, Copy, PartialEq, Eq, Hash)]
+#[non_exhaustive]
 pub enum TimesRefusal {
     /// 11: there are not even n and m.
-    FewWords,
+    FewWords = 11,
     /// 12: n or m is out of its range.
-    Sizes,
+    Sizes = 12,
     /// 13: m asks for another number of words.
-    Length,
+    Length = 13,
     /// 14: a vertex is not one of the n.
-    Vertex,
+    Vertex = 14,
     /// 15: a strict word is neither 0 nor 1.
-    Strict,
+    Strict = 15,
     /// 16: a row's number is out of its range.
-    Bound,
+    Bound = 16,
     /// 17: the output has too few words.
-    Short,
+    Short = 17,
 }
 
 impl TimesRefusal {
@@ -118,13 +125,18 @@ impl TimesRefusal {
     ];
 
     /// The number in docs/RULES.md, 11 to 17.
-    pub fn number(self) -> u32 {
-        self as u32 + 11
+    #[must_use]
+    pub const fn number(self) -> u32 {
+        self as u32
     }
+}
 
-    /// The refusal of this number.
-    pub fn of(number: u32) -> Option<TimesRefusal> {
-        TimesRefusal::ALL.into_iter().find(|refusal| refusal.number() == number)
+/// The refusal of this number. A number that is none comes back.
+impl TryFrom<u32> for TimesRefusal {
+    type Error = u32;
+
+    fn try_from(number: u32) -> Result<TimesRefusal, u32> {
+        TimesRefusal::ALL.into_iter().find(|refusal| refusal.number() == number).ok_or(number)
     }
 }
 

@@ -2,13 +2,12 @@
 
 use crate::raw;
 use crate::refusal::TimesRefusal;
+use crate::sizes::MOST_TIMES;
 use std::fmt;
-
-/// The most words of an output: 2, and one for each of 64 vertices.
-const LONGEST_OUTPUT: usize = 66;
 
 /// The answer to time rows.
 #[derive(Debug, Clone, PartialEq, Eq, Hash)]
+#[non_exhaustive]
 pub enum Schedule {
     /// The time of each vertex, in whole minutes from 0 on. All rows hold.
     Times(Vec<i64>),
@@ -36,11 +35,15 @@ pub enum Schedule {
 /// assert_eq!(rows.len(), 2);
 /// # Ok::<(), scatterflock::TimesRefusal>(())
 /// ```
+///
+/// # Errors
+///
+/// The refusal of words that are no time rows: the first that applies.
 pub fn times(rows: &[i32]) -> Result<Schedule, TimesRefusal> {
-    let mut out = [0; LONGEST_OUTPUT];
+    let mut out = [0; MOST_TIMES];
     match raw::times(rows, &mut out) {
         0 => Ok(Schedule::read(&out)),
-        number => Err(TimesRefusal::of(number).expect("times returns 0 or 11 to 17")),
+        number => Err(TimesRefusal::try_from(number).expect("times returns 0 or a refusal")),
     }
 }
 

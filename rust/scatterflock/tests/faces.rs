@@ -3,13 +3,14 @@
 use problems::draft::{at_least, Draft, FREE};
 use problems::published::published;
 use problems::worked::{self, time_words, TimesAnswer};
+use scatterflock::sizes::{MOST_ANSWER, MOST_TIMES, MOST_WORDS};
 use scatterflock::{check, solve, times, Judgement, Refusal, Schedule, TimesRefusal, Verdict};
 
 #[test]
 fn worked_cases_and_published_problems() {
     for case in worked::limits().into_iter().chain(published()) {
         let answer = solve(&case.words).unwrap();
-        assert_eq!(answer.verdict.number(), case.answer[0], "{}", case.name);
+        assert_eq!(i64::from(answer.verdict.number()), case.answer[0], "{}", case.name);
         match answer.evidence() {
             Some(evidence) => {
                 assert_eq!(evidence, case.answer, "{}", case.name);
@@ -77,14 +78,14 @@ fn every_refusal() {
 fn numbers_and_texts_of_refusals() {
     for (refusal, number) in Refusal::ALL.into_iter().zip([1, 2, 3, 4, 5, 6, 10, 7]) {
         assert_eq!(refusal.number(), number);
-        assert_eq!(Refusal::of(number), Some(refusal));
+        assert_eq!(Refusal::try_from(number), Ok(refusal));
     }
     for (refusal, number) in TimesRefusal::ALL.into_iter().zip(11..) {
         assert_eq!(refusal.number(), number);
-        assert_eq!(TimesRefusal::of(number), Some(refusal));
+        assert_eq!(TimesRefusal::try_from(number), Ok(refusal));
     }
-    assert_eq!([0, 8, 9, 11].map(Refusal::of), [None; 4]);
-    assert_eq!([TimesRefusal::of(10), TimesRefusal::of(18)], [None, None]);
+    assert_eq!([0, 8, 9, 11].map(Refusal::try_from), [Err(0), Err(8), Err(9), Err(11)]);
+    assert_eq!([10, 18].map(TimesRefusal::try_from), [Err(10), Err(18)]);
     assert_eq!(Refusal::Kind.to_string(), "a kind of limit is not from 0 to 3");
     assert_eq!(TimesRefusal::Short.to_string(), "there is no room for a whole answer");
 }
@@ -137,10 +138,17 @@ fn ranges_in_texts_of_refusals() {
 fn texts_of_answers() {
     let text = |words: &[i32]| solve(words).unwrap().to_string();
     assert_eq!(text(&worked::case_a().words), "can, after 2 pivots: 3/3, 3/3, 6/3, 3/3, 3/3");
+    let one = Draft::new(1, &[&[2]], &[FREE, at_least(1)]).words();
+    assert_eq!(text(&one), "can, after 1 pivot: 1/2, 2/2");
     assert_eq!(text(&[1, 0, 3, 1, 0]), "cannot, after 0 pivots: 1 x lower 0, 1 x upper 0");
     let range = published().into_iter().find(|case| case.answer[0] == 3).unwrap();
     assert_eq!(text(&range.words), "out of range, after 2 pivots");
     let cycle = times(&time_words(1, &[[0, 0, 1, 0]])).unwrap();
     assert_eq!(cycle.to_string(), "no times: rows 0 go round below 0");
     assert_eq!(Judgement::Rejected.to_string(), "not accepted");
+}
+
+#[test]
+fn sizes_are_those_of_the_rules() {
+    assert_eq!([MOST_WORDS, MOST_ANSWER, MOST_TIMES], [202, 51, 66]);
 }

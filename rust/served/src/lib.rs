@@ -1,13 +1,17 @@
-//! The archive in a program of its own, `served.c`, that runs under an
-//! emulator and is asked over a pipe. Each thread starts one and keeps it; it
-//! ends when its input does.
+//! The archive in a program of its own, `served.c`, that is asked over a pipe:
+//! for tests of the archive's code for x86-64 on another machine, where it runs
+//! under an emulator. Each thread starts one program and keeps it; when the
+//! thread ends, the program's input does, and the thread waits for its end.
+//!
+//! The functions are those of `scatterflock::raw`.
 
 use std::cell::RefCell;
 use std::io::{Read, Result, Write};
 use std::process::{Child, ChildStdin, ChildStdout, Command, Stdio};
 
-/// The emulator, found along PATH: Debian's qemu-user.
-const EMULATOR: &str = "qemu-x86_64";
+/// The emulator, found along PATH: Debian's qemu-user. x86-64 needs none.
+const EMULATOR: Option<&str> =
+    if cfg!(target_arch = "x86_64") { None } else { Some("qemu-x86_64") };
 /// The program, built by this crate's build script.
 const PROGRAM: &str = env!("SCATTERFLOCK_SERVED");
 
@@ -23,14 +27,17 @@ thread_local! {
     static SERVER: RefCell<Server> = RefCell::new(Server::start());
 }
 
+/// Answers a limit problem.
 pub fn solve(words: &[i32], out: &mut [i64]) -> u32 {
     ask(Function::Solve, words, out)
 }
 
+/// Judges an answer to a limit problem.
 pub fn check(words: &[i32], answer: &[i64]) -> u32 {
     ask(Function::Check, words, &mut answer.to_vec())
 }
 
+/// Answers time rows.
 pub fn times(rows: &[i32], out: &mut [i64]) -> u32 {
     ask(Function::Times, rows, out)
 }
@@ -44,23 +51,37 @@ fn ask(function: Function, words: &[i32], out: &mut [i64]) -> u32 {
 }
 
 struct Server {
-    /// Kept so that it is not waited for before its input is closed.
-    _child: Child,
-    requests: ChildStdin,
+    child: Child,
+    /// There until the end.
+    requests: Option<ChildStdin>,
     replies: ChildStdout,
+}
+
+impl Drop for Server {
+    fn drop(&mut self) {
+        drop(self.requests.take());
+        let _ = self.child.wait();
+    }
 }
 
 impl Server {
     fn start() -> Server {
-        let mut child = Command::new(EMULATOR)
-            .arg(PROGRAM)
+        let mut command = match EMULATOR {
+            Some(emulator) => {
+                let mut command = Command::new(emulator);
+                command.arg(PROGRAM);
+                command
+            }
+            None => Command::new(PROGRAM),
+        };
+        let mut child = command
             .stdin(Stdio::piped())
             .stdout(Stdio::piped())
             .spawn()
-            .unwrap_or_else(|error| panic!("{EMULATOR} {PROGRAM} does not start: {error}"));
-        let requests = child.stdin.take().expect("it is piped");
+            .unwrap_or_else(|error| panic!("{command:?} does not start: {error}"));
+        let requests = child.stdin.take();
         let replies = child.stdout.take().expect("it is piped");
-        Server { _child: child, requests, replies }
+        Server { child, requests, replies }
     }
 
     fn ask(&mut self, function: Function, words: &[i32], out: &mut [i64]) -> Result<u32> {
@@ -69,7 +90,7 @@ impl Server {
         request.extend(head.iter().flat_map(|number| number.to_le_bytes()));
         request.extend(words.iter().flat_map(|word| word.to_le_bytes()));
         request.extend(out.iter().flat_map(|word| word.to_le_bytes()));
-        self.requests.write_all(&request)?;
+        self.requests.as_mut().expect("it is piped").write_all(&request)?;
 
         let mut reply = vec![0; 8 + 8 * out.len()];
         self.replies.read_exact(&mut reply)?;

@@ -1,0 +1,209 @@
+//! A limit problem that is built step by step, and checked at each.
+
+use crate::answer::{check, solve, Answer, Judgement};
+use crate::build_error::BuildError;
+use crate::raw;
+use crate::refusal::Refusal;
+use crate::sizes::{LARGEST_COEFFICIENT, LARGEST_LIMIT, MOST_ROWS, MOST_VARIABLES};
+
+/// A limit problem. What is wrong with it is told while it is built, so a
+/// problem that is there is never refused.
+///
+/// A problem of n variables begins with these, numbered from 0. Each row that
+/// is added is one more variable, the sum of the row: n, n + 1 and so on.
+/// Every one of them can have a lower and an upper limit.
+///
+/// ```
+/// use scatterflock::{Problem, Verdict};
+///
+/// let problem = Problem::new(2)? // x and y are variables 0 and 1
+///     .at_least(0, 2)?
+///     .at_least(1, 2)?
+///     .row(&[1, 1])? // x + y is variable 2
+///     .at_most(2, 3)?;
+/// let Verdict::Cannot { lower, upper } = problem.solve().verdict else {
+///     panic!("2 and 2 are more than 3");
+/// };
+/// assert_eq!((lower, upper), (vec![1, 1, 0], vec![0, 0, 1]));
+/// # Ok::<(), scatterflock::BuildError>(())
+/// ```
+#[derive(Debug, Clone, PartialEq, Eq, Hash)]
+pub struct Problem {
+    variables: usize,
+    rows: Vec<Vec<i32>>,
+    /// Lower and upper limit of each variable, then of each row.
+    limits: Vec<[Option<i32>; 2]>,
+}
+
+impl Problem {
+    /// A problem of so many variables, without rows and limits.
+    ///
+    /// # Errors
+    ///
+    /// There are 1 to 8 variables.
+    pub fn new(variables: usize) -> Result<Problem, BuildError> {
+        if !(1..=MOST_VARIABLES).contains(&variables) {
+            return Err(BuildError::Variables(variables));
+        }
+        Ok(Problem { variables, rows: Vec::new(), limits: vec![[None; 2]; variables] })
+    }
+
+    /// The problem that these words hold (docs/formats/problem.md).
+    ///
+    /// # Errors
+    ///
+    /// The refusal of words that are no problem: the archive judges them.
+    pub fn from_words(words: &[i32]) -> Result<Problem, Refusal> {
+        // An answer without room is refused last of all.
+        let refusal = Refusal::try_from(raw::solve(words, &mut []));
+        match refusal.expect("an answer has words") {
+            Refusal::Short => Ok(Problem::read(words)),
+            refusal => Err(refusal),
+        }
+    }
+
+    /// The problem of words that are one.
+    fn read(words: &[i32]) -> Problem {
+        let (variables, rows) = (words[0] as usize, words[1] as usize);
+        let (coefficients, limits) = words[2..].split_at(rows * variables);
+        Problem {
+            variables,
+            rows: coefficients.chunks_exact(variables).map(<[i32]>::to_vec).collect(),
+            limits: limits
+                .chunks_exact(3)
+                .map(|three| {
+                    [
+                        (three[0] & 1 != 0).then_some(three[1]),
+                        (three[0] & 2 != 0).then_some(three[2]),
+                    ]
+                })
+                .collect(),
+        }
+    }
+
+    /// Adds a row: a coefficient for each variable.
+    ///
+    /// # Errors
+    ///
+    /// There are at most 16 rows, with as many coefficients as the problem has
+    /// variables, each from -1,000 to 1,000 and not all of them 0.
+    pub fn row(mut self, coefficients: &[i32]) -> Result<Problem, BuildError> {
+        if self.rows.len() == MOST_ROWS {
+            return Err(BuildError::Rows);
+        }
+        if coefficients.len() != self.variables {
+            return Err(BuildError::RowLength {
+                given: coefficients.len(),
+                variables: self.variables,
+            });
+        }
+        let range = -LARGEST_COEFFICIENT..=LARGEST_COEFFICIENT;
+        if let Some(&number) = coefficients.iter().find(|number| !range.contains(number)) {
+            return Err(BuildError::Coefficient(number));
+        }
+        if coefficients.iter().all(|&number| number == 0) {
+            return Err(BuildError::BlankRow);
+        }
+        self.rows.push(coefficients.to_vec());
+        self.limits.push([None; 2]);
+        Ok(self)
+    }
+
+    /// Gives a variable, or the sum of a row, a lower limit.
+    ///
+    /// # Errors
+    ///
+    /// The variable is one of the problem's and has no lower limit yet, and
+    /// the limit is from -30,000 to 30,000.
+    pub fn at_least(self, variable: usize, limit: i32) -> Result<Problem, BuildError> {
+        self.limit(variable, 0, limit)
+    }
+
+    /// Gives a variable, or the sum of a row, an upper limit.
+    ///
+    /// # Errors
+    ///
+    /// As for [`at_least`](Problem::at_least).
+    pub fn at_most(self, variable: usize, limit: i32) -> Result<Problem, BuildError> {
+        self.limit(variable, 1, limit)
+    }
+
+    /// Gives both limits.
+    ///
+    /// # Errors
+    ///
+    /// As for [`at_least`](Problem::at_least). Limits that cross are no error:
+    /// they cannot be met.
+    pub fn between(self, variable: usize, low: i32, high: i32) -> Result<Problem, BuildError> {
+        self.at_least(variable, low)?.at_most(variable, high)
+    }
+
+    /// Gives both limits, the same.
+    ///
+    /// # Errors
+    ///
+    /// As for [`at_least`](Problem::at_least).
+    pub fn exactly(self, variable: usize, value: i32) -> Result<Problem, BuildError> {
+        self.between(variable, value, value)
+    }
+
+    fn limit(mut self, variable: usize, side: usize, limit: i32) -> Result<Problem, BuildError> {
+        let Some(limits) = self.limits.get_mut(variable) else {
+            return Err(BuildError::NoVariable(variable));
+        };
+        if !(-LARGEST_LIMIT..=LARGEST_LIMIT).contains(&limit) {
+            return Err(BuildError::Limit(limit));
+        }
+        if limits[side].is_some() {
+            return Err(BuildError::LimitTwice(variable));
+        }
+        limits[side] = Some(limit);
+        Ok(self)
+    }
+
+    /// How many variables it has, the sums of rows not counted.
+    #[must_use]
+    pub fn variables(&self) -> usize {
+        self.variables
+    }
+
+    /// The coefficients of each row.
+    #[must_use]
+    pub fn rows(&self) -> &[Vec<i32>] {
+        &self.rows
+    }
+
+    /// The lower and the upper limit of a variable, or of a row's sum. There
+    /// is neither for a number that is no variable.
+    #[must_use]
+    pub fn limits(&self, variable: usize) -> [Option<i32>; 2] {
+        self.limits.get(variable).copied().unwrap_or_default()
+    }
+
+    /// Its words, as [`solve()`] and [`check`] take them.
+    #[must_use]
+    pub fn words(&self) -> Vec<i32> {
+        let mut words = vec![self.variables as i32, self.rows.len() as i32];
+        words.extend(self.rows.iter().flatten());
+        for [lower, upper] in &self.limits {
+            let kind = i32::from(lower.is_some()) + 2 * i32::from(upper.is_some());
+            words.extend([kind, lower.unwrap_or(0), upper.unwrap_or(0)]);
+        }
+        words
+    }
+
+    /// Its answer.
+    #[must_use]
+    pub fn solve(&self) -> Answer {
+        solve(&self.words()).expect("a problem that was built is not refused")
+    }
+
+    /// Checks an answer's words, anybody's.
+    ///
+    /// # Errors
+    ///
+    /// [`Refusal::Short`], of an answer that has too few words.
+    pub fn check(&self, answer: &[i64]) -> Result<Judgement, Refusal> {
+        check(&self.words(), answer)
+    }
+}

@@ -1,0 +1,23 @@
+//! The ranges and sizes of docs/RULES.md.
+
+/// The most variables of a limit problem; there is at least one.
+pub const MOST_VARIABLES: usize = 8;
+/// The most rows of a limit problem.
+pub const MOST_ROWS: usize = 16;
+/// The largest coefficient; the least is its opposite.
+pub const LARGEST_COEFFICIENT: i32 = 1_000;
+/// The largest limit, and the largest number of a time row; the least is its
+/// opposite.
+pub const LARGEST_LIMIT: i32 = 30_000;
+/// The largest number of a tableau, the largest denominator and multiplier.
+pub const LARGEST_NUMBER: i64 = 2_147_483_647;
+/// The most words of a limit problem.
+pub const MOST_WORDS: usize = 2 + MOST_ROWS * MOST_VARIABLES + 3 * (MOST_VARIABLES + MOST_ROWS);
+/// The most words of an answer to one.
+pub const MOST_ANSWER: usize = 3 + 2 * (MOST_VARIABLES + MOST_ROWS);
+/// The most vertices of time rows; there is at least one.
+pub const MOST_VERTICES: usize = 64;
+/// The most time rows.
+pub const MOST_TIME_ROWS: usize = 256;
+/// The most words of an answer to time rows.
+pub const MOST_TIMES: usize = 2 + MOST_VERTICES;
