@@ -1,6 +1,6 @@
 //! The files of the repository that are made and never written by hand.
 //!
-//! - `shown`: `problems/*.words`, the example inputs of the program
+//! - `shown`: the example problems, `problems/*.words` and the same as text
 //! - `vectors`: what the test program `vectors` is asked, on its standard
 //!   input, and what `reference` answers, in its file `stdout`
 
@@ -34,9 +34,12 @@ pub fn made() -> Vec<Made> {
     let vectors = vectors::all();
     let mut made: Vec<Made> = shown::all()
         .into_iter()
-        .map(|shown| Made {
-            path: format!("problems/{}.words", shown.name),
-            bytes: shown.words.iter().flat_map(|word| word.to_le_bytes()).collect(),
+        .flat_map(|shown| {
+            let bytes = shown.words.iter().flat_map(|word| word.to_le_bytes()).collect();
+            [
+                Made { path: format!("problems/{}.words", shown.name), bytes },
+                Made { path: format!("problems/{}.txt", shown.name), bytes: shown.text().into() },
+            ]
         })
         .collect();
     made.push(Made { path: "crates/vectors/stdin".to_string(), bytes: vectors::asked(&vectors) });

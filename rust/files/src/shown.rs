@@ -1,7 +1,10 @@
 //! The example inputs of the program: cases A to I and a few ovens.
 
+use crate::top;
 use problems::draft::{at_least, at_most, between, Draft, FREE};
 use problems::worked;
+use std::fs;
+use text::limits::Limits;
 
 /// A problem with the name of its file.
 pub struct Shown {
@@ -9,6 +12,20 @@ pub struct Shown {
     pub name: String,
     /// The problem.
     pub words: Vec<i32>,
+    /// What each of its variables is called.
+    pub names: Vec<String>,
+}
+
+impl Shown {
+    /// The problem as text, under the first line of its page.
+    pub fn text(&self) -> String {
+        let page = top().join(format!("problems/{}.md", self.name));
+        let page = fs::read_to_string(&page).unwrap_or_default();
+        let title = page.lines().next().unwrap_or("# ");
+        let mut problem = Limits::from_words(&self.words).expect("it is not refused by its sizes");
+        problem.names.clone_from(&self.names);
+        format!("{title}\n\n{}", problem.text())
+    }
 }
 
 /// All of them.
@@ -18,17 +35,23 @@ pub fn all() -> Vec<Shown> {
         .into_iter()
         .map(|case| (case.name, case.words))
         .chain([(blank.name, blank.words)])
-        .map(|(name, words)| Shown { name: name.to_lowercase(), words });
+        .map(|(name, words)| {
+            let names = ["x", "y"].into_iter().take(words[0] as usize);
+            let names = names.map(str::to_string).collect();
+            Shown { name: name.to_lowercase(), words, names }
+        });
     let ovens = [
-        ("oven-ramp", ramp(180)),
-        ("oven-steep", ramp(260)),
-        ("oven-shares", shares()),
-        ("oven-eight", eight()),
-        ("oven-tiny-shares", tiny_shares()),
+        ("oven-ramp", "zone", ramp(180)),
+        ("oven-steep", "zone", ramp(260)),
+        ("oven-shares", "heater", shares()),
+        ("oven-eight", "zone", eight()),
+        ("oven-tiny-shares", "heater", tiny_shares()),
     ];
-    let ovens = ovens
-        .into_iter()
-        .map(|(name, draft)| Shown { name: name.to_string(), words: draft.words() });
+    let ovens = ovens.into_iter().map(|(name, each, draft)| Shown {
+        name: name.to_string(),
+        words: draft.words(),
+        names: (0..draft.n).map(|number| format!("{each}{number}")).collect(),
+    });
     cases.chain(ovens).collect()
 }
 

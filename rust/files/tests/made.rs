@@ -12,6 +12,29 @@ fn the_files_are_the_made_ones() {
 }
 
 #[test]
+fn each_text_has_the_words() {
+    for shown in files::shown::all() {
+        let read = text::limits::read(&shown.text()).unwrap();
+        assert_eq!((read.words(), read.names), (shown.words, shown.names), "{}", shown.name);
+    }
+}
+
+#[test]
+fn the_index_has_each_problem_and_its_answer() {
+    let index = fs::read_to_string(files::top().join("problems/README.md")).unwrap();
+    for shown in files::shown::all() {
+        let bytes: Vec<u8> = shown.words.iter().flat_map(|word| word.to_le_bytes()).collect();
+        let printed = String::from_utf8(reference::respond(&bytes)).unwrap();
+        let (start, end) = (
+            format!("| [{0}]({0}.md) |", shown.name),
+            format!("| {} |", printed.lines().next().unwrap()),
+        );
+        let listed = index.lines().any(|line| line.starts_with(&start) && line.ends_with(&end));
+        assert!(listed, "problems/README.md has no line {start} .. {end}");
+    }
+}
+
+#[test]
 fn each_example_says_what_is_printed() {
     for shown in files::shown::all() {
         let bytes: Vec<u8> = shown.words.iter().flat_map(|word| word.to_le_bytes()).collect();

@@ -1,0 +1,224 @@
+//! A line that says something: sums of names and numbers, with signs between.
+
+use crate::fault::Fault;
+use crate::tokens::{Kind, Line, Sign, Token};
+
+/// The largest coefficient of a name.
+pub const LARGEST_COEFFICIENT: i64 = 1_000;
+/// The largest limit.
+pub const LARGEST_LIMIT: i64 = 30_000;
+
+/// A name with its coefficient.
+#[derive(Debug, Clone)]
+pub struct Term {
+    pub coefficient: i32,
+    pub name: String,
+    pub column: usize,
+}
+
+/// What a line says: that the sum of the terms is within limits.
+#[derive(Debug, Clone)]
+pub struct Statement {
+    /// In the order in which they stand in the line.
+    pub terms: Vec<Term>,
+    pub lower: Option<Limit>,
+    pub upper: Option<Limit>,
+}
+
+#[derive(Debug, Clone, Copy)]
+pub struct Limit {
+    pub number: i32,
+    pub is_strict: bool,
+    /// Where its sign stands.
+    pub column: usize,
+}
+
+struct Side {
+    terms: Vec<Term>,
+    number: i64,
+}
+
+/// The statement of a line whose first tokens are left out.
+pub fn statement(line: &Line, skipped: usize) -> Result<Statement, Fault> {
+    let tokens = &line.tokens[skipped..];
+    let mut signs = Vec::new();
+    let mut sides = Vec::new();
+    let mut rest = tokens;
+    loop {
+        let length = rest.iter().position(|token| matches!(token.kind, Kind::Sign(_)));
+        let length = length.unwrap_or(rest.len());
+        let after = rest.get(length);
+        sides.push(side(line, &rest[..length], after.map_or(line.end, |token| token.column))?);
+        let Some(Token { kind: Kind::Sign(sign), column }) = after else { break };
+        signs.push((*sign, *column));
+        rest = &rest[length + 1..];
+    }
+    if let Some((_, column)) = signs.get(2) {
+        return Err(line.fault(*column, "a line has one sign or two: 20 <= x <= 40"));
+    }
+    let found = match (&signs[..], sides.len()) {
+        ([(first, at), (second, column)], 3) => {
+            let [low, middle, high] = <[Side; 3]>::try_from(sides).ok().expect("there are three");
+            between(line, low, (*first, *at), middle, (*second, *column), high)?
+        }
+        ([(sign, column)], 2) => {
+            let [left, right] = <[Side; 2]>::try_from(sides).ok().expect("there are two");
+            compared(line, left, *sign, *column, right)?
+        }
+        _ => {
+            let only = sides.pop().expect("there is a side");
+            Statement { terms: only.terms, lower: None, upper: None }
+        }
+    };
+    if found.terms.is_empty() {
+        return Err(line.fault(
+            tokens.first().map_or(line.end, |t| t.column),
+            "there is no name in this line",
+        ));
+    }
+    Ok(found)
+}
+
+/// A sum. `end` is the column past it.
+fn side(line: &Line, tokens: &[Token], end: usize) -> Result<Side, Fault> {
+    let mut side = Side { terms: Vec::new(), number: 0 };
+    let mut rest = tokens;
+    let mut is_first = true;
+    while is_first || !rest.is_empty() {
+        let column = rest.first().map_or(end, |token| token.column);
+        let is_negative = match rest.first().map(|token| &token.kind) {
+            Some(Kind::Plus) => false,
+            Some(Kind::Minus) => true,
+            Some(_) if is_first => false,
+            None => return Err(line.fault(column, "a number or a name is missing here")),
+            Some(_) => return Err(line.fault(column, "a sign, + or -, is missing before this")),
+        };
+        if matches!(rest[0].kind, Kind::Plus | Kind::Minus) {
+            rest = &rest[1..];
+        }
+        is_first = false;
+        let kinds: Vec<&Kind> = rest.iter().take(3).map(|token| &token.kind).collect();
+        let (number, name, length) = match kinds[..] {
+            [Kind::Number(number), Kind::Times, Kind::Name(name), ..] => {
+                (Some(number), Some((name, 2)), 3)
+            }
+            [Kind::Number(number), Kind::Name(name), ..] => (Some(number), Some((name, 1)), 2),
+            [Kind::Number(number), ..] => (Some(number), None, 1),
+            [Kind::Name(name), ..] => (None, Some((name, 0)), 1),
+            _ => {
+                let column = rest.first().map_or(end, |token| token.column);
+                return Err(line.fault(column, "a number or a name is missing here"));
+            }
+        };
+        if let Some(Token { kind: Kind::Times | Kind::Over, column }) = rest.get(length) {
+            return Err(line.fault(*column, "only a number and a name can be multiplied: 3 * x"));
+        }
+        let column = rest[0].column;
+        let (largest, what) = match name {
+            Some(_) => (LARGEST_COEFFICIENT, "a coefficient is from -1000 to 1000"),
+            None => (LARGEST_LIMIT, "a limit is from -30000 to 30000"),
+        };
+        let size = number.copied().unwrap_or(1);
+        if size > largest {
+            return Err(line.fault(column, format!("{size} is out of range: {what}")));
+        }
+        let signed = if is_negative { -size } else { size };
+        match name {
+            Some((name, place)) => side.terms.push(Term {
+                coefficient: signed as i32,
+                name: name.clone(),
+                column: rest[place].column,
+            }),
+            None => side.number += signed,
+        }
+        rest = &rest[length..];
+    }
+    Ok(side)
+}
+
+/// Left, a sign, right: the names go to the left, the numbers to the right.
+/// Where only the right has names, the two change places.
+fn compared(
+    line: &Line,
+    left: Side,
+    sign: Sign,
+    column: usize,
+    right: Side,
+) -> Result<Statement, Fault> {
+    let (left, sign, right) = match left.terms.is_empty() {
+        true => (right, turned(sign), left),
+        false => (left, sign, right),
+    };
+    let limit = |is_strict| limit(line, right.number - left.number, is_strict, column).map(Some);
+    let (lower, upper) = match sign {
+        Sign::AtMost => (None, limit(false)?),
+        Sign::AtLeast => (limit(false)?, None),
+        Sign::Equal => (limit(false)?, limit(false)?),
+        Sign::Below => (None, limit(true)?),
+        Sign::Above => (limit(true)?, None),
+    };
+    let mut terms = left.terms;
+    terms.extend(
+        right.terms.into_iter().map(|term| Term { coefficient: -term.coefficient, ..term }),
+    );
+    Ok(Statement { terms, lower, upper })
+}
+
+/// A number, a sum and a number, with two signs that point the same way.
+fn between(
+    line: &Line,
+    first: Side,
+    (left, left_column): (Sign, usize),
+    middle: Side,
+    (right, right_column): (Sign, usize),
+    last: Side,
+) -> Result<Statement, Fault> {
+    let is_rising = |sign| matches!(sign, Sign::AtMost | Sign::Below);
+    if left == Sign::Equal || right == Sign::Equal || is_rising(left) != is_rising(right) {
+        return Err(line.fault(right_column, "the two signs of a line must point the same way"));
+    }
+    if let Some(term) = first.terms.first().or(last.terms.first()) {
+        return Err(line.fault(term.column, "in a line with two signs, names stand between them"));
+    }
+    let is_strict = |sign| matches!(sign, Sign::Below | Sign::Above);
+    let a = limit(line, first.number - middle.number, is_strict(left), left_column)?;
+    let b = limit(line, last.number - middle.number, is_strict(right), right_column)?;
+    let (lower, upper) = if is_rising(left) { (a, b) } else { (b, a) };
+    Ok(Statement { terms: middle.terms, lower: Some(lower), upper: Some(upper) })
+}
+
+fn limit(line: &Line, number: i64, is_strict: bool, column: usize) -> Result<Limit, Fault> {
+    if number.abs() > LARGEST_LIMIT {
+        let what = format!("{number} is out of range: a limit is from -30000 to 30000");
+        return Err(line.fault(column, what));
+    }
+    Ok(Limit { number: number as i32, is_strict, column })
+}
+
+fn turned(sign: Sign) -> Sign {
+    match sign {
+        Sign::AtMost => Sign::AtLeast,
+        Sign::AtLeast => Sign::AtMost,
+        Sign::Below => Sign::Above,
+        Sign::Above => Sign::Below,
+        Sign::Equal => Sign::Equal,
+    }
+}
+
+/// The sum of terms, as text: `3 x - 2 y`.
+pub fn sum_text<'a>(terms: impl Iterator<Item = (i64, &'a str)>) -> String {
+    let mut text = String::new();
+    for (coefficient, name) in terms {
+        text += match (text.is_empty(), coefficient < 0) {
+            (true, true) => "-",
+            (true, false) => "",
+            (false, true) => " - ",
+            (false, false) => " + ",
+        };
+        match coefficient.abs() {
+            1 => text += name,
+            size => text += &format!("{size} {name}"),
+        }
+    }
+    text
+}

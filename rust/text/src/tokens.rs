@@ -1,0 +1,133 @@
+//! A line's tokens, with their columns.
+
+use crate::fault::Fault;
+
+#[derive(Debug, Clone, Copy, PartialEq, Eq)]
+pub enum Sign {
+    AtMost,
+    AtLeast,
+    Equal,
+    Below,
+    Above,
+}
+
+#[derive(Debug, Clone, PartialEq, Eq)]
+pub enum Kind {
+    /// A whole number from 0 on.
+    Number(i64),
+    Name(String),
+    Plus,
+    Minus,
+    Times,
+    Over,
+    Sign(Sign),
+}
+
+#[derive(Debug, Clone, PartialEq, Eq)]
+pub struct Token {
+    pub kind: Kind,
+    pub column: usize,
+}
+
+/// The tokens of a line and the column past its end, comment left out.
+pub struct Line {
+    pub number: usize,
+    pub tokens: Vec<Token>,
+    pub end: usize,
+}
+
+impl Line {
+    pub fn fault(&self, column: usize, what: impl Into<String>) -> Fault {
+        Fault::new(self.number, column, what)
+    }
+
+    /// The first token, where it is this name.
+    pub fn begins_with(&self, name: &str) -> bool {
+        matches!(self.tokens.first(), Some(Token { kind: Kind::Name(first), .. }) if first == name)
+    }
+}
+
+/// The lines that hold anything but a comment.
+pub fn lines(text: &str) -> impl Iterator<Item = Result<Line, Fault>> + '_ {
+    let text = text.strip_prefix('\u{feff}').unwrap_or(text);
+    let all = text.split('\n').enumerate();
+    all.map(|(place, line)| tokens(place + 1, line))
+        .filter(|line| line.as_ref().map_or(true, |line| !line.tokens.is_empty()))
+}
+
+fn tokens(number: usize, text: &str) -> Result<Line, Fault> {
+    let chars: Vec<char> = text.split('#').next().unwrap_or("").chars().collect();
+    let end = chars.iter().rposition(|c| !c.is_whitespace()).map_or(1, |last| last + 2);
+    let mut tokens = Vec::new();
+    let mut at = 0;
+    while at < chars.len() {
+        if chars[at].is_whitespace() {
+            at += 1;
+            continue;
+        }
+        let (kind, length) =
+            token(&chars[at..]).map_err(|what| Fault::new(number, at + 1, what))?;
+        tokens.push(Token { kind, column: at + 1 });
+        at += length;
+    }
+    Ok(Line { number, tokens, end })
+}
+
+/// The first token and its length.
+fn token(chars: &[char]) -> Result<(Kind, usize), String> {
+    let (first, second) = (chars[0], chars.get(1).copied().unwrap_or(' '));
+    match (first, second) {
+        ('+', _) => Ok((Kind::Plus, 1)),
+        ('-', _) => Ok((Kind::Minus, 1)),
+        ('*', _) => Ok((Kind::Times, 1)),
+        ('/', _) => Ok((Kind::Over, 1)),
+        ('<', '=') => Ok((Kind::Sign(Sign::AtMost), 2)),
+        ('>', '=') => Ok((Kind::Sign(Sign::AtLeast), 2)),
+        ('=', '<') => Err("write <= in place of =<".to_string()),
+        ('=', '>') => Err("write >= in place of =>".to_string()),
+        ('=', '=') => Err("write = in place of ==".to_string()),
+        ('<', '>') | ('!', '=') => Err("there is no sign for \"other than\"".to_string()),
+        ('<', _) => Ok((Kind::Sign(Sign::Below), 1)),
+        ('>', _) => Ok((Kind::Sign(Sign::Above), 1)),
+        ('=', _) => Ok((Kind::Sign(Sign::Equal), 1)),
+        ('\u{2264}', _) => Err("write <= in place of \u{2264}".to_string()),
+        ('\u{2265}', _) => Err("write >= in place of \u{2265}".to_string()),
+        ('\u{2212}' | '\u{2013}', _) => Err("write - for minus: this is another dash".to_string()),
+        (c, _) if c.is_ascii_digit() => number(chars),
+        ('.' | ',', c) if c.is_ascii_digit() => number(chars),
+        (c, _) if c.is_ascii_alphabetic() || c == '_' => name(chars),
+        (c, _) if c.is_control() => {
+            Err(format!("the character {} has no meaning", c.escape_unicode()))
+        }
+        (c, _) => Err(format!("the character {c} has no meaning here")),
+    }
+}
+
+/// Everything that somebody may have meant as one number.
+fn number(chars: &[char]) -> Result<(Kind, usize), String> {
+    let is_part = |c: &char| c.is_alphanumeric() || matches!(c, '_' | '.' | ',');
+    let text: String = chars.iter().take_while(|c| is_part(c)).collect();
+    if text.chars().all(|c| c.is_ascii_digit()) {
+        let number = text.parse().map_err(|_| format!("{text} is out of range"))?;
+        return Ok((Kind::Number(number), text.len()));
+    }
+    let has_comma = text.contains(',');
+    let is_plain = |c: char| c.is_ascii_digit() || c == ',';
+    Err(if has_comma && text.chars().all(is_plain) && !text.ends_with(',') {
+        format!("{text}: numbers are written without commas")
+    } else if text.chars().all(|c| is_plain(c) || c == '.') {
+        format!("{text} is not a whole number")
+    } else {
+        format!("{text} is not a whole number; between a number and a name stands a space or *")
+    })
+}
+
+fn name(chars: &[char]) -> Result<(Kind, usize), String> {
+    let is_part = |c: &char| c.is_ascii_alphanumeric() || *c == '_';
+    let text: String = chars.iter().take_while(|c| is_part(c)).collect();
+    let length = text.len();
+    match text.to_ascii_lowercase().as_str() {
+        "nan" | "inf" | "infinity" => Err(format!("{text} is no whole number, and no name")),
+        _ => Ok((Kind::Name(text), length)),
+    }
+}

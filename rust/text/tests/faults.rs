@@ -1,0 +1,160 @@
+//! Each way to be wrong has its own words, line and column.
+
+use text::{answer, limits, times, Fault};
+
+/// The fault of a text of limits.
+fn limit_fault(text: &str) -> String {
+    limits::read(text).map_or_else(|fault| fault.to_string(), |read| format!("{read:?}"))
+}
+
+fn time_fault(text: &str) -> String {
+    times::read(text).map_or_else(|fault| fault.to_string(), |read| format!("{read:?}"))
+}
+
+#[test]
+fn of_limits() {
+    let strict = "strict limits are not there yet: write <= or >=";
+    let missing = "a number or a name is missing here";
+    let glued = "is not a whole number; between a number and a name stands a space or *";
+    for (text, fault) in [
+        ("x >= 2.5", "1:6: 2.5 is not a whole number".to_string()),
+        ("x >= .5", "1:6: .5 is not a whole number".to_string()),
+        ("x >= 2.", "1:6: 2. is not a whole number".to_string()),
+        ("x >= nan", "1:6: nan is no whole number, and no name".to_string()),
+        ("x >= -Inf", "1:7: Inf is no whole number, and no name".to_string()),
+        ("x >= 1e5", format!("1:6: 1e5 {glued}")),
+        ("2x >= 5", format!("1:1: 2x {glued}")),
+        ("x >= 30,000", "1:6: 30,000: numbers are written without commas".to_string()),
+        ("x >= 2,", "1:6: 2, is not a whole number".to_string()),
+        ("# first\n\nx >=  # nothing", format!("3:5: {missing}")),
+        ("x >= ", format!("1:5: {missing}")),
+        ("<= 5", format!("1:1: {missing}")),
+        ("x + >= 5", format!("1:5: {missing}")),
+        ("x - -3 >= 5", format!("1:5: {missing}")),
+        ("x y >= 5", "1:3: a sign, + or -, is missing before this".to_string()),
+        ("3 4 x >= 5", "1:3: a sign, + or -, is missing before this".to_string()),
+        ("x * 3 >= 5", "1:3: only a number and a name can be multiplied: 3 * x".to_string()),
+        ("x / 3 >= 5", "1:3: only a number and a name can be multiplied: 3 * x".to_string()),
+        ("3 * 4 >= 5", "1:3: only a number and a name can be multiplied: 3 * x".to_string()),
+        ("x + y - x >= 5", "1:9: x comes twice in this line".to_string()),
+        ("x >= x", "1:6: x comes twice in this line".to_string()),
+        ("x < 5", format!("1:3: {strict}")),
+        ("x >= 1\n3 x - y > 5", format!("2:9: {strict}")),
+        ("1 < x <= 5", format!("1:3: {strict}")),
+        ("x == 5", "1:3: write = in place of ==".to_string()),
+        ("x => 5", "1:3: write >= in place of =>".to_string()),
+        ("x =< 5", "1:3: write <= in place of =<".to_string()),
+        ("x != 5", "1:3: there is no sign for \"other than\"".to_string()),
+        ("x \u{2265} 5", "1:3: write >= in place of \u{2265}".to_string()),
+        ("x >= \u{2212}5", "1:6: write - for minus: this is another dash".to_string()),
+        ("x >= 5 %", "1:8: the character % has no meaning here".to_string()),
+        ("x >= 5\u{7}", "1:7: the character \\u{7} has no meaning".to_string()),
+        ("3 >= 2", "1:1: there is no name in this line".to_string()),
+        ("x", "1:2: a sign is missing: <=, >= or = says what the limit is".to_string()),
+        ("1 <= x <= 5 <= y", "1:13: a line has one sign or two: 20 <= x <= 40".to_string()),
+        ("1 <= x >= 5", "1:8: the two signs of a line must point the same way".to_string()),
+        ("1 = x = 1", "1:7: the two signs of a line must point the same way".to_string()),
+        ("y <= x <= 5", "1:1: in a line with two signs, names stand between them".to_string()),
+        ("1 <= x <= y", "1:11: in a line with two signs, names stand between them".to_string()),
+        ("1001 x >= 1", "1:1: 1001 is out of range: a coefficient is from -1000 to 1000".into()),
+        (
+            "x - 1001 * y >= 1",
+            "1:5: 1001 is out of range: a coefficient is from -1000 to 1000".into(),
+        ),
+        ("x >= 30001", "1:6: 30001 is out of range: a limit is from -30000 to 30000".to_string()),
+        ("x >= -30001", "1:7: 30001 is out of range: a limit is from -30000 to 30000".to_string()),
+        ("x + 1 >= -30000", "1:7: -30001 is out of range: a limit is from -30000 to 30000".into()),
+        ("x >= 99999999999999999999", "1:6: 99999999999999999999 is out of range".to_string()),
+        ("x >= 1\nx >= 2", "2:3: x has its lower limit already, in line 1".to_string()),
+        ("x >= 1\n-x <= -2", "2:4: x has its lower limit already, in line 1".to_string()),
+        ("x = 1\nx <= 2", "2:3: x has its upper limit already, in line 1".to_string()),
+        ("x + y >= 1\n-y - x <= 2", "2:8: this sum has its lower limit already, in line 1".into()),
+        ("free x\nx >= 1", "2:3: x is said to be free, in line 1".to_string()),
+        ("x >= 1\nfree y x", "2:8: x has a limit, in line 1".to_string()),
+        ("free x x", "1:8: x is said to be free already, in line 1".to_string()),
+        ("free", "1:5: a name is missing after free".to_string()),
+        ("free x + y", "1:8: after free stand names alone: free x y".to_string()),
+        ("x + row >= 1", "1:5: row is no name: it begins a line of its own kind".to_string()),
+        ("row", "1:4: a sum is missing after row".to_string()),
+        ("", "1:1: there is no limit in this text".to_string()),
+        ("# x >= 1\n", "1:1: there is no limit in this text".to_string()),
+    ] {
+        assert_eq!(limit_fault(text), fault, "{text}");
+    }
+}
+
+#[test]
+fn of_too_many() {
+    let names: Vec<String> = (1..=9).map(|number| format!("x{number}")).collect();
+    let text = names.iter().map(|name| format!("{name} >= 1\n")).collect::<String>();
+    let fault = "9:1: x9 is one too many: there are 8 names at most";
+    assert_eq!(limit_fault(&text), fault);
+    assert!(limits::read(&text[..text.len() - 8]).is_ok());
+    assert_eq!(limit_fault(&format!("free {}", names.join(" "))), format!("1:30{}", &fault[3..]));
+
+    let rows: Vec<String> = (2..=18).map(|number| format!("{number} x >= 1\n")).collect();
+    assert_eq!(limit_fault(&rows.concat()), "17:1: one row too many: there are 16 at most");
+    assert_eq!(limits::read(&rows[..16].concat()).unwrap().rows.len(), 16);
+    let shared = rows[..16].concat() + "-2 x >= -5\nx <= 4\n";
+    assert_eq!(limits::read(&shared).unwrap().rows.len(), 16);
+
+    let many: String = (0..65).map(|number| format!("t{number} - t0 <= 1\n")).collect();
+    assert_eq!(time_fault(&many), "65:1: t64 is one too many: there are 64 names at most");
+    let many = "a - b <= 1\n".repeat(257);
+    assert_eq!(time_fault(&many), "257:1: one row too many: there are 256 at most");
+    assert_eq!(times::read(&many[11..]).unwrap().rows.len(), 256);
+}
+
+#[test]
+fn of_time_rows() {
+    for (text, fault) in [
+        ("a - b <= 2.5", "1:10: 2.5 is not a whole number"),
+        ("a - b <=", "1:9: a number or a name is missing here"),
+        ("a <= 5", "1:1: a time row has two names: end - start <= 30"),
+        ("a - b + c <= 5", "1:9: a time row has two names: end - start <= 30"),
+        ("2 a - b <= 5", "1:3: names of time rows are taken once, not more often"),
+        ("a + b <= 5", "1:5: a time row is about a difference: end - start <= 30"),
+        ("a - b <= 30001", "1:10: 30001 is out of range: a limit is from -30000 to 30000"),
+        ("a - b", "1:6: a sign is missing: <=, <, >=, > or = says how far they are apart"),
+        ("", "1:1: there is no time row in this text"),
+    ] {
+        assert_eq!(time_fault(text), fault, "{text}");
+    }
+}
+
+#[test]
+fn of_answers() {
+    let problem = limits::read("1 <= x <= 2\nx + y >= 3\n").unwrap();
+    let fault = |text: &str| answer::read(text, &problem).map_err(|fault: Fault| fault.to_string());
+    for (text, what) in [
+        ("", "1:1: there is no answer in this text"),
+        ("# can", "1:1: there is no answer in this text"),
+        ("perhaps", "1:1: an answer begins with a line can or cannot"),
+        ("can x = 2", "1:1: an answer begins with a line can or cannot"),
+        ("can\nx = 2", "2:6: y has no value"),
+        ("can\nx = 2\nx = 3", "3:1: x has a value already"),
+        ("can\nz = 2", "2:1: z is no name of the problem"),
+        ("can\nx = 2.5", "2:5: 2.5 is not a whole number"),
+        ("can\nx = 2/0", "2:5: a value is a whole number or a fraction: 7/2"),
+        ("can\nx =", "2:4: a value is a whole number or a fraction: 7/2"),
+        ("can\nx 2", "2:1: here stands a name, =, and its value: x = 7/2"),
+        ("cannot\n2 times line 7", "2:9: line 7 of the problem sets no such limit"),
+        (
+            "cannot\n2 times line 1",
+            "2:9: line 1 of the problem sets two limits: say lower or upper",
+        ),
+        ("cannot\n2 times line 2\n1 times lower 2", "3:1: this limit has its multiplier already"),
+        ("cannot\n2 times lower 3", "2:15: there is no such variable"),
+        ("1 2.5", "1:3: 2.5 is not a whole number"),
+        ("1 99999999999999999999", "1:3: 99999999999999999999 is out of range for a word"),
+    ] {
+        assert_eq!(fault(text), Err(what.to_string()), "{text}");
+    }
+    let huge = "can\nx = 1/2147483647\ny = 1/2147483646\n";
+    let what = "3:1: over one denominator these fractions are too large for the checker";
+    assert_eq!(fault(huge), Err(what.to_string()));
+    assert_eq!(fault("can\ny = 3/2 # a comment\nx = -10/4"), Ok(vec![1, 0, 2, -5, 3, -2, 0, 0, 0]));
+    let cannot = "cannot\n2 times line 1 upper\n3 times line 2\n5 times lower 0\n";
+    assert_eq!(fault(cannot), Ok(vec![2, 0, 0, 5, 0, 3, 2, 0, 0]));
+    assert_eq!(fault("1 2\n-3 # 4"), Ok(vec![1, 2, -3]));
+}
