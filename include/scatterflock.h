@@ -1,8 +1,24 @@
 /*
  * Scatterflock: exact answers about limits and times, from proved code.
  *
- * libscatterflock.a (x86-64) has the three functions below. docs/RULES.md
- * says what the words mean; docs/formats has whole examples.
+ * libscatterflock.a has the three functions below. docs/RULES.md says what the
+ * words mean; docs/formats has whole examples.
+ *
+ * A problem of two zones (from examples/planner.c):
+ *
+ *     static const int32_t problem[] = {
+ *         2, 1,                           // two variables, one row
+ *         -1, 1,                          // the row is zone 1 less zone 0
+ *         SCATTERFLOCK_BETWEEN, 20, 60,   // zone 0 is from 20 to 60 degrees
+ *         SCATTERFLOCK_AT_LEAST, 95, 0,   // zone 1 is at least 95
+ *         SCATTERFLOCK_AT_MOST, 0, 50,    // the row, variable 2, is at most 50
+ *     };
+ *
+ *     int64_t answer[SCATTERFLOCK_MOST_ANSWER];
+ *     uint32_t number = scatterflock_solve(problem, COUNT(problem), answer, COUNT(answer));
+ *
+ * Now number is SCATTERFLOCK_ANSWERED, answer[0] is SCATTERFLOCK_CAN, and the
+ * set point of zone 1 is answer[4] over answer[2].
  *
  * What the caller owes, of every call:
  *
@@ -29,6 +45,69 @@
 #ifdef __cplusplus
 extern "C" {
 #endif
+
+#define SCATTERFLOCK_VERSION "0.1.0"
+#define SCATTERFLOCK_VERSION_MAJOR 0
+#define SCATTERFLOCK_VERSION_MINOR 1
+#define SCATTERFLOCK_VERSION_PATCH 0
+
+/* Sizes and ranges. */
+enum {
+    SCATTERFLOCK_MOST_VARIABLES = 8,
+    SCATTERFLOCK_MOST_ROWS = 16,
+    SCATTERFLOCK_LARGEST_COEFFICIENT = 1000,
+    SCATTERFLOCK_LARGEST_LIMIT = 30000, /* and the largest c of a time row */
+    SCATTERFLOCK_LARGEST_NUMBER = 2147483647,
+    SCATTERFLOCK_MOST_WORDS = 202,  /* of a limit problem */
+    SCATTERFLOCK_MOST_ANSWER = 51,  /* words of an answer to one */
+    SCATTERFLOCK_MOST_VERTICES = 64,
+    SCATTERFLOCK_MOST_TIME_ROWS = 256,
+    SCATTERFLOCK_MOST_TIME_WORDS = 1026,
+    SCATTERFLOCK_MOST_TIMES = 66    /* words of an answer to time rows */
+};
+
+/* The kind of a variable's limits, in a limit problem. */
+enum {
+    SCATTERFLOCK_FREE = 0,
+    SCATTERFLOCK_AT_LEAST = 1,
+    SCATTERFLOCK_AT_MOST = 2,
+    SCATTERFLOCK_BETWEEN = 3
+};
+
+/* Word 0 of an answer to a limit problem. */
+enum {
+    SCATTERFLOCK_CAN = 1,
+    SCATTERFLOCK_CANNOT = 2,
+    SCATTERFLOCK_OUT_OF_RANGE = 3
+};
+
+/* Word 0 of an answer to time rows. */
+enum {
+    SCATTERFLOCK_TIMES = 1,
+    SCATTERFLOCK_CYCLE = 2
+};
+
+/* What the functions return. More refusals may come. */
+enum {
+    SCATTERFLOCK_ANSWERED = 0,
+    SCATTERFLOCK_FEW_WORDS = 1,
+    SCATTERFLOCK_SIZES = 2,
+    SCATTERFLOCK_LENGTH = 3,
+    SCATTERFLOCK_COEFFICIENT = 4,
+    SCATTERFLOCK_KIND = 5,
+    SCATTERFLOCK_LIMIT = 6,
+    SCATTERFLOCK_BLANK_ROW = 10, /* asked after 6 and before 7 */
+    SCATTERFLOCK_SHORT = 7,
+    SCATTERFLOCK_ACCEPTED = 8,
+    SCATTERFLOCK_REJECTED = 9,
+    SCATTERFLOCK_TIMES_FEW_WORDS = 11,
+    SCATTERFLOCK_TIMES_SIZES = 12,
+    SCATTERFLOCK_TIMES_LENGTH = 13,
+    SCATTERFLOCK_TIMES_VERTEX = 14,
+    SCATTERFLOCK_TIMES_STRICT = 15,
+    SCATTERFLOCK_TIMES_BOUND = 16,
+    SCATTERFLOCK_TIMES_SHORT = 17
+};
 
 /*
  * Answers a limit problem of n variables and m rows.

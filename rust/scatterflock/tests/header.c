@@ -68,7 +68,7 @@ int main(void)
 {
     int64_t *out = fresh();
 
-    number("solve A", scatterflock_solve(A, COUNT(A), out, ROOM), 0);
+    number("solve A", scatterflock_solve(A, COUNT(A), out, ROOM), SCATTERFLOCK_ANSWERED);
     words("solve A", out, A_ANSWER, COUNT(A_ANSWER));
     out = fresh();
     number("solve C", scatterflock_solve(C, COUNT(C), out, ROOM), 0);
@@ -79,11 +79,11 @@ int main(void)
     number("solve A short", scatterflock_solve(A, COUNT(A), out, COUNT(A_ANSWER) - 1), 7);
     words("solve A short", out, NULL, 0);
 
-    number("check A", scatterflock_check(A, COUNT(A), A_ANSWER, COUNT(A_ANSWER)), 8);
+    number("check A", scatterflock_check(A, COUNT(A), A_ANSWER, COUNT(A_ANSWER)), SCATTERFLOCK_ACCEPTED);
     number("check A wrong", scatterflock_check(A, COUNT(A), A_WRONG, COUNT(A_WRONG)), 9);
     number("check A short", scatterflock_check(A, COUNT(A), A_ANSWER, COUNT(A_ANSWER) - 1), 7);
     number("check C", scatterflock_check(C, COUNT(C), C_ANSWER, COUNT(C_ANSWER)), 8);
-    number("check C wrong", scatterflock_check(C, COUNT(C), C_WRONG, COUNT(C_WRONG)), 9);
+    number("check C wrong", scatterflock_check(C, COUNT(C), C_WRONG, COUNT(C_WRONG)), SCATTERFLOCK_REJECTED);
 
     number("times J", scatterflock_times(J, COUNT(J), out, ROOM), 0);
     words("times J", out, J_TIMES, COUNT(J_TIMES));

@@ -1,8 +1,11 @@
 //! include/scatterflock.h, compiled as C and as C++: `header.c` calls the
-//! archive through it and compares what it gives. Where the machine is not
-//! x86-64 that is done twice: with the archive that is linked here, and with
-//! the code for x86-64 under an emulator.
+//! archive through it and compares what it gives, and `examples/planner.c` is
+//! run. Where the machine is not x86-64 that is done twice: with the archive
+//! that is linked here, and with the code for x86-64 under an emulator.
 
+use scatterflock::{sizes, Refusal, TimesRefusal};
+use std::collections::BTreeMap;
+use std::fs;
 use std::path::{Path, PathBuf};
 use std::process::{Command, Output};
 
@@ -16,18 +19,99 @@ fn as_cpp() {
     calls_through("g++", "c++", "c++11");
 }
 
-fn calls_through(compiler: &str, language: &str, standard: &str) {
-    let here = Path::new(env!("CARGO_MANIFEST_DIR"));
-    let source = here.join("tests/header.c");
+#[test]
+fn the_planner_runs() {
     for machine in machines() {
-        let program = machine.program(&format!("header-{language}"));
-        let mut compile = Command::new(machine.compiler(compiler));
-        compile.args(["-O2", "-Wall", "-Wextra", "-Wpedantic", "-Werror", "-I"]);
-        compile.arg(here.join("../../include")).arg(format!("-std={standard}"));
-        compile.args(["-x", language]).arg(&source);
-        compile.args(["-x", "none"]).arg(&machine.archive).arg("-o").arg(&program);
-        succeeds(compile);
-        succeeds(machine.run(&program));
+        let said = machine.runs("gcc", &["-std=c99"], "../../examples/planner.c", "planner");
+        assert_eq!(said, "zone 0: 45/1 degrees\nzone 1: 95/1 degrees\n");
+    }
+}
+
+#[test]
+fn the_header_quotes_the_planner() {
+    let [header, planner] = ["include/scatterflock.h", "examples/planner.c"].map(read);
+    let quoted: Vec<&str> = header
+        .lines()
+        .filter_map(|line| line.strip_prefix(" *     "))
+        .take_while(|line| !line.starts_with("words can be read"))
+        .collect();
+    assert!(quoted.len() > 6, "{quoted:?}");
+    let lines: Vec<&str> = planner.lines().map(str::trim).collect();
+    for line in quoted {
+        assert!(lines.contains(&line.trim()), "examples/planner.c has no line {line}");
+    }
+}
+
+#[test]
+fn the_names_of_the_header_are_those_of_the_crate() {
+    let header = read("include/scatterflock.h");
+    let named: BTreeMap<&str, u32> = header
+        .lines()
+        .filter_map(|line| line.trim().strip_prefix("SCATTERFLOCK_")?.split_once(" = "))
+        .map(|(name, number)| {
+            let digits = number.split([',', ' ']).next().unwrap();
+            (name, digits.parse().unwrap())
+        })
+        .collect();
+    let camel = |debug: String| {
+        let split = |c: char| if c.is_uppercase() { format!("_{c}") } else { c.to_string() };
+        debug.chars().map(split).collect::<String>().trim_matches('_').to_uppercase()
+    };
+    for refusal in Refusal::ALL {
+        assert_eq!(named[&camel(format!("{refusal:?}"))[..]], refusal.number());
+    }
+    for refusal in TimesRefusal::ALL {
+        let name = format!("TIMES_{}", camel(format!("{refusal:?}")));
+        assert_eq!(named[&name[..]], refusal.number());
+    }
+    for (name, size) in [
+        ("MOST_VARIABLES", sizes::MOST_VARIABLES),
+        ("MOST_ROWS", sizes::MOST_ROWS),
+        ("LARGEST_COEFFICIENT", sizes::LARGEST_COEFFICIENT as usize),
+        ("LARGEST_LIMIT", sizes::LARGEST_LIMIT as usize),
+        ("LARGEST_NUMBER", sizes::LARGEST_NUMBER as usize),
+        ("MOST_WORDS", sizes::MOST_WORDS),
+        ("MOST_ANSWER", sizes::MOST_ANSWER),
+        ("MOST_VERTICES", sizes::MOST_VERTICES),
+        ("MOST_TIME_ROWS", sizes::MOST_TIME_ROWS),
+        ("MOST_TIME_WORDS", 2 + 4 * sizes::MOST_TIME_ROWS),
+        ("MOST_TIMES", sizes::MOST_TIMES),
+    ] {
+        assert_eq!(named[name] as usize, size, "{name}");
+    }
+}
+
+#[test]
+fn one_version() {
+    let version = env!("CARGO_PKG_VERSION");
+    assert_eq!(read("VERSION").trim_end(), version);
+    assert!(read("CHANGELOG.md").contains(&format!("\n## {version}")));
+    let header = read("include/scatterflock.h");
+    let mut parts = version.split('.');
+    for (name, part) in [
+        ("", format!("\"{version}\"")),
+        ("_MAJOR", parts.next().unwrap().to_string()),
+        ("_MINOR", parts.next().unwrap().to_string()),
+        ("_PATCH", parts.next().unwrap().to_string()),
+    ] {
+        assert!(header.contains(&format!("#define SCATTERFLOCK_VERSION{name} {part}\n")), "{name}");
+    }
+}
+
+fn here() -> &'static Path {
+    Path::new(env!("CARGO_MANIFEST_DIR"))
+}
+
+/// A file, from the top of the repository.
+fn read(file: &str) -> String {
+    fs::read_to_string(here().join("../..").join(file)).unwrap()
+}
+
+fn calls_through(compiler: &str, language: &str, standard: &str) {
+    for machine in machines() {
+        let standard = format!("-std={standard}");
+        let name = format!("header-{language}");
+        machine.runs(compiler, &["-x", language, &standard], "tests/header.c", &name);
     }
 }
 
@@ -42,12 +126,22 @@ fn machines() -> Vec<Machine> {
     if cfg!(target_arch = "x86_64") {
         return vec![linked];
     }
-    let here = Path::new(env!("CARGO_MANIFEST_DIR"));
-    let archive = here.join("../../target/staticlib/libscatterflock.a");
+    let archive = here().join("../../target/staticlib/libscatterflock.a");
     vec![linked, Machine { archive, is_emulated: true }]
 }
 
 impl Machine {
+    /// Compiles a file, with the archive and these options, and runs it.
+    fn runs(&self, compiler: &str, options: &[&str], source: &str, name: &str) -> String {
+        let program = self.program(name);
+        let mut compile = Command::new(self.compiler(compiler));
+        compile.args(["-O2", "-Wall", "-Wextra", "-Wpedantic", "-Werror", "-I"]);
+        compile.arg(here().join("../../include")).args(options).arg(here().join(source));
+        compile.args(["-x", "none"]).arg(&self.archive).arg("-o").arg(&program);
+        succeeds(compile);
+        succeeds(self.run(&program))
+    }
+
     fn compiler(&self, name: &str) -> String {
         if self.is_emulated {
             format!("x86_64-linux-gnu-{name}")
