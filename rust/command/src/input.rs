@@ -1,0 +1,92 @@
+//! Files as words or as text.
+
+use crate::Failure;
+use std::ffi::OsStr;
+use std::fs::File;
+use std::io::Read;
+use text::numbers;
+use text::Fault;
+
+/// The most bytes of a file: far more than any problem needs.
+const MOST_BYTES: u64 = 1 << 20;
+
+/// What a file holds.
+pub struct Input {
+    /// The file's name, to tell.
+    pub file: String,
+    pub content: Content,
+}
+
+pub enum Content {
+    Bytes(Vec<u8>),
+    Words(Vec<i32>),
+    Text(String),
+}
+
+/// Reads a problem: a file `.words`, or standard input with a zero byte in it,
+/// is bytes; a text of bare numbers is words; anything else is text.
+pub fn problem(file: &OsStr, stdin: &mut dyn Read) -> Result<Input, Failure> {
+    let (name, bytes) = bytes(file, stdin)?;
+    let is_words = if file == "-" { bytes.contains(&0) } else { name.ends_with(".words") };
+    if is_words {
+        return Ok(Input { file: name, content: Content::Bytes(bytes) });
+    }
+    let text = text(&name, bytes)?;
+    let content = if numbers::are_bare(&text) {
+        Content::Words(numbers::read(&text).map_err(|fault| bad(&name, &text, fault))?)
+    } else {
+        Content::Text(text)
+    };
+    Ok(Input { file: name, content })
+}
+
+/// Reads a file that is text.
+pub fn any_text(file: &OsStr, stdin: &mut dyn Read) -> Result<(String, String), Failure> {
+    let (name, bytes) = bytes(file, stdin)?;
+    let text = text(&name, bytes)?;
+    Ok((name, text))
+}
+
+fn bytes(file: &OsStr, stdin: &mut dyn Read) -> Result<(String, Vec<u8>), Failure> {
+    let mut bytes = Vec::new();
+    let is_stdin = file == "-";
+    let name = if is_stdin { "standard input".into() } else { file.to_string_lossy().into_owned() };
+    let read = match is_stdin {
+        true => stdin.take(MOST_BYTES + 1).read_to_end(&mut bytes),
+        false => {
+            File::open(file).and_then(|opened| opened.take(MOST_BYTES + 1).read_to_end(&mut bytes))
+        }
+    };
+    let what = match read {
+        Err(error) => format!("it cannot be read: {error}"),
+        Ok(_) if bytes.len() as u64 > MOST_BYTES => {
+            format!("it is longer than {MOST_BYTES} bytes")
+        }
+        Ok(_) => return Ok((name, bytes)),
+    };
+    Err(Failure::Unread { file: name, what })
+}
+
+fn text(name: &str, bytes: Vec<u8>) -> Result<String, Failure> {
+    String::from_utf8(bytes).map_err(|error| {
+        let read = String::from_utf8_lossy(&error.as_bytes()[..error.utf8_error().valid_up_to()]);
+        let line = read.split('\n').count();
+        let last = read.rsplit('\n').next().unwrap_or("");
+        let what = "this byte is no text (UTF-8); words as bytes are in a file .words".to_string();
+        let fault = Fault { line, column: last.chars().count() + 1, what };
+        bad(name, &read, fault)
+    })
+}
+
+/// The failure of a text, with the line that is at fault.
+pub fn bad(file: &str, text: &str, fault: Fault) -> Failure {
+    let line = text.split('\n').nth(fault.line - 1).unwrap_or("").trim_end();
+    let line: String = line.chars().map(|c| if c.is_control() { ' ' } else { c }).collect();
+    Failure::Bad { file: file.to_string(), fault, line }
+}
+
+/// The words of bytes, four each, the lowest first.
+pub fn words(bytes: &[u8]) -> Vec<i32> {
+    let four = |bytes: &[u8]| i32::from_le_bytes(bytes.try_into().expect("there are four"));
+    bytes.chunks_exact(4).map(four).collect()
+}

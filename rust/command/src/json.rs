@@ -1,0 +1,52 @@
+//! Values as JSON: one line, made by hand.
+
+use crate::fraction::Fraction;
+
+/// An object, with a newline behind it.
+pub fn object(fields: &[(&str, String)]) -> String {
+    inner(fields) + "\n"
+}
+
+/// An object inside another value.
+pub fn inner(fields: &[(&str, String)]) -> String {
+    let fields: Vec<String> =
+        fields.iter().map(|(name, value)| format!("{}:{value}", text(name))).collect();
+    format!("{{{}}}", fields.join(","))
+}
+
+pub fn list(values: impl IntoIterator<Item = String>) -> String {
+    format!("[{}]", values.into_iter().collect::<Vec<String>>().join(","))
+}
+
+pub fn text(text: &str) -> String {
+    let mut quoted = String::from("\"");
+    for c in text.chars() {
+        match c {
+            '"' | '\\' => quoted.extend(['\\', c]),
+            c if c.is_control() => {
+                let mut pair = [0; 2];
+                for unit in c.encode_utf16(&mut pair) {
+                    quoted += &format!("\\u{unit:04x}");
+                }
+            }
+            c => quoted.push(c),
+        }
+    }
+    quoted + "\""
+}
+
+/// A line's number, or null.
+pub fn line(line: Option<usize>) -> String {
+    line.map_or("null".to_string(), |line| line.to_string())
+}
+
+/// A fraction's parts, and a decimal to read.
+pub fn fraction(fraction: Fraction) -> Vec<(&'static str, String)> {
+    let (decimal, is_exact) = fraction.decimal();
+    vec![
+        ("numerator", fraction.numerator.to_string()),
+        ("denominator", fraction.denominator.to_string()),
+        ("decimal", text(&decimal)),
+        ("exact", is_exact.to_string()),
+    ]
+}

@@ -1,0 +1,22 @@
+//! The command `scatterflock`.
+
+use std::env;
+use std::io::{self, Write};
+use std::process::ExitCode;
+
+fn main() -> ExitCode {
+    let words = env::args_os().skip(1).collect::<Vec<_>>();
+    let ended = command::run(&words, &mut io::stdin());
+    eprint(&ended.errors);
+    let mut out = io::stdout().lock();
+    if let Err(error) = out.write_all(&ended.output).and_then(|()| out.flush()) {
+        eprint(&format!("scatterflock: the output cannot be written: {error}\n"));
+        return ExitCode::from(command::UNWRITTEN);
+    }
+    ExitCode::from(ended.status)
+}
+
+/// What cannot even be written there is lost.
+fn eprint(text: &str) {
+    let _ = io::stderr().write_all(text.as_bytes());
+}

@@ -1,0 +1,99 @@
+//! The words of the command line.
+
+use std::ffi::OsString;
+
+pub const HELP: &str = "\
+usage: scatterflock [--json] solve FILE
+       scatterflock [--json] check FILE ANSWER
+       scatterflock [--json] times FILE
+       scatterflock words [--times] [--bytes] FILE
+
+  solve   can all limits of FILE be met at once? With values, or with the limits that clash
+  check   is ANSWER right for the limits of FILE? Asks the proved checker
+  times   can all time rows of FILE be met? With times, or with the rows that go round
+  words   a text as words, or words as a text
+
+  --json    the answer as one line of JSON
+  --times   FILE has time rows, not limits
+  --bytes   words as bytes, four each, as a file .words has them
+
+A FILE is a text with one limit a line,
+
+    zone1 >= 20
+    3 zone1 - 2 zone2 <= 400      # a comment
+    zone2 = zone1 + 45
+
+or a file .words, or a text of bare numbers; - is standard input.
+
+Status: 0 can, or accepted; 1 cannot, or not accepted; 2 out of range; 3 refused; 4 a bad text or
+command; 5 a file cannot be read, or the output not be written.
+";
+
+#[derive(Debug, PartialEq, Eq)]
+pub enum Action {
+    Help,
+    Version,
+    Solve(OsString),
+    Check(OsString, OsString),
+    Times(OsString),
+    Words(OsString),
+}
+
+#[derive(Debug, PartialEq, Eq)]
+pub struct Options {
+    pub action: Action,
+    pub json: bool,
+    pub times: bool,
+    pub bytes: bool,
+}
+
+impl Options {
+    pub fn read(words: &[OsString]) -> Result<Options, String> {
+        let (mut json, mut times, mut bytes) = (false, false, false);
+        let mut is_over = false;
+        let mut files = Vec::new();
+        let mut asked = None;
+        for word in words {
+            match word.to_str() {
+                Some("--") if !is_over => is_over = true,
+                Some("--help" | "-h") if !is_over => asked = asked.or(Some(Action::Help)),
+                Some("--version" | "-V") if !is_over => asked = asked.or(Some(Action::Version)),
+                Some("--json") if !is_over => json = true,
+                Some("--times") if !is_over => times = true,
+                Some("--bytes") if !is_over => bytes = true,
+                Some(option) if !is_over && option.starts_with('-') && option != "-" => {
+                    return Err(format!("there is no option {option}"));
+                }
+                _ => files.push(word.clone()),
+            }
+        }
+        if let Some(action) = asked {
+            return Ok(Options { action, json, times, bytes });
+        }
+        if files.is_empty() {
+            return Err("there is no command".to_string());
+        }
+        let name = files.remove(0).to_string_lossy().into_owned();
+        let action = match (name.as_str(), <[OsString; 1]>::try_from(files)) {
+            ("solve", Ok([file])) => Action::Solve(file),
+            ("times", Ok([file])) => Action::Times(file),
+            ("words", Ok([file])) => Action::Words(file),
+            ("check", Err(files)) if files.len() == 2 => {
+                Action::Check(files[0].clone(), files[1].clone())
+            }
+            ("solve" | "times" | "words", _) => return Err(format!("{name} takes one file")),
+            ("check", _) => return Err("check takes two files".to_string()),
+            _ => return Err(format!("there is no command {name}")),
+        };
+        if (times || bytes) && !matches!(action, Action::Words(_)) {
+            return Err("--times and --bytes are options of words".to_string());
+        }
+        if json && matches!(action, Action::Words(_)) {
+            return Err("--json is no option of words".to_string());
+        }
+        if matches!(&action, Action::Check(a, b) if a == "-" && b == "-") {
+            return Err("one of the two files can be standard input, not both".to_string());
+        }
+        Ok(Options { action, json, times, bytes })
+    }
+}

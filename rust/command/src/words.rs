@@ -1,0 +1,28 @@
+//! `scatterflock words`: a text as words, or words as a text.
+
+use crate::input::{self, Content};
+use crate::options::Options;
+use crate::{solve, times, Ended, Failure, CAN};
+use std::ffi::OsStr;
+use std::io::Read;
+
+pub fn run(file: &OsStr, options: &Options, stdin: &mut dyn Read) -> Result<Ended, Failure> {
+    let input = input::problem(file, stdin)?;
+    let is_text = matches!(input.content, Content::Text(_));
+    let (words, text) = if options.times {
+        let (_, rows) = times::rows(input)?;
+        (rows.words(), rows.text())
+    } else {
+        let (_, problem) = solve::problem(input)?;
+        (problem.words(), problem.text())
+    };
+    Ok(if options.bytes {
+        let output = words.iter().flat_map(|word| word.to_le_bytes()).collect();
+        Ended { output, errors: String::new(), status: CAN }
+    } else if is_text {
+        let words: Vec<String> = words.iter().map(i32::to_string).collect();
+        Ended::saying(words.join(" ") + "\n", CAN)
+    } else {
+        Ended::saying(text, CAN)
+    })
+}

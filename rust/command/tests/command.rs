@@ -1,0 +1,234 @@
+//! The command as a program: what it prints, where, and with which status.
+
+use problems::published::published;
+use problems::random::{seed, Random};
+use problems::worked;
+use std::ffi::OsString;
+use std::fs::{self, File};
+use std::io::Write;
+use std::path::PathBuf;
+use std::process::{Command, Stdio};
+
+fn program() -> Command {
+    let mut command = Command::new(env!("CARGO_BIN_EXE_scatterflock"));
+    command.current_dir(PathBuf::from(env!("CARGO_MANIFEST_DIR")).join("../.."));
+    command
+}
+
+/// Output, errors and status, with this on standard input.
+fn ran(words: &[&str], input: &[u8]) -> (String, String, i32) {
+    let words: Vec<OsString> = words.iter().map(OsString::from).collect();
+    let ended = command::run(&words, &mut &input[..]);
+    (String::from_utf8_lossy(&ended.output).into_owned(), ended.errors, i32::from(ended.status))
+}
+
+fn bytes(words: &[i32]) -> Vec<u8> {
+    words.iter().flat_map(|word| word.to_le_bytes()).collect()
+}
+
+#[test]
+fn verdicts_and_statuses() {
+    for (words, input, first, status) in [
+        (&["solve", "-"][..], "x >= 1", "can", 0),
+        (&["solve", "-"], "x >= 1\nx <= 0", "cannot", 1),
+        (&["solve", "-"], "0 x >= 1", "refused 10", 3),
+        (&["solve", "-"], "9 0", "refused 2", 3),
+        (&["solve", "-"], "1", "refused 1", 3),
+        (&["times", "-"], "a - b <= 1", "can", 0),
+        (&["times", "-"], "a - a < 0", "cannot", 1),
+        (&["times", "-"], "65 0", "refused 12", 3),
+        (&["words", "-"], "x >= 1", "1 0 1 1 0", 0),
+        (&["words", "-"], "1 0 1 1 0", "x0 >= 1", 0),
+        (&["words", "--times", "-"], "a - b <= 1", "2 1 0 1 0 1", 0),
+        (&["--help"], "", "usage: scatterflock [--json] solve FILE", 0),
+        (&["solve", "-", "--json"], "", "{\"error\":\"there is no limit in this text\",\"file\":\"standard input\",\"line\":1,\"column\":1}", 4),
+    ] {
+        let (output, _, found) = ran(words, input.as_bytes());
+        assert_eq!((output.lines().next(), found), (Some(first), status), "{words:?} {input}");
+    }
+    let range = published().into_iter().find(|case| case.answer[0] == 3).unwrap();
+    let (output, _, status) = ran(&["solve", "-"], &bytes(&range.words));
+    assert_eq!((output.lines().next(), status), (Some("range"), 2));
+    let version = fs::read_to_string(files::top().join("VERSION")).unwrap();
+    assert_eq!(ran(&["--version"], b"").0, format!("scatterflock {version}"));
+}
+
+#[test]
+fn usage_and_files() {
+    for (words, status, what) in [
+        (&[][..], 4, "there is no command"),
+        (&["melt", "-"], 4, "there is no command melt"),
+        (&["solve"], 4, "solve takes one file"),
+        (&["check", "-"], 4, "check takes two files"),
+        (&["check", "-", "-"], 4, "not both"),
+        (&["solve", "--fast", "-"], 4, "there is no option --fast"),
+        (&["solve", "--bytes", "-"], 4, "options of words"),
+        (&["solve", "no-such-file"], 5, "it cannot be read"),
+        (&["solve", "."], 5, "it cannot be read"),
+        (&["solve", "--", "--json"], 5, "it cannot be read"),
+    ] {
+        let (output, errors, found) = ran(words, b"");
+        assert_eq!((output.as_str(), found), ("", status), "{words:?}");
+        assert!(errors.contains(what), "{words:?}: {errors}");
+    }
+    let (output, _, status) = ran(&["words", "--json", "-"], b"");
+    assert_eq!((output.as_str(), status), ("{\"error\":\"--json is no option of words\"}\n", 4));
+    let (_, errors, status) = ran(&["solve", "-"], &vec![b'#'; 2 << 20]);
+    assert!(status == 5 && errors.contains("longer"), "{errors}");
+    let (_, errors, status) = ran(&["solve", "-"], b"x >= 1\n# \xff");
+    assert_eq!(status, 4);
+    assert!(errors.starts_with("standard input:2:3: this byte is no text"), "{errors}");
+}
+
+#[test]
+fn bytes_are_refused_as_the_program_does() {
+    for (length, number) in [(0, 1), (7, 1), (9, 3), (812, 3)] {
+        let path = PathBuf::from(env!("CARGO_TARGET_TMPDIR")).join("some.words");
+        fs::write(&path, vec![0; length]).unwrap();
+        let (output, _, status) = ran(&["solve", path.to_str().unwrap()], b"");
+        assert_eq!((output.lines().next(), status), (Some(&format!("refused {number}")[..]), 3));
+    }
+}
+
+#[test]
+fn what_solve_prints_check_accepts() {
+    for case in worked::limits().into_iter().chain(published()) {
+        let path = PathBuf::from(env!("CARGO_TARGET_TMPDIR")).join("problem.words");
+        fs::write(&path, bytes(&case.words)).unwrap();
+        let file = path.to_str().unwrap();
+        let (answer, _, status) = ran(&["solve", file], b"");
+        assert_eq!(i64::from(status) + 1, case.answer[0], "{}", case.name);
+        if status == 2 {
+            continue;
+        }
+        let (said, _, accepted) = ran(&["check", file, "-"], answer.as_bytes());
+        assert_eq!(accepted, 0, "{}: {said}", case.name);
+        let words: Vec<String> = case.answer.iter().map(i64::to_string).collect();
+        assert_eq!(ran(&["check", file, "-"], words.join(" ").as_bytes()).2, 0);
+        let short = &words[..words.len() - 1];
+        assert_eq!(ran(&["check", file, "-"], short.join(" ").as_bytes()).2, 3);
+        let json = ran(&["--json", "solve", file], b"");
+        assert_eq!(json.2, status);
+        assert!(json.0.contains("\"checked\":true") && json.0.ends_with("}\n"), "{}", json.0);
+    }
+}
+
+#[test]
+fn the_texts_come_round() {
+    for shown in files::shown::all() {
+        let text = shown.text();
+        let (words, _, status) = ran(&["words", "-"], text.as_bytes());
+        assert_eq!(status, 0, "{}", shown.name);
+        let (again, _, _) = ran(&["words", "-"], words.as_bytes());
+        assert_eq!(ran(&["words", "-"], again.as_bytes()).0, words, "{}", shown.name);
+        let ask = ["words", "--bytes", "-"].map(OsString::from);
+        let found = command::run(&ask, &mut text.as_bytes()).output;
+        assert_eq!(found, bytes(&shown.words), "{}", shown.name);
+    }
+}
+
+/// A text with something changed in it.
+fn damaged(random: &mut Random, text: &str) -> Vec<u8> {
+    const PIECES: [&str; 24] = [
+        "<=",
+        ">=",
+        "=",
+        "<",
+        "-",
+        "+",
+        "*",
+        "/",
+        "#",
+        "\n",
+        "\r",
+        " ",
+        "free ",
+        "row ",
+        "x",
+        "nan",
+        "99999999999999999999",
+        "0",
+        "2.5",
+        "\u{2264}",
+        "can\n",
+        "cannot\n",
+        "1 times line 3\n",
+        "\u{0}",
+    ];
+    let mut bytes = text.as_bytes().to_vec();
+    for _ in 0..random.size(1, 6) {
+        let at = random.below(bytes.len() + 1);
+        match random.below(5) {
+            0 => bytes.truncate(at),
+            1 if at < bytes.len() => bytes[at] = random.below(256) as u8,
+            2 if at < bytes.len() => drop(bytes.remove(at)),
+            3 => {
+                let end = at + random.below(bytes.len() + 1 - at);
+                let piece = bytes[at..end].to_vec();
+                bytes.splice(at..at, piece);
+            }
+            _ => drop(bytes.splice(at..at, PIECES[random.below(PIECES.len())].bytes())),
+        }
+    }
+    bytes
+}
+
+#[test]
+fn damaged_texts_never_panic() {
+    let seed = seed();
+    println!("SEED={seed}");
+    let mut texts: Vec<String> = files::shown::all().iter().map(|shown| shown.text()).collect();
+    for name in ["problems/oven.txt", "problems/starts.txt"] {
+        texts.push(fs::read_to_string(files::top().join(name)).unwrap());
+    }
+    let mut statuses = [0; 7];
+    let top = files::top();
+    let top = top.to_str().unwrap();
+    for problem in 0..20_000 {
+        let mut random = Random::of_problem(seed, problem);
+        let chosen = random.below(texts.len());
+        let text = damaged(&mut random, &texts[chosen]);
+        let json = if random.percent(20) { "--json" } else { "--" };
+        let words: &[&str] = match random.below(5) {
+            0 => &["times", json, "-"],
+            1 => &["words", "-"],
+            2 => &["words", "--times", "-"],
+            3 => {
+                let solved = ran(&["solve", &format!("{top}/problems/c.txt")], b"").0;
+                let answer = damaged(&mut random, &solved);
+                let status = ran(&["check", &format!("{top}/problems/c.txt"), "-"], &answer).2;
+                statuses[status as usize] += 1;
+                continue;
+            }
+            _ => &["solve", json, "-"],
+        };
+        let (output, errors, status) = ran(words, &text);
+        assert!(!output.is_empty() || !errors.is_empty(), "SEED={seed}");
+        statuses[status as usize] += 1;
+    }
+    println!("{statuses:?}");
+    assert!(statuses[0] > 1_000 && statuses[1] > 100 && statuses[4] > 1_000, "{statuses:?}");
+    assert_eq!((statuses[5], statuses[6]), (0, 0), "SEED={seed}");
+}
+
+#[test]
+fn a_full_disk_and_a_closed_pipe_are_noticed() {
+    let full = File::options().write(true).open("/dev/full").unwrap();
+    let ran = program().args(["solve", "problems/a.txt"]).stdout(full).output().unwrap();
+    assert_eq!(ran.status.code(), Some(5));
+    let said = String::from_utf8(ran.stderr).unwrap();
+    assert!(said.starts_with("scatterflock: the output cannot be written"), "{said}");
+
+    let mut child = program()
+        .args(["solve", "-"])
+        .stdin(Stdio::piped())
+        .stdout(Stdio::piped())
+        .stderr(Stdio::piped())
+        .spawn()
+        .unwrap();
+    drop(child.stdout.take());
+    child.stdin.take().unwrap().write_all(b"x >= 1\n").unwrap();
+    let ran = child.wait_with_output().unwrap();
+    assert_eq!(ran.status.code(), Some(5));
+    assert!(!ran.stderr.is_empty());
+}
