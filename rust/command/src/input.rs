@@ -67,7 +67,11 @@ fn bytes(file: &OsStr, stdin: &mut dyn Read) -> Result<(String, Vec<u8>), Failur
     Err(Failure::Unread { file: name, what })
 }
 
-fn text(name: &str, bytes: Vec<u8>) -> Result<String, Failure> {
+/// The text of bytes, but for a mark of byte order at its start.
+fn text(name: &str, mut bytes: Vec<u8>) -> Result<String, Failure> {
+    if bytes.starts_with(b"\xef\xbb\xbf") {
+        bytes.drain(..3);
+    }
     String::from_utf8(bytes).map_err(|error| {
         let read = String::from_utf8_lossy(&error.as_bytes()[..error.utf8_error().valid_up_to()]);
         let line = read.split('\n').count();

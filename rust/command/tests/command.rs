@@ -1,5 +1,7 @@
 //! The command as a program: what it prints, where, and with which status.
 
+mod json;
+
 use problems::published::published;
 use problems::random::{seed, Random};
 use problems::worked;
@@ -109,7 +111,7 @@ fn what_solve_prints_check_accepts() {
         assert_eq!(ran(&["check", file, "-"], short.join(" ").as_bytes()).2, 3);
         let json = ran(&["--json", "solve", file], b"");
         assert_eq!(json.2, status);
-        assert!(json.0.contains("\"checked\":true") && json.0.ends_with("}\n"), "{}", json.0);
+        assert!(json.0.contains("\"checked\":true") && json::is_one_line(&json.0), "{}", json.0);
     }
 }
 
@@ -204,6 +206,9 @@ fn damaged_texts_never_panic() {
         };
         let (output, errors, status) = ran(words, &text);
         assert!(!output.is_empty() || !errors.is_empty(), "SEED={seed}");
+        if words.contains(&"--json") {
+            assert!(json::is_one_line(&output), "SEED={seed}: {output}");
+        }
         statuses[status as usize] += 1;
     }
     println!("{statuses:?}");

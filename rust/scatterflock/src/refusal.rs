@@ -37,7 +37,7 @@ pub enum Refusal {
 
 impl Refusal {
     /// Every refusal, in the order in which they are asked.
-    pub const ALL: [Refusal; 8] = [
+    pub const ALL: &[Refusal] = &[
         Refusal::FewWords,
         Refusal::Sizes,
         Refusal::Length,
@@ -60,7 +60,7 @@ impl TryFrom<u32> for Refusal {
     type Error = u32;
 
     fn try_from(number: u32) -> Result<Refusal, u32> {
-        Refusal::ALL.into_iter().find(|refusal| refusal.number() == number).ok_or(number)
+        Refusal::ALL.iter().copied().find(|refusal| refusal.number() == number).ok_or(number)
     }
 }
 
@@ -114,7 +114,7 @@ pub enum TimesRefusal {
 
 impl TimesRefusal {
     /// Every refusal, by number.
-    pub const ALL: [TimesRefusal; 7] = [
+    pub const ALL: &[TimesRefusal] = &[
         TimesRefusal::FewWords,
         TimesRefusal::Sizes,
         TimesRefusal::Length,
@@ -136,7 +136,7 @@ impl TryFrom<u32> for TimesRefusal {
     type Error = u32;
 
     fn try_from(number: u32) -> Result<TimesRefusal, u32> {
-        TimesRefusal::ALL.into_iter().find(|refusal| refusal.number() == number).ok_or(number)
+        TimesRefusal::ALL.iter().copied().find(|refusal| refusal.number() == number).ok_or(number)
     }
 }
 

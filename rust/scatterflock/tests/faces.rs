@@ -76,11 +76,11 @@ fn every_refusal() {
 
 #[test]
 fn numbers_and_texts_of_refusals() {
-    for (refusal, number) in Refusal::ALL.into_iter().zip([1, 2, 3, 4, 5, 6, 10, 7]) {
+    for (refusal, number) in Refusal::ALL.iter().copied().zip([1, 2, 3, 4, 5, 6, 10, 7]) {
         assert_eq!(refusal.number(), number);
         assert_eq!(Refusal::try_from(number), Ok(refusal));
     }
-    for (refusal, number) in TimesRefusal::ALL.into_iter().zip(11..) {
+    for (refusal, number) in TimesRefusal::ALL.iter().copied().zip(11..) {
         assert_eq!(refusal.number(), number);
         assert_eq!(TimesRefusal::try_from(number), Ok(refusal));
     }
@@ -114,7 +114,7 @@ fn tells_its_ranges(text: &str, spots: Spots, is_refused: impl Fn(&[i32]) -> boo
 
 #[test]
 fn ranges_in_texts_of_refusals() {
-    for refusal in Refusal::ALL {
+    for &refusal in Refusal::ALL {
         let spots: Spots = match refusal {
             Refusal::Sizes => vec![|n| vec![n, 0], |m| vec![1, m]],
             Refusal::Coefficient => vec![|coefficient| row_words(coefficient, FREE)],
@@ -124,7 +124,7 @@ fn ranges_in_texts_of_refusals() {
         };
         tells_its_ranges(&refusal.to_string(), spots, |words| solve(words) == Err(refusal));
     }
-    for refusal in TimesRefusal::ALL {
+    for &refusal in TimesRefusal::ALL {
         let spots: Spots = match refusal {
             TimesRefusal::Sizes => vec![|n| vec![n, 0], |m| vec![1, m]],
             TimesRefusal::Bound => vec![|bound| time_words(2, &[[0, 1, 0, bound]])],
