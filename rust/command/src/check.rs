@@ -1,7 +1,8 @@
 //! `scatterflock check`: an answer, anybody's, before the proved checker.
 
 use crate::input::{self, any_text, bad};
-use crate::solve::{all_limits, problem, refused_words, spare, table};
+use crate::problem::{all_limits, place, problem, refused_words, spare};
+use crate::table::table;
 use crate::{json, Ended, Failure, CAN, CANNOT};
 use scatterflock::{Judgement, Refusal};
 use std::ffi::OsStr;
@@ -67,8 +68,7 @@ fn broken(problem: &Limits, words: &[i64]) -> Vec<Vec<String>> {
     };
     let all = all_limits(problem).into_iter().filter(|limit| far(limit).numerator < 0);
     all.map(|(variable, side)| {
-        let line = problem.limits[variable][side as usize].and_then(|limit| limit.line);
-        let line = line.map(|line| format!("line {line}"));
+        let line = place(problem, variable, side);
         let by = far(&(variable, side)).to_string();
         let limit = problem.limit_text(variable, side).unwrap_or_default();
         line.into_iter().chain([limit, format!("by {}", by.trim_start_matches('-'))]).collect()

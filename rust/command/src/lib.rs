@@ -3,8 +3,9 @@
 //!
 //! - `options`: the words of the command line
 //! - `input`: files as words or as text
+//! - `problem`: a limit problem of a file
 //! - `fraction`: fractions in lowest terms, and decimals to read
-//! - `json`: values as JSON
+//! - `json`, `table`: values as JSON, lines of cells
 //! - `solve`, `check`, `times`, `words`: what the command does
 
 mod check;
@@ -12,7 +13,9 @@ mod fraction;
 mod input;
 mod json;
 mod options;
+mod problem;
 mod solve;
+mod table;
 mod times;
 mod words;
 

@@ -1,7 +1,7 @@
 //! `scatterflock times`: an answer about time rows.
 
 use crate::input::{self, bad, Content, Input};
-use crate::solve::table;
+use crate::table::table;
 use crate::{json, Ended, Failure, CAN, CANNOT};
 use scatterflock::{Schedule, TimesRefusal};
 use std::ffi::OsStr;
@@ -94,12 +94,14 @@ fn cannot(rows: &Times, cycle: &[usize]) -> Ended {
     let mut said = format!("cannot\n\n{}\n", table("", &named.collect::<Vec<_>>()));
     said += "# In whole minutes, and all of them added up:\n";
     let left = |row: &Row| format!("{} - {}", rows.names[row.x], rows.names[row.y]);
+    let sum: i64 = listed.iter().map(|row| length(row)).sum();
     let wide = listed.iter().map(|row| left(row).len()).max().unwrap_or(0);
+    let rights = listed.iter().map(|row| length(row)).chain([sum]);
+    let right_wide = rights.map(|right| right.to_string().len()).max().unwrap_or(0);
     for row in &listed {
         said += &format!("#   {:>wide$} <= {}\n", left(row), length(row));
     }
-    let sum: i64 = listed.iter().map(|row| length(row)).sum();
-    said += &format!("#   {}\n", "-".repeat(wide + 4 + sum.to_string().len()));
+    said += &format!("#   {}\n", "-".repeat(wide + 4 + right_wide));
     said += &format!("#   {:>wide$} <= {sum}\n#\n", "0");
     said += "# No whole times meet these rows together. The sum was made once more before this was shown.\n";
     Ended::saying(said, CANNOT)

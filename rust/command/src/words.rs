@@ -2,7 +2,8 @@
 
 use crate::input::{self, Content};
 use crate::options::Options;
-use crate::{solve, times, Ended, Failure, CAN};
+use crate::problem::problem;
+use crate::{times, Ended, Failure, CAN};
 use std::ffi::OsStr;
 use std::io::Read;
 
@@ -13,7 +14,7 @@ pub fn run(file: &OsStr, options: &Options, stdin: &mut dyn Read) -> Result<Ende
         let (_, rows) = times::rows(input)?;
         (rows.words(), rows.text())
     } else {
-        let (_, problem) = solve::problem(input)?;
+        let (_, problem) = problem(input)?;
         (problem.words(), problem.text())
     };
     Ok(if options.bytes {

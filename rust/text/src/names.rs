@@ -10,13 +10,11 @@ pub const RESERVED: [&str; 2] = ["free", "row"];
 pub struct Names {
     pub list: Vec<String>,
     most: usize,
-    /// What a name stands for, in the plural.
-    what: &'static str,
 }
 
 impl Names {
-    pub fn new(most: usize, what: &'static str) -> Names {
-        Names { list: Vec::new(), most, what }
+    pub fn new(most: usize) -> Names {
+        Names { list: Vec::new(), most }
     }
 
     /// The number of a name that is used here, for the first time or again.
@@ -29,8 +27,7 @@ impl Names {
             return Ok(number);
         }
         if self.list.len() == self.most {
-            let what =
-                format!("{name} is one too many: there are {} {} at most", self.most, self.what);
+            let what = format!("{name} is one too many: there are {} names at most", self.most);
             return Err(line.fault(column, what));
         }
         self.list.push(name.to_string());

@@ -67,14 +67,17 @@ pub fn statement(line: &Line, skipped: usize) -> Result<Statement, Fault> {
         }
         _ => {
             let only = sides.pop().expect("there is a side");
+            if only.number != 0 {
+                return Err(line.fault(
+                    line.end,
+                    "a sign is missing here: a sum without limits has names alone",
+                ));
+            }
             Statement { terms: only.terms, lower: None, upper: None }
         }
     };
     if found.terms.is_empty() {
-        return Err(line.fault(
-            tokens.first().map_or(line.end, |t| t.column),
-            "there is no name in this line",
-        ));
+        return Err(line.fault(tokens[0].column, "there is no name in this line"));
     }
     Ok(found)
 }
@@ -85,55 +88,60 @@ fn side(line: &Line, tokens: &[Token], end: usize) -> Result<Side, Fault> {
     let mut rest = tokens;
     let mut is_first = true;
     while is_first || !rest.is_empty() {
-        let column = rest.first().map_or(end, |token| token.column);
-        let is_negative = match rest.first().map(|token| &token.kind) {
-            Some(Kind::Plus) => false,
-            Some(Kind::Minus) => true,
-            Some(_) if is_first => false,
-            None => return Err(line.fault(column, "a number or a name is missing here")),
-            Some(_) => return Err(line.fault(column, "a sign, + or -, is missing before this")),
-        };
-        if matches!(rest[0].kind, Kind::Plus | Kind::Minus) {
-            rest = &rest[1..];
-        }
-        is_first = false;
-        let kinds: Vec<&Kind> = rest.iter().take(3).map(|token| &token.kind).collect();
-        let (number, name, length) = match kinds[..] {
-            [Kind::Number(number), Kind::Times, Kind::Name(name), ..] => {
-                (Some(number), Some((name, 2)), 3)
+        let sign = match rest.first().map(|token| &token.kind) {
+            Some(Kind::Plus) => Some(1),
+            Some(Kind::Minus) => Some(-1),
+            Some(_) if !is_first => {
+                return Err(line.fault(rest[0].column, "a sign, + or -, is missing before this"))
             }
-            [Kind::Number(number), Kind::Name(name), ..] => (Some(number), Some((name, 1)), 2),
-            [Kind::Number(number), ..] => (Some(number), None, 1),
-            [Kind::Name(name), ..] => (None, Some((name, 0)), 1),
-            _ => {
-                let column = rest.first().map_or(end, |token| token.column);
-                return Err(line.fault(column, "a number or a name is missing here"));
-            }
+            _ => None,
         };
-        if let Some(Token { kind: Kind::Times | Kind::Over, column }) = rest.get(length) {
-            return Err(line.fault(*column, "only a number and a name can be multiplied: 3 * x"));
-        }
-        let column = rest[0].column;
-        let (largest, what) = match name {
-            Some(_) => (LARGEST_COEFFICIENT, "a coefficient is from -1000 to 1000"),
-            None => (LARGEST_LIMIT, "a limit is from -30000 to 30000"),
-        };
-        let size = number.copied().unwrap_or(1);
-        if size > largest {
-            return Err(line.fault(column, format!("{size} is out of range: {what}")));
-        }
-        let signed = if is_negative { -size } else { size };
-        match name {
-            Some((name, place)) => side.terms.push(Term {
-                coefficient: signed as i32,
-                name: name.clone(),
-                column: rest[place].column,
-            }),
-            None => side.number += signed,
-        }
+        rest = &rest[usize::from(sign.is_some())..];
+        let length = term(line, rest, end, sign.unwrap_or(1), &mut side)?;
         rest = &rest[length..];
+        is_first = false;
     }
     Ok(side)
+}
+
+/// Adds the term that comes next, and says how many tokens it is made of.
+fn term(
+    line: &Line,
+    rest: &[Token],
+    end: usize,
+    sign: i64,
+    side: &mut Side,
+) -> Result<usize, Fault> {
+    let kinds: Vec<&Kind> = rest.iter().take(3).map(|token| &token.kind).collect();
+    let (size, name, length) = match kinds[..] {
+        [Kind::Number(size), Kind::Times, Kind::Name(name), ..] => (*size, Some(name), 3),
+        [Kind::Number(size), Kind::Name(name), ..] => (*size, Some(name), 2),
+        [Kind::Number(size), ..] => (*size, None, 1),
+        [Kind::Name(name), ..] => (1, Some(name), 1),
+        _ => {
+            let column = rest.first().map_or(end, |token| token.column);
+            return Err(line.fault(column, "a number or a name is missing here"));
+        }
+    };
+    if let Some(Token { kind: Kind::Times | Kind::Over, column }) = rest.get(length) {
+        return Err(line.fault(*column, "only a number and a name can be multiplied: 3 * x"));
+    }
+    let (largest, what) = match name {
+        Some(_) => (LARGEST_COEFFICIENT, "a coefficient is from -1000 to 1000"),
+        None => (LARGEST_LIMIT, "a limit is from -30000 to 30000"),
+    };
+    if size > largest {
+        return Err(line.fault(rest[0].column, format!("{size} is out of range: {what}")));
+    }
+    match name {
+        Some(name) => side.terms.push(Term {
+            coefficient: (sign * size) as i32,
+            name: name.clone(),
+            column: rest[length - 1].column,
+        }),
+        None => side.number += sign * size,
+    }
+    Ok(length)
 }
 
 /// Left, a sign, right: the names go to the left, the numbers to the right.

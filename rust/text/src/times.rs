@@ -44,7 +44,7 @@ pub struct Row {
 ///
 /// The first fault, with line and column.
 pub fn read(text: &str) -> Result<Times, Fault> {
-    let mut names = Names::new(MOST_VERTICES, "names");
+    let mut names = Names::new(MOST_VERTICES);
     let mut rows = Vec::new();
     for line in lines(text) {
         let line = line?;
@@ -77,9 +77,8 @@ fn say(line: &Line, said: &Statement, names: &mut Names, rows: &mut Vec<Row>) ->
         let what = "a time row is about a difference: end - start <= 30";
         return Err(line.fault(second.column, what));
     }
-    let at = [first, second].map(|term| names.used(line, term.column, &term.name));
-    let [first_at, second_at] = at;
-    let (first_at, second_at) = (first_at?, second_at?);
+    let first_at = names.used(line, first.column, &first.name)?;
+    let second_at = names.used(line, second.column, &second.name)?;
     let (x, y) = if first.coefficient > 0 { (first_at, second_at) } else { (second_at, first_at) };
     if said.lower.is_none() && said.upper.is_none() {
         let what = "a sign is missing: <=, <, >=, > or = says how far they are apart";

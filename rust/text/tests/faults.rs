@@ -75,6 +75,10 @@ fn of_limits() {
         ("free", "1:5: a name is missing after free".to_string()),
         ("free x + y", "1:8: after free stand names alone: free x y".to_string()),
         ("x + row >= 1", "1:5: row is no name: it begins a line of its own kind".to_string()),
+        (
+            "row x + 3",
+            "1:10: a sign is missing here: a sum without limits has names alone".to_string(),
+        ),
         ("row", "1:4: a sum is missing after row".to_string()),
         ("", "1:1: there is no limit in this text".to_string()),
         ("# x >= 1\n", "1:1: there is no limit in this text".to_string()),

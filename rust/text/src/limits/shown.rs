@@ -1,0 +1,105 @@
+//! A limit problem, shown as text.
+
+use super::{read, Limits, Side};
+use crate::statement::sum_text;
+
+impl Limits {
+    /// A sum of names, as text: those with 0 are left out, and one that is
+    /// added comes first. An empty sum is 0.
+    #[must_use]
+    pub fn sum(&self, coefficients: &[i64]) -> String {
+        let mut terms: Vec<(i64, &str)> = self.terms(coefficients).collect();
+        if let Some(place) = terms.iter().position(|term| term.0 > 0) {
+            terms[..=place].rotate_right(1);
+        }
+        match sum_text(terms.into_iter()) {
+            text if text.is_empty() => "0".to_string(),
+            text => text,
+        }
+    }
+
+    /// The terms of a sum, but for those with 0.
+    fn terms<'a>(&'a self, coefficients: &'a [i64]) -> impl Iterator<Item = (i64, &'a str)> {
+        let terms = coefficients.iter().zip(&self.names).filter(|(number, _)| **number != 0);
+        terms.map(|(number, name)| (*number, name.as_str()))
+    }
+
+    /// The coefficients of a variable or row, where they are not all 0.
+    fn some_coefficients(&self, variable: usize) -> Option<Vec<i64>> {
+        let coefficients = self.coefficients(variable).into_iter().map(i64::from);
+        Some(coefficients.collect()).filter(|all: &Vec<i64>| all.iter().any(|&number| number != 0))
+    }
+
+    /// What is limited, as text.
+    #[must_use]
+    pub fn left(&self, variable: usize) -> String {
+        let some = self.some_coefficients(variable);
+        some.map_or_else(|| self.blank(), |coefficients| self.sum(&coefficients))
+    }
+
+    /// The same with the names in their order.
+    fn left_in_order(&self, variable: usize) -> String {
+        let some = self.some_coefficients(variable);
+        some.map_or_else(|| self.blank(), |coefficients| sum_text(self.terms(&coefficients)))
+    }
+
+    /// A row of zeros.
+    fn blank(&self) -> String {
+        format!("0 {}", self.names[0])
+    }
+
+    /// One limit as text: `x + y >= 2`.
+    #[must_use]
+    pub fn limit_text(&self, variable: usize, side: Side) -> Option<String> {
+        let limit = self.limits.get(variable)?[side as usize]?;
+        let sign = if side == Side::Lower { ">=" } else { "<=" };
+        Some(format!("{} {sign} {}", self.left(variable), limit.number))
+    }
+
+    /// The whole problem as text, a line for each variable or row that is
+    /// limited. The text has the same words.
+    #[must_use]
+    pub fn text(&self) -> String {
+        for is_in_order in [false, true] {
+            let short = self.lines(false, is_in_order);
+            if read(&short).is_ok_and(|again| again.names == self.names) {
+                return short;
+            }
+        }
+        self.lines(true, false)
+    }
+
+    /// The lines; the names without limits are told where that is asked for.
+    fn lines(&self, tells_free: bool, is_in_order: bool) -> String {
+        let n = self.names.len();
+        let mut lines = String::new();
+        for (variable, limits) in self.limits.iter().enumerate() {
+            let left = match is_in_order {
+                true => self.left_in_order(variable),
+                false => self.left(variable),
+            };
+            let said = match limits.map(|limit| limit.map(|limit| limit.number)) {
+                [Some(low), Some(high)] if low == high => format!("{left} = {low}"),
+                [Some(low), Some(high)] => format!("{low} <= {left} <= {high}"),
+                [Some(low), None] => format!("{left} >= {low}"),
+                [None, Some(high)] => format!("{left} <= {high}"),
+                [None, None] if variable >= n => left,
+                [None, None] if tells_free => format!("free {left}"),
+                [None, None] => continue,
+            };
+            let is_alone = variable >= n && self.is_alone(variable - n);
+            lines += &format!("{}{said}\n", if is_alone { "row " } else { "" });
+        }
+        lines
+    }
+
+    /// Whether a line about this row would be taken for something else.
+    fn is_alone(&self, place: usize) -> bool {
+        let row = &self.rows[place];
+        let turned: Vec<i32> = row.iter().map(|number| -number).collect();
+        let named: Vec<i32> = row.iter().copied().filter(|&number| number != 0).collect();
+        matches!(named[..], [1 | -1])
+            || self.rows[..place].iter().any(|other| other == row || *other == turned)
+            || self.limits[self.names.len() + place] == [None; 2]
+    }
+}
