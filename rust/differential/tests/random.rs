@@ -18,11 +18,11 @@ fn limit_problems() {
         assert!(report.of(outcome) > LIMIT_PROBLEMS / 5, "{outcome}, SEED={seed}");
     }
     assert!(report.of("range") > LIMIT_PROBLEMS / 100, "range, SEED={seed}");
-    for number in 1..=7 {
+    for number in (1..=7).chain([10]) {
         let refused = report.of(&format!("refused {number}"));
         assert!(refused > LIMIT_PROBLEMS / 1_000, "{number}, SEED={seed}");
     }
-    for number in 1..=9 {
+    for number in 1..=10 {
         assert!(report.checks[&number] > LIMIT_PROBLEMS / 1_000, "check {number}, SEED={seed}");
     }
 }

@@ -50,7 +50,7 @@ fn each_example_says_what_is_printed() {
 fn every_refusal_and_verdict_is_asked_for() {
     let vectors = files::vectors::all();
     let text = files::vectors::answered(&vectors);
-    for number in (0..=9).chain(11..=17) {
+    for number in 0..=17 {
         let asked = text.lines().filter(|line| line.starts_with(&format!("{number}:"))).count();
         assert!(asked >= 2, "{number} comes {asked} times");
     }
