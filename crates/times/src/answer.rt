@@ -9,19 +9,20 @@ ghost use Rattle.rules.specs.Times.{cycleWords};
 ghost use Rattle.times.specs.Lengths.{timeOf};
 ghost use Rattle.times.specs.Steps.{AllModest, Gathering, rowsOf};
 use crate::cycle::Way;
-use crate::length::Length;
-use crate::passes::MOST_VERTICES;
+use crate::reached::MOST_VERTICES;
+use crate::reached::Reached;
 
 // The times, minus the distances.
-pub fn times_of(best: [Length; MOST_VERTICES]) -> [i64; MOST_VERTICES]
-    requires { ⌜ AllModest best ⌝ }
-    ensures { λ r. ⌜ r ≡ map timeOf best ⌝ }
+pub fn times_of(known: [Reached; MOST_VERTICES]) -> [i64; MOST_VERTICES]
+    requires { ⌜ AllModest known ⌝ }
+    ensures { λ r. ⌜ r ≡ map timeOf known ⌝ }
 {
     let mut values = [0i64; MOST_VERTICES];
     let mut v = 0;
     while v < MOST_VERTICES {
-        let distance = best[v];
-        values[v] = distance.time();
+        let reached = known[v];
+        let best = reached.best;
+        values[v] = best.time();
         v += 1;
     }
     values

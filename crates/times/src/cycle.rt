@@ -1,31 +1,33 @@
-// The way back along the rows that bettered each vertex last, from a vertex that the last of n passes bettered. It meets a vertex again, and so closes
-// a cycle of rows whose lengths sum below 0.
+// The way back along the rows that bettered each vertex last, from a vertex that the last pass bettered. It ends at a
+// vertex that no row has bettered, or meets one again, and so closes a cycle of rows whose lengths sum below 0.
 ghost use mathlib.Core.Path.{_≡_};
 ghost use Prim.Native.Nat.{ℕ};
 ghost use lib.IntN.{ℤ};
 ghost use Rattle.rules.specs.Problem.{nOf};
-ghost use Rattle.times.specs.Steps.{Closing, Closed};
-use crate::passes::MOST_VERTICES;
+ghost use Rattle.times.specs.Steps.{Tried, Back};
+use crate::reached::MOST_VERTICES;
+use crate::reached::NO_ROW;
+use crate::reached::Reached;
 use crate::rows::tail;
 
-// The rows that a way took, at the places from `from` on; those up to `to` go round.
+// The rows that a way took, at the places from `from` on; those up to `to` go round, if there are any.
 pub struct Way {
     pub from: usize,
     pub to: usize,
-    pub path: [usize; MOST_VERTICES],
+    pub path: [u16; MOST_VERTICES],
 }
 
-pub fn way_back(rows: &[i32], n: usize, last: [u16; MOST_VERTICES], v: usize) -> Way
-    requires { ⌜ Closing (now rows) last v ⌝ }
+pub fn way_back(rows: &[i32], n: usize, known: [Reached; MOST_VERTICES], v: usize) -> Way
+    requires { ⌜ Tried (now rows) known v ⌝ }
     requires { ⌜ n ≡ nOf (now rows) ⌝ }
-    ensures { λ r. ⌜ Closed (now (rows .entry)) r ⌝ }
+    ensures { λ r. ⌜ Back (now (rows .entry)) known v r ⌝ }
 {
-    let mut seen = [0usize; MOST_VERTICES];
-    let mut path = [0usize; MOST_VERTICES];
+    let mut seen = [0u8; MOST_VERTICES];
+    let mut path = [0u16; MOST_VERTICES];
     let mut here = v;
     let mut j = n;
     loop {
-        let mark = seen[here];
+        let mark = seen[here] as usize;
         if mark != 0 {
             return Way {
                 from: j,
@@ -33,11 +35,19 @@ pub fn way_back(rows: &[i32], n: usize, last: [u16; MOST_VERTICES], v: usize) ->
                 path,
             };
         }
+        let reached = known[here];
+        let i = reached.last;
+        if i == NO_ROW {
+            return Way {
+                from: j,
+                to: j,
+                path,
+            };
+        }
         let place = j - 1;
-        let i = last[here] as usize;
-        seen[here] = j;
-        path[place] = i;
-        here = tail(rows, i);
+        seen[here] = j as u8;
+        path[place] = i as u16;
+        here = tail(rows, i as usize);
         j = place;
     }
 }

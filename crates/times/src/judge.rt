@@ -12,7 +12,7 @@ ghost use Rattle.rules.specs.Problem.{nOf, mOf};
 ghost use Rattle.rules.specs.TimeWords.{badTimeSize, timeRefusal};
 ghost use Rattle.times.specs.Judged.{Framed, numberOf, rowNumber, rowsNumber};
 use crate::length::Length;
-use crate::passes::MOST_VERTICES;
+use crate::reached::MOST_VERTICES;
 use crate::rows::count_at;
 
 pub const MOST_ROWS: usize = 256;

@@ -5,7 +5,7 @@ ghost use lib.IntN.{ℤ, negℤ};
 ghost use Rattle.whole.specs.Values.{whole};
 ghost use Rattle.times.specs.Lengths.{lengthOf, Modest};
 
-pub struct Length(pub i64);
+pub struct Length(pub i32);
 
 impl Length {
     pub const LARGEST: i32 = 30000;
@@ -29,6 +29,6 @@ impl Length {
         requires { ⌜ Modest self ⌝ }
         ensures { λ r. ⌜ r ≡ negℤ (lengthOf self) ⌝ }
     {
-        -self.0
+        -(self.0 as i64)
     }
 }

@@ -2,6 +2,7 @@
 //   judge     refusals 11 to 17
 //   length    what is added and compared along walks
 //   rows      accepted words as edges
+//   reached   what is known of a vertex
 //   passes    distances, pass by pass
 //   cycle     the way back to a cycle
 //   answer    the answer's words
@@ -17,28 +18,24 @@ mod cycle;
 mod judge;
 mod length;
 mod passes;
+mod reached;
 mod rows;
 
-// The times where the passes settle; else the cycle that the way back closes.
+// The times where the passes settle; else the cycle that the way back closed.
 fn solve(rows: &[i32], out: &mut [i64])
     requires { ⌜ AcceptedTimes (now rows) (lists.length (now out)) ⌝ }
     ensures { λ r. ⌜ Timed (now (rows .entry)) (now (out .entry)) 0 (now (out .exit)) ⌝ }
 {
     let n = rows::count_at(rows, 0);
     let m = rows::count_at(rows, 1);
-    let p = passes::settle(rows, n, m);
-    let found = p.found;
-    match found {
-        passes::Found::Nothing => {
-            let best = p.best;
-            answer::write(1, n, answer::times_of(best), n, out);
-        }
-        passes::Found::At(v) => {
-            let last = p.last;
-            let way = cycle::way_back(rows, n, last, v);
-            answer::write(2, way.to - way.from, answer::gathered(way), n, out);
-        }
+    let s = passes::settle(rows, n, m);
+    if s.met {
+        let known = s.known;
+        answer::write(1, n, answer::times_of(known), n, out);
+        return;
     }
+    let way = s.way;
+    answer::write(2, way.to - way.from, answer::gathered(way), n, out);
 }
 
 // Times that meet all rows, or a cycle that cannot be met. Returns 0, or the number of the refusal that applies.

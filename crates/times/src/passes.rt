@@ -1,75 +1,150 @@
-// Passes over the rows, in place: the distances after each, and for each vertex the row that bettered it last.
+// Passes over the rows, in place: after each, what is known of each vertex. They end when no row betters its head, or
+// when the way back closes a cycle.
 ghost use mathlib.Core.Path.{_≡_};
-ghost use Prim.Native.Nat.{ℕ, _<_, _≤_};
+ghost use mathlib.Core.Bool.{Bool, cond};
+ghost use Prim.Native.Nat.{ℕ, _<_, min};
 ghost use lib.IntN.{ℤ};
+ghost use Rattle.whole.specs.Values.{whole};
 ghost use Rattle.rules.specs.Problem.{mOf};
-ghost use Rattle.times.specs.Steps.{Passable, Passed, Solvable, Settling};
+ghost use Rattle.rules.specs.TimeWords.{timeEdges};
+ghost use Rattle.times.specs.Lengths.{lengthOf, Modest};
+ghost use Rattle.times.specs.Steps.{Fine, Looking, Quiet, Solvable, Settling};
+use crate::cycle::Way;
+use crate::cycle::way_back;
 use crate::length::Length;
+use crate::reached::MOST_VERTICES;
+use crate::reached::NO_ROW;
+use crate::reached::Reached;
 use crate::rows::head;
 use crate::rows::size;
 use crate::rows::tail;
 
-pub const MOST_VERTICES: usize = 64;
-
-// A vertex, or none.
-pub enum Found {
-    At(usize),
-    Nothing,
+// What the passes came to: whether all rows can be met, the distances if so, and a cycle if not.
+pub struct Ending {
+    pub met: bool,
+    pub known: [Reached; MOST_VERTICES],
+    pub way: Way,
 }
 
-// Distances, the row that bettered each vertex last, and the vertex that the last pass bettered last.
-pub struct Distances {
-    pub best: [Length; MOST_VERTICES],
-    pub last: [u16; MOST_VERTICES],
-    pub found: Found,
-}
-
-// Each row is looked at once; one that leads to a shorter walk betters its head.
-fn pass(rows: &[i32], m: usize, old: Distances) -> Distances
-    requires { ⌜ Passable (now rows) (old .best) (old .last) ⌝ }
-    requires { ⌜ m ≡ mOf (now rows) ⌝ }
-    ensures { λ r. ⌜ Passed (now (rows .entry)) (old .best) (old .last) m (r .best) (r .last) (r .found) ⌝ }
+// What row i offers its head: the distance of its tail, and its length.
+fn offer(rows: &[i32], i: usize, from: Reached) -> Length
+    requires { ⌜ (Fine (now rows)) × (i < mOf (now rows)) × (Modest (from .best)) ⌝ }
+    ensures { λ r. ⌜ lengthOf r ≡ whole .plus (lengthOf (from .best)) (timeEdges (now (rows .entry)) .size i) ⌝ }
 {
-    let mut best = old.best;
-    let mut last = old.last;
-    let mut found = Found::Nothing;
+    let best = from.best;
+    best.plus(size(rows, i))
+}
+
+// One of two rows, or of two vertices' states, without a branch.
+fn row_if(is: bool, row: u32, other: u32) -> u32
+    ensures { λ r. ⌜ r ≡ cond is row other ⌝ }
+{
+    if is {
+        return row;
+    }
+    other
+}
+
+fn reached_if(is: bool, next: Reached, was: Reached) -> Reached
+    ensures { λ r. ⌜ r ≡ cond is next was ⌝ }
+{
+    if is {
+        return next;
+    }
+    was
+}
+
+fn lesser(a: usize, b: usize) -> usize
+    ensures { λ r. ⌜ r ≡ min a b ⌝ }
+{
+    if a <= b {
+        return a;
+    }
+    b
+}
+
+// Whether no row betters its head.
+fn is_quiet(rows: &[i32], m: usize, known: [Reached; MOST_VERTICES]) -> bool
+    requires { ⌜ Looking (now rows) known ⌝ }
+    requires { ⌜ m ≡ mOf (now rows) ⌝ }
+    ensures { λ r. ⌜ Quiet (now (rows .entry)) known r ⌝ }
+{
     let mut i = 0;
     while i < m {
         let x = tail(rows, i);
         let y = head(rows, i);
-        let from = best[x];
-        let offered = from.plus(size(rows, i));
-        let was = best[y];
-        if offered.less(was) {
-            best[y] = offered;
-            last[y] = i as u16;
-            found = Found::At(y);
+        let offered = offer(rows, i, known[x]);
+        let was = known[y];
+        if offered.less(was.best) {
+            return false;
         }
         i += 1;
     }
-    Distances { best, last, found }
+    true
 }
 
-// Passes until one betters nothing, at most n.
-pub fn settle(rows: &[i32], n: usize, m: usize) -> Distances
+// Passes until no row betters its head, or the way back closes a cycle. In a pass each row is looked at once; one that
+// leads to a shorter walk betters its head. Rows in the order of their walks need one pass, and a look alone tells it.
+// The way back is tried after passes 2, 4, 8, ..; sooner where it had fewer places left than passes were made. After n
+// passes it has none.
+pub fn settle(rows: &[i32], n: usize, m: usize) -> Ending
     requires { ⌜ Solvable (now rows) n m ⌝ }
-    ensures { λ r. ⌜ Settling (now (rows .entry)) (r .best) (r .last) (r .found) ⌝ }
+    ensures { λ r. ⌜ Settling (now (rows .entry)) (r .met) (r .known) (r .way) ⌝ }
 {
-    let mut p = Distances {
-        best: [Length(0); MOST_VERTICES],
-        last: [0u16; MOST_VERTICES],
-        found: Found::Nothing,
+    let nowhere = Way {
+        from: n,
+        to: n,
+        path: [0u16; MOST_VERTICES],
     };
+    let mut known = [Reached {
+        best: Length(0),
+        last: NO_ROW,
+    }; MOST_VERTICES];
     let mut k = 0;
+    let mut due = 2;
     loop {
-        p = pass(rows, m, p);
-        k += 1;
-        if k == n {
-            return p;
+        let mut row = NO_ROW;
+        let mut i = 0;
+        while i < m {
+            let x = tail(rows, i);
+            let y = head(rows, i);
+            let best = offer(rows, i, known[x]);
+            let was = known[y];
+            let last = i as u32;
+            let is = best.less(was.best);
+            known[y] = reached_if(is, Reached { best, last }, was);
+            row = row_if(is, last, row);
+            i += 1;
         }
-        let found = p.found;
-        let Found::At(_) = found else {
-            return p;
-        };
+        if row == NO_ROW {
+            return Ending {
+                met: true,
+                known,
+                way: nowhere,
+            };
+        }
+        k += 1;
+        if k == 1 {
+            if is_quiet(rows, m, known) {
+                return Ending {
+                    met: true,
+                    known,
+                    way: nowhere,
+                };
+            }
+            continue;
+        }
+        if k != due {
+            continue;
+        }
+        let way = way_back(rows, n, known, head(rows, row as usize));
+        if way.from < way.to {
+            return Ending {
+                met: false,
+                known,
+                way,
+            };
+        }
+        due = k + lesser(k, way.from);
     }
 }

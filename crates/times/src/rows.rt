@@ -15,7 +15,7 @@ pub fn count_at(words: &[i32], at: usize) -> usize
     requires { ⌜ (at < length (now words)) × (pos 0 ≤ℤ word (now words) at) ⌝ }
     ensures { λ r. ⌜ r ≡ natAbs (word (now (words .entry)) at) ⌝ }
 {
-    words[at] as usize
+    words[at] as u32 as usize
 }
 
 pub fn tail(rows: &[i32], i: usize) -> usize
@@ -38,6 +38,6 @@ pub fn size(rows: &[i32], i: usize) -> Length
 {
     let strict = 4 + 4 * i;
     let c = 5 + 4 * i;
-    let read = rows[c] as i64 - rows[strict] as i64;
+    let read = rows[c] - rows[strict];
     Length(read)
 }

@@ -19,8 +19,9 @@ use Rattle.rules.proofs.Times.Trail.{Trail}
 pub slice-at : (f t k : ℕ) (l : List ℕ) → k < t - f → row (slice f t l) k ≡ row l (f + k)
 slice-at f t k l h = getD-drop f (take t l) k 0 ∙ getD-take t l (f + k) 0 (omega arith)
 
-module _ {X : Type 0} {𝓥 : Values X} (L : Laws 𝓥) (E : Edges X) (time : ℕ → ℕ) (D : ℕ → X) (top : ℕ) (path seen : List ℕ) (here j : ℕ)
-    (r : Trail 𝓥 E time D top path seen here j) (p : ℕ) (e : row seen here ≡ suc p) (long : top ≤ length path) where
+module _ {X : Type 0} {𝓥 : Values X} (L : Laws 𝓥) (E : Edges X) (time : ℕ → ℕ) (D : ℕ → X) (top spare : ℕ)
+    (path seen : List ℕ) (here j : ℕ) (r : Trail 𝓥 E time D top spare path seen here j)
+    (p : ℕ) (e : row seen here ≡ suc p) (long : top ≤ length path) where
   abbrev rows : List ℕ
   rows = slice j (suc p) path
 

@@ -120,29 +120,36 @@ module _ {X : Type 0} {𝓥 : Values X} (L : Laws 𝓥) (E : Edges X) (ends : En
 
     Back : ℕ → Type 0
     Back j = (path seen : List ℕ) (here : ℕ) → length path ≡ suc k → length seen ≡ E .vertices →
-        Trail 𝓥 E (s .time) D (suc k) path seen here j → (rows : List ℕ) × BadCycle 𝓥 E rows
+        Trail 𝓥 E (s .time) D (suc k) 0 path seen here j → (rows : List ℕ) × BadCycle 𝓥 E rows
 
     back : (j : ℕ) → Back j
     unfolding Back
     back zero path seen here p w r = go (row seen here) refl
       where
         go : (m : ℕ) → row seen here ≡ m → (rows : List ℕ) × BadCycle 𝓥 E rows
-        go (suc q) e = (slice 0 (suc q) path, trail-cycle L E (s .time) D (suc k) path seen here 0 r q e (omega arith))
-        go zero e = let z : 0 < 0 = trail-left E ends _ _ (s .time) D (s .last) (s .traced) (suc k) path seen here 0 r e high in absurd (omega arith)
+        go (suc q) e =
+            (slice 0 (suc q) path, trail-cycle L E (s .time) D (suc k) 0 path seen here 0 r q e (omega arith))
+        go zero e =
+            let z : 0 < 0 =
+            trail-left E ends _ _ (s .time) D (s .last) (s .traced) (suc k) 0 path seen here 0 r e high in
+            absurd (omega arith)
     back (suc j) path seen here p w r = go (back j) (row seen here) refl
       where
         go : Back j → (m : ℕ) → row seen here ≡ m → (rows : List ℕ) × BadCycle 𝓥 E rows
-        go ih (suc q) e = (slice (suc j) (suc q) path, trail-cycle L E (s .time) D (suc k) path seen here (suc j) r q e (omega arith))
+        go ih (suc q) e =
+            let b = trail-cycle L E (s .time) D (suc k) 0 path seen here (suc j) r q e (omega arith) in
+            (slice (suc j) (suc q) path, b)
         go ih zero e =
             ih (set path j (s .last here)) (set seen here (suc j)) (E .tail (s .last here))
             (length-set path j (s .last here) ∙ p) (length-set seen here (suc j) ∙ w)
-            (trail-more E ends _ _ (s .time) D (s .last) (s .traced) (suc k) path seen here j r e (omega (arith, r .most)) (omega (arith, r .vertex)))
+            (trail-more E ends _ _ (s .time) D (s .last) (s .traced) (suc k) 0 path seen here j r e
+            (omega (arith, r .late j (omega arith))) (omega (arith, r .most)) (omega (arith, r .vertex)))
 
     late-cycle : (v : ℕ) → v < E .vertices → E .count * k < s .time v → (rows : List ℕ) × BadCycle 𝓥 E rows
     unfolding Back
     late-cycle v h l =
         back (suc k) (replicate (suc k) 0) (replicate (E .vertices) 0) v (length-replicate {A = ℕ} (suc k) 0) (length-replicate {A = ℕ} (E .vertices) 0)
-        (trail-start E ends _ _ (s .time) D (s .last) (s .traced) (suc k) (replicate (suc k) 0) v (E .vertices) h
+        (trail-start E ends _ _ (s .time) D (s .last) (s .traced) (suc k) 0 (replicate (suc k) 0) v (E .vertices) h
         (λ q e. let z : k ≡ q = omega arith in subst (λ x. E .count * x < s .time v) z l))
 
     late : ℕ → Bool

@@ -1,15 +1,18 @@
--- The way back from a vertex that the last of `top` passes bettered, along the rows that bettered each vertex last. A pass earlier at most, the tail
--- of such a row was bettered too, so the way goes on for `top` rows; and if there are no more vertices than that, it meets one again.
+-- The way back from a vertex that the last pass bettered, along the rows that bettered each vertex last. A pass
+-- earlier at most, the tail of such a row was bettered too, so the way has at least as many rows as there were passes:
+-- of `top` places for rows, `spare` may stay empty. It ends at a vertex that no row has bettered, or meets one again;
+-- and it does meet one again if there are no more vertices than passes.
 --   trail-start, trail-more    its start; a vertex is marked and its row put down
---   trail-left                 as long as it has met no vertex again, it has rows left
-use mathlib.Core.Path.{_≡_, refl, sym, _∙_, ap, subst}
+--   trail-left                 as long as it has met no vertex again, it has places left
+--   trail-ends                 where no row has bettered the vertex, only spare places are left
+use mathlib.Core.Path.{_≡_, sym, _∙_, ap, subst}
 use mathlib.Core.List.{List}
 use mathlib.Core.Logic.{_≢_}
 use Prim.Native.Nat.{ℕ, zero, suc, _+_, _*_, _-_, _≤_, _<_}
 use native.Mathlib.Omega.{arith}
 use native.Mathlib.Nat.{mul-suc}
 use native.Mathlib.Decide.{ℕ-discrete, decLt}
-use lib.ListN.{length, getD, set, replicate, getD-replicate, List·getD-eq-default, length-replicate}
+use lib.ListN.{length, set, replicate, getD-replicate, List·getD-eq-default, length-replicate}
 use lib.Seq.{getD-set-same, getD-set-other}
 use Rattle.whole.specs.Values.{Values}
 use Rattle.whole.proofs.Pigeons.{pigeons}
@@ -18,12 +21,12 @@ use Rattle.rules.specs.Cycle.{row}
 use Rattle.rules.proofs.Times.Traced.{Bettered, Traced}
 
 module _ {X : Type 0} (𝓥 : Values X) (E : Edges X) (time : ℕ → ℕ) (D : ℕ → X) where
-  -- The way has come to `here`, with j rows left. `path` holds the rows that it took, from j up to `top`; `seen` holds 1 + the place of the row that
-  -- leads to a vertex, for each vertex that it met, and 0 for every other.
-  pub record Trail (top : ℕ) (path seen : List ℕ) (here j : ℕ) : Type 0 where
+  -- The way has come to `here`, with j places left. `path` holds the rows that it took, from j up to `top`; `seen`
+  -- holds 1 + the place of the row that leads to a vertex, for each vertex that it met, and 0 for every other.
+  pub record Trail (top spare : ℕ) (path seen : List ℕ) (here j : ℕ) : Type 0 where
     pub most : j ≤ top
     pub vertex : here < E .vertices
-    pub late : (q : ℕ) → suc q ≡ j → E .count * q < time here
+    pub late : (q : ℕ) → spare + suc q ≡ j → E .count * q < time here
     pub brings : (q : ℕ) → j ≤ q → q < top → Bettered 𝓥 E time D (E .head (row path q)) (row path q)
     pub linked : (q : ℕ) → j ≤ q → suc q < top → E .head (row path q) ≡ E .tail (row path (suc q))
     pub starts : j < top → E .tail (row path j) ≡ here
@@ -38,11 +41,12 @@ zeros n u = go (decLt u n)
     go (no h) = List·getD-eq-default (replicate n 0) 0 (omega (arith, length-replicate {A = ℕ} n 0))
 
 module _ {X : Type 0} {𝓥 : Values X} (E : Edges X) (ends : Ends E) (b i : ℕ) (time : ℕ → ℕ) (D : ℕ → X) (last : ℕ → ℕ)
-    (t : Traced 𝓥 E b i time D last) (top : ℕ) where
+    (t : Traced 𝓥 E b i time D last) (top spare : ℕ) where
   abbrev At : List ℕ → List ℕ → ℕ → ℕ → Type 0
-  At path seen here j = Trail 𝓥 E time D top path seen here j
+  At path seen here j = Trail 𝓥 E time D top spare path seen here j
 
-  pub trail-start : (path : List ℕ) (v n : ℕ) → v < E .vertices → ((q : ℕ) → suc q ≡ top → E .count * q < time v) → At path (replicate n 0) v top
+  pub trail-start : (path : List ℕ) (v n : ℕ) → v < E .vertices →
+      ((q : ℕ) → spare + suc q ≡ top → E .count * q < time v) → At path (replicate n 0) v top
   trail-start path v n h l = record {
     most = omega arith;
     vertex = h;
@@ -53,6 +57,15 @@ module _ {X : Type 0} {𝓥 : Values X} (E : Edges X) (ends : Ends E) (b i : ℕ
     marked = λ q l m. let z : ⊥ = omega arith in absurd z;
     marks = λ u q e. let z : 0 ≡ suc q = sym (zeros n u) ∙ e in let y : ⊥ = omega arith in absurd y;
   }
+
+  pub trail-ends : (path seen : List ℕ) (here j : ℕ) → At path seen here j → time here ≡ 0 → j ≤ spare
+  trail-ends path seen here j r z = go (decLt spare j)
+    where
+      go : Dec (spare < j) → j ≤ spare
+      go (yes h) =
+          let l : E .count * (j - suc spare) < time here = r .late (j - suc spare) (omega arith) in
+          absurd (omega arith)
+      go (no h) = omega arith
 
   module _ (path seen : List ℕ) (here j : ℕ) (r : At path seen here j) (z : row seen here ≡ 0) where
     -- a vertex that bears no mark is none of those met
@@ -84,7 +97,7 @@ module _ {X : Type 0} {𝓥 : Values X} (E : Edges X) (ends : Ends E) (b i : ℕ
             omega arith
 
   module _ (path seen : List ℕ) (here j : ℕ) (r : At path seen here (suc j)) (z : row seen here ≡ 0)
-      (long : j < length path) (wide : here < length seen) where
+      (bettered : 0 < time here) (long : j < length path) (wide : here < length seen) where
     abbrev i′ : ℕ
     i′ = last here
 
@@ -95,7 +108,7 @@ module _ {X : Type 0} {𝓥 : Values X} (E : Edges X) (ends : Ends E) (b i : ℕ
     seen′ = set seen here (suc j)
 
     o : Bettered 𝓥 E time D here i′
-    o = t .bettered here (omega (arith, r .late j refl))
+    o = t .bettered here bettered
 
     at-j : row path′ j ≡ i′
     at-j = getD-set-same path j i′ 0 long
@@ -152,8 +165,9 @@ module _ {X : Type 0} {𝓥 : Values X} (E : Edges X) (ends : Ends E) (b i : ℕ
     trail-more = record {
       most = omega (arith, r .most);
       vertex = ends .tail-in i′ (o .listed);
-      late = λ q e. let k : E .count * j < time here = r .late j refl in
-          omega (arith, o .soon, ap (λ s. E .count * s) e, mul-suc (E .count) q);
+      late = λ q e.
+          let k : E .count * suc q < time here = r .late (suc q) (omega arith) in
+          omega (arith, o .soon, mul-suc (E .count) q);
       brings = each Brings (subst (λ u. Bettered 𝓥 E time D u i′) (sym (o .leads)) o) (r .brings);
       linked = link;
       starts = λ m. ap (E .tail) at-j;

@@ -23,7 +23,7 @@ use Rattle.rules.proofs.Times.Closed.{slice-at}
 use Rattle.rules.proofs.Times.Decide.{cycle-short, bad-cannot}
 use Rattle.rules.proofs.Times.Only.{answer-can, answer-cannot}
 use Rattle.rules.proofs.Times.Refused.{n-few, m-few, accepted-ends, times-accepted-exactly}
-use Rattle.times.specs.declared.length.Length.{Length}
+use Rattle.times.specs.declared.reached.Reached.{Reached}
 use Rattle.times.specs.declared.cycle.Way.{Way}
 use Rattle.times.specs.Lengths.{timeOf}
 use Rattle.times.specs.Steps.{Fine, Settled, Closed, Gathering, rowsOf}
@@ -58,14 +58,14 @@ module _ (ws before : List ℤ) (A : AcceptedTimes ws (length before)) where
   unrefused : 0 ≡ timeRefusal ws (length before)
   unrefused = sym (times-accepted-exactly ws (length before) .1 A)
 
-  pub timed-met : (best : List Length) (after : List ℤ) (n : ℕ) → n ≡ nOf ws → Settled ws best →
-      after ≡ pos 1 ∷ pos n ∷ take n (map timeOf best) ++ drop (2 + n) before → Timed ws before 0 after
+  pub timed-met : (known : List Reached) (after : List ℤ) (n : ℕ) → n ≡ nOf ws → Settled ws known →
+      after ≡ pos 1 ∷ pos n ∷ take n (map timeOf known) ++ drop (2 + n) before → Timed ws before 0 after
   unfolding timesWritten
-  timed-met best after n e s w = record {
+  timed-met known after n e s w = record {
     refused = unrefused;
     rows = [];
-    written = w ∙ ap (λ k. pos 1 ∷ pos k ∷ take k (map timeOf best) ++ drop (2 + k) before) e
-        ∙ ap (λ t. pos 1 ∷ pos (nOf ws) ∷ t ++ drop (timesLength ws) before) (times-are ws (fine-of A) best s)
+    written = w ∙ ap (λ k. pos 1 ∷ pos k ∷ take k (map timeOf known) ++ drop (2 + k) before) e
+        ∙ ap (λ t. pos 1 ∷ pos (nOf ws) ∷ t ++ drop (timesLength ws) before) (times-are ws (fine-of A) known s)
         ∙ ap (λ t. t ++ drop (timesLength ws) before) (sym (answer-can ws [] (s .can)));
     named = λ z f. true-false (s .can) f;
   }

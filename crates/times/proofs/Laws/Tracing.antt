@@ -1,11 +1,19 @@
--- The way back in arrays: tracing-start, tracing-more; it has rows left until it meets a vertex again (tracing-left), and has then closed a bad cycle
--- (tracing-closed).
+-- The way back in arrays.
+--   tracing-start, tracing-more      its start; a row more
+--   tracing-left                     it has places left until it meets a vertex again
+--   tracing-closed                   then it has closed a bad cycle
+--   tracing-ended                    at no row it has no more places left than passes can still be made
+--   tracing-here, -high, -mark       the vertex, the place and the vertex's mark are small
+--   tracing-listed                   what stands for a row is one
 use mathlib.Core.Path.{_≡_, refl, sym, _∙_, subst}
 use mathlib.Core.List.{List}
-use Prim.Native.Nat.{ℕ, zero, suc, _+_, _-_, _≤_, _<_}
+use mathlib.Core.Logic.{_≢_}
+use Prim.Native.Nat.{ℕ, zero, suc, _+_, _*_, _-_, _≤_, _<_}
 use native.Mathlib.Omega.{arith}
+use native.Mathlib.Decide.{decLt}
+use native.Mathlib.Nat.{mul-le-mul-left}
 use lib.IntN.{ℤ}
-use lib.ListN.{length, getD, set, replicate, length-set, length-replicate}
+use lib.ListN.{length, set, replicate, length-set, length-replicate}
 use Rattle.whole.specs.Values.{whole}
 use Rattle.whole.proofs.Instances.{whole-laws}
 use Rattle.rules.specs.Sizes.{mostVertices}
@@ -14,29 +22,49 @@ use Rattle.rules.specs.Walks.{Ends}
 use Rattle.rules.specs.Cycle.{row}
 use Rattle.rules.specs.TimeWords.{timeEdges}
 use Rattle.rules.proofs.Times.Closed.{trail-cycle}
-use Rattle.rules.proofs.Times.Refused.{n-few, accepted-ends}
-use Rattle.rules.proofs.Times.Trail.{Trail, trail-start, trail-left, trail-more}
-use Rattle.times.specs.Lengths.{rowAt}
-use Rattle.times.specs.Steps.{Closing, Closed}
+use Rattle.rules.proofs.Times.Refused.{n-few, m-few, accepted-ends}
+use Rattle.rules.proofs.Times.Trail.{Trail, trail-start, trail-left, trail-ends, trail-more}
+use Rattle.times.specs.declared.reached.Reached.{Reached}
+use Rattle.times.specs.Lengths.{at, rowAt, noRow}
+use Rattle.times.specs.Steps.{Looked, Closing, Went}
 
-module _ {ws : List ℤ} {last : List ℕ} {v : ℕ} (c : Closing ws last v) where
+module _ {ws : List ℤ} {known : List Reached} {passes v : ℕ} (c : Closing ws known passes v) where
+  abbrev l : Looked ws passes (mOf ws) known
+  l = c .looked
+
+  -- the passes that are still to be made
+  abbrev spare : ℕ
+  spare = nOf ws - suc passes
+
   pub record Tracing (seen path : List ℕ) (here j : ℕ) : Type 0 where
-    pub trail : Trail whole (timeEdges ws) (c .time) (c .distances) (nOf ws) path seen here j
+    pub trail : Trail whole (timeEdges ws) (l .time) (at known) (nOf ws) spare path seen here j
     pub path-long : length path ≡ mostVertices
     pub seen-long : length seen ≡ mostVertices
 
   ends : Ends (timeEdges ws)
-  ends = accepted-ends (c .fine)
+  ends = accepted-ends (l .fine)
 
   few : nOf ws ≤ mostVertices
-  few = n-few (c .fine)
+  few = n-few (l .fine)
+
+  late : (q : ℕ) → spare + suc q ≡ nOf ws → mOf ws * q < l .time v
+  late q e = let h : q ≤ passes = omega arith in omega (arith, mul-le-mul-left (mOf ws) h, c .late)
 
   pub tracing-start : Tracing (replicate mostVertices 0) (replicate mostVertices 0) v (nOf ws)
   tracing-start = record {
-    trail = trail-start (timeEdges ws) ends _ _ (c .time) (c .distances) (rowAt last) (c .traced) (nOf ws) (replicate mostVertices 0) v mostVertices (c .vertex) (c .late);
+    trail = trail-start (timeEdges ws) ends _ _ (l .time) (at known) (rowAt known) (l .traced) (nOf ws) spare
+        (replicate mostVertices 0) v mostVertices (c .vertex) late;
     path-long = length-replicate {A = ℕ} mostVertices 0;
     seen-long = length-replicate {A = ℕ} mostVertices 0;
   }
+
+  -- a vertex that no row has bettered
+  unbettered : (u : ℕ) → rowAt known u ≡ noRow → l .time u ≡ 0
+  unbettered u e = go (decLt 0 (l .time u))
+    where
+      go : Dec (0 < l .time u) → l .time u ≡ 0
+      go (yes h) = let o : ⊥ = omega (arith, l .traced .bettered u h .listed, m-few (l .fine)) in absurd o
+      go (no n) = omega arith
 
   module _ (seen path : List ℕ) (here j : ℕ) (t : Tracing seen path here j) where
     pub tracing-here : here < mostVertices
@@ -45,42 +73,71 @@ module _ {ws : List ℤ} {last : List ℕ} {v : ℕ} (c : Closing ws last v) whe
     pub tracing-high : j ≤ mostVertices
     tracing-high = omega (arith, t .trail .most, few)
 
+    pub tracing-mark : row seen here ≤ mostVertices
+    tracing-mark = go (row seen here) refl
+      where
+        go : (m : ℕ) → row seen here ≡ m → row seen here ≤ mostVertices
+        go zero e = omega arith
+        go (suc p) e = omega (arith, t .trail .marks here p e .1, few)
+
     pub tracing-left : row seen here ≡ 0 → 0 < j
-    tracing-left z = trail-left (timeEdges ws) ends _ _ (c .time) (c .distances) (rowAt last) (c .traced) (nOf ws) path seen here j (t .trail) z (omega arith)
+    tracing-left z =
+        trail-left (timeEdges ws) ends _ _ (l .time) (at known) (rowAt known) (l .traced) (nOf ws) spare
+        path seen here j (t .trail) z (omega arith)
 
     -- a vertex met again, its mark m
-    pub tracing-closed : (m : ℕ) → row seen here ≡ m → (m ≡ 0 → ⊥) → Closed ws (record { from = j; to = m; path = path })
+    pub tracing-closed : (m : ℕ) → row seen here ≡ m → (m ≡ 0 → ⊥) →
+        Went ws passes (record { from = j; to = m; path = path })
     tracing-closed zero e h = absurd (h refl)
     tracing-closed (suc p) e h = record {
-      in-order = omega (arith, t .trail .marks here p e .0);
-      in-path = omega (arith, t .trail .marks here p e .1, few);
-      bad = trail-cycle whole-laws (timeEdges ws) (c .time) (c .distances) (nOf ws) path seen here j (t .trail) p e (omega (arith, t .path-long, few));
+      round = λ o. record {
+        in-order = omega arith;
+        in-path = omega (arith, t .trail .marks here p e .1, few);
+        bad = trail-cycle whole-laws (timeEdges ws) (l .time) (at known) (nOf ws) spare path seen here j (t .trail) p e
+            (omega (arith, t .path-long, few));
+      };
+      some = λ o. let z : ⊥ = omega (arith, t .trail .marks here p e .0) in absurd z;
+      few = λ o. let z : ⊥ = omega (arith, t .trail .marks here p e .0) in absurd z;
     }
 
-  module _ (seen path : List ℕ) (here q : ℕ) (t : Tracing seen path here (suc q)) (z : row seen here ≡ 0) where
-    listed : rowAt last here < mOf ws
-    listed = c .traced .bettered here (omega (arith, t .trail .late q refl)) .listed
+    -- no row leads on
+    pub tracing-ended : row seen here ≡ 0 → rowAt known here ≡ noRow →
+        Went ws passes (record { from = j; to = j; path = path })
+    tracing-ended z e =
+        let s : j ≤ spare =
+        trail-ends (timeEdges ws) ends _ _ (l .time) (at known) (rowAt known) (l .traced) (nOf ws) spare
+        path seen here j (t .trail) (unbettered here e) in
+        record {
+          round = λ o. let y : ⊥ = omega arith in absurd y;
+          some = λ o. tracing-left z;
+          few = λ o. omega (arith, tracing-left z);
+        }
 
-    more : Tracing (set seen here (suc q)) (set path q (rowAt last here)) (timeEdges ws .tail (rowAt last here)) q
+  module _ (seen path : List ℕ) (here q : ℕ) (t : Tracing seen path here (suc q)) (z : row seen here ≡ 0)
+      (n : rowAt known here ≢ noRow) where
+    more : Tracing (set seen here (suc q)) (set path q (rowAt known here)) (timeEdges ws .tail (rowAt known here)) q
     more = record {
-      trail = trail-more (timeEdges ws) ends _ _ (c .time) (c .distances) (rowAt last) (c .traced) (nOf ws) path seen here q (t .trail) z
+      trail = trail-more (timeEdges ws) ends _ _ (l .time) (at known) (rowAt known) (l .traced) (nOf ws) spare
+          path seen here q (t .trail) z
+          (l .stands here (tracing-here seen path here (suc q) t) n)
           (omega (arith, t .path-long, tracing-high seen path here (suc q) t)) (omega (arith, t .seen-long, tracing-here seen path here (suc q) t));
-      path-long = length-set path q (rowAt last here) ∙ t .path-long;
+      path-long = length-set path q (rowAt known here) ∙ t .path-long;
       seen-long = length-set seen here (suc q) ∙ t .seen-long;
     }
 
-  -- the same, by the place that the code has come to
-  module _ (seen path : List ℕ) (here j : ℕ) (t : Tracing seen path here j) (z : row seen here ≡ 0) where
+  pub tracing-listed : (u : ℕ) → u < mostVertices → rowAt known u ≢ noRow → rowAt known u < mOf ws
+  tracing-listed u h n = l .traced .bettered u (l .stands u h n) .listed
+
+  -- by the place that the code has come to
+  module _ (seen path : List ℕ) (here j : ℕ) (t : Tracing seen path here j) (z : row seen here ≡ 0)
+      (n : rowAt known here ≢ noRow) where
+    abbrev i : ℕ
+    i = rowAt known here
+
     one-down : suc (j - 1) ≡ j
     one-down = omega (arith, tracing-left seen path here j t z)
 
-    same : Tracing seen path here (suc (j - 1))
-    same = subst (Tracing seen path here) (sym one-down) t
-
-    pub tracing-listed : rowAt last here < mOf ws
-    tracing-listed = listed seen path here (j - 1) same z
-
-    pub tracing-more : Tracing (set seen here j) (set path (j - 1) (rowAt last here)) (timeEdges ws .tail (rowAt last here)) (j - 1)
+    pub tracing-more : Tracing (set seen here j) (set path (j - 1) i) (timeEdges ws .tail i) (j - 1)
     tracing-more =
-        subst (λ k. Tracing (set seen here k) (set path (j - 1) (rowAt last here)) (timeEdges ws .tail (rowAt last here)) (j - 1)) one-down
-        (more seen path here (j - 1) same z)
+        subst (λ k. Tracing (set seen here k) (set path (j - 1) i) (timeEdges ws .tail i) (j - 1)) one-down
+        (more seen path here (j - 1) (subst (Tracing seen path here) (sym one-down) t) z n)

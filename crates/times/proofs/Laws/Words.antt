@@ -20,8 +20,8 @@ use Rattle.rules.specs.TimeWords.{timeEdges}
 use Rattle.rules.specs.Times.{timesOf, cycleWords}
 use Rattle.rules.proofs.Times.Decide.{distances-long}
 use Rattle.rules.proofs.Times.Refused.{n-few, accepted-ends}
-use Rattle.times.specs.declared.length.Length.{Length}
-use Rattle.times.specs.Lengths.{lengthOf, noRows, timeOf, at}
+use Rattle.times.specs.declared.reached.Reached.{Reached}
+use Rattle.times.specs.Lengths.{timeOf}
 use Rattle.times.specs.Steps.{Fine, Settled}
 
 drop-replicate : {A : Type 0} (k n : ℕ) (a : A) → drop k (replicate n a) ≡ replicate (n - k) a
@@ -78,22 +78,24 @@ two-words (x ∷ y ∷ d) s a b n h = ap (λ l. a ∷ b ∷ take n s ++ l) (same
 
 -- ---- the times
 
-pub times-are : (ws : List ℤ) → Fine ws → (best : List Length) → Settled ws best → take (nOf ws) (map timeOf best) ≡ timesOf ws
+pub times-are : (ws : List ℤ) → Fine ws → (known : List Reached) → Settled ws known →
+    take (nOf ws) (map timeOf known) ≡ timesOf ws
 unfolding timesOf
-times-are ws f best s = ext-getD (pos 0) (take (nOf ws) (map timeOf best)) (map negℤ ds) lengths each
+times-are ws f known s = ext-getD (pos 0) (take (nOf ws) (map timeOf known)) (map negℤ ds) lengths each
   where
     ds : List ℤ
     ds = distances whole (timeEdges ws)
 
-    long : length (map timeOf best) ≡ mostVertices
-    long = length-map best timeOf ∙ s .long
+    long : length (map timeOf known) ≡ mostVertices
+    long = length-map known timeOf ∙ s .long
 
-    lengths : length (take (nOf ws) (map timeOf best)) ≡ length (map negℤ ds)
+    lengths : length (take (nOf ws) (map timeOf known)) ≡ length (map negℤ ds)
     lengths =
-        length-take (nOf ws) (map timeOf best) ∙ omega (arith, long, n-few f)
+        length-take (nOf ws) (map timeOf known) ∙ omega (arith, long, n-few f)
         ∙ sym (length-map ds negℤ ∙ distances-long whole-laws (timeEdges ws) (accepted-ends f))
 
-    each : (v : ℕ) → v < length (take (nOf ws) (map timeOf best)) → getD (take (nOf ws) (map timeOf best)) v (pos 0) ≡ getD (map negℤ ds) v (pos 0)
+    each : (v : ℕ) → v < length (take (nOf ws) (map timeOf known)) →
+        getD (take (nOf ws) (map timeOf known)) v (pos 0) ≡ getD (map negℤ ds) v (pos 0)
     each v h =
-        getD-take (nOf ws) (map timeOf best) v (pos 0) (omega (arith, length-take (nOf ws) (map timeOf best)))
-        ∙ List·getD-map timeOf best v noRows ∙ ap negℤ (s .are v) ∙ sym (List·getD-map negℤ ds v (pos 0))
+        getD-take (nOf ws) (map timeOf known) v (pos 0) (omega (arith, length-take (nOf ws) (map timeOf known)))
+        ∙ List·getD-map timeOf known v _ ∙ ap negℤ (s .are v) ∙ sym (List·getD-map negℤ ds v (pos 0))

@@ -1,5 +1,5 @@
 -- `times::solve` meets its contract: settled passes give the times, and else the way back gives a bad cycle. Assumes nothing.
-use mathlib.Core.Path.{_≡_, sym, _∙_, ap, subst}
+use mathlib.Core.Path.{_≡_, _∙_, ap, subst}
 use mathlib.Core.List.{List, _∷_, _++_}
 use Prim.Native.Nat.{ℕ, _+_, _-_, _≤_}
 use native.Mathlib.Omega.{arith}
@@ -11,10 +11,9 @@ use Rattle.rules.specs.Sizes.{mostVertices}
 use Rattle.rules.specs.Problem.{nOf}
 use Rattle.rules.specs.TimeWords.{AcceptedTimes}
 use Rattle.rules.proofs.Times.Refused.{n-few}
-use Rattle.times.specs.declared.passes.Distances.{Distances}
-use Rattle.times.specs.declared.passes.Found.the-variants.{At, Nothing}
+use Rattle.times.specs.declared.passes.Ending.{Ending}
 use Rattle.times.specs.declared.cycle.Way.{Way}
-use Rattle.times.specs.Steps.{Settled, Settling, Closing, Closed}
+use Rattle.times.specs.Steps.{Settled, Settling, Closed}
 use Rattle.times.proofs.Laws.Answers.{fine-of, timed-met, closed-gathering, timed-unmet}
 use Rattle.times.proofs.solve.Statement.{statement}
 use Rattle.times.proofs.solve.Tie as tie
@@ -28,10 +27,7 @@ count-at-requires-2 c κs = search needs
 settle-requires : tie.Need-settle-requires
 settle-requires c κs = record { fine = fine-of (c .before .before .pre); n-is = c .before .count-at .ensures; m-is = c .count-at2 .ensures }
 
-enum-told : tie.Need-enum-told
-enum-told c = search needs
-
--- the words, n, and the distances that the passes came to
+-- the words, n, and what the passes came to
 module _ (c : tie.After-settle) where
   abbrev start : tie.Start
   start = c .before .before .before
@@ -45,8 +41,8 @@ module _ (c : tie.After-settle) where
   abbrev n : ℕ
   n = c .before .before .count-at .result
 
-  abbrev p : Distances
-  p = c .settle .result
+  abbrev ending : Ending
+  ending = c .settle .result
 
   accepted : AcceptedTimes ws (length before)
   accepted = start .pre
@@ -60,59 +56,22 @@ module _ (c : tie.After-settle) where
   roomy : 2 + n ≤ length before
   roomy = omega (arith, n-is, accepted .roomy)
 
--- ---- a pass bettered nothing
+-- ---- no row betters its head
 
-module _ (c : tie.After-best) where
+module _ (c : tie.After-known) where
   abbrev still : tie.After-settle
-  still = c .before .before .before
+  still = c .before .before
 
-  settled : Settled (ws still) (p still .best)
-  settled = subst (Settling (ws still) (p still .best) (p still .last)) (c .before .enum-told .given .1) (still .settle .ensures)
+  settled : Settled (ws still) (ending still .known)
+  settled =
+      subst (λ b. Settling (ws still) b (ending still .known) (ending still .way)) (c .before .if1 .taken)
+      (still .settle .ensures)
 
 times-of-requires : tie.Need-times-of-requires
 times-of-requires c κs = settled c .modest
 
 write-requires : tie.Need-write-requires
 write-requires c κs = let s = still (c .before .before) in (n-low s, n-low s, roomy s)
-
-enum-known-found : tie.Need-enum-known-found
-enum-known-found c = search needs
-
--- ---- the last pass bettered a vertex
-
-module _ (c : tie.After-last) where
-  abbrev late : tie.After-settle
-  late = c .before .before .before .before
-
-  closing : Closing (ws late) (p late .last) (c .before .before .found .given .0 .0)
-  closing = subst (Settling (ws late) (p late .best) (p late .last)) (c .before .before .found .given .1) (late .settle .ensures)
-
-way-back-requires : tie.Need-way-back-requires
-way-back-requires c κs = (closing c, n-is (late c))
-
-sub-write : tie.Need-sub-write
-sub-write c = search needs
-
-module _ (c : tie.After-struct-known) where
-  abbrev from : tie.After-settle
-  from = late (c .before .before)
-
-  abbrev way : Way
-  way = c .before .way-back .result
-
-  closed : Closed (ws from) way
-  closed = c .before .way-back .ensures
-
-  path-long : length (way .path) ≡ mostVertices
-  path-long = search needs
-
-gathered-requires : tie.Need-gathered-requires
-gathered-requires c κs = closed-gathering (ws (from c)) (before (from c)) (accepted (from c)) (way c) (path-long c) (closed c)
-
-write-requires-2 : tie.Need-write-requires-2
-write-requires-2 c κs =
-    let k = c .before .before in
-    (n-low (from k), omega (arith, closed k .in-path), roomy (from k))
 
 same-length : tie.Need-same-length
 same-length c = search needs
@@ -122,8 +81,34 @@ returns c =
     let t = c .before .before .before in
     let b = t .before in
     let s = still b in
-    timed-met (ws s) (before s) (accepted s) (p s .best) _ (n s) (n-is s) (settled b)
-    (c .before .write .ensures ∙ ap (λ l. pos 1 ∷ pos (n s) ∷ take (n s) l ++ drop (2 + n s) (before s)) (t .times-of .ensures))
+    timed-met (ws s) (before s) (accepted s) (ending s .known) _ (n s) (n-is s) (settled b)
+    (c .before .write .ensures
+    ∙ ap (λ l. pos 1 ∷ pos (n s) ∷ take (n s) l ++ drop (2 + n s) (before s)) (t .times-of .ensures))
+
+-- ---- the way back closed a cycle
+
+module _ (c : tie.After-struct-known) where
+  abbrev from : tie.After-settle
+  from = c .before .before .before
+
+  abbrev way : Way
+  way = ending from .way
+
+  closed : Closed (ws from) way
+  closed =
+      subst (λ b. Settling (ws from) b (ending from .known) way) (c .before .before .if1 .left) (from .settle .ensures)
+
+  path-long : length (way .path) ≡ mostVertices
+  path-long = search needs
+
+sub-write : tie.Need-sub-write
+sub-write c = closed c .in-order
+
+gathered-requires : tie.Need-gathered-requires
+gathered-requires c κs = closed-gathering (ws (from c)) (before (from c)) (accepted (from c)) (way c) (path-long c) (closed c)
+
+write-requires-2 : tie.Need-write-requires-2
+write-requires-2 c κs = let k = c .before .before in (n-low (from k), omega (arith, closed k .in-path), roomy (from k))
 
 same-length-2 : tie.Need-same-length-2
 same-length-2 c = search needs
@@ -134,7 +119,9 @@ returns-2 c =
     let k = g .before in
     let s = from k in
     timed-unmet (ws s) (before s) (accepted s) (way k) (path-long k) (closed k) _ (n s) (n-is s)
-    (c .before .write2 .ensures ∙ ap (λ l. pos 2 ∷ pos (way k .to - way k .from) ∷ take (n s) l ++ drop (2 + n s) (before s)) (g .gathered .ensures))
+    (c .before .write2 .ensures
+    ∙ ap (λ l. pos 2 ∷ pos (way k .to - way k .from) ∷ take (n s) l ++ drop (2 + n s) (before s))
+    (g .gathered .ensures))
 
 pub solve-spec : {M : Type 1} → statement M
 solve-spec =
@@ -143,15 +130,12 @@ solve-spec =
     count-at-requires
     count-at-requires-2
     settle-requires
-    enum-told
     times-of-requires
     write-requires
-    enum-known-found
-    way-back-requires
+    same-length
+    returns
     sub-write
     gathered-requires
     write-requires-2
-    same-length
-    returns
     same-length-2
     returns-2)

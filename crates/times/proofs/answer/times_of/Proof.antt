@@ -12,28 +12,28 @@ use mir.Syntax.{w64}
 use mir.Val.{SFits}
 use Rattle.whole.proofs.Prefix.{set-prefix, prefix-all}
 use Rattle.rules.specs.Sizes.{mostVertices}
-use Rattle.times.specs.declared.length.Length.{Length}
-use Rattle.times.specs.Lengths.{noRows, timeOf}
+use Rattle.times.specs.declared.reached.Reached.{Reached}
+use Rattle.times.specs.Lengths.{timeOf}
 use Rattle.times.proofs.answer.times_of.Statement.{statement}
 use Rattle.times.proofs.answer.times_of.Tie as tie
 
 abbrev Inv-loop : tie.InvT-loop
-Inv-loop best values₀ v₀ values v = (v ≤ mostVertices) × (values ≡ take v (map timeOf best) ++ drop v values₀)
+Inv-loop known values₀ v₀ values v = (v ≤ mostVertices) × (values ≡ take v (map timeOf known) ++ drop v values₀)
 
 abbrev μ-loop : tie.MeasureT-loop
-μ-loop best values₀ v₀ values v = mostVertices - v
+μ-loop known values₀ v₀ values v = mostVertices - v
 
 loop-holds : tie.Need-loop-holds Inv-loop μ-loop
 loop-holds c = (omega arith, refl)
 
-mul-distance : tie.Need-mul-distance Inv-loop μ-loop
-mul-distance c = omega arith
+mul-reached : tie.Need-mul-reached Inv-loop μ-loop
+mul-reached c = omega arith
 
-array-copy-out-distance : tie.Need-array-copy-out-distance Inv-loop μ-loop
-array-copy-out-distance c = omega arith
+array-copy-out-reached : tie.Need-array-copy-out-reached Inv-loop μ-loop
+array-copy-out-reached c = omega arith
 
 time-requires : tie.Need-time-requires Inv-loop μ-loop
-time-requires c κs = c .before .before .before .pre (c .before .before .loop .v)
+time-requires c κs = c .before .before .before .before .pre (c .before .before .before .loop .v)
 
 mul-values : tie.Need-mul-values Inv-loop μ-loop
 mul-values c = omega arith
@@ -56,10 +56,10 @@ long c = length-map (c .args .t1) timeOf ∙ given
 -- one time more
 module _ (c : tie.After-time Inv-loop μ-loop) where
   abbrev top : tie.At-loop Inv-loop μ-loop
-  top = c .before .before .before
+  top = c .before .before .before .before
 
-  abbrev best : List Length
-  best = top .before .args .t1
+  abbrev known : List Reached
+  known = top .before .args .t1
 
   abbrev v : ℕ
   v = top .loop .v
@@ -67,15 +67,15 @@ module _ (c : tie.After-time Inv-loop μ-loop) where
   fit : SFits w64 (c .time .result)
   fit = search needs
 
-  time-is : c .time .result ≡ getD (map timeOf best) v (pos 0)
-  time-is = c .time .ensures ∙ sym (List·getD-map timeOf best v noRows)
+  time-is : c .time .result ≡ getD (map timeOf known) v (pos 0)
+  time-is = c .time .ensures ∙ sym (List·getD-map timeOf known v _)
 
 loop-again : tie.Need-loop-again Inv-loop μ-loop
 loop-again c = (
   omega arith,
   ap (set (top c .loop .values) (v c)) (toZ-ofZ (fit c) ∙ time-is c)
-      ∙ ap (λ l. set l (v c) (getD (map timeOf (best c)) (v c) (pos 0))) (top c .loop .inv .1)
-      ∙ set-prefix (map timeOf (best c)) (replicate mostVertices (pos 0)) (v c) (pos 0)
+      ∙ ap (λ l. set l (v c) (getD (map timeOf (known c)) (v c) (pos 0))) (top c .loop .inv .1)
+      ∙ set-prefix (map timeOf (known c)) (replicate mostVertices (pos 0)) (v c) (pos 0)
       (omega (arith, long (top c .before))) (omega (arith, long (top c .before), length-replicate mostVertices (pos 0))),
 )
 
@@ -95,8 +95,8 @@ times-of-spec =
     Inv-loop
     μ-loop
     loop-holds
-    mul-distance
-    array-copy-out-distance
+    mul-reached
+    array-copy-out-reached
     time-requires
     mul-values
     array-set-from-values

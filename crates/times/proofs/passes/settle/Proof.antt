@@ -1,100 +1,372 @@
--- `times::passes::settle` meets its contract. The invariant of its loop: k passes are done, fewer than there are vertices. The measure is the passes
--- left. Assumes nothing.
-use mathlib.Core.Path.{_≡_, refl, sym, subst}
+-- `times::passes::settle` meets its contract. The invariant of its loop: k passes are done, and the way back is due
+-- after a later one, among the first 64; that of the loop inside: a pass more has come as far as row i. The measures
+-- are the passes left of 64, and the rows left. A way back that closed nothing has a place left, and no more places
+-- than are left of n passes: so it is due again, and not past them. Assumes nothing.
+use mathlib.Core.Path.{_≡_, refl, sym, _∙_, ap, ap₂, subst}
+use mathlib.Core.Bool.{Bool, true, false, cond}
 use mathlib.Core.List.{List}
+use mathlib.Core.Logic.{_≢_}
 use Prim.Native.Nat.{ℕ, suc, _+_, _≤_, _<_, _-_}
 use native.Mathlib.Numerals.{add-one}
 use native.Mathlib.Omega.{arith}
-use borrow.Author.Needs.{needs}
 use lib.IntN.{ℤ}
-use Rattle.rules.specs.Problem.{nOf, mOf}
-use Rattle.rules.proofs.Times.Refused.{n-some, n-few}
+use lib.ListN.{set}
+use lib.Seq.{set-getD}
+use Rattle.whole.specs.Values.{whole}
+use Rattle.rules.specs.Sizes.{mostVertices}
+use Rattle.rules.specs.Problem.{mOf}
+use Rattle.rules.specs.Walks.{Edges}
+use Rattle.rules.specs.Passes.{through, betters}
+use Rattle.rules.specs.TimeWords.{timeEdges}
+use Rattle.rules.proofs.Times.Refused.{n-few, m-few, accepted-ends}
 use Rattle.times.specs.declared.length.Length.{Length}
-use Rattle.times.specs.declared.passes.Distances.{Distances}
-use Rattle.times.specs.declared.passes.Found.{Found}
-use Rattle.times.specs.declared.passes.Found.the-variants.{At, Nothing}
-use Rattle.times.specs.Steps.{Looked, Pass, Settling}
-use Rattle.times.proofs.Laws.Passing.{looked-start, looked-more, pass-settled, pass-closing}
+use Rattle.times.specs.declared.reached.Reached.{Reached}
+use Rattle.times.specs.Lengths.{lengthOf, knownAt, at, noRow}
+use Rattle.times.specs.Steps.{Fine, Quiet, Looked, Pass, Closing, Went}
+use Rattle.times.proofs.Laws.Passing.{looked-start, looked-modest, pass-start, pass-taken, pass-kept}
+use Rattle.times.proofs.Laws.Passing.{looked-more, pass-still, pass-settled, pass-closing}
 use Rattle.times.proofs.passes.settle.Statement.{statement}
 use Rattle.times.proofs.passes.settle.Tie as tie
 
+abbrev Inv-loop2 : tie.InvT-loop2
+Inv-loop2 rows n m nowhere known₀ k due row₀ i₀ known row i =
+    (k < due) × (2 ≤ due) × (due ≤ mostVertices) × (i ≤ m) × Pass rows k i known row
+
+abbrev μ-loop2 : tie.MeasureT-loop2
+μ-loop2 rows n m nowhere known₀ k due row₀ i₀ known row i = m - i
+
 abbrev Inv-loop : tie.InvT-loop
-Inv-loop rows n m p₀ k₀ p k = (k < n) × Looked rows k 0 (p .best) (p .last)
+Inv-loop rows n m nowhere known₀ k₀ due₀ known k due =
+    (k < due) × (2 ≤ due) × (due ≤ mostVertices) × Looked rows k 0 known
 
 abbrev μ-loop : tie.MeasureT-loop
-μ-loop rows n m p₀ k₀ p k = n - k
+μ-loop rows n m nowhere known₀ k₀ due₀ known k due = mostVertices - k
 
-loop-holds : tie.Need-loop-holds Inv-loop μ-loop
-loop-holds c = (omega (arith, n-some (c .pre .fine), c .pre .n-is), looked-start _ (c .pre .fine))
+loop-holds : tie.Need-loop-holds Inv-loop2 μ-loop2 Inv-loop μ-loop
+loop-holds c = (omega arith, omega arith, omega arith, looked-start _ (c .pre .fine))
 
-pass-requires : tie.Need-pass-requires Inv-loop μ-loop
-pass-requires c κs = ((c .loop .k, c .loop .inv .1), c .before .pre .m-is)
+loop2-holds : tie.Need-loop2-holds Inv-loop2 μ-loop2 Inv-loop μ-loop
+loop2-holds c = let h = c .loop .inv in (h .0, h .1, h .2, omega arith, pass-start _ _ _ (h .3))
 
--- what the pass gave
-module _ (c : tie.After-pass Inv-loop μ-loop) where
-  abbrev top : tie.At-loop Inv-loop μ-loop
-  top = c .before
+-- ---- a look: the words, the row, and what the pass has come to before it
+module _ (c : tie.In-loop2 Inv-loop2 μ-loop2 Inv-loop μ-loop) where
+  abbrev begun : tie.Start Inv-loop2 μ-loop2 Inv-loop μ-loop
+  begun = c .before .before .before
 
   abbrev ws : List ℤ
-  ws = top .before .args .rows .now
+  ws = begun .args .rows .now
+
+  abbrev E : Edges ℤ
+  E = timeEdges ws
 
   abbrev k : ℕ
-  k = top .loop .k
+  k = c .before .before .loop .k
 
-  abbrev next : Distances
-  next = c .pass .result
+  abbrev i : ℕ
+  i = c .before .loop2 .i
 
-  n-is : top .before .args .n ≡ nOf ws
-  n-is = top .before .pre .n-is
+  abbrev known : List Reached
+  known = c .before .loop2 .known
 
-  passed : Pass ws k (mOf ws) (next .best) (next .last) (next .found)
-  passed = subst (λ m. Pass ws k m (next .best) (next .last) (next .found)) (top .before .pre .m-is) (c .pass .ensures k (top .loop .inv .1))
+  abbrev row : ℕ
+  row = c .before .loop2 .row
 
-  -- the last pass, or one that bettered nothing
-  ended : (f : Found) → next .found ≡ f → suc k ≡ nOf ws → Settling ws (next .best) (next .last) f
-  ended (At v) e h = pass-closing ws k (next .best) (next .last) v (subst (Pass ws k (mOf ws) (next .best) (next .last)) e passed) h
-  ended Nothing e h = pass-settled ws k (next .best) (next .last) (subst (Pass ws k (mOf ws) (next .best) (next .last)) e passed)
+  fine : Fine ws
+  fine = begun .pre .fine
 
-add-k : tie.Need-add-k Inv-loop μ-loop
-add-k c = omega (arith, c .before .loop .inv .0, n-is c, n-few (c .before .before .pre .fine))
+  listed : i < mOf ws
+  listed = omega (arith, begun .pre .m-is, c .loop2-test .taken)
 
-returns : tie.Need-returns Inv-loop μ-loop
-returns c = ended (c .before) _ refl (omega (arith, c .if1 .taken, n-is (c .before)))
+  going : Pass ws k i known row
+  going = c .before .loop2 .inv .4
 
-enum-told : tie.Need-enum-told Inv-loop μ-loop
-enum-told c = search needs
+tail-requires : tie.Need-tail-requires Inv-loop2 μ-loop2 Inv-loop μ-loop
+tail-requires c κs = (fine c, listed c)
 
-loop-less : tie.Need-loop-less Inv-loop μ-loop
-loop-less c = let r = c .before .before .before in omega (arith, r .before .loop .inv .0)
+head-requires : tie.Need-head-requires Inv-loop2 μ-loop2 Inv-loop μ-loop
+head-requires c κs = (fine (c .before), listed (c .before))
 
-loop-again : tie.Need-loop-again Inv-loop μ-loop
-loop-again c =
-    let r = c .before .before .before in
-    let h : k r + 1 < r .before .before .args .n = omega (arith, r .before .loop .inv .0, c .before .before .if1 .left) in
-    (h, rw add-one (looked-more (ws r) (k r) (next r .best) (next r .last) (next r .found) (passed r) (omega (arith, n-is r, n-few (r .before .before .pre .fine)))))
+-- the ends of the row are below 64
+module _ (c : tie.After-head Inv-loop2 μ-loop2 Inv-loop μ-loop) where
+  abbrev turn : tie.In-loop2 Inv-loop2 μ-loop2 Inv-loop μ-loop
+  turn = c .before .before
 
-enum-told-2 : tie.Need-enum-told-2 Inv-loop μ-loop
-enum-told-2 c = search needs
+  x-is : c .before .tail .result ≡ E turn .tail (i turn)
+  x-is = c .before .tail .ensures
 
-returns-2 : tie.Need-returns-2 Inv-loop μ-loop
+  y-is : c .head .result ≡ E turn .head (i turn)
+  y-is = c .head .ensures
+
+  x-low : c .before .tail .result < 64
+  x-low = omega (arith, x-is, accepted-ends (fine turn) .tail-in (i turn) (listed turn), n-few (fine turn))
+
+  y-low : c .head .result < 64
+  y-low = omega (arith, y-is, accepted-ends (fine turn) .head-in (i turn) (listed turn), n-few (fine turn))
+
+mul-offer : tie.Need-mul-offer Inv-loop2 μ-loop2 Inv-loop μ-loop
+mul-offer c = omega (arith, x-low c)
+
+array-copy-out-offer : tie.Need-array-copy-out-offer Inv-loop2 μ-loop2 Inv-loop μ-loop
+array-copy-out-offer c = x-low c
+
+offer-requires : tie.Need-offer-requires Inv-loop2 μ-loop2 Inv-loop μ-loop
+offer-requires c κs =
+    let t = turn (c .before) in
+    (fine t, listed t, looked-modest (going t .looked) (omega (arith, listed t)) _)
+
+mul-was : tie.Need-mul-was Inv-loop2 μ-loop2 Inv-loop μ-loop
+mul-was c = omega (arith, y-low (c .before .before))
+
+array-copy-out-was : tie.Need-array-copy-out-was Inv-loop2 μ-loop2 Inv-loop μ-loop
+array-copy-out-was c = y-low (c .before .before)
+
+cast-last : tie.Need-cast-last Inv-loop2 μ-loop2 Inv-loop μ-loop
+cast-last c = let t = turn (c .before .before .before) in omega (arith, listed t, m-few (fine t))
+
+less-requires : tie.Need-less-requires Inv-loop2 μ-loop2 Inv-loop μ-loop
+less-requires c κs = tt
+
+reached-if-requires : tie.Need-reached-if-requires Inv-loop2 μ-loop2 Inv-loop μ-loop
+reached-if-requires c κs = tt
+
+mul-known : tie.Need-mul-known Inv-loop2 μ-loop2 Inv-loop μ-loop
+mul-known c = omega (arith, y-low (c .before .before .before .before .before))
+
+array-set-from-known : tie.Need-array-set-from-known Inv-loop2 μ-loop2 Inv-loop μ-loop
+array-set-from-known c = y-low (c .before .before .before .before .before)
+
+row-if-requires : tie.Need-row-if-requires Inv-loop2 μ-loop2 Inv-loop μ-loop
+row-if-requires c κs = tt
+
+-- after the test
+module _ (c : tie.After-less Inv-loop2 μ-loop2 Inv-loop μ-loop) where
+  abbrev ends : tie.After-head Inv-loop2 μ-loop2 Inv-loop μ-loop
+  ends = c .before .before .before .before
+
+  abbrev t : tie.In-loop2 Inv-loop2 μ-loop2 Inv-loop μ-loop
+  t = turn ends
+
+  abbrev y : ℕ
+  y = ends .head .result
+
+  abbrev offered : Length
+  offered = c .before .before .offer .result
+
+  value : lengthOf offered ≡ through whole (E t) (at (known t)) (i t)
+  value = c .before .before .offer .ensures ∙ ap (λ x. whole .plus (at (known t) x) (E t .size (i t))) (x-is ends)
+
+  same-test : {b : Bool} → c .less .result ≡ b → betters whole (E t) (at (known t)) (i t) ≡ b
+  same-test e = sym (ap₂ (λ z u. whole .less z (at (known t) u)) value (y-is ends)) ∙ sym (c .less .ensures) ∙ e
+
+  -- one row more
+  stepped : (b : Bool) → c .less .result ≡ b → Pass (ws t) (k t) (i t + 1)
+      (set (known t) y (cond b (record { best = offered; last = i t }) (knownAt (known t) y))) (cond b (i t) (row t))
+  stepped true e =
+      rw add-one
+      (subst (λ u. Pass (ws t) (k t) (suc (i t)) (set (known t) u (record { best = offered; last = i t })) (i t))
+      (sym (y-is ends))
+      (pass-taken _ _ _ _ _ (going t) (listed t) offered value (same-test e)))
+  stepped false e =
+      rw add-one (subst (λ l. Pass (ws t) (k t) (suc (i t)) l (row t)) (sym (set-getD (known t) y _))
+      (pass-kept _ _ _ _ _ (going t) (listed t) (same-test e)))
+
+add-i : tie.Need-add-i Inv-loop2 μ-loop2 Inv-loop μ-loop
+add-i c = let q = t (c .before .before) in omega (arith, listed q, m-few (fine q))
+
+loop2-less : tie.Need-loop2-less Inv-loop2 μ-loop2 Inv-loop μ-loop
+loop2-less c = let q = t (c .before .before) in omega (arith, listed q, begun q .pre .m-is)
+
+loop2-again : tie.Need-loop2-again Inv-loop2 μ-loop2 Inv-loop μ-loop
+loop2-again c =
+    let q = t (c .before .before) in
+    let h = q .before .loop2 .inv in (
+      h .0,
+      h .1,
+      h .2,
+      omega (arith, listed q, begun q .pre .m-is),
+      rw (c .before .reached-if .ensures, c .row-if .ensures) (stepped (c .before .before) _ refl),
+    )
+
+-- ---- a pass is done
+module _ (c : tie.After-loop2 Inv-loop2 μ-loop2 Inv-loop μ-loop) where
+  abbrev start : tie.Start Inv-loop2 μ-loop2 Inv-loop μ-loop
+  start = c .before .before .before
+
+  abbrev words : List ℤ
+  words = start .args .rows .now
+
+  abbrev passes : ℕ
+  passes = c .before .before .loop .k
+
+  abbrev due : ℕ
+  due = c .before .before .loop .due
+
+  abbrev reached : List Reached
+  reached = c .before .loop2 .known
+
+  abbrev last : ℕ
+  last = c .before .loop2 .row
+
+  all : c .before .loop2 .i ≡ mOf words
+  all = omega (arith, start .pre .m-is, c .before .loop2 .inv .3)
+
+  passed : Pass words passes (mOf words) reached last
+  passed = subst (λ j. Pass words passes j reached last) all (c .before .loop2 .inv .4)
+
+  early : passes < due
+  early = c .before .loop2 .inv .0
+
+  late : 2 ≤ due
+  late = c .before .loop2 .inv .1
+
+  few : due ≤ mostVertices
+  few = c .before .loop2 .inv .2
+
+  -- the next pass begins
+  next : passes + 1 < due → Looked words (passes + 1) 0 reached
+  next h = rw add-one (looked-more _ _ _ _ passed (omega (arith, few)))
+
+  -- the last pass bettered a vertex
+  closing : last ≢ noRow → Closing words reached passes (timeEdges words .head last)
+  closing n = pass-closing _ _ _ _ passed n
+
+returns : tie.Need-returns Inv-loop2 μ-loop2 Inv-loop μ-loop
+returns c = let d = c .before in pass-settled _ _ _ _ (passed d) (pass-still _ _ _ _ (passed d) (c .if1 .taken))
+
+add-k : tie.Need-add-k Inv-loop2 μ-loop2 Inv-loop μ-loop
+add-k c = omega (arith, early (c .before), few (c .before))
+
+is-quiet-requires : tie.Need-is-quiet-requires Inv-loop2 μ-loop2 Inv-loop μ-loop
+is-quiet-requires c κs =
+    let d = c .before .before in
+    (record { fine = start d .pre .fine; modest = looked-modest (passed d .looked) (omega arith) }, start d .pre .m-is)
+
+returns-2 : tie.Need-returns-2 Inv-loop2 μ-loop2 Inv-loop μ-loop
 returns-2 c =
-    let r = c .before .before .before in
-    let e : next r .found ≡ Nothing = c .enum-told2 .given .1 in
-    subst (Settling (ws r) (next r .best) (next r .last)) (sym e)
-    (pass-settled (ws r) (k r) (next r .best) (next r .last) (subst (Pass (ws r) (k r) (mOf (ws r)) (next r .best) (next r .last)) e (passed r)))
+    let d = c .before .before .before .before in
+    pass-settled _ _ _ _ (passed d) (subst (Quiet (words d) (reached d)) (c .if3 .taken) (c .before .is-quiet .ensures))
+
+loop-less : tie.Need-loop-less Inv-loop2 μ-loop2 Inv-loop μ-loop
+loop-less c = let d = c .before .before .before .before in omega (arith, early d, few d)
+
+loop-again : tie.Need-loop-again Inv-loop2 μ-loop2 Inv-loop μ-loop
+loop-again c =
+    let d = c .before .before .before .before in
+    let h : passes d + 1 < due d = omega (arith, late d, c .before .before .if2 .taken) in
+    (h, late d, few d, next d h)
+
+loop-less-2 : tie.Need-loop-less-2 Inv-loop2 μ-loop2 Inv-loop μ-loop
+loop-less-2 c = let d = c .before .before .before in omega (arith, early d, few d)
+
+loop-again-2 : tie.Need-loop-again-2 Inv-loop2 μ-loop2 Inv-loop μ-loop
+loop-again-2 c =
+    let d = c .before .before .before in
+    let h : passes d + 1 < due d = omega (arith, early d, c .if4 .taken) in
+    (h, late d, few d, next d h)
+
+-- ---- the way back is due
+cast-head : tie.Need-cast-head Inv-loop2 μ-loop2 Inv-loop μ-loop
+cast-head c =
+    let d = c .before .before .before in
+    omega (arith, passed d .finds .listed (c .before .before .if1 .left), m-few (start d .pre .fine))
+
+head-requires-2 : tie.Need-head-requires-2 Inv-loop2 μ-loop2 Inv-loop μ-loop
+head-requires-2 c κs =
+    let d = c .before .before .before in
+    (start d .pre .fine, passed d .finds .listed (c .before .before .if1 .left))
+
+module _ (c : tie.After-head2 Inv-loop2 μ-loop2 Inv-loop μ-loop) where
+  abbrev done : tie.After-loop2 Inv-loop2 μ-loop2 Inv-loop μ-loop
+  done = c .before .before .before .before
+
+  tried : Closing (words done) (reached done) (passes done) (c .head2 .result)
+  tried =
+      subst (Closing (words done) (reached done) (passes done)) (sym (c .head2 .ensures))
+      (closing done (c .before .before .before .if1 .left))
+
+way-back-requires : tie.Need-way-back-requires Inv-loop2 μ-loop2 Inv-loop μ-loop
+way-back-requires c κs = ((_, tried c), start (done c) .pre .n-is)
+
+went : (c : tie.After-way-back Inv-loop2 μ-loop2 Inv-loop μ-loop) →
+    Went (words (done (c .before))) (passes (done (c .before))) (c .way-back .result)
+went c = c .way-back .ensures _ (tried (c .before))
+
+returns-3 : tie.Need-returns-3 Inv-loop2 μ-loop2 Inv-loop μ-loop
+returns-3 c = went (c .before .before) .round (c .if5 .taken)
+
+lesser-requires : tie.Need-lesser-requires Inv-loop2 μ-loop2 Inv-loop μ-loop
+lesser-requires c κs = tt
+
+-- the places left are passes that may still be made
+module _ (c : tie.After-lesser Inv-loop2 μ-loop2 Inv-loop μ-loop) where
+  abbrev back : tie.After-way-back Inv-loop2 μ-loop2 Inv-loop μ-loop
+  back = c .before .before .before
+
+  abbrev d : tie.After-loop2 Inv-loop2 μ-loop2 Inv-loop μ-loop
+  d = done (back .before)
+
+  unclosed : back .way-back .result .to ≤ back .way-back .result .from
+  unclosed = omega (arith, c .before .if5 .left)
+
+  more : 0 < c .lesser .result
+  more = omega (arith, c .lesser .ensures, went back .some unclosed)
+
+  within : passes d + 1 + c .lesser .result ≤ mostVertices
+  within = omega (arith, c .lesser .ensures, went back .few unclosed, n-few (start d .pre .fine))
+
+add-due : tie.Need-add-due Inv-loop2 μ-loop2 Inv-loop μ-loop
+add-due c = omega (arith, within c)
+
+loop-less-3 : tie.Need-loop-less-3 Inv-loop2 μ-loop2 Inv-loop μ-loop
+loop-less-3 c = omega (arith, early (d c), few (d c))
+
+loop-again-3 : tie.Need-loop-again-3 Inv-loop2 μ-loop2 Inv-loop μ-loop
+loop-again-3 c = (
+  omega (arith, more c),
+  omega (arith, more c),
+  within c,
+  rw add-one (looked-more _ _ _ _ (passed (d c)) (omega (arith, more c, within c))),
+)
 
 pub settle-spec : {M : Type 1} → statement M
 settle-spec =
     tie.close
     (tie.spec
+    Inv-loop2
+    μ-loop2
     Inv-loop
     μ-loop
     loop-holds
-    pass-requires
-    add-k
+    loop2-holds
+    tail-requires
+    head-requires
+    mul-offer
+    array-copy-out-offer
+    offer-requires
+    mul-was
+    array-copy-out-was
+    cast-last
+    less-requires
+    reached-if-requires
+    mul-known
+    array-set-from-known
+    row-if-requires
+    add-i
+    loop2-less
+    loop2-again
     returns
-    enum-told
+    add-k
+    is-quiet-requires
+    returns-2
     loop-less
     loop-again
-    enum-told-2
-    returns-2)
+    loop-less-2
+    loop-again-2
+    cast-head
+    head-requires-2
+    way-back-requires
+    returns-3
+    lesser-requires
+    add-due
+    loop-less-3
+    loop-again-3)

@@ -1,11 +1,12 @@
--- `times::rows::size` meets its contract: c and the strict word fit 32 bits, and so 64; their difference is small. Assumes nothing.
+-- `times::rows::size` meets its contract: c and the strict word fit 32 bits, and so does their difference. Assumes
+-- nothing.
 use borrow.Author.Needs.{needs}
 use mathlib.Core.List.{List}
 use mathlib.Core.Path.{refl}
 use Prim.Native.Nat.{ℕ}
 use lib.IntN.{ℤ, _-ℤ_}
-use mir.Facts.{toZ-ofZ, sfits-widen}
-use mir.Syntax.{w32, w64}
+use mir.Facts.{toZ-ofZ}
+use mir.Syntax.{w32}
 use mir.Val.{SFits}
 use Rattle.whole.proofs.Sizes.{fits-by}
 use Rattle.rules.specs.TimeWords.{lengthWord, strictWord}
@@ -20,31 +21,17 @@ module _ (c : tie.Start) where
   abbrev i : ℕ
   i = c .args .i
 
-  abbrev span : ℤ
-  span = lengthWord words i
+  span : SFits w32 (lengthWord words i)
+  span = fits-by (c .pre .0 .lengths i (c .pre .1)) tt
 
-  abbrev strict : ℤ
-  strict = strictWord words i
+  strict : SFits w32 (strictWord words i)
+  strict = fits-by (strict-within (c .pre .0) i (c .pre .1)) tt
 
-  span-fits : SFits w32 span
-  span-fits = fits-by (c .pre .0 .lengths i (c .pre .1)) tt
-
-  strict-fits : SFits w32 strict
-  strict-fits = fits-by (strict-within (c .pre .0) i (c .pre .1)) tt
-
-  wide-span : SFits w64 span
-  wide-span = sfits-widen {w = w32} tt span-fits
-
-  wide-strict : SFits w64 strict
-  wide-strict = sfits-widen {w = w32} tt strict-fits
-
-  fit : SFits w64 (span -ℤ strict)
+  fit : SFits w32 (lengthWord words i -ℤ strictWord words i)
   fit = fits-by (size-within (c .pre .0) i (c .pre .1)) tt
 
 returns : tie.Need-returns
-returns c =
-    let s = c .before .before in
-    simp (toZ-ofZ (span-fits s), toZ-ofZ (wide-span s), toZ-ofZ (strict-fits s), toZ-ofZ (wide-strict s), toZ-ofZ (fit s)) refl
+returns c = let s = c .before .before in simp (toZ-ofZ (span s), toZ-ofZ (strict s), toZ-ofZ (fit s)) refl
 
 mul-strict : tie.Need-mul-strict
 mul-strict c = search needs
@@ -64,22 +51,14 @@ mul-read c = search needs
 shared-slice-copy-out-read : tie.Need-shared-slice-copy-out-read
 shared-slice-copy-out-read c = search needs
 
-cast-read : tie.Need-cast-read
-cast-read c = simp (toZ-ofZ (span-fits (c .before))) (wide-span (c .before))
-
 mul-read-2 : tie.Need-mul-read-2
 mul-read-2 c = search needs
 
 shared-slice-copy-out-read-2 : tie.Need-shared-slice-copy-out-read-2
 shared-slice-copy-out-read-2 c = search needs
 
-cast-read-2 : tie.Need-cast-read-2
-cast-read-2 c = let s = c .before .before in simp (toZ-ofZ (strict-fits s)) (wide-strict s)
-
 sub-read : tie.Need-sub-read
-sub-read c =
-    let s = c .before .before in
-    simp (toZ-ofZ (span-fits s), toZ-ofZ (wide-span s), toZ-ofZ (strict-fits s), toZ-ofZ (wide-strict s)) (fit s)
+sub-read c = let s = c .before .before in simp (toZ-ofZ (span s), toZ-ofZ (strict s)) (fit s)
 
 pub size-spec : {M : Type 1} → statement M
 size-spec =
@@ -91,9 +70,7 @@ size-spec =
     add-c
     mul-read
     shared-slice-copy-out-read
-    cast-read
     mul-read-2
     shared-slice-copy-out-read-2
-    cast-read-2
     sub-read
     returns)
