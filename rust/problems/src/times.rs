@@ -19,6 +19,8 @@ pub enum Family {
     ChainBackward,
     /// One bad ring through all vertices, nothing else wrong.
     BadRing,
+    /// One bad ring of any size, the sum -1, with a path into or out of it.
+    LoneRing,
     /// Many rows between few vertices.
     Parallel,
     /// Rows of another family with something wrong.
@@ -31,26 +33,28 @@ const LARGEST_LENGTH: i32 = 30_000;
 
 impl Family {
     /// Every family.
-    pub const ALL: [Family; 9] = [
+    pub const ALL: [Family; 10] = [
         Family::Small,
         Family::Feasible,
         Family::Infeasible,
         Family::ChainForward,
         Family::ChainBackward,
         Family::BadRing,
+        Family::LoneRing,
         Family::Parallel,
         Family::Damaged,
         Family::Garbage,
     ];
 
     /// The families whose words are never refused.
-    pub const ACCEPTED: [Family; 7] = [
+    pub const ACCEPTED: [Family; 8] = [
         Family::Small,
         Family::Feasible,
         Family::Infeasible,
         Family::ChainForward,
         Family::ChainBackward,
         Family::BadRing,
+        Family::LoneRing,
         Family::Parallel,
     ];
 
@@ -63,6 +67,7 @@ impl Family {
             Family::ChainForward => "chain forward",
             Family::ChainBackward => "chain backward",
             Family::BadRing => "bad ring",
+            Family::LoneRing => "lone ring",
             Family::Parallel => "parallel",
             Family::Damaged => "damaged",
             Family::Garbage => "garbage",
@@ -78,6 +83,7 @@ impl Family {
             Family::ChainForward => chain(random, false),
             Family::ChainBackward => chain(random, true),
             Family::BadRing => bad_ring(random),
+            Family::LoneRing => lone_ring(random),
             Family::Parallel => parallel(random),
             Family::Damaged => {
                 let whole = random.pick(&Family::ACCEPTED).words(random);
@@ -111,8 +117,12 @@ fn feasible(random: &mut Random) -> Vec<i32> {
 fn row_around(random: &mut Random, hidden: &[i32]) -> [i32; 4] {
     let (x, y) = (random.below(hidden.len()), random.below(hidden.len()));
     let strict = random.below(2) as i32;
-    let length = hidden[x] - hidden[y] + random.within(0, 50) + strict;
-    [x as i32, y as i32, strict, length]
+    row_between(hidden, x, y, strict, random.within(0, 50))
+}
+
+/// A row that the hidden times meet with so much room.
+fn row_between(hidden: &[i32], x: usize, y: usize, strict: i32, room: i32) -> [i32; 4] {
+    [x as i32, y as i32, strict, hidden[x] - hidden[y] + room + strict]
 }
 
 fn infeasible(random: &mut Random) -> Vec<i32> {
@@ -150,6 +160,38 @@ fn bad_ring(random: &mut Random) -> Vec<i32> {
         random.shuffle(&mut rows);
     }
     time_words(64, &rows)
+}
+
+/// Hidden times miss one row of a ring by 1, and meet its other rows and those
+/// of a path just so. All rows beside have room, so no other cycle is bad.
+fn lone_ring(random: &mut Random) -> Vec<i32> {
+    let n = random.pick(&[64, 64, 64, 20, 5, 2, 1]);
+    let hidden: Vec<i32> = (0..n).map(|_| random.within(0, 10_000)).collect();
+    let mut vertices: Vec<usize> = (0..n).collect();
+    random.shuffle(&mut vertices);
+    let (ring, rest) = vertices.split_at(random.size(1, n));
+    let mut rows = vec![];
+    for (at, &x) in ring.iter().enumerate() {
+        let room = if at == 0 { -1 } else { 0 };
+        let y = ring[(at + 1) % ring.len()];
+        rows.push(row_between(&hidden, x, y, random.below(2) as i32, room));
+    }
+    let into = random.percent(50);
+    let path = if into { [rest, &ring[..1]].concat() } else { [&ring[..1], rest].concat() };
+    for step in path.windows(2) {
+        rows.push(row_between(&hidden, step[0], step[1], random.below(2) as i32, 0));
+    }
+    for _ in 0..random.size(0, 256 - rows.len()) {
+        let (x, y) = (random.below(n), random.below(n));
+        let strict = random.below(2) as i32;
+        rows.push(row_between(&hidden, x, y, strict, random.within(1, 50)));
+    }
+    match random.below(3) {
+        0 => rows.reverse(),
+        1 => random.shuffle(&mut rows),
+        _ => {}
+    }
+    time_words(n, &rows)
 }
 
 fn parallel(random: &mut Random) -> Vec<i32> {

@@ -122,7 +122,7 @@ fn least_time_shares(family: times::Family) -> &'static [(&'static str, usize)] 
         times::Family::Small => &[("can", 20), ("cannot", 20)],
         times::Family::Parallel => &[("can", 20), ("cannot", 5)],
         times::Family::Infeasible => &[("cannot", 95)],
-        times::Family::BadRing => &[("cannot", 100)],
+        times::Family::BadRing | times::Family::LoneRing => &[("cannot", 100)],
         times::Family::Damaged => &[
             ("can", 5),
             ("cannot", 3),

@@ -1,5 +1,5 @@
 //! Calls of `times`: the worked cases, every refusal with its neighbour that
-//! passes, and rows at the edge of what fits.
+//! passes, rows at the edge of what fits, and bad rings that are hard to find.
 
 use super::{Entry, Vector, KEPT};
 use problems::worked::{self, time_words};
@@ -12,6 +12,7 @@ pub fn all() -> Vec<Vector> {
     vectors.extend(orders());
     vectors.extend(paths());
     vectors.extend(rings());
+    vectors.extend(lone_rings());
     vectors.extend(parallel());
     vectors
 }
@@ -129,6 +130,43 @@ fn rings() -> Vec<Vector> {
         roomy("the ring from its end", time_words(64, &turned)),
         times("the ring with room exactly enough", time_words(64, &turned), 66),
     ]
+}
+
+/// One bad ring, its sum -1, with a path into or out of it; a good ring sums to
+/// 0. Rows are listed along their walks, and from their end.
+fn lone_rings() -> Vec<Vector> {
+    let lists = [
+        ("a row on itself at a path's end", [path(0, 63, -9), ring(63, 1, -1)].concat()),
+        ("a row on itself at a path's start", [ring(0, 1, -1), path(0, 63, -9)].concat()),
+        ("a ring of 3 at a path's end", [path(0, 61, -30_000), ring(61, 3, -1)].concat()),
+        ("a ring of 3 at a path's start", [ring(0, 3, -1), path(2, 61, -30_000)].concat()),
+        ("a ring of 40 at a path's end", [path(0, 24, 7), ring(24, 40, -1)].concat()),
+        ("a ring of 40 at a path's start", [ring(0, 40, -1), path(39, 24, -7)].concat()),
+        (
+            "a ring of 2 behind a good one",
+            [ring(0, 61, 0), path(60, 2, -1), ring(62, 2, -1)].concat(),
+        ),
+        ("a good ring behind one of 2", [ring(0, 2, -1), path(1, 2, -1), ring(3, 61, 0)].concat()),
+    ];
+    let mut vectors = Vec::new();
+    for (name, mut rows) in lists {
+        vectors.push(roomy(name, time_words(64, &rows)));
+        rows.reverse();
+        vectors.push(roomy(format!("{name}, from its end"), time_words(64, &rows)));
+    }
+    vectors
+}
+
+/// So many rows of one length, one after the other.
+fn path(first: i32, count: i32, length: i32) -> Vec<[i32; 4]> {
+    (first..first + count).map(|from| [from, from + 1, 0, length]).collect()
+}
+
+/// A ring through so many vertices: up by 10 a row, and back.
+fn ring(first: i32, count: i32, sum: i32) -> Vec<[i32; 4]> {
+    let mut rows = path(first, count - 1, 10);
+    rows.push([first + count - 1, first, 0, sum - 10 * (count - 1)]);
+    rows
 }
 
 /// Many rows between two vertices, of which one decides.
