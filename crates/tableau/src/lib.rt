@@ -40,19 +40,19 @@ pub struct Tableau {
 }
 
 impl Tableau {
-    pub const MOST_COLUMNS: usize = 8;
+    pub const MOST_COLUMNS: usize = rules::MOST_COLUMNS;
 
-    pub const MOST_ROWS: usize = 16;
+    pub const MOST_ROWS: usize = rules::MOST_ROWS;
 
-    pub const MOST_VARIABLES: usize = 24;
+    pub const MOST_VARIABLES: usize = rules::MOST_VARIABLES;
 
     pub const MOST_ENTRIES: usize = divisor::MOST_CELLS;
 
-    pub const LARGEST_COEFFICIENT: i32 = 1000;
+    pub const LARGEST_COEFFICIENT: i32 = rules::LARGEST_COEFFICIENT;
 
-    pub const LARGEST_LIMIT: i32 = 30000;
+    pub const LARGEST_LIMIT: i32 = rules::LARGEST_LIMIT;
 
-    pub const LARGEST_NUMBER: i64 = 2147483647;
+    pub const LARGEST_NUMBER: i64 = rules::LARGEST_NUMBER;
 }
 
 pub mod judge;
