@@ -14,7 +14,7 @@ mod parts;
 pub fn check(words: &[i32], answer: &[i64]) -> u32
     ensures { λ r. ⌜ r ≡ checked (now (words .entry)) (now (answer .entry)) ⌝ }
 {
-    let refused = tableau::judge::judge(words);
+    let refused = judge::judge(words);
     if refused != 0 {
         return refused;
     }

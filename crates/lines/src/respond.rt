@@ -20,7 +20,7 @@ fn reply(words: &[i32], out: &mut [u8]) -> Written
     if number != 0 {
         return write_refusal(number, out);
     }
-    let variables = tableau::judge::count_at(words, 0) + tableau::judge::count_at(words, 1);
+    let variables = judge::count_at(words, 0) + judge::count_at(words, 1);
     write_answer(&answer, variables, out)
 }
 

@@ -9,7 +9,6 @@ ghost use Rattle.solver.specs.Run.{Begun};
 use answer::Verdict;
 use conflict::Crossed;
 use tableau::Tableau;
-use tableau::judge;
 
 pub mod answer;
 pub mod conflict;

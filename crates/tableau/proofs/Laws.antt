@@ -12,7 +12,6 @@ pub mod Moves
 pub mod Smalls
 pub mod Steps
 pub mod Only
-pub mod Judged
 pub mod Reading
 pub mod Fitting
 pub mod Started

@@ -4,5 +4,4 @@ pub mod Parts
 pub mod Pivot
 pub mod Start
 pub mod Stands
-pub mod Words
 pub mod TwoOrders

@@ -55,5 +55,4 @@ impl Tableau {
     pub const LARGEST_NUMBER: i64 = rules::LARGEST_NUMBER;
 }
 
-pub mod judge;
 pub mod read;

@@ -9,7 +9,7 @@ ghost use Rattle.rules.specs.Limit.{present};
 ghost use Rattle.rules.specs.Problem.{problem, word};
 ghost use Rattle.rules.specs.Refusal.{Accepted, problemRefusal};
 ghost use Rattle.rules.specs.Step.{startValue};
-ghost use Rattle.tableau.specs.Words.{Framed};
+ghost use Rattle.judge.specs.Words.{Framed};
 ghost use Rattle.tableau.specs.Layout.{lines, lineAt};
 ghost use Rattle.tableau.specs.Start.{startUpTo, startEntries, startBasic, startNonbasic, seatFor, startSeats};
 ghost use Rattle.tableau.specs.Start.{limitsFor, valuesFor, startTableau};
@@ -19,7 +19,6 @@ use crate::RowPlace;
 use crate::Seat;
 use crate::Tableau;
 use crate::Variable;
-use crate::judge;
 use crate::layout;
 
 // A word as a tableau's number.

@@ -8,10 +8,6 @@ use Rattle.tableau.proofs.layout.spot_at.Reads as spot-at
 use Rattle.tableau.proofs.layout.live.Reads as live
 use Rattle.tableau.proofs.pivot.pivot.Reads as pivot
 use Rattle.tableau.proofs.range.all_in_range.Reads as all-in-range
-use Rattle.tableau.proofs.judge.has_lower.Reads as has-lower
-use Rattle.tableau.proofs.judge.has_upper.Reads as has-upper
-use Rattle.tableau.proofs.judge.count_at.Reads as count-at
-use Rattle.tableau.proofs.judge.judge.Reads as judge
 use Rattle.tableau.proofs.Tableau.new.Reads as new
 
 pub place-only : (κs : _) (x : _) (a b : _) (e : _) → place.Post κs x a e → place.Post κs x b e → a ≡ b
@@ -35,18 +31,6 @@ pivot-only κs x a b e f h k = (h .0 ∙ sym (k .0), h .1 ∙ sym (k .1))
 pub all-in-range-only : (κs : _) (x : _) (a b : _) (e : _) → all-in-range.Post κs x a e → all-in-range.Post κs x b e →
     a ≡ b
 all-in-range-only κs x a b e h k = h ∙ sym k
-
-pub has-lower-only : (κs : _) (x : _) (a b : _) (e : _) → has-lower.Post κs x a e → has-lower.Post κs x b e → a ≡ b
-has-lower-only κs x a b e h k = h ∙ sym k
-
-pub has-upper-only : (κs : _) (x : _) (a b : _) (e : _) → has-upper.Post κs x a e → has-upper.Post κs x b e → a ≡ b
-has-upper-only κs x a b e h k = h ∙ sym k
-
-pub count-at-only : (κs : _) (x : _) (a b : _) (e : _) → count-at.Post κs x a e → count-at.Post κs x b e → a ≡ b
-count-at-only κs x a b e h k = h ∙ sym k
-
-pub judge-only : (κs : _) (x : _) (a b : _) (e : _) → judge.Post κs x a e → judge.Post κs x b e → a ≡ b
-judge-only κs x a b e h k = h ∙ sym k
 
 pub new-only : (κs : _) (x : _) (a b : _) (e : _) → new.Post κs x a e → new.Post κs x b e → a ≡ b
 new-only κs x a b e h k = h ∙ sym k

@@ -26,10 +26,10 @@ use Rattle.rules.specs.Limit.{hasLower, hasUpper, present}
 use Rattle.rules.specs.Problem.{Problem, problem, vars, word}
 use Rattle.rules.specs.Refusal.{Accepted, FineLimit}
 use Rattle.rules.specs.Step.{seated, startValue}
+use Rattle.judge.specs.Words.{Framed}
+use Rattle.judge.proofs.Laws.Judged.{kind-place, vars-are}
 use Rattle.tableau.specs.Parts.{lowerOf, upperOf}
 use Rattle.tableau.specs.Start.{isPresent, limitsFor, startValues, valuesFor}
-use Rattle.tableau.specs.Words.{Framed}
-use Rattle.tableau.proofs.Laws.Judged.{kind-place, vars-are}
 
 -- ---- entries
 

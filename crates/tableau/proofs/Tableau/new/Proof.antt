@@ -12,14 +12,14 @@ use Rattle.rules.specs.Problem.{Problem, problem}
 use Rattle.rules.specs.Refusal.{Accepted, problemRefusal}
 use Rattle.rules.proofs.Ranges.{problem-m, problem-n}
 use Rattle.rules.proofs.Refused.{accepted-exactly}
+use Rattle.judge.specs.Words.{Framed}
+use Rattle.judge.proofs.Laws.Judged.{accepted-framed}
 use Rattle.tableau.specs.declared.Limits.{Limits}
 use Rattle.tableau.specs.declared.Seat.{Seat}
 use Rattle.tableau.specs.declared.Tableau.{Tableau}
 use Rattle.tableau.specs.declared.Variable.{Variable}
 use Rattle.tableau.specs.Start.{limitsFor, startBasic, startEntries, startNonbasic, startSeats}
 use Rattle.tableau.specs.Start.{startTableau, startLaid, startValues, valuesFor}
-use Rattle.tableau.specs.Words.{Framed}
-use Rattle.tableau.proofs.Laws.Judged.{accepted-framed}
 use Rattle.tableau.proofs.Laws.Reading.{values-same}
 use Rattle.tableau.proofs.Tableau.new.Statement.{statement}
 use Rattle.tableau.proofs.Tableau.new.Tie as tie

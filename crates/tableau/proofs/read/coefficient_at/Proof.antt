@@ -9,7 +9,7 @@ use lib.ListN.{length}
 use mir.Facts.{toZ-ofZ}
 use mir.Syntax.{w64}
 use mir.Val.{SFits}
-use Rattle.tableau.proofs.Laws.Judged.{few-words}
+use Rattle.judge.proofs.Laws.Judged.{few-words}
 use Rattle.tableau.proofs.Laws.Reading.{coefficient-in, coefficient-is}
 use Rattle.tableau.proofs.read.coefficient_at.Statement.{statement}
 use Rattle.tableau.proofs.read.coefficient_at.Tie as tie

@@ -17,9 +17,9 @@ use Rattle.rules.specs.Sizes.{mostVariables}
 use Rattle.rules.specs.Problem.{Problem, problem, vars, word}
 use Rattle.rules.specs.Step.{seated}
 use Rattle.rules.proofs.Ranges.{problem-vars}
+use Rattle.judge.proofs.Laws.Judged.{few-words, vars-are}
 use Rattle.tableau.specs.declared.Limits.{Limits}
 use Rattle.tableau.specs.Start.{isPresent, limitsFor}
-use Rattle.tableau.proofs.Laws.Judged.{few-words, vars-are}
 use Rattle.tableau.proofs.Laws.Reading.{lower-flag, lower-number, upper-flag, upper-number}
 use Rattle.tableau.proofs.read.limits_of.Statement.{statement}
 use Rattle.tableau.proofs.read.limits_of.Tie as tie

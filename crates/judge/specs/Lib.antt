@@ -1,0 +1,2 @@
+-- What the tests on the words ask.
+pub mod Words

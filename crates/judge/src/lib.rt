@@ -1,0 +1,207 @@
+// Refusals 1 to 6 and 10: whether lent words are a problem. Each test runs over the whole input before the next.
+ghost use mathlib.Core.Path.{_≡_};
+ghost use mathlib.Core.Bool.{_||_};
+ghost use mathlib.Core.List.{[], _∷_};
+ghost use Prim.Native.Nat.{_≤_, _<_};
+ghost use lib.IntN.{ℤ, pos, natAbs};
+ghost use lib.ListN.{length};
+ghost use lib.Signed.{_≤ℤ_};
+ghost use Rattle.whole.specs.Numbers.{within, outside};
+ghost use Rattle.rules.specs.Sizes.{mostRows};
+ghost use Rattle.rules.specs.Limit.{hasLower, hasUpper, badLimitWord};
+ghost use Rattle.rules.specs.Problem.{word};
+ghost use Rattle.rules.specs.Refusal.{badSize, badCoefficient, blankRow, first, problemRefusal, someBlank};
+ghost use Rattle.judge.specs.Words.{Framed, badBy, badVariable};
+
+// Whether a word is below `least` or above `most`.
+fn is_outside(word: i32, least: u32, most: u32) -> bool
+    ensures { λ r. ⌜ r ≡ outside least most word ⌝ }
+{
+    let z = word as i64;
+    if z < least as i64 {
+        return true;
+    }
+    (most as i64) < z
+}
+
+// Whether the size of a word is at most `largest`.
+fn is_within(word: i32, largest: i32) -> bool
+    requires { ⌜ pos 0 ≤ℤ largest ⌝ }
+    ensures { λ r. ⌜ r ≡ within (natAbs largest) word ⌝ }
+{
+    if word < -largest {
+        return false;
+    }
+    word <= largest
+}
+
+// Whether a kind says that there is a lower limit.
+pub fn has_lower(kind: i32) -> bool
+    ensures { λ r. ⌜ r ≡ hasLower kind ⌝ }
+{
+    kind % 2 != 0
+}
+
+// Whether a kind says that there is an upper limit.
+pub fn has_upper(kind: i32) -> bool
+    ensures { λ r. ⌜ r ≡ hasUpper kind ⌝ }
+{
+    kind / 2 % 2 != 0
+}
+
+// Whether a limit's word is out of range, or not 0 where the limit is missing.
+fn is_bad_limit(present: bool, word: i32) -> bool
+    ensures { λ r. ⌜ r ≡ badLimitWord present word ⌝ }
+{
+    if present {
+        return !is_within(word, rules::LARGEST_LIMIT);
+    }
+    word != 0
+}
+
+// Whether a variable's kind is outside 0 to 3, or one of its two limits bad.
+fn is_bad_variable(kind: i32, lower: i32, upper: i32, kinds: bool) -> bool
+    ensures { λ r. ⌜ r ≡ badBy kinds kind lower upper ⌝ }
+{
+    if kinds {
+        return is_outside(kind, 0, 3);
+    }
+    either(
+        is_bad_limit(has_lower(kind), lower),
+        is_bad_limit(has_upper(kind), upper),
+    )
+}
+
+// Both are asked for, so that a loop looks at all words without a branch.
+fn either(a: bool, b: bool) -> bool
+    ensures { λ r. ⌜ r ≡ (a || b) ⌝ }
+{
+    if a {
+        return true;
+    }
+    b
+}
+
+// A word that is not below 0, as a count.
+pub fn count_at(words: &[i32], at: usize) -> usize
+    requires { ⌜ (at < length (now words)) × (pos 0 ≤ℤ word (now words) at) ⌝ }
+    ensures { λ r. ⌜ r ≡ natAbs (word (now (words .entry)) at) ⌝ }
+{
+    words[at] as usize
+}
+
+// Whether n or m is outside its range.
+fn is_bad_size(words: &[i32]) -> bool
+    requires { ⌜ 2 ≤ length (now words) ⌝ }
+    ensures { λ r. ⌜ r ≡ badSize mostRows (now (words .entry)) ⌝ }
+{
+    if is_outside(words[0], 1, rules::MOST_COLUMNS as u32) {
+        return true;
+    }
+    is_outside(words[1], 0, rules::MOST_ROWS as u32)
+}
+
+// Whether some coefficient is outside its range.
+fn some_bad_coefficient(words: &[i32], columns: usize, rows: usize) -> bool
+    requires { ⌜ Framed (now words) columns rows ⌝ }
+    ensures { λ r. ⌜ r ≡ badCoefficient (now (words .entry)) ⌝ }
+{
+    let end = rows * columns;
+    let mut bad = false;
+    for i in 0..end {
+        let at = 2 + i;
+        bad = either(bad, !is_within(words[at], rules::LARGEST_COEFFICIENT));
+    }
+    bad
+}
+
+// Whether some variable fails the test of its kind, or else that of its limits.
+fn some_bad_variable(words: &[i32], columns: usize, rows: usize, kinds: bool) -> bool
+    requires { ⌜ Framed (now words) columns rows ⌝ }
+    ensures { λ r. ⌜ r ≡ badVariable kinds (now (words .entry)) ⌝ }
+{
+    let from = 2 + rows * columns;
+    let end = columns + rows;
+    let mut bad = false;
+    for v in 0..end {
+        let at = from + 3 * v;
+        let lower = at + 1;
+        let upper = at + 2;
+        bad = either(
+            bad,
+            is_bad_variable(words[at], words[lower], words[upper], kinds),
+        );
+    }
+    bad
+}
+
+// Whether all coefficients of a row are 0.
+fn is_blank_row(words: &[i32], columns: usize, rows: usize, row: usize) -> bool
+    requires { ⌜ Framed (now words) columns rows ⌝ }
+    requires { ⌜ row < rows ⌝ }
+    ensures { λ r. ⌜ r ≡ blankRow (now (words .entry)) row ⌝ }
+{
+    let from = 2 + row * columns;
+    for j in 0..columns {
+        let at = from + j;
+        if words[at] != 0 {
+            return false;
+        }
+    }
+    true
+}
+
+// Whether some row is blank.
+fn some_blank_row(words: &[i32], columns: usize, rows: usize) -> bool
+    requires { ⌜ Framed (now words) columns rows ⌝ }
+    ensures { λ r. ⌜ r ≡ someBlank (now (words .entry)) ⌝ }
+{
+    for i in 0..rows {
+        if is_blank_row(words, columns, rows, i) {
+            return true;
+        }
+    }
+    false
+}
+
+// The number of the first of refusals 4 to 6 and 10 that applies, or 0.
+fn word_refusal(coefficient: bool, kind: bool, limit: bool, blank: bool) -> u32
+    ensures { λ r. ⌜ r ≡ first ((coefficient, 4) ∷ (kind, 5) ∷ (limit, 6) ∷ (blank, 10) ∷ []) ⌝ }
+{
+    if coefficient {
+        return 4;
+    }
+    if kind {
+        return 5;
+    }
+    if limit {
+        return 6;
+    }
+    if blank {
+        return 10;
+    }
+    0
+}
+
+// The number of the first of refusals 1 to 6 and 10 that applies, or 0.
+pub fn judge(words: &[i32]) -> u32
+    ensures { λ r. ⌜ r ≡ problemRefusal (now (words .entry)) ⌝ }
+{
+    if words.len() < 2 {
+        return 1;
+    }
+    if is_bad_size(words) {
+        return 2;
+    }
+    let columns = count_at(words, 0);
+    let rows = count_at(words, 1);
+    if words.len() != 2 + rows * columns + 3 * (columns + rows) {
+        return 3;
+    }
+    word_refusal(
+        some_bad_coefficient(words, columns, rows),
+        some_bad_variable(words, columns, rows, true),
+        some_bad_variable(words, columns, rows, false),
+        some_blank_row(words, columns, rows),
+    )
+}
