@@ -1,11 +1,12 @@
 //! How long each implementation takes, in one process and interleaved.
 //!
 //! Every contender goes over the same few problems, one after another, then
-//! over the next few, many rounds long; the least times are added up and
-//! divided by the number of problems. A problem is lent as words and answered
-//! into an output that is lent too, so judging the words is part of what is
-//! measured, and making them is not. The checker is measured on the answers of
-//! the first contender.
+//! over the next few, many rounds long. The order changes round by round, so
+//! that each goes first as often as the others: whoever goes second comes out up
+//! to 3 % faster. The least times are added up and divided by the number of
+//! problems. A problem is lent as words and answered into an output that is lent
+//! too, so judging the words is part of what is measured, and making them is
+//! not. The checker is measured on the answers of the first contender.
 //!
 //! `SEED=.. make bench` measures other problems.
 

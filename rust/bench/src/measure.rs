@@ -1,6 +1,10 @@
 //! Timing: every contender in turn on a few problems, then on the next few,
 //! many rounds long.
 //!
+//! Who goes second over the same problems comes out up to 3 % faster, so each
+//! round begins with the next contender: of two, each goes first in every other
+//! round, and a ratio does not depend on the order that they are listed in.
+//!
 //! The least time of each few problems counts. They take less than a slice of
 //! the machine's time, so that other work beside hardly shows in the least.
 
@@ -48,17 +52,18 @@ fn interleaved(
     problems: usize,
     pass: impl Fn(&Contender, Range<usize>),
 ) -> Vec<f64> {
-    let parts = problems.div_ceil(FEW);
-    let mut least = vec![vec![f64::INFINITY; parts]; contenders.len()];
-    for _ in 0..ROUNDS {
-        for part in 0..parts {
+    let mut least = vec![vec![f64::INFINITY; contenders.len()]; problems.div_ceil(FEW)];
+    for round in 0..ROUNDS {
+        for (part, least) in least.iter_mut().enumerate() {
             let few = part * FEW..problems.min((part + 1) * FEW);
-            for (least, contender) in least.iter_mut().zip(contenders) {
+            for turn in 0..contenders.len() {
+                let at = (round + turn) % contenders.len();
                 let start = Instant::now();
-                pass(contender, few.clone());
-                least[part] = least[part].min(start.elapsed().as_nanos() as f64);
+                pass(&contenders[at], few.clone());
+                least[at] = least[at].min(start.elapsed().as_nanos() as f64);
             }
         }
     }
-    least.iter().map(|parts| parts.iter().sum::<f64>() / problems as f64).collect()
+    let mean = |at: usize| least.iter().map(|least| least[at]).sum::<f64>() / problems as f64;
+    (0..contenders.len()).map(mean).collect()
 }
