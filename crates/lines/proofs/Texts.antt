@@ -1,13 +1,10 @@
--- Texts put one behind the other.
---   put-none, put-then       no text; two texts are one
---   put-length               the slice is as long as before
---   room-left, room-right    where there is room for both, there is room for each
---   lines-start, -more          the same for the lines of the variables below a number
+-- Lines put one behind the other, and whole texts.
+--   lines-start, -more          the lines of the variables below a number
 --   printed-none, -all, -only   a whole text in a slice, or none of it; bytes-fit, that it is there
 --   short-clash                 a slice of `mostText` bytes is not too short
-use mathlib.Core.Path.{_≡_, refl, sym, _∙_, ap, ap₂}
+use mathlib.Core.Path.{_≡_, refl, sym, _∙_, ap}
 use mathlib.Core.Bool.{Bool, true, false, cond}
-use mathlib.Core.List.{List, [], _++_}
+use mathlib.Core.List.{List, _++_}
 use Prim.Native.Nat.{ℕ, _+_, _*_, _≤_, _<_}
 use native.Mathlib.Nat.{mul-suc}
 use native.Mathlib.Numerals.{add-one}
@@ -15,35 +12,15 @@ use native.Mathlib.Omega.{arith}
 use borrow.Author.Tests.{le-leb, lt-leb}
 use lib.Dec.{leb}
 use lib.ListN.{length, drop, length-append}
-use lib.Seq.{sets, length-sets}
-use Rattle.whole.proofs.Stores.{sets-then, sets-front}
+use Rattle.whole.proofs.Stores.{sets-front}
 use Rattle.rules.specs.Sizes.{mostText}
 use Rattle.rules.specs.Text.{linesBelow, printed}
 use Rattle.rules.proofs.Text.Lengths.{lines-longer}
-use Rattle.lines.specs.Put.{Put, PutShort, Room}
+use Rattle.put.specs.Put.{Put, PutShort}
+use Rattle.put.proofs.Texts.{put-none, put-then}
 use Rattle.lines.specs.Printed.{Printed, answered}
 use Rattle.lines.specs.declared.Written.{Written}
 use Rattle.lines.specs.declared.Written.the-variants.{Bytes, TooShort}
-
-pub put-none : (before : List ℕ) (at : ℕ) → Put before at [] before at
-put-none before at = record { bytes = refl; place = omega arith }
-
-module _ {l m n s t : List ℕ} {i j k : ℕ} where
-  pub put-then : Put l i s m j → Put m j t n k → Put l i (s ++ t) n k
-  put-then p q = record {
-    bytes = q .bytes ∙ ap₂ (λ a b. sets a b t) (p .bytes) (p .place) ∙ sym (sets-then s t l i);
-    place = omega (arith, length-append s t, p .place, q .place);
-  }
-
-pub put-length : {l m s : List ℕ} {i j : ℕ} → Put l i s m j → length m ≡ length l
-put-length {l} {m} {s} {i} p = ap length (p .bytes) ∙ length-sets l i s
-
-module _ (s t : List ℕ) {i : ℕ} (r : Room i (s ++ t)) where
-  pub room-left : Room i s
-  room-left = record { room = omega (arith, length-append s t) }
-
-  pub room-right : {l m : List ℕ} {j : ℕ} → Put l i s m j → Room j t
-  room-right p = record { room = omega (arith, length-append s t, p .place) }
 
 -- ---- the lines of the variables, one after the other, of at most b bytes each
 

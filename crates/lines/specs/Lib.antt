@@ -1,3 +1,2 @@
 -- What the contracts of `lines` say of a lent slice of bytes.
-pub mod Put
 pub mod Printed

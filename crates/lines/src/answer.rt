@@ -2,13 +2,13 @@
 use crate::line::put_line;
 use crate::line::put_multipliers;
 use crate::line::put_value;
-use crate::put::put_text;
+use put::put_text;
 ghost use Prim.Native.Nat.{_+_, _*_, _≤_};
 ghost use lib.ListN.{length};
 ghost use Rattle.rules.specs.Sizes.{mostVariables, mostPivotsLine, mostValueLine, mostMultiplierLines, mostText};
 ghost use Rattle.rules.specs.Text.{linesBelow, headLines, valueLine, multiplierLines};
 ghost use Rattle.rules.specs.Text.{canText, cannotText, answerText, refusalText};
-ghost use Rattle.lines.specs.Put.{PutShort};
+ghost use Rattle.put.specs.Put.{PutShort};
 
 // The numerators, by variable.
 fn put_values(out: &mut [u8], at: usize, answer: &[i64], variables: usize) -> usize

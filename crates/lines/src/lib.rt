@@ -1,7 +1,6 @@
 // Answers and refusals as text, byte for byte as the program prints them, into a lent slice.
 mod answer;
 mod line;
-mod put;
 pub mod respond;
 
 use answer::put_answer;

@@ -1,13 +1,13 @@
 // One line, put at a place of a lent slice.
-use crate::put::put_byte;
-use crate::put::put_digits;
-use crate::put::put_number;
-use crate::put::put_text;
+use put::put_byte;
+use put::put_digits;
+use put::put_number;
+use put::put_text;
 ghost use Prim.Native.Nat.{_+_, _^_, _<_};
 ghost use lib.ListN.{length};
 ghost use Rattle.rules.specs.Sizes.{mostVariables, mostValueLine, mostMultiplierLines};
 ghost use Rattle.rules.specs.Text.{line, variableLine, multiplierLine, valueLine, multiplierLines};
-ghost use Rattle.lines.specs.Put.{Put, PutShort, Room};
+ghost use Rattle.put.specs.Put.{Put, PutShort, Room};
 
 // A name and a number.
 pub fn put_line(out: &mut [u8], at: usize, name: &[u8], n: i64) -> usize

@@ -1,6 +1,7 @@
 -- `lines::write_answer` meets its contract: the text is measured, and is put where it fits. Assumes nothing.
 use borrow.Author.Needs.{needs}
-use Rattle.lines.proofs.Texts.{put-length, printed-none, printed-all}
+use Rattle.put.proofs.Texts.{put-length}
+use Rattle.lines.proofs.Texts.{printed-none, printed-all}
 use Rattle.lines.proofs.write_answer.Statement.{statement}
 use Rattle.lines.proofs.write_answer.Tie as tie
 

@@ -13,7 +13,7 @@ use Rattle.rules.specs.Problem.{word}
 use Rattle.rules.specs.Text.{ascii, canText, cannotText, rangeText, answerText}
 use Rattle.rules.proofs.Text.Verdicts.{answer-can, answer-cannot, answer-range}
 use Rattle.rules.proofs.Text.Lengths.{range-short}
-use Rattle.lines.proofs.Texts.{put-length}
+use Rattle.put.proofs.Texts.{put-length}
 use Rattle.lines.proofs.answer.put_answer.Statement.{statement}
 use Rattle.lines.proofs.answer.put_answer.Tie as tie
 

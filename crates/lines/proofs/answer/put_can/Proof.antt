@@ -12,8 +12,8 @@ use Rattle.rules.specs.Problem.{word}
 use Rattle.rules.specs.Sizes.{mostPivotsLine}
 use Rattle.rules.specs.Text.{ascii, line, headLines, canText}
 use Rattle.rules.proofs.Text.Lengths.{line-short, can-short}
-use Rattle.lines.specs.Put.{Put, PutShort}
-use Rattle.lines.proofs.Texts.{put-then, put-length}
+use Rattle.put.specs.Put.{Put, PutShort}
+use Rattle.put.proofs.Texts.{put-then, put-length}
 use Rattle.lines.proofs.answer.put_can.Statement.{statement}
 use Rattle.lines.proofs.answer.put_can.Tie as tie
 

@@ -6,8 +6,8 @@ use native.Mathlib.Omega.{arith}
 use Rattle.rules.specs.Sizes.{mostPivotsLine}
 use Rattle.rules.specs.Text.{ascii, headLines, linesBelow, multiplierLines, cannotText}
 use Rattle.rules.proofs.Text.Lengths.{cannot-short}
-use Rattle.lines.specs.Put.{Put, PutShort}
-use Rattle.lines.proofs.Texts.{put-then, put-length}
+use Rattle.put.specs.Put.{Put, PutShort}
+use Rattle.put.proofs.Texts.{put-then, put-length}
 use Rattle.lines.proofs.answer.put_cannot.Statement.{statement}
 use Rattle.lines.proofs.answer.put_cannot.Tie as tie
 

@@ -11,8 +11,8 @@ use Rattle.rules.specs.Problem.{word}
 use Rattle.rules.specs.Sizes.{mostPivotsLine}
 use Rattle.rules.specs.Text.{ascii, line, headLines}
 use Rattle.rules.proofs.Text.Lengths.{head-short}
-use Rattle.lines.specs.Put.{Put, Room}
-use Rattle.lines.proofs.Texts.{put-then, put-length, room-right}
+use Rattle.put.specs.Put.{Put, Room}
+use Rattle.put.proofs.Texts.{put-then, put-length, room-right}
 use Rattle.lines.proofs.answer.put_head.Statement.{statement}
 use Rattle.lines.proofs.answer.put_head.Tie as tie
 

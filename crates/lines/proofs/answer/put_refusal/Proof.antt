@@ -11,7 +11,7 @@ use mir.Val.{toZ}
 use Rattle.rules.specs.Sizes.{mostText}
 use Rattle.rules.specs.Text.{ascii, refusalText}
 use Rattle.rules.proofs.Text.Lengths.{refusal-short}
-use Rattle.lines.proofs.Texts.{put-length}
+use Rattle.put.proofs.Texts.{put-length}
 use Rattle.lines.proofs.answer.put_refusal.Statement.{statement}
 use Rattle.lines.proofs.answer.put_refusal.Tie as tie
 

@@ -6,8 +6,9 @@ use Prim.Native.Nat.{ℕ, _-_, _*_, _≤_}
 use native.Mathlib.Omega.{arith}
 use Rattle.rules.specs.Sizes.{mostValueLine}
 use Rattle.rules.specs.Text.{linesBelow, valueLine}
-use Rattle.lines.specs.Put.{PutShort}
-use Rattle.lines.proofs.Texts.{put-length, lines-start, lines-more}
+use Rattle.put.specs.Put.{PutShort}
+use Rattle.put.proofs.Texts.{put-length}
+use Rattle.lines.proofs.Texts.{lines-start, lines-more}
 use Rattle.lines.proofs.answer.put_values.Statement.{statement}
 use Rattle.lines.proofs.answer.put_values.Tie as tie
 

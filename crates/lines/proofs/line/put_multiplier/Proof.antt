@@ -6,7 +6,7 @@ use mir.Val.{ofZ}
 use Rattle.whole.proofs.Tests.{test-eq}
 use Rattle.rules.specs.Text.{variableLine, multiplierLine}
 use Rattle.rules.proofs.Text.Verdicts.{multiplier-none, multiplier-some}
-use Rattle.lines.proofs.Texts.{put-none, put-length}
+use Rattle.put.proofs.Texts.{put-none, put-length}
 use Rattle.lines.proofs.line.put_multiplier.Statement.{statement}
 use Rattle.lines.proofs.line.put_multiplier.Tie as tie
 

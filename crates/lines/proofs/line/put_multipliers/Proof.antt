@@ -12,8 +12,8 @@ use Rattle.rules.specs.Sizes.{mostMultiplierLines}
 use Rattle.rules.specs.Problem.{word}
 use Rattle.rules.specs.Text.{ascii, multiplierLine, multiplierLines}
 use Rattle.rules.proofs.Text.Lengths.{multipliers-short}
-use Rattle.lines.specs.Put.{Put, Room}
-use Rattle.lines.proofs.Texts.{put-then, put-length, room-left, room-right}
+use Rattle.put.specs.Put.{Put, Room}
+use Rattle.put.proofs.Texts.{put-then, put-length, room-left, room-right}
 use Rattle.lines.proofs.line.put_multipliers.Statement.{statement}
 use Rattle.lines.proofs.line.put_multipliers.Tie as tie
 

@@ -1,4 +1,4 @@
--- `lines::put::size_below` meets its contract: the number above n is from -(2 ^ 63 - 1) to 0, so its negative fits.
+-- `put::size_below` meets its contract: the number above n is from -(2 ^ 63 - 1) to 0, so its negative fits.
 -- Assumes nothing.
 use mathlib.Core.Path.{_≡_, refl, ap}
 use Prim.Native.Nat.{zero, suc, _+_, _-_, _^_, _≤_, _<_}
@@ -9,8 +9,8 @@ use lib.Dec.{ltb→lt}
 use mir.Facts.{toZ-ofZ}
 use mir.Syntax.{w64}
 use mir.Val.{SFits}
-use Rattle.lines.proofs.put.size_below.Statement.{statement}
-use Rattle.lines.proofs.put.size_below.Tie as tie
+use Rattle.put.proofs.size_below.Statement.{statement}
+use Rattle.put.proofs.size_below.Tie as tie
 
 above-fits : (z : ℤ) → z <ℤ pos 0 → SFits w64 z → SFits w64 (z +ℤ pos 1)
 above-fits (pos n) h f = absurd (omega (arith, ltb→lt n 0 (h .lt)))

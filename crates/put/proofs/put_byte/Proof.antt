@@ -1,10 +1,10 @@
--- `lines::put::put_byte` meets its contract: a byte past the end is dropped. Assumes nothing.
+-- `put::put_byte` meets its contract: a byte past the end is dropped. Assumes nothing.
 use borrow.Author.Needs.{needs}
 use mathlib.Core.Path.{refl, sym}
 use native.Mathlib.Omega.{arith}
 use lib.Seq.{set-out}
-use Rattle.lines.proofs.put.put_byte.Statement.{statement}
-use Rattle.lines.proofs.put.put_byte.Tie as tie
+use Rattle.put.proofs.put_byte.Statement.{statement}
+use Rattle.put.proofs.put_byte.Tie as tie
 
 add-next : tie.Need-add-next
 add-next c = search needs

@@ -1,4 +1,4 @@
--- `lines::put::put_text` meets its contract. The invariant of its loop: the first i bytes of the text are put. The
+-- `put::put_text` meets its contract. The invariant of its loop: the first i bytes of the text are put. The
 -- measure is the number of bytes that are left. Assumes nothing.
 use mathlib.Core.List.{List}
 use Prim.Native.Nat.{ℕ, _-_, _≤_}
@@ -7,10 +7,10 @@ use native.Mathlib.Omega.{arith}
 use lib.ListN.{length, take}
 use lib.Seq.{length-take-le, take-suc}
 use Rattle.whole.proofs.Prefix.{take-end}
-use Rattle.lines.specs.Put.{Put}
-use Rattle.lines.proofs.Texts.{put-none, put-then, put-length}
-use Rattle.lines.proofs.put.put_text.Statement.{statement}
-use Rattle.lines.proofs.put.put_text.Tie as tie
+use Rattle.put.specs.Put.{Put}
+use Rattle.put.proofs.Texts.{put-none, put-then, put-length}
+use Rattle.put.proofs.put_text.Statement.{statement}
+use Rattle.put.proofs.put_text.Tie as tie
 
 abbrev Inv-loop : tie.InvT-loop
 Inv-loop out₀ at text next₀ i₀ i-end out next i = (i ≤ length text) × Put out₀ at (take i text) out next

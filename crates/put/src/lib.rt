@@ -5,7 +5,7 @@ ghost use mathlib.Core.List.{[], _∷_};
 ghost use lib.IntN.{pos, natAbs};
 ghost use lib.Signed.{_<ℤ_};
 ghost use Rattle.rules.specs.Text.{digits, decimal};
-ghost use Rattle.lines.specs.Put.{Put, Room};
+ghost use Rattle.put.specs.Put.{Put, Room};
 
 // One byte.
 pub fn put_byte(out: &mut [u8], at: usize, byte: u8) -> usize

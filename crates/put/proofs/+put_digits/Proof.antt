@@ -1,4 +1,4 @@
--- `lines::put::put_digits` meets its contract: one digit, or the digits of n / 10 and one more. The measure is n.
+-- `put::put_digits` meets its contract: one digit, or the digits of n / 10 and one more. The measure is n.
 -- Assumes nothing.
 use mathlib.Core.List.{[], _∷_}
 use Prim.Native.Nat.{ℕ, _/_, _%_, _<_}
@@ -7,13 +7,13 @@ use borrow.Fn.Kinds.{In}
 use borrow.Fn.PlainCycle.{Measures, is, falls, and}
 use Rattle.rules.specs.Text.{digit, digits}
 use Rattle.rules.proofs.Text.Numbers.{digits-one, digits-more}
-use Rattle.lines.proofs.Texts.{put-then, put-length, room-left, room-right}
-use Rattle.lines.proofs.put.put_digits.Reads as put-digits
-use Rattle.lines.proofs.put.put_digits.Kinds as put-digits-kinds
-use Rattle.lines.proofs.put.+put_digits.Lts-put_digits as put-digits-lts
-use Rattle.lines.proofs.put.put_byte.Reads as put-byte-reads
-use Rattle.lines.proofs.put.+put_digits.{statement}
-use Rattle.lines.proofs.put.+put_digits.Tie.{close}
+use Rattle.put.proofs.Texts.{put-then, put-length, room-left, room-right}
+use Rattle.put.proofs.put_digits.Reads as put-digits
+use Rattle.put.proofs.put_digits.Kinds as put-digits-kinds
+use Rattle.put.proofs.+put_digits.Lts-put_digits as put-digits-lts
+use Rattle.put.proofs.put_byte.Reads as put-byte-reads
+use Rattle.put.proofs.+put_digits.{statement}
+use Rattle.put.proofs.+put_digits.Tie.{close}
 
 abbrev μ-put-digits : Measures 1 put-digits-kinds.ps ℕ
 μ-put-digits κs a = a .1 .1 .0

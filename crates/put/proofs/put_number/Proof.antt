@@ -1,4 +1,4 @@
--- `lines::put::put_number` meets its contract: below 0 a minus sign and the digits of the size, otherwise the digits
+-- `put::put_number` meets its contract: below 0 a minus sign and the digits of the size, otherwise the digits
 -- alone. Assumes nothing.
 use borrow.Author.Needs.{needs}
 use mathlib.Core.Path.{_≡_, _∙_, ap}
@@ -10,10 +10,10 @@ use mir.Syntax.{w64}
 use Rattle.whole.proofs.Tests.{test-lt, test-nlt, not-neg}
 use Rattle.rules.specs.Text.{digits, decimal}
 use Rattle.rules.proofs.Text.Numbers.{decimal-below, decimal-above}
-use Rattle.lines.specs.Put.{Put, Room}
-use Rattle.lines.proofs.Texts.{put-then, room-left, room-right}
-use Rattle.lines.proofs.put.put_number.Statement.{statement}
-use Rattle.lines.proofs.put.put_number.Tie as tie
+use Rattle.put.specs.Put.{Put, Room}
+use Rattle.put.proofs.Texts.{put-then, room-left, room-right}
+use Rattle.put.proofs.put_number.Statement.{statement}
+use Rattle.put.proofs.put_number.Tie as tie
 
 module _ (c : tie.Then1) where
   abbrev low : ℤ

@@ -1,0 +1,36 @@
+-- Texts put one behind the other.
+--   put-none, put-then       no text; two texts are one
+--   put-length               the slice is as long as before
+--   room-left, room-right    where there is room for both, there is room for each
+--   put-only                 slice, place and text leave nothing open
+use mathlib.Core.Path.{_≡_, refl, sym, _∙_, ap, ap₂}
+use mathlib.Core.List.{List, [], _++_}
+use Prim.Native.Nat.{ℕ}
+use native.Mathlib.Omega.{arith}
+use lib.ListN.{length, length-append}
+use lib.Seq.{sets, length-sets}
+use Rattle.whole.proofs.Stores.{sets-then}
+use Rattle.put.specs.Put.{Put, Room}
+
+pub put-none : (before : List ℕ) (at : ℕ) → Put before at [] before at
+put-none before at = record { bytes = refl; place = omega arith }
+
+module _ {l m n s t : List ℕ} {i j k : ℕ} where
+  pub put-then : Put l i s m j → Put m j t n k → Put l i (s ++ t) n k
+  put-then p q = record {
+    bytes = q .bytes ∙ ap₂ (λ a b. sets a b t) (p .bytes) (p .place) ∙ sym (sets-then s t l i);
+    place = omega (arith, length-append s t, p .place, q .place);
+  }
+
+pub put-length : {l m s : List ℕ} {i j : ℕ} → Put l i s m j → length m ≡ length l
+put-length {l} {m} {s} {i} p = ap length (p .bytes) ∙ length-sets l i s
+
+module _ (s t : List ℕ) {i : ℕ} (r : Room i (s ++ t)) where
+  pub room-left : Room i s
+  room-left = record { room = omega (arith, length-append s t) }
+
+  pub room-right : {l m : List ℕ} {j : ℕ} → Put l i s m j → Room j t
+  room-right p = record { room = omega (arith, length-append s t, p .place) }
+
+pub put-only : {before text a b : List ℕ} {at i j : ℕ} → Put before at text a i → Put before at text b j → (a ≡ b) × (i ≡ j)
+put-only p q = (p .bytes ∙ sym (q .bytes), p .place ∙ sym (q .place))
