@@ -1,0 +1,3 @@
+-- Laws that this crate's proofs, and those of its callers, cite.
+pub mod Layout
+pub mod Lines

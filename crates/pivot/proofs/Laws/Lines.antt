@@ -1,0 +1,37 @@
+-- An array that is filled line by line, by f of the flat place; m rows and n columns.
+--   lines-start, lines-all             before the first line it is all 0; after the last every cell in use is there
+--   line-start, line-more, line-all    a line: none of its steps yet, one more, all of them
+use Prim.Native.Nat.{ℕ, _+_, _<_}
+use native.Mathlib.Omega.{arith}
+use mathlib.Core.List.{List}
+use mathlib.Core.Path.{_≡_, ap, _∙_}
+use lib.IntN.{ℤ, pos}
+use lib.ListN.{replicate, set}
+use Rattle.whole.specs.Tables.{filled}
+use Rattle.whole.proofs.Prefix.{filled-more, filled-start}
+use Rattle.pivot.specs.Layout.{lineAt, lines, live, mostEntries, steps}
+use Rattle.pivot.proofs.Laws.Layout.{line-next, lines-live}
+
+module _ (m n : ℕ) (f : ℕ → ℤ) where
+  abbrev upTo : ℕ → List ℤ
+  upTo k = filled mostEntries (pos 0) k f
+
+  pub lines-start : replicate mostEntries (pos 0) ≡ upTo (lineAt m n 0)
+  lines-start = filled-start mostEntries (pos 0) f ∙ ap upTo (let z : 0 ≡ lineAt m n 0 = omega arith in z)
+
+  pub lines-all : {l : List ℤ} {line : ℕ} → line ≡ lines m n → l ≡ upTo (lineAt m n line) → l ≡ upTo (live m n)
+  lines-all e h = h ∙ ap (λ k. upTo (lineAt m n k)) e ∙ ap upTo (lines-live m n)
+
+  module _ (line : ℕ) {l : List ℤ} where
+    pub line-start : l ≡ upTo (lineAt m n line) → l ≡ upTo (lineAt m n line + 0)
+    line-start h = h ∙ ap upTo (let z : lineAt m n line ≡ lineAt m n line + 0 = omega arith in z)
+
+    pub line-more : (step : ℕ) {at : ℕ} {a : ℤ} → at ≡ lineAt m n line + step → lineAt m n line + step < mostEntries →
+        l ≡ upTo (lineAt m n line + step) → a ≡ f (lineAt m n line + step) →
+        set l at a ≡ upTo (lineAt m n line + (step + 1))
+    line-more step {at} {a} e h q r = ap (λ k. set l k a) e
+        ∙ filled-more mostEntries (pos 0) f (lineAt m n line + step) h q r
+        ∙ ap upTo (let z : lineAt m n line + step + 1 ≡ lineAt m n line + (step + 1) = omega arith in z)
+
+    pub line-all : {step : ℕ} → step ≡ steps m n → l ≡ upTo (lineAt m n line + step) → l ≡ upTo (lineAt m n (line + 1))
+    line-all e h = h ∙ ap (λ k. upTo (lineAt m n line + k)) e ∙ ap upTo (line-next m n line)

@@ -1,0 +1,2 @@
+-- The laws behind one pivot. Assumes nothing.
+pub mod Laws

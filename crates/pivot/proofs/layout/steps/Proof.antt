@@ -1,0 +1,12 @@
+-- `pivot::layout::steps` meets its contract. Assumes nothing.
+use mathlib.Core.Path.{refl}
+use Rattle.pivot.specs.Layout.{stepsLaid}
+use Rattle.pivot.proofs.layout.steps.Statement.{statement}
+use Rattle.pivot.proofs.layout.steps.Tie as tie
+
+returns : tie.Need-returns
+unfolding stepsLaid
+returns c = refl
+
+pub steps-spec : {M : Type 1} → statement M
+steps-spec = tie.close (tie.spec returns)

@@ -1,0 +1,90 @@
+-- Where the entry of a row place and a column place lies in the flat array, and back, for m rows and n columns:
+-- row after row or column after column, with nothing between. The code's entries lie by columns. Beside this file only
+-- src/layout.rt says so, and proofs/Laws/Layout.antt uses it.
+use Prim.Native.Nat.{ℕ, _+_, _*_, _/_, _%_}
+use mathlib.Core.List.{List}
+use lib.IntN.{ℤ, pos}
+use lib.ListN.{getD}
+use Rattle.divisor.specs.Cells.{mostCells}
+use Rattle.pivot.specs.declared.RowPlace.{RowPlace}
+use Rattle.pivot.specs.declared.ColumnPlace.{ColumnPlace}
+use Rattle.pivot.specs.declared.layout.Spot.{Spot}
+
+-- how many cells the array has
+abbrev pub mostEntries : ℕ
+mostEntries = mostCells
+
+-- the two orders, and the one in use
+pub data Order : Type 0 where
+  byRows : Order
+  byColumns : Order
+
+abbrev pub inUse : Order
+inUse = byColumns
+
+-- ---- places in an order. Here and elsewhere a name that ends in Laid is for entries that lie in the order it is told
+
+unfoldable pub flatLaid : Order → ℕ → ℕ → ℕ → ℕ → ℕ
+flatLaid byRows m n i j = i * n + j
+flatLaid byColumns m n i j = j * m + i
+
+unfoldable pub rowLaid : Order → ℕ → ℕ → ℕ → ℕ
+rowLaid byRows m n k = k / n
+rowLaid byColumns m n k = k % m
+
+unfoldable pub columnLaid : Order → ℕ → ℕ → ℕ → ℕ
+columnLaid byRows m n k = k % n
+columnLaid byColumns m n k = k / m
+
+-- the cells in use lie in lines, whole rows or whole columns, and every line has as many steps as the others
+unfoldable pub linesLaid : Order → ℕ → ℕ → ℕ
+linesLaid byRows m n = m
+linesLaid byColumns m n = n
+
+unfoldable pub stepsLaid : Order → ℕ → ℕ → ℕ
+stepsLaid byRows m n = n
+stepsLaid byColumns m n = m
+
+-- the cells from here on are not in use, in either order
+unfoldable pub live : ℕ → ℕ → ℕ
+live m n = m * n
+
+-- ---- .. and in the order in use
+
+abbrev pub flat : ℕ → ℕ → ℕ → ℕ → ℕ
+flat = flatLaid inUse
+
+abbrev pub rowAt : ℕ → ℕ → ℕ → ℕ
+rowAt = rowLaid inUse
+
+abbrev pub columnAt : ℕ → ℕ → ℕ → ℕ
+columnAt = columnLaid inUse
+
+abbrev pub lines : ℕ → ℕ → ℕ
+lines = linesLaid inUse
+
+abbrev pub steps : ℕ → ℕ → ℕ
+steps = stepsLaid inUse
+
+-- the flat place at which a line begins
+abbrev pub lineAt : ℕ → ℕ → ℕ → ℕ
+lineAt m n line = line * steps m n
+
+-- ---- the two kinds of place, a spot, and an entry
+
+abbrev pub row : ℕ → RowPlace
+row i = record { 0 = i }
+
+abbrev pub column : ℕ → ColumnPlace
+column j = record { 0 = j }
+
+-- the places of flat place k, for m rows and n columns
+abbrev pub spotAt : ℕ → ℕ → ℕ → Spot
+spotAt m n k = record { row = row (rowAt m n k); column = column (columnAt m n k) }
+
+-- the number at a row place and a column place of an array of entries, and in the order in use
+abbrev pub entryLaid : Order → ℕ → ℕ → List ℤ → ℕ → ℕ → ℤ
+entryLaid o m n l i j = getD l (flatLaid o m n i j) (pos 0)
+
+abbrev pub entryIn : ℕ → ℕ → List ℤ → ℕ → ℕ → ℤ
+entryIn = entryLaid inUse

@@ -1,0 +1,58 @@
+// Where the entry of a row place and a column place lies in the flat array, and in which order the places follow there:
+// line after line, and a line is a column. Nothing else in the code says it; callers give both sizes, whichever order
+// needs them.
+ghost use mathlib.Core.Path.{_≡_};
+ghost use Prim.Native.Nat.{_+_, _≤_, _<_};
+ghost use Rattle.rules.specs.Sizes.{mostRows, mostColumns};
+ghost use Rattle.pivot.specs.Layout.{flat, lineAt, spotAt};
+ghost use Rattle.pivot.specs.Layout as layout;
+use crate::ColumnPlace;
+use crate::RowPlace;
+
+// The row place and the column place of one entry.
+pub struct Spot {
+    pub row: RowPlace,
+    pub column: ColumnPlace,
+}
+
+// The flat place.
+pub fn place(rows: usize, columns: usize, row: RowPlace, column: ColumnPlace) -> usize
+    requires { ⌜ (row .0 < rows) × (column .0 < columns) × (rows ≤ mostRows) × (columns ≤ mostColumns) ⌝ }
+    ensures { λ r. ⌜ r ≡ flat rows columns (row .0) (column .0) ⌝ }
+{
+    column.0 as usize * rows + row.0 as usize
+}
+
+// How many lines there are: the columns.
+pub fn lines(rows: usize, columns: usize) -> usize
+    ensures { λ r. ⌜ r ≡ layout.lines rows columns ⌝ }
+{
+    columns
+}
+
+// How many steps each line has: the rows.
+pub fn steps(rows: usize, columns: usize) -> usize
+    ensures { λ r. ⌜ r ≡ layout.steps rows columns ⌝ }
+{
+    rows
+}
+
+// The spot of a step of a line.
+pub fn spot_at(rows: usize, columns: usize, line: usize, step: usize) -> Spot
+    requires { ⌜ (rows ≤ mostRows) × (columns ≤ mostColumns) ⌝ }
+    requires { ⌜ (line < layout.lines rows columns) × (step < layout.steps rows columns) ⌝ }
+    ensures { λ r. ⌜ r ≡ spotAt rows columns (lineAt rows columns line + step) ⌝ }
+{
+    Spot {
+        row: RowPlace(step as u8),
+        column: ColumnPlace(line as u8),
+    }
+}
+
+// From here on no cell is in use.
+pub fn live(rows: usize, columns: usize) -> usize
+    requires { ⌜ (rows ≤ mostRows) × (columns ≤ mostColumns) ⌝ }
+    ensures { λ r. ⌜ r ≡ layout.live rows columns ⌝ }
+{
+    rows * columns
+}
