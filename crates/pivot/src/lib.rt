@@ -1,5 +1,17 @@
-// One pivot over lent entries. The entries lie flat, as specs/Layout.antt says; a cell that is not in use is 0.
+// One pivot over lent entries: a row is solved for the variable of a column, which is put into every other row, and all is
+// reduced. x leaves and w enters; p is the pivot, D the common number; another row has the entry b at w and a at u, the
+// leaving row c at u:
+//   D x = .. + p w + c u ..     the leaving row, solved for w: p w = D x - c u ..
+//   D y = .. + b w + a u ..     another row, times p: D p y = b D x + (p a - b c) u ..
+// The entries lie flat, as specs/Layout.antt says; a cell that is not in use is 0.
+ghost use mathlib.Core.Path.{_≡_};
+ghost use Rattle.pivot.specs.Pivot.{Pivotable, fitsAfter, commonAfter, entriesAfter, pivotedBy, entriesBy};
+use layout::Spot;
+
 pub mod layout;
+pub mod range;
+pub mod sign;
+pub mod wide;
 
 // How many cells the array of entries has.
 pub const MOST_ENTRIES: usize = divisor::MOST_CELLS;
@@ -8,3 +20,44 @@ pub const MOST_ENTRIES: usize = divisor::MOST_CELLS;
 pub struct RowPlace(pub u8);
 
 pub struct ColumnPlace(pub u8);
+
+// A pivot that is asked for: the sizes, the common number, and the spot of the pivot.
+pub struct Asked {
+    pub rows: usize,
+    pub columns: usize,
+    pub common: i32,
+    pub spot: Spot,
+}
+
+// What a pivot comes to: the new common number, or a number beyond the largest.
+pub enum Pivoted {
+    Common(i32),
+    Beyond,
+}
+
+// The entries after a pivot, in lowest common form with the common number above 0. The range is tested after the
+// reduction; beyond it the entries stay.
+pub fn pivot(
+    entries: &mut [i32; MOST_ENTRIES],
+    rows: usize,
+    columns: usize,
+    common: i32,
+    spot: Spot,
+) -> Pivoted
+    requires { ⌜ Pivotable rows columns (now entries) common (spot .row .0) (spot .column .0) ⌝ }
+    ensures answer { λ r. ⌜ r
+        ≡ pivotedBy (fitsAfter rows columns (now (entries .entry)) common (spot .row .0) (spot .column .0))
+        (commonAfter rows columns (now (entries .entry)) common (spot .row .0) (spot .column .0)) ⌝ }
+    ensures numbers { λ r. ⌜ now (entries .exit)
+        ≡ entriesBy (fitsAfter rows columns (now (entries .entry)) common (spot .row .0) (spot .column .0))
+        (now (entries .entry))
+        (entriesAfter rows columns (now (entries .entry)) common (spot .row .0) (spot .column .0)) ⌝ }
+{
+    let asked = Asked {
+        rows,
+        columns,
+        common,
+        spot,
+    };
+    wide::pivot(entries, asked)
+}
