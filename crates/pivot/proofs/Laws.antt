@@ -6,4 +6,7 @@ pub mod Mixes
 pub mod Reductions
 pub mod TwoOrders
 pub mod Halves
+pub mod Divides
+pub mod Signs
+pub mod Crossed
 pub mod Only

@@ -4,11 +4,16 @@ use mathlib.Core.Bool.{Bool}
 use mathlib.Core.List.{List}
 use lib.IntN.{ℤ}
 use Rattle.pivot.specs.declared.Asked.{Asked}
+use Rattle.pivot.specs.Layout.{entryIn}
 use Rattle.pivot.specs.Pivot.{Pivotable, mixedCell, mixedUpTo, fitsAfter, commonAfter, entriesAfter}
 
 module _ (l : List ℤ) (a : Asked) where
   abbrev pub Able : Type 0
   Able = Pivotable (a .rows) (a .columns) l (a .common) (a .spot .row .0) (a .spot .column .0)
+
+  -- the pivot
+  abbrev pub pivotFor : ℤ
+  pivotFor = entryIn (a .rows) (a .columns) l (a .spot .row .0) (a .spot .column .0)
 
   -- the number of row place i and column place j before reduction, and the first k cells
   abbrev pub cellFor : ℕ → ℕ → ℤ

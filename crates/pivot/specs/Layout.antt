@@ -9,6 +9,7 @@ use Rattle.divisor.specs.Cells.{mostCells}
 use Rattle.pivot.specs.declared.RowPlace.{RowPlace}
 use Rattle.pivot.specs.declared.ColumnPlace.{ColumnPlace}
 use Rattle.pivot.specs.declared.layout.Spot.{Spot}
+use Rattle.pivot.specs.declared.layout.Strip.{Strip}
 
 -- how many cells the array has
 abbrev pub mostEntries : ℕ
@@ -45,6 +46,15 @@ unfoldable pub stepsLaid : Order → ℕ → ℕ → ℕ
 stepsLaid byRows m n = n
 stepsLaid byColumns m n = m
 
+-- the cells of a row and of a column: where the first lies, how far the next is from it, how many there are
+unfoldable pub rowStripLaid : Order → ℕ → ℕ → ℕ → Strip
+rowStripLaid byRows m n i = record { start = i * n; stride = 1; count = n }
+rowStripLaid byColumns m n i = record { start = i; stride = m; count = n }
+
+unfoldable pub columnStripLaid : Order → ℕ → ℕ → ℕ → Strip
+columnStripLaid byRows m n j = record { start = j; stride = n; count = m }
+columnStripLaid byColumns m n j = record { start = j * m; stride = 1; count = m }
+
 -- the cells from here on are not in use, in either order
 unfoldable pub live : ℕ → ℕ → ℕ
 live m n = m * n
@@ -66,9 +76,19 @@ lines = linesLaid inUse
 abbrev pub steps : ℕ → ℕ → ℕ
 steps = stepsLaid inUse
 
+abbrev pub rowStrip : ℕ → ℕ → ℕ → Strip
+rowStrip = rowStripLaid inUse
+
+abbrev pub columnStrip : ℕ → ℕ → ℕ → Strip
+columnStrip = columnStripLaid inUse
+
 -- the flat place at which a line begins
 abbrev pub lineAt : ℕ → ℕ → ℕ → ℕ
 lineAt m n line = line * steps m n
+
+-- the flat place of cell i of a strip
+abbrev pub along : Strip → ℕ → ℕ
+along w i = w .start + i * w .stride
 
 -- ---- the two kinds of place, a spot, and an entry
 

@@ -3,3 +3,4 @@ pub mod Layout
 pub mod Pivot
 pub mod TwoOrders
 pub mod Asked
+pub mod Border

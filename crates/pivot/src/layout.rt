@@ -4,7 +4,7 @@
 ghost use mathlib.Core.Path.{_≡_};
 ghost use Prim.Native.Nat.{_+_, _≤_, _<_};
 ghost use Rattle.rules.specs.Sizes.{mostRows, mostColumns};
-ghost use Rattle.pivot.specs.Layout.{flat, lineAt, spotAt};
+ghost use Rattle.pivot.specs.Layout.{flat, lineAt, spotAt, rowStrip, columnStrip};
 ghost use Rattle.pivot.specs.Layout as layout;
 use crate::ColumnPlace;
 use crate::RowPlace;
@@ -37,6 +37,14 @@ pub fn steps(rows: usize, columns: usize) -> usize
     rows
 }
 
+// Where a line begins.
+pub fn line_at(rows: usize, columns: usize, line: usize) -> usize
+    requires { ⌜ (rows ≤ mostRows) × (columns ≤ mostColumns) × (line < layout.lines rows columns) ⌝ }
+    ensures { λ r. ⌜ r ≡ lineAt rows columns line ⌝ }
+{
+    line * rows
+}
+
 // The spot of a step of a line.
 pub fn spot_at(rows: usize, columns: usize, line: usize, step: usize) -> Spot
     requires { ⌜ (rows ≤ mostRows) × (columns ≤ mostColumns) ⌝ }
@@ -55,4 +63,32 @@ pub fn live(rows: usize, columns: usize) -> usize
     ensures { λ r. ⌜ r ≡ layout.live rows columns ⌝ }
 {
     rows * columns
+}
+
+// The cells of a row or of a column: where the first lies, how far the next is from it, how many there are.
+pub struct Strip {
+    pub start: usize,
+    pub stride: usize,
+    pub count: usize,
+}
+
+pub fn row_strip(rows: usize, columns: usize, row: RowPlace) -> Strip
+    ensures { λ r. ⌜ r ≡ rowStrip rows columns (row .0) ⌝ }
+{
+    Strip {
+        start: row.0 as usize,
+        stride: rows,
+        count: columns,
+    }
+}
+
+pub fn column_strip(rows: usize, columns: usize, column: ColumnPlace) -> Strip
+    requires { ⌜ rows ≤ mostRows ⌝ }
+    ensures { λ r. ⌜ r ≡ columnStrip rows columns (column .0) ⌝ }
+{
+    Strip {
+        start: column.0 as usize * rows,
+        stride: 1,
+        count: rows,
+    }
 }

@@ -8,10 +8,11 @@ ghost use mathlib.Core.Path.{_≡_};
 ghost use Rattle.pivot.specs.Pivot.{Pivotable, fitsAfter, commonAfter, entriesAfter, pivotedBy, entriesBy};
 use layout::Spot;
 
+mod border;
 pub mod layout;
-pub mod range;
-pub mod sign;
-pub mod wide;
+mod numbers;
+mod range;
+mod wide;
 
 // How many cells the array of entries has.
 pub const MOST_ENTRIES: usize = divisor::MOST_CELLS;

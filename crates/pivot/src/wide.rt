@@ -2,9 +2,8 @@
 // numbers, and slow.
 ghost use mathlib.Core.Path.{_≡_};
 ghost use Prim.Native.Nat.{_+_, _<_};
-ghost use lib.IntN.{_*ℤ_, _-ℤ_};
 ghost use lib.ListN.{length};
-ghost use Rattle.whole.specs.Numbers.{Within, AllWithin};
+ghost use Rattle.whole.specs.Numbers.{AllWithin};
 ghost use Rattle.rules.specs.Sizes.{largestNumber};
 ghost use Rattle.pivot.specs.Layout.{mostEntries, lines, lineAt, live};
 ghost use Rattle.pivot.specs.Pivot.{mixedOf, Mixable, pivotedBy, entriesBy};
@@ -14,16 +13,8 @@ use crate::MOST_ENTRIES;
 use crate::Pivoted;
 use crate::layout;
 use crate::layout::Spot;
+use crate::numbers;
 use crate::range;
-use crate::sign;
-
-// The difference of two products.
-pub fn crossed(a: i32, b: i32, c: i32, d: i32) -> i64
-    requires { ⌜ (Within a largestNumber) × (Within b largestNumber) × (Within c largestNumber) × (Within d largestNumber) ⌝ }
-    ensures { λ r. ⌜ r ≡ a *ℤ b -ℤ c *ℤ d ⌝ }
-{
-    a as i64 * b as i64 - c as i64 * d as i64
-}
 
 // The numbers that one cell is made of: `own` is its entry, `beside` stands in its row and the entering column, `above` in
 // its column and the leaving row.
@@ -42,14 +33,14 @@ fn mixed(in_row: bool, in_column: bool, common: i32, parts: Parts) -> i64
 {
     if in_column {
         if in_row {
-            return crossed(common, common, 0, 0);
+            return numbers::crossed(common, common, 0, 0);
         }
-        return crossed(common, parts.beside, 0, 0);
+        return numbers::crossed(common, parts.beside, 0, 0);
     }
     if in_row {
-        return crossed(0, 0, common, parts.above);
+        return numbers::crossed(0, 0, common, parts.above);
     }
-    crossed(parts.pivot, parts.own, parts.beside, parts.above)
+    numbers::crossed(parts.pivot, parts.own, parts.beside, parts.above)
 }
 
 // The cell of a spot before reduction.
@@ -137,7 +128,7 @@ pub fn pivot(entries: &mut [i32; MOST_ENTRIES], asked: Asked) -> Pivoted
     let end = layout::live(asked.rows, asked.columns);
     let product = entries[at] as i64 * asked.common as i64;
     let mut cells = mixed_entries(entries, asked);
-    let by = sign::signed(product, divisor::divisor_of(&cells, end, product));
+    let by = numbers::signed(product, divisor::divisor_of(&cells, end, product));
     divisor::divide(&mut cells, end, by);
     let after = product / by;
     if range::all_in_range(&cells, end, after) {

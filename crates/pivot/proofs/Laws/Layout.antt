@@ -6,19 +6,22 @@
 --   row-flat, column-flat, flat-back, ..    the same in the order in use
 --   spot-along, step-live                   the spot of a step of a line, and that it is live
 --   lines-live, line-next                   all lines are what is live; a line ends where the next begins
+--   lines-are, steps-are                    a line is a column
+--   row-along, column-along                 the places of a step of a line
 --   flat-spot, spot-used                    the flat place of a spot; one whose flat place is live is in use
+--   row-strip, column-strip, row-count, ..  the cells of a row and of a column, and how many there are
 use Prim.Native.Nat.{ℕ, zero, suc, _+_, _*_, _/_, _%_, _≤_, _<_}
 use native.Mathlib.Nat.{add-comm, add-mul-div-right, add-mul-mod-self-right, div-add-mod', div-eq-of-lt}
 use native.Mathlib.Nat.{div-lt-iff-lt-mul}
 use native.Mathlib.Nat.{lt-of-lt-of-le, mod-eq-of-lt, mod-lt, mul-comm, mul-le-mul, mul-zero, suc-mul}
 use native.Mathlib.Omega.{arith}
-use mathlib.Core.Path.{_≡_, ap, ap₂, sym, _∙_}
+use mathlib.Core.Path.{_≡_, refl, ap, ap₂, sym, _∙_}
 use lib.Arith.{digits-lt}
 use Rattle.rules.specs.Sizes.{mostColumns, mostRows}
 use Rattle.pivot.specs.declared.layout.Spot.{Spot}
 use Rattle.pivot.specs.Layout.{Order, byRows, byColumns, inUse, mostEntries, flatLaid, rowLaid, columnLaid}
 use Rattle.pivot.specs.Layout.{linesLaid, stepsLaid, flat, rowAt, columnAt, lines, steps, lineAt, live}
-use Rattle.pivot.specs.Layout.{row, column, spotAt}
+use Rattle.pivot.specs.Layout.{row, column, spotAt, along, rowStripLaid, columnStripLaid, rowStrip, columnStrip}
 
 -- ---- a number by its quotient and its remainder
 
@@ -116,6 +119,22 @@ module _ (m n line step : ℕ) (h : step < steps m n) where
   unfolding linesLaid stepsLaid live
   step-live k = rw (mul-comm m n) (digits-lt k h)
 
+  pub row-along : rowAt m n (lineAt m n line + step) ≡ step
+  unfolding stepsLaid rowLaid
+  row-along = remainder-of m line step h
+
+  pub column-along : columnAt m n (lineAt m n line + step) ≡ line
+  unfolding stepsLaid columnLaid
+  column-along = quotient-of m line step h
+
+pub lines-are : (m n : ℕ) → lines m n ≡ n
+unfolding linesLaid
+lines-are m n = refl
+
+pub steps-are : (m n : ℕ) → steps m n ≡ m
+unfolding stepsLaid
+steps-are m n = refl
+
 pub lines-live : (m n : ℕ) → lineAt m n (lines m n) ≡ live m n
 unfolding linesLaid stepsLaid live
 lines-live m n = mul-comm n m
@@ -137,3 +156,30 @@ module _ (m n k : ℕ) (spot : Spot) (e : spot ≡ spotAt m n k) where
 
   pub spot-used : k < live m n → (i < m) × (j < n)
   spot-used h = (rw e (row-live m n k h), rw e (column-live m n k h))
+
+-- ---- strips, in either order
+
+pub row-strip-laid : (o : Order) (m n i j : ℕ) → along (rowStripLaid o m n i) j ≡ flatLaid o m n i j
+unfolding rowStripLaid flatLaid
+row-strip-laid byRows m n i j = omega arith
+row-strip-laid byColumns m n i j = omega arith
+
+pub column-strip-laid : (o : Order) (m n i j : ℕ) → along (columnStripLaid o m n j) i ≡ flatLaid o m n i j
+unfolding columnStripLaid flatLaid
+column-strip-laid byRows m n i j = omega arith
+column-strip-laid byColumns m n i j = omega arith
+
+-- .. and in the order in use, with how many cells there are
+pub row-strip : (m n i j : ℕ) → along (rowStrip m n i) j ≡ flat m n i j
+row-strip = row-strip-laid inUse
+
+pub column-strip : (m n i j : ℕ) → along (columnStrip m n j) i ≡ flat m n i j
+column-strip = column-strip-laid inUse
+
+pub row-count : (m n i : ℕ) → rowStrip m n i .count ≡ n
+unfolding rowStripLaid
+row-count m n i = refl
+
+pub column-count : (m n j : ℕ) → columnStrip m n j .count ≡ m
+unfolding columnStripLaid
+column-count m n j = refl

@@ -1,4 +1,4 @@
--- `pivot::sign::signed` meets its contract: the divisor and its opposite fit. Assumes nothing.
+-- `pivot::numbers::signed` meets its contract: the divisor and its opposite fit. Assumes nothing.
 use borrow.Author.Needs.{needs}
 use mathlib.Core.Path.{_≡_, sym, ap, _∙_}
 use Prim.Native.Nat.{ℕ, _≤_, _<_, _^_}
@@ -12,8 +12,8 @@ use Rattle.whole.proofs.Sizes.{within-neg}
 use Rattle.divisor.specs.Cells.{largestSize}
 use Rattle.divisor.proofs.Laws.Cells.{fits-size}
 use Rattle.pivot.proofs.Laws.Mixes.{signed-down, signed-up}
-use Rattle.pivot.proofs.sign.signed.Statement.{statement}
-use Rattle.pivot.proofs.sign.signed.Tie as tie
+use Rattle.pivot.proofs.numbers.signed.Statement.{statement}
+use Rattle.pivot.proofs.numbers.signed.Tie as tie
 
 below : {n : ℕ} → n ≤ largestSize → n < 2 ^ hbits w64
 below h = lt-of-le-of-lt h (lit< tt)

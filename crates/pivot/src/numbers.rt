@@ -1,8 +1,19 @@
-// Sizes and signs.
+// Products and signs.
 ghost use mathlib.Core.Path.{_≡_};
 ghost use Prim.Native.Nat.{_≤_};
+ghost use Rattle.whole.specs.Numbers.{Within};
 ghost use Rattle.divisor.specs.Cells.{largestSize};
+ghost use Rattle.rules.specs.Sizes.{largestNumber};
 ghost use Rattle.pivot.specs.Pivot.{signedBy};
+ghost use Rattle.pivot.specs.Border.{crossedOf};
+
+// The difference of two products.
+pub fn crossed(a: i32, b: i32, c: i32, d: i32) -> i64
+    requires { ⌜ (Within a largestNumber) × (Within b largestNumber) × (Within c largestNumber) × (Within d largestNumber) ⌝ }
+    ensures { λ r. ⌜ r ≡ crossedOf a b c d ⌝ }
+{
+    a as i64 * b as i64 - c as i64 * d as i64
+}
 
 // A size with the sign of a number. A divisor with the sign of the common number makes that one come out above 0.
 pub fn signed(sign: i64, size: u64) -> i64

@@ -1,12 +1,12 @@
--- `pivot::wide::crossed` meets its contract: the difference of two products fits 64 bits. Assumes nothing.
+-- `pivot::numbers::crossed` meets its contract: the difference of two products fits 64 bits. Assumes nothing.
 use lib.IntN.{_*ℤ_, _-ℤ_}
 use mir.Facts.{toZ-ofZ}
 use mir.Syntax.{w64}
 use mir.Val.{SFits}
 use Rattle.whole.proofs.Sizes.{within-*, within--, fits-by}
 use Rattle.pivot.proofs.Laws.Halves.{wide, half-product, widened}
-use Rattle.pivot.proofs.wide.crossed.Statement.{statement}
-use Rattle.pivot.proofs.wide.crossed.Tie as tie
+use Rattle.pivot.proofs.numbers.crossed.Statement.{statement}
+use Rattle.pivot.proofs.numbers.crossed.Tie as tie
 
 module _ (s : tie.Start) where
   fit-first : SFits w64 (s .args .a *ℤ s .args .b)
