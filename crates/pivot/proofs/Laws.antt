@@ -9,4 +9,7 @@ pub mod Halves
 pub mod Divides
 pub mod Signs
 pub mod Crossed
+pub mod Columns
+pub mod Trying
+pub mod Settling
 pub mod Only

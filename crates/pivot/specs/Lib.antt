@@ -4,3 +4,4 @@ pub mod Pivot
 pub mod TwoOrders
 pub mod Asked
 pub mod Border
+pub mod Trials

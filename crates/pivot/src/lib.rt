@@ -3,15 +3,21 @@
 // leaving row c at u:
 //   D x = .. + p w + c u ..     the leaving row, solved for w: p w = D x - c u ..
 //   D y = .. + b w + a u ..     another row, times p: D p y = b D x + (p a - b c) u ..
+// The quotients are guessed and multiplied back; where that settles nothing, the numbers are divided in the full width.
 // The entries lie flat, as specs/Layout.antt says; a cell that is not in use is 0.
 ghost use mathlib.Core.Path.{_≡_};
 ghost use Rattle.pivot.specs.Pivot.{Pivotable, fitsAfter, commonAfter, entriesAfter, pivotedBy, entriesBy};
 use layout::Spot;
+use settle::Settled;
 
 mod border;
+mod column;
+mod guess;
 pub mod layout;
 mod numbers;
+mod quick;
 mod range;
+mod settle;
 mod wide;
 
 // How many cells the array of entries has.
@@ -60,5 +66,19 @@ pub fn pivot(
         common,
         spot,
     };
-    wide::pivot(entries, asked)
+    let mut cells = [0i32; MOST_ENTRIES];
+    let settled = quick::quick(entries, asked, &mut cells);
+    if let Settled::Beyond = settled {
+        return Pivoted::Beyond;
+    }
+    let Settled::By(by) = settled else {
+        return wide::pivot(entries, asked);
+    };
+    let at = layout::place(rows, columns, spot.row, spot.column);
+    let after = entries[at] as i64 * common as i64 / by as i64;
+    if after > rules::LARGEST_NUMBER {
+        return Pivoted::Beyond;
+    }
+    *entries = cells;
+    Pivoted::Common(after as i32)
 }

@@ -1,0 +1,44 @@
+-- `pivot::column::wrong_of` meets its contract: what passes both tests is a quotient in range. Assumes nothing.
+use native.Mathlib.Omega.{arith}
+use mathlib.Core.Path.{ap, sym}
+use lib.IntN.{_*ℤ_}
+use mir.Facts.{toZ-ofZ}
+use mir.Syntax.{w32, w64}
+use mir.Val.{SFits, ofZ}
+use Rattle.whole.proofs.Bools.{zero-one}
+use Rattle.whole.proofs.Tests.{test-eq}
+use Rattle.pivot.proofs.Laws.Halves.{wide, half-product, widened, not-least}
+use Rattle.pivot.proofs.column.wrong_of.Statement.{statement}
+use Rattle.pivot.proofs.column.wrong_of.Tie as tie
+
+module _ (s : tie.Start) where
+  fit-product : SFits w64 (s .args .q *ℤ s .args .by)
+  fit-product = half-product (s .fits .q) (s .fits .by)
+
+cast-if1 : tie.Need-cast-if1
+cast-if1 c = simp (toZ-ofZ (c .fits .q)) (wide (c .fits .q))
+
+cast-if1-2 : tie.Need-cast-if1-2
+cast-if1-2 c = simp (toZ-ofZ (c .fits .by)) (wide (c .fits .by))
+
+mul-if1 : tie.Need-mul-if1
+mul-if1 c = rw (widened (c .fits .q), widened (c .fits .by)) (fit-product c)
+
+returns : tie.Need-returns
+returns c = (omega arith, λ e. zero-one (sym e))
+
+returns-2 : tie.Need-returns-2
+returns-2 c = (omega arith, λ e. zero-one (sym e))
+
+returns-3 : tie.Need-returns-3
+returns-3 c = let s = c .before .before in (
+  omega arith,
+  λ e. record {
+    back = test-eq w64 (fit-product s) (s .fits .raw)
+        (rw (widened (s .fits .q), widened (s .fits .by)) at (c .before .if1 .left));
+    in-range = not-least (s .args .q) (s .fits .q) (λ z. c .if2 .left (ap (ofZ w32) z));
+  },
+)
+
+pub wrong-of-spec : {M : Type 1} → statement M
+wrong-of-spec = tie.close (tie.spec cast-if1 cast-if1-2 mul-if1 returns returns-2 returns-3)
