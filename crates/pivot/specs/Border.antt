@@ -1,5 +1,5 @@
--- What a pivot reads beside the entries. With D added to the entering column where it crosses the leaving row, and taken
--- off the leaving row there, every cell is p a - b c, whatever its kind: four kinds become one.
+-- What a pivot reads beside the entries. With D added to the entering column where it crosses the leaving row, and
+-- taken off the leaving row there, every cell is p a - b c, whatever its kind: four kinds become one.
 use Prim.Native.Nat.{ℕ, _≤_, _<_}
 use mathlib.Core.Bool.{Bool, true, false}
 use mathlib.Core.List.{List}

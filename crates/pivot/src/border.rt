@@ -1,5 +1,5 @@
-// What a pivot reads beside the entries: the entering column with D added where it crosses the leaving row, and that row
-// with D taken off there. Then every cell is p a - b c, whatever its kind:
+// What a pivot reads beside the entries: the entering column with D added where it crosses the leaving row, and that
+// row with D taken off there. Then every cell is p a - b c, whatever its kind:
 //   another row and column   p a - b c
 //   the leaving row          p c - (p + D) c = -D c
 //   the entering column      p b - b (p - D) = b D

@@ -40,7 +40,8 @@ fn wrong_of(q: i32, by: i32, raw: i64) -> u32
     ensures few { λ r. ⌜ r ≤ 1 ⌝ }
     ensures right { λ r. ⌜ (r ≡ 0 → Quotient by raw q) ⌝ }
 {
-    if q as i64 * by as i64 != raw {
+    let back = q as i64 * by as i64;
+    if back != raw {
         return 1;
     }
     if q == -2147483648 {

@@ -1,5 +1,5 @@
-// Quotients guessed by one multiplication, by an inverse modulo 2^32. Nothing is promised of a guess and no law is needed of
-// the inverse: whoever asks multiplies back.
+// Quotients guessed by one multiplication, by an inverse modulo 2^32. Nothing is promised of a guess, and no law is
+// needed of the inverse: whoever asks multiplies back.
 ghost use mathlib.Core.Path.{_≡_};
 ghost use Prim.Native.Nat.{_<_};
 

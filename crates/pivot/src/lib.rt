@@ -1,6 +1,6 @@
-// One pivot over lent entries: a row is solved for the variable of a column, which is put into every other row, and all is
-// reduced. x leaves and w enters; p is the pivot, D the common number; another row has the entry b at w and a at u, the
-// leaving row c at u:
+// One pivot over lent entries: a row is solved for the variable of a column, which is put into every other row, and all
+// is reduced. x leaves and w enters; p is the pivot, D the common number; another row has the entry b at w and a at u,
+// the leaving row c at u:
 //   D x = .. + p w + c u ..     the leaving row, solved for w: p w = D x - c u ..
 //   D y = .. + b w + a u ..     another row, times p: D p y = b D x + (p a - b c) u ..
 // The quotients are guessed and multiplied back; where that settles nothing, the numbers are divided in the full width.

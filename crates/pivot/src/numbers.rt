@@ -9,7 +9,8 @@ ghost use Rattle.pivot.specs.Border.{crossedOf};
 
 // The difference of two products.
 pub fn crossed(a: i32, b: i32, c: i32, d: i32) -> i64
-    requires { ⌜ (Within a largestNumber) × (Within b largestNumber) × (Within c largestNumber) × (Within d largestNumber) ⌝ }
+    requires { ⌜ (Within a largestNumber) × (Within b largestNumber) ⌝ }
+    requires { ⌜ (Within c largestNumber) × (Within d largestNumber) ⌝ }
     ensures { λ r. ⌜ r ≡ crossedOf a b c d ⌝ }
 {
     a as i64 * b as i64 - c as i64 * d as i64

@@ -25,8 +25,8 @@ fn are_near(a: i32, b: i32) -> bool
     divisor::size(a as i64) + divisor::size(b as i64) <= rules::LARGEST_NUMBER as u64
 }
 
-// The divisor and the quotients by it, or a cell is beyond the range, or nothing is settled. Every common divisor divides
-// the common number times the border's divisor.
+// The divisor and the quotients by it, or a cell is beyond the range, or nothing is settled. Every common divisor
+// divides the common number times the border's divisor.
 pub fn quick(entries: &[i32; MOST_ENTRIES], asked: Asked, out: &mut [i32; MOST_ENTRIES]) -> Settled
     requires { ⌜ Able (now entries) asked ⌝ }
     requires { ⌜ now out ≡ replicate mostEntries (pos 0) ⌝ }

@@ -1,8 +1,8 @@
-// Divisors that are tried, from above: a multiple of the divisor that divides all is the divisor. A column is a line of the
-// array.
+// Divisors that are tried, from above: a multiple of the divisor that divides all is the divisor. A column is a line of
+// the array.
 ghost use mathlib.Core.Path.{_≡_};
 ghost use mathlib.Core.Logic.{_≢_};
-ghost use Prim.Native.Nat.{_*_, _≤_, _<_};
+ghost use Prim.Native.Nat.{_*_, _<_};
 ghost use lib.IntN.{pos, natAbs};
 ghost use lib.ListN.{length};
 ghost use Rattle.whole.specs.Numbers.{Within, AllWithin};
@@ -99,8 +99,8 @@ fn is_beyond(entries: &[i32; MOST_ENTRIES], border: Border, j: usize, by: i32) -
     column::is_above(entries, &border.besides, column, limit)
 }
 
-// The quotients by the greatest common divisor of a number and all cells, which is looked for from above. Where a column
-// leaves the divisor as it is, though one of its quotients is wrong, a cell is beyond the range or nothing is settled.
+// The quotients by the greatest common divisor of a number and all cells, which is looked for from above. A column with
+// a wrong quotient that leaves the divisor as it is has a cell beyond the range, or nothing is settled.
 pub fn settle(
     entries: &[i32; MOST_ENTRIES],
     border: Border,

@@ -1,5 +1,5 @@
-// A pivot in the full width: all cells before reduction, their divisor, division, and the range test. It is right for any
-// numbers, and slow.
+// A pivot in the full width: all cells before reduction, their divisor, division, and the range test. It is right for
+// any numbers, and slow.
 ghost use mathlib.Core.Path.{_≡_};
 ghost use Prim.Native.Nat.{_+_, _<_};
 ghost use lib.ListN.{length};
@@ -16,8 +16,8 @@ use crate::layout::Spot;
 use crate::numbers;
 use crate::range;
 
-// The numbers that one cell is made of: `own` is its entry, `beside` stands in its row and the entering column, `above` in
-// its column and the leaving row.
+// The numbers that one cell is made of: `own` is its entry, `beside` stands in its row and the entering column, `above`
+// in its column and the leaving row.
 pub struct Parts {
     pub pivot: i32,
     pub own: i32,
@@ -120,8 +120,10 @@ fn halves_of(cells: &[i64; MOST_ENTRIES]) -> [i32; MOST_ENTRIES]
 // reduction; beyond it the entries stay.
 pub fn pivot(entries: &mut [i32; MOST_ENTRIES], asked: Asked) -> Pivoted
     requires { ⌜ Able (now entries) asked ⌝ }
-    ensures answer { λ r. ⌜ r ≡ pivotedBy (fitsFor (now (entries .entry)) asked) (commonFor (now (entries .entry)) asked) ⌝ }
-    ensures numbers { λ r. ⌜ now (entries .exit) ≡ entriesBy (fitsFor (now (entries .entry)) asked) (now (entries .entry))
+    ensures answer { λ r. ⌜ r
+        ≡ pivotedBy (fitsFor (now (entries .entry)) asked) (commonFor (now (entries .entry)) asked) ⌝ }
+    ensures numbers { λ r. ⌜ now (entries .exit)
+        ≡ entriesBy (fitsFor (now (entries .entry)) asked) (now (entries .entry))
         (entriesFor (now (entries .entry)) asked) ⌝ }
 {
     let at = layout::place(asked.rows, asked.columns, asked.spot.row, asked.spot.column);

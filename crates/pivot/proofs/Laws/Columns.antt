@@ -1,5 +1,6 @@
 -- Arrays of which a part is written, and quotients that stand there.
---   apart-start, -more, -then, -wider, -twice           nothing written, one cell more, one part after another, a larger part, twice
+--   apart-start, -more, -then, -wider, -twice           nothing written, one cell more, one part after another, a larger
+--                                                       part, twice
 --   each-more                                           what holds of each cell written, with one cell more
 --   column-none, -more, -divides, -greatest             the divisor of a column
 --   crossed-within, above-none, -more, -here, -at       the sizes of its cells
@@ -101,7 +102,8 @@ module _ (l besides : List ℤ) (c : Column) (by : ℕ) where
   column-more k = rw add-one refl
 
 pub column-divides : (l besides : List ℤ) (c : Column) (k by : ℕ) →
-    (columnDivisor l besides c k by ∣ by) × ((i : ℕ) → i < k → columnDivisor l besides c k by ∣ natAbs (crossedIn l besides c i))
+    (columnDivisor l besides c k by ∣ by)
+    × ((i : ℕ) → i < k → columnDivisor l besides c k by ∣ natAbs (crossedIn l besides c i))
 unfolding columnDivisor
 column-divides l besides c k by = fold-dvd k (λ i. natAbs (crossedIn l besides c i)) by
 
@@ -144,7 +146,8 @@ module _ (l : List ℤ) (b : Border) (j : ℕ) (in-columns : j < b .columns) whe
 
   pub column-most : from + m ≤ live m n
   column-most = subst (λ k. k ≤ live m n) (sym column-end)
-      (subst (λ k. lineAt m n (j + 1) ≤ k) (lines-live m n) (mul-le-mul (omega (arith, in-lines)) (le-refl (steps m n))))
+      (subst (λ k. lineAt m n (j + 1) ≤ k) (lines-live m n)
+      (mul-le-mul (omega (arith, in-lines)) (le-refl (steps m n))))
 
   pub columned : AllWithin l largestNumber → Bordered b → Columned l (b .besides) (columnOf b j)
   columned a B = record {
@@ -200,7 +203,8 @@ module _ (l besides : List ℤ) (c : Column) (limit : ℕ) where
   above-here k i b h = some-of k i (λ i. ltb limit (natAbs (crossedIn l besides c i))) b
       (tells-true (tells-lt limit (natAbs (crossedIn l besides c i))) h)
 
-  pub above-at : (k : ℕ) → someAbove l besides c k limit ≡ true → (i : ℕ) × (i < k) × (limit < natAbs (crossedIn l besides c i))
+  pub above-at : (k : ℕ) → someAbove l besides c k limit ≡ true →
+      (i : ℕ) × (i < k) × (limit < natAbs (crossedIn l besides c i))
   unfolding someAbove
   above-at k e =
       let w = some-at k (λ i. ltb limit (natAbs (crossedIn l besides c i))) e in

@@ -57,9 +57,11 @@ kinds A c p q i j = go (ℕ-discrete i p) (ℕ-discrete j q)
 strip-within : {l : List ℤ} {w : Strip} {at : ℕ} {x : ℤ} → AllWithin l largestNumber → Bears l w at x →
     AllWithin (raisedStrip l w at x) largestNumber
 unfolding raisedAt
-strip-within {l} {w} {at} {x} a B = all-within-filled mostRows (w .count) (raisedAt l w at x) (λ i h. one i h (ℕ-discrete i at))
+strip-within {l} {w} {at} {x} a B =
+    all-within-filled mostRows (w .count) (raisedAt l w at x) (λ i h. one i h (ℕ-discrete i at))
   where
-    one : (i : ℕ) → i < w .count → Dec (i ≡ at) → Within (raisedBy (eqb i at) (getD l (along w i) (pos 0)) x) largestNumber
+    one : (i : ℕ) → i < w .count → Dec (i ≡ at) →
+        Within (raisedBy (eqb i at) (getD l (along w i) (pos 0)) x) largestNumber
     one i h (yes e) = rw (eq-eqb i at e, e) (B .bears (let z = e in omega arith))
     one i h (no n) = rw (ne-eqb i at n) (a .each (along w i))
 
@@ -98,13 +100,15 @@ module _ (m n : ℕ) (l : List ℤ) (c : ℤ) (p q : ℕ) where
   pub beside-is : (i : ℕ) → i < m → getD (made .besides) i (pos 0) ≡ raisedBy (eqb i p) (entryIn m n l i q) c
   unfolding raisedAt
   beside-is i b =
-      filled-in mostRows (pos 0) (columnStrip m n q .count) (raisedAt l (columnStrip m n q) p c) i (rw (column-count m n q) b)
+      filled-in mostRows (pos 0) (columnStrip m n q .count) (raisedAt l (columnStrip m n q) p c) i
+      (rw (column-count m n q) b)
       ∙ ap (λ k. raisedBy (eqb i p) (getD l k (pos 0)) c) (column-strip m n i q)
 
   pub above-is : (j : ℕ) → j < n → getD (made .aboves) j (pos 0) ≡ raisedBy (eqb j q) (entryIn m n l p j) (negℤ c)
   unfolding raisedAt
   above-is j b =
-      filled-in mostRows (pos 0) (rowStrip m n p .count) (raisedAt l (rowStrip m n p) q (negℤ c)) j (rw (row-count m n p) b)
+      filled-in mostRows (pos 0) (rowStrip m n p .count) (raisedAt l (rowStrip m n p) q (negℤ c)) j
+      (rw (row-count m n p) b)
       ∙ ap (λ k. raisedBy (eqb j q) (getD l k (pos 0)) (negℤ c)) (row-strip m n p j)
 
   pub crossed-is : (k : ℕ) → k < live m n → crossedAt l made k ≡ mixedAt m n c l p q k

@@ -60,7 +60,8 @@ module _ {m n : ℕ} {l : List ℤ} {c : ℤ} {p q : ℕ} (h : Pivotable m n l c
   size-most = le-trans (divisor-most mixes new (live m n) nonzero-product) (within-size .within)
 
   pub nonzero-by : by m n l c p q ≢ pos 0
-  nonzero-by = signed-nonzero new (divisorBelow (live m n) mixes new) (divisor-above-zero mixes new (live m n) nonzero-product)
+  nonzero-by = signed-nonzero new (divisorBelow (live m n) mixes new)
+      (divisor-above-zero mixes new (live m n) nonzero-product)
 
   pub mix-within : AllWithin mixes largestSize
   mix-within = all-within-filled mostEntries (live m n) (mixedAt m n c l p q)
@@ -89,4 +90,5 @@ module _ {m n : ℕ} {l : List ℤ} {c : ℤ} {p q : ℕ} (h : Pivotable m n l c
 pub divided-all : (e : ℕ) (f : ℕ → ℤ) (g : ℤ) → let l = filled mostEntries (pos 0) e f in
     dividedCells e l g ≡ filled mostEntries (pos 0) e (quotients l g)
 unfolding filled
-divided-all e f g = ap (λ r. table e (quotients (filled mostEntries (pos 0) e f) g) ++ r) (filled-rest mostEntries (pos 0) f e)
+divided-all e f g =
+    ap (λ r. table e (quotients (filled mostEntries (pos 0) e f) g) ++ r) (filled-rest mostEntries (pos 0) f e)

@@ -1,13 +1,14 @@
 -- A divisor that trials settle on is the pivot's.
---   first-divides, first-multiple    the product of the common number and the border's divisor: it divides the new common number, and
---                                    the divisor divides it
+--   first-divides, first-multiple, first-above   the common number times the border's divisor: it divides the new common
+--                                                number, the divisor divides it, and it is above 0
 --   found-by, -entries, -within, -fits, -most    what was found is the definition's
 --   exceeds-beyond                               a cell beyond the range
 --   settled-ends                                 what trials from a first divisor end with
 --   after-up, within-up, beyond-up               the new common number is above 0, in range or beyond
 use Prim.Native.Nat.{ℕ, _*_, _/_, _%_, _≤_, _<_, _∣_}
 use native.Mathlib.Nat.{div-add-mod, le-refl, lt-of-le-of-lt, lt-of-mul-lt-mul-left, mod-eq-zero-of-dvd, mul-le-mul}
-use native.Mathlib.Nat.{dvd-trans, dvd-antisymm, dvd-refl, le-of-dvd, le-trans, mul-comm, mul-dvd-mul, mul-pos, pos-of-dvd-of-pos}
+use native.Mathlib.Nat.{dvd-trans, dvd-antisymm, dvd-refl, le-of-dvd, le-trans, mul-comm, mul-dvd-mul, mul-pos}
+use native.Mathlib.Nat.{pos-of-dvd-of-pos}
 use native.Mathlib.Decide.{ℕ-discrete, decLt}
 use native.Mathlib.Omega.{arith}
 use mathlib.Core.Path.{_≡_, refl, ap, ap₂, sym, subst, _∙_}
@@ -39,8 +40,8 @@ use Rattle.pivot.specs.declared.settle.Settled.{Settled}
 use Rattle.pivot.specs.declared.settle.Settled.the-variants as ends
 use Rattle.pivot.specs.Asked.{Able}
 use Rattle.pivot.specs.Layout.{mostEntries, flat, live, entryIn}
-use Rattle.pivot.specs.Pivot.{mixedLaid, mixedCell, mixedAt, product, mix, by, commonAfter, entriesAfter, fitsAfter}
-use Rattle.pivot.specs.Pivot.{Pivotable, signedBy, inRange}
+use Rattle.pivot.specs.Pivot.{mixedLaid, mixedCell, mixedAt, product, mix, by, commonAfter, entriesAfter}
+use Rattle.pivot.specs.Pivot.{fitsAfter, Pivotable, signedBy, inRange}
 use Rattle.pivot.specs.Border.{raisedBy, borderAt, borderFor, borderDivisor, crossedAt}
 use Rattle.pivot.specs.Trials.{Found, Exceeds, SettledAs, EndsAs}
 use Rattle.pivot.proofs.Laws.Crossed.{beside-is, above-is, crossed-is}
@@ -80,7 +81,8 @@ module _ {m n : ℕ} {l : List ℤ} {c : ℤ} {p q : ℕ} (h : Pivotable m n l c
 
   T-cell : (i j : ℕ) → i < m → j < n → T ∣ natAbs (mixedCell m n c l p q i j)
   T-cell i j a b = subst (λ z. T ∣ natAbs z)
-      (ap₂ (mixedCell m n c l p q) (row-flat m n i j a b) (column-flat m n i j a b)) (T-mix (flat m n i j) (flat-live m n i j a b))
+      (ap₂ (mixedCell m n c l p q) (row-flat m n i j a b) (column-flat m n i j a b))
+      (T-mix (flat m n i j) (flat-live m n i j a b))
 
   T-pos : 0 < T
   T-pos = divisor-above-zero mixes new (live m n) (nonzero-product h)
@@ -113,7 +115,8 @@ module _ {m n : ℕ} {l : List ℤ} {c : ℤ} {p q : ℕ} (h : Pivotable m n l c
       go : Dec (i ≡ p) → T ∣ natAbs (c *ℤ raisedBy (eqb i p) (A i q) c)
       go (yes e) = rw (eq-eqb i p e, e) (subst (λ z. T ∣ natAbs z) (both c (A p q))
           (over-sum T (c *ℤ A p q) (c *ℤ c) T-pivot T-common))
-      go (no o) = rw (ne-eqb i p o) (subst (λ z. T ∣ natAbs z) (off o ∙ swapped (A i q) c) (T-cell i q b (h .in-columns)))
+      go (no o) = rw (ne-eqb i p o)
+          (subst (λ z. T ∣ natAbs z) (off o ∙ swapped (A i q) c) (T-cell i q b (h .in-columns)))
 
   T-above : (j : ℕ) → j < n → T ∣ natAbs (c *ℤ raisedBy (eqb j q) (A p j) (negℤ c))
   unfolding mixedLaid
@@ -177,7 +180,8 @@ module _ {m n : ℕ} {l : List ℤ} {c : ℤ} {p q : ℕ} (h : Pivotable m n l c
     size-is = dvd-antisymm
         (divisor-greatest mixes new (live m n) (natAbs z)
         (dvd-trans (natAbs z) (subst (λ k. natAbs z ∣ k) (size-signed new from) (F .divides)) divides)
-        (λ k b. subst (λ x. natAbs z ∣ natAbs x) (cell k b ∙ sym (mix-at k b)) (back-divides (getD out k (pos 0)) z _ (F .right k b .back))))
+        (λ k b. subst (λ x. natAbs z ∣ natAbs x) (cell k b ∙ sym (mix-at k b))
+        (back-divides (getD out k (pos 0)) z _ (F .right k b .back))))
         (F .greatest T (subst (λ k. T ∣ k) (sym (size-signed new from)) multiple)
         (λ k b. subst (λ x. T ∣ natAbs x) (sym (cell k b)) (T-mix k b)))
 
@@ -225,9 +229,12 @@ module _ {m n : ℕ} {l : List ℤ} {c : ℤ} {p q : ℕ} (h : Pivotable m n l c
       exact : T * (x / T) ≡ x
       exact = let z : x % T ≡ 0 = mod-eq-zero-of-dvd T e in omega (arith, div-add-mod x T)
 
-  pub exceeds-beyond : (from : ℕ) → T ∣ from → Exceeds l (borderAt m n l c p q) (signedBy new from) → fitsAfter m n l c p q ≡ false
-  exceeds-beyond from multiple X = small-cell (live m n) (entriesAfter m n l c p q) (commonAfter m n l c p q) (X .place) (X .in-live)
-      (tells-false (tells-within largestNumber _) (λ w. let h = w .within in let y : ⊥ = omega (arith, size-is, over) in y))
+  pub exceeds-beyond : (from : ℕ) → T ∣ from → Exceeds l (borderAt m n l c p q) (signedBy new from) →
+      fitsAfter m n l c p q ≡ false
+  exceeds-beyond from multiple X =
+      small-cell (live m n) (entriesAfter m n l c p q) (commonAfter m n l c p q) (X .place) (X .in-live)
+      (tells-false (tells-within largestNumber _)
+      (λ w. let h = w .within in let y : ⊥ = omega (arith, size-is, over) in y))
     where
       number : ℤ
       number = mixedAt m n c l p q (X .place)
@@ -240,7 +247,8 @@ module _ {m n : ℕ} {l : List ℤ} {c : ℤ} {p q : ℕ} (h : Pivotable m n l c
           (subst (λ x. X .size * largestNumber < natAbs x) (crossed-is m n l c p q (X .place) (X .in-live)) (X .above))
 
       size-is : natAbs (getD (entriesAfter m n l c p q) (X .place) (pos 0)) ≡ natAbs number / T
-      size-is = ap natAbs (filled-in mostEntries (pos 0) (live m n) (quotients mixes (by m n l c p q)) (X .place) (X .in-live)
+      size-is = ap natAbs
+          (filled-in mostEntries (pos 0) (live m n) (quotients mixes (by m n l c p q)) (X .place) (X .in-live)
           ∙ ap (λ y. quotZ y (by m n l c p q)) (mix-at (X .place) (X .in-live)))
           ∙ size-quot number (by m n l c p q) ∙ ap (λ k. natAbs number / k) (size-signed new T)
 

@@ -31,7 +31,8 @@ unfolding signedBy
 signed-again s zero k h = let z : ⊥ = omega arith in absurd z
 signed-again s (suc g) k h = go (isNeg s)
   where
-    go : (b : Bool) → cond (isNeg (cond b (negsuc g) (pos (suc g)))) (negℤ (pos k)) (pos k) ≡ cond b (negℤ (pos k)) (pos k)
+    go : (b : Bool) →
+        cond (isNeg (cond b (negsuc g) (pos (suc g)))) (negℤ (pos k)) (pos k) ≡ cond b (negℤ (pos k)) (pos k)
     go true = refl
     go false = ap (λ t. cond t (negℤ (pos k)) (pos k)) (not-below (suc g))
 

@@ -60,7 +60,9 @@ module _ (l : List ℤ) (b : Border) (from : ℤ) where
     pub trying-less : Trying l b from (signedBy z less)
     trying-less = record {
       nonzero = signed-nonzero z less less-above;
-      in-range = record { within = subst (λ k. k ≤ largestNumber) (sym (size-signed z less)) (le-trans less-most (t .in-range .within)) };
+      in-range = record {
+        within = subst (λ k. k ≤ largestNumber) (sym (size-signed z less)) (le-trans less-most (t .in-range .within));
+      };
       sign-is = ap (λ y. signedBy y less) (t .sign-is) ∙ signed-again from (natAbs z) less above
           ∙ ap (signedBy from) (sym (size-signed z less));
       divides = subst (λ k. k ∣ natAbs from) (sym (size-signed z less)) (dvd-trans less parts (t .divides));

@@ -1,12 +1,12 @@
--- `pivot::border::part_of` meets its contract. The invariant: g is the divisor of the start and the numbers passed. Once g
--- is 1, so is the divisor of all. The measure is how many are left. Assumes nothing.
+-- `pivot::border::part_of` meets its contract. The invariant: g is the divisor of the start and the numbers passed. Once
+-- g is 1, so is the divisor of all. The measure is how many are left. Assumes nothing.
 use native.Mathlib.Omega.{arith}
 use mathlib.Core.Path.{_≡_, ap, ap₂, sym, _∙_}
 use Prim.Native.Nat.{ℕ, _≤_, _-_}
 use borrow.Author.Needs.{sfits-of}
 use lib.Dec.{lit≤}
 use lib.ListN.{getD}
-use lib.IntN.{ℤ, pos, natAbs}
+use lib.IntN.{pos, natAbs}
 use mir.Syntax.{w32}
 use mir.Val.{SFits}
 use mir.Facts.{toZ-ofZ}

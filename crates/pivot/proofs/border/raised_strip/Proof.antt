@@ -1,5 +1,5 @@
--- `pivot::border::raised_strip` meets its contract. The invariant: the numbers passed are the definition's, the others 0.
--- The measure is how many are left. Assumes nothing.
+-- `pivot::border::raised_strip` meets its contract. The invariant: the numbers passed are the definition's, the others
+-- 0. The measure is how many are left. Assumes nothing.
 use native.Mathlib.Omega.{arith}
 use mathlib.Core.Bool.{true}
 use mathlib.Core.Path.{_≡_, refl, ap, sym, subst, _∙_}

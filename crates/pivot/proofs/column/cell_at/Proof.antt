@@ -43,7 +43,7 @@ module _ (c : tie.After-struct-told2) where
 crossed-requires : tie.Need-crossed-requires
 crossed-requires c κs = let h = start c .pre .0 in
     simp (toZ-ofZ (fit-pivot c), toZ-ofZ (fit-above c), toZ-ofZ (fit-own c), toZ-ofZ (fit-beside c))
-    (h .pivot-within, h .entries-within .each _, h .besides-within .each _, h .above-within)
+    ((h .pivot-within, h .entries-within .each _), (h .besides-within .each _, h .above-within))
 
 fit-result : (c : tie.After-crossed) → SFits w64 (c .crossed .result)
 fit-result c = search needs
@@ -51,7 +51,8 @@ fit-result c = search needs
 returns : tie.Need-returns
 returns c = let a = c .before in
     simp (toZ-ofZ (fit-result c))
-    (simp (toZ-ofZ (fit-pivot a), toZ-ofZ (fit-above a), toZ-ofZ (fit-own a), toZ-ofZ (fit-beside a)) at (c .crossed .ensures))
+    (simp (toZ-ofZ (fit-pivot a), toZ-ofZ (fit-above a), toZ-ofZ (fit-own a), toZ-ofZ (fit-beside a))
+    at (c .crossed .ensures))
 
 pub cell-at-spec : {M : Type 1} → statement M
 cell-at-spec =

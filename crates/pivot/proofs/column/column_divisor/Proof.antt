@@ -1,5 +1,5 @@
--- `pivot::column::column_divisor` meets its contract. The invariant: g is the divisor of the number and the cells passed. The
--- measure is how many are left. Assumes nothing.
+-- `pivot::column::column_divisor` meets its contract. The invariant: g is the divisor of the number and the cells passed.
+-- The measure is how many are left. Assumes nothing.
 use native.Mathlib.Omega.{arith}
 use mathlib.Core.Path.{_≡_, ap, ap₂, sym, _∙_}
 use Prim.Native.Nat.{ℕ, _≤_, _-_}
@@ -21,7 +21,8 @@ abbrev μ-loop : tie.MeasureT-loop
 μ-loop entries besides column by rows g₀ i₀ g i = rows - i
 
 loop-holds : tie.Need-loop-holds Inv-loop μ-loop
-loop-holds c = (omega arith, sym (column-none (c .args .entries .now) (c .args .besides .now) (c .args .column) (c .args .by)))
+loop-holds c = let s = c .args in
+    (omega arith, sym (column-none (s .entries .now) (s .besides .now) (s .column) (s .by)))
 
 cell-at-requires : tie.Need-cell-at-requires Inv-loop μ-loop
 cell-at-requires c κs = (c .before .before .pre, omega arith)
@@ -52,7 +53,8 @@ loop-again : tie.Need-loop-again Inv-loop μ-loop
 loop-again c = let a = c .before .before in let s = start a .args in (
   omega arith,
   c .common-of .ensures
-      ∙ ap₂ gcd (c .before .size .ensures ∙ ap natAbs (toZ-ofZ (fit a) ∙ a .cell-at .ensures)) (a .before .before .loop .inv .1)
+      ∙ ap₂ gcd (c .before .size .ensures ∙ ap natAbs (toZ-ofZ (fit a) ∙ a .cell-at .ensures))
+      (a .before .before .loop .inv .1)
       ∙ sym (column-more (s .entries .now) (s .besides .now) (s .column) (s .by) (place a)),
 )
 

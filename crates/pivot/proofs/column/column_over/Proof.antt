@@ -1,5 +1,5 @@
--- `pivot::column::column_over` meets its contract. The invariant: the cells passed are written, the others are as they were, and
--- while none of the quotients is wrong each of them is right. The measure is how many are left. Assumes nothing.
+-- `pivot::column::column_over` meets its contract. The invariant: the cells passed are written, the others are as they
+-- were, and while none of the quotients is wrong each of them is right. The measure is how many are left. Assumes nothing.
 use native.Mathlib.Omega.{arith}
 use mathlib.Core.Path.{_≡_, subst}
 use Prim.Native.Nat.{ℕ, _+_, _≤_, _<_, _-_}
@@ -86,7 +86,8 @@ module _ (c : tie.After-wrong-of Inv-loop μ-loop) where
   fit-raw = search needs
 
   right : c .wrong-of .result ≡ 0 →
-      Quotient (s .args .divider .by) (crossedIn (s .args .entries .now) (s .args .besides .now) (s .args .column) (i a)) (a .guess .result)
+      Quotient (s .args .divider .by) (crossedIn (s .args .entries .now) (s .args .besides .now) (s .args .column) (i a))
+      (a .guess .result)
   right e = rw (← a .before .cell-at .ensures)
       (simp (toZ-ofZ fit-q, toZ-ofZ fit-by, toZ-ofZ fit-raw) at (c .wrong-of .ensures .1) e)
 
@@ -99,7 +100,8 @@ loop-again c = let l = a c .before .before .before .loop in let b = s c .args in
   (let h = c .wrong-of .ensures .0 in omega arith),
   apart-more (b .column .start) (i (a c)) (b .out .now) (l .out) (a c .guess .result) (l .inv .2),
   λ e. each-more (λ u z. Quotient (b .divider .by) (crossedIn (b .entries .now) (b .besides .now) (b .column) u) z)
-      (b .column .start) (i (a c)) (l .out) (a c .guess .result) (room c) (l .inv .3 (omega arith)) (right c (omega arith)),
+      (b .column .start) (i (a c)) (l .out) (a c .guess .result) (room c) (l .inv .3 (omega arith))
+      (right c (omega arith)),
 )
 
 returns : tie.Need-returns Inv-loop μ-loop

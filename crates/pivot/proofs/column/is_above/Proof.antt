@@ -1,5 +1,5 @@
--- `pivot::column::is_above` meets its contract. The invariant: no cell passed is above the limit. The measure is how many are left.
--- Assumes nothing.
+-- `pivot::column::is_above` meets its contract. The invariant: no cell passed is above the limit. The measure is how
+-- many are left. Assumes nothing.
 use native.Mathlib.Omega.{arith}
 use mathlib.Core.Path.{_≡_, ap, sym, subst, _∙_}
 use mathlib.Core.Bool.{false}
@@ -21,7 +21,8 @@ abbrev μ-loop : tie.MeasureT-loop
 μ-loop entries besides column limit rows i₀ i = rows - i
 
 loop-holds : tie.Need-loop-holds Inv-loop μ-loop
-loop-holds c = (omega arith, above-none (c .args .entries .now) (c .args .besides .now) (c .args .column) (c .args .limit))
+loop-holds c = let s = c .args in
+    (omega arith, above-none (s .entries .now) (s .besides .now) (s .column) (s .limit))
 
 cell-at-requires : tie.Need-cell-at-requires Inv-loop μ-loop
 cell-at-requires c κs = (c .before .before .pre, omega arith)
@@ -67,7 +68,8 @@ returns-2 : tie.Need-returns-2 Inv-loop μ-loop
 returns-2 c =
     let s = c .before .before .args in
     let e : c .before .loop .i ≡ s .column .rows = omega arith in
-    sym (subst (λ (k : ℕ). someAbove (s .entries .now) (s .besides .now) (s .column) k (s .limit) ≡ false) e (c .before .loop .inv .1))
+    sym (subst (λ (k : ℕ). someAbove (s .entries .now) (s .besides .now) (s .column) k (s .limit) ≡ false) e
+    (c .before .loop .inv .1))
 
 pub is-above-spec : {M : Type 1} → statement M
 is-above-spec =

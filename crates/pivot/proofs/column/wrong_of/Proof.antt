@@ -15,14 +15,14 @@ module _ (s : tie.Start) where
   fit-product : SFits w64 (s .args .q *ℤ s .args .by)
   fit-product = half-product (s .fits .q) (s .fits .by)
 
-cast-if1 : tie.Need-cast-if1
-cast-if1 c = simp (toZ-ofZ (c .fits .q)) (wide (c .fits .q))
+cast-back : tie.Need-cast-back
+cast-back c = simp (toZ-ofZ (c .fits .q)) (wide (c .fits .q))
 
-cast-if1-2 : tie.Need-cast-if1-2
-cast-if1-2 c = simp (toZ-ofZ (c .fits .by)) (wide (c .fits .by))
+cast-back-2 : tie.Need-cast-back-2
+cast-back-2 c = simp (toZ-ofZ (c .fits .by)) (wide (c .fits .by))
 
-mul-if1 : tie.Need-mul-if1
-mul-if1 c = rw (widened (c .fits .q), widened (c .fits .by)) (fit-product c)
+mul-back : tie.Need-mul-back
+mul-back c = rw (widened (c .fits .q), widened (c .fits .by)) (fit-product c)
 
 returns : tie.Need-returns
 returns c = (omega arith, λ e. zero-one (sym e))
@@ -41,4 +41,4 @@ returns-3 c = let s = c .before .before in (
 )
 
 pub wrong-of-spec : {M : Type 1} → statement M
-wrong-of-spec = tie.close (tie.spec cast-if1 cast-if1-2 mul-if1 returns returns-2 returns-3)
+wrong-of-spec = tie.close (tie.spec cast-back cast-back-2 mul-back returns returns-2 returns-3)

@@ -23,7 +23,8 @@ module _ (c : tie.Start) where
   fit-rest = fits-by (rem-most (c .args .a)) tt
 
   most-sum : Within sum 8589934591
-  most-sum = let turn : Within (pos 4294967296) 4294967296 = record { within = lit≤ tt } in within-+ (rem-most (c .args .a)) turn
+  most-sum = let turn : Within (pos 4294967296) 4294967296 = record { within = lit≤ tt } in
+      within-+ (rem-most (c .args .a)) turn
 
   fit-sum : SFits w64 sum
   fit-sum = fits-by most-sum tt
@@ -32,7 +33,10 @@ module _ (c : tie.Start) where
   fit-last = fits-by (rem-most sum) tt
 
 rem-result : tie.Need-rem-result
-rem-result c = (lit< tt, simp (toZ-ofZ (c .fits .a)) (quot-fits (c .args .a) (pos 4294967296) (record { lt = tt }) (c .fits .a)))
+rem-result c = (
+  lit< tt,
+  simp (toZ-ofZ (c .fits .a)) (quot-fits (c .args .a) (pos 4294967296) (record { lt = tt }) (c .fits .a)),
+)
 
 add-result : tie.Need-add-result
 add-result c = simp (toZ-ofZ (c .fits .a), toZ-ofZ (fit-rest c)) (fit-sum c)

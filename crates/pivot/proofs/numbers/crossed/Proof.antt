@@ -16,7 +16,7 @@ module _ (s : tie.Start) where
   fit-second = half-product (s .fits .c) (s .fits .d)
 
   fit-both : SFits w64 (s .args .a *ℤ s .args .b -ℤ s .args .c *ℤ s .args .d)
-  fit-both = fits-by (within-- (within-* (s .pre .0) (s .pre .1)) (within-* (s .pre .2) (s .pre .3))) tt
+  fit-both = fits-by (within-- (within-* (s .pre .0 .0) (s .pre .0 .1)) (within-* (s .pre .1 .0) (s .pre .1 .1))) tt
 
 cast-result : tie.Need-cast-result
 cast-result c = simp (toZ-ofZ (c .fits .a)) (wide (c .fits .a))

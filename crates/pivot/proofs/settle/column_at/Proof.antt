@@ -32,7 +32,8 @@ module _ (c : tie.After-t12) where
   fit-above = sfits-of (c .t12 .given)
 
 returns : tie.Need-returns
-returns c = column-alike (border c .rows) (c .before .before .line-at .ensures) (toZ-ofZ (fit-pivot c)) (toZ-ofZ (fit-above c))
+returns c =
+    column-alike (border c .rows) (c .before .before .line-at .ensures) (toZ-ofZ (fit-pivot c)) (toZ-ofZ (fit-above c))
 
 pub column-at-spec : {M : Type 1} → statement M
 column-at-spec = tie.close (tie.spec line-at-requires mul-t9 element-copy-out-t12 returns)

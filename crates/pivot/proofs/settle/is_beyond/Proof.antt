@@ -51,7 +51,8 @@ returns c =
     let o = c .before .before .before in
     let s = start o in
     c .is-above .ensures
-    ∙ ap₂ (λ (k : Column) (n : ℕ). someAbove (s .args .entries .now) (s .args .t2 .besides) k (k .rows) (n * largestNumber))
+    ∙ ap₂ (λ (k : Column) (n : ℕ). someAbove (s .args .entries .now) (s .args .t2 .besides) k (k .rows)
+    (n * largestNumber))
     (o .before .column-at .ensures) (size-is o)
 
 pub is-beyond-spec : {M : Type 1} → statement M

@@ -1,5 +1,5 @@
--- `pivot::settle::lessened` meets its contract: the divisor of a column is no larger than the one that was tried. Assumes
--- nothing.
+-- `pivot::settle::lessened` meets its contract: the divisor of a column is no larger than the one that was tried.
+-- Assumes nothing.
 use mathlib.Core.Path.{_≡_, ap, ap₂, sym, subst, _∙_}
 use Prim.Native.Nat.{ℕ, _≤_}
 use native.Mathlib.Nat.{le-of-dvd, le-trans}

@@ -1,6 +1,6 @@
--- `pivot::settle::settle` meets its contract. The invariant: the divisor that is tried lies above the greatest one, and cells that
--- are not live are as they were. The measure is its size: what a column leaves of it is smaller, or the loop ends. Assumes
--- nothing.
+-- `pivot::settle::settle` meets its contract. The invariant: the divisor that is tried lies above the greatest one, and
+-- cells that are not live are as they were. The measure is its size: what a column leaves of it is smaller, or the loop
+-- ends. Assumes nothing.
 use borrow.Author.Needs.{needs}
 use native.Mathlib.Omega.{arith}
 use mathlib.Core.Path.{_≡_, ap, sym, subst, _∙_}
@@ -62,7 +62,8 @@ module _ (c : tie.After-try-all Inv-loop μ-loop) where
   trying = simp (toZ-ofZ (s .fits .from)) at (c .before .before .loop .inv .0)
 
   apart : Apart 0 (inBorder border) (s .args .out .now) new
-  apart = apart-twice (inBorder border) (s .args .out .now) (c .before .before .loop .out) new (c .before .before .loop .inv .1)
+  apart = apart-twice (inBorder border) (s .args .out .now) (c .before .before .loop .out) new
+      (c .before .before .loop .inv .1)
       (c .try-all .ensures .0)
 
   tells : (r : Tried) → c .try-all .result ≡ r → TriedAs l border z r new

@@ -1,5 +1,5 @@
--- `pivot::settle::try_all` meets its contract. The invariant: the columns passed are written with right quotients, the others are
--- as they were. The measure is how many are left. Assumes nothing.
+-- `pivot::settle::try_all` meets its contract. The invariant: the columns passed are written with right quotients, the
+-- others are as they were. The measure is how many are left. Assumes nothing.
 use native.Mathlib.Omega.{arith}
 use mathlib.Core.Path.{_≡_, ap, sym, subst, _∙_}
 use mathlib.Core.List.{List}
@@ -16,8 +16,8 @@ use Rattle.pivot.specs.declared.column.Column.{Column}
 use Rattle.pivot.specs.Layout.{mostEntries, lineAt, live}
 use Rattle.pivot.specs.Border.{Bordered, crossedAt}
 use Rattle.pivot.specs.Trials.{Apart, Quotient, Columned, columnOf, crossedIn}
-use Rattle.pivot.proofs.Laws.Columns.{apart-start, apart-then, apart-wider, column-alike, column-end, column-most}
-use Rattle.pivot.proofs.Laws.Columns.{columned, quotients-then}
+use Rattle.pivot.proofs.Laws.Columns.{apart-start, apart-then, apart-wider, column-alike, column-end}
+use Rattle.pivot.proofs.Laws.Columns.{column-most, columned, quotients-then}
 use Rattle.pivot.proofs.Laws.Layout.{lines-are, lines-live}
 use Rattle.pivot.proofs.settle.try_all.Statement.{statement}
 use Rattle.pivot.proofs.settle.try_all.Tie as tie
@@ -131,7 +131,8 @@ module _ (c : tie.After-column-over Inv-loop μ-loop) where
   new = c .column-over .last .1 .1 .1 .1 .0
 
   written : Apart from (m t) old new
-  written = subst (λ (k : Column). Apart (k .start) (k .rows) old new) (column-is (c .before)) (c .column-over .ensures .0)
+  written =
+      subst (λ (k : Column). Apart (k .start) (k .rows) old new) (column-is (c .before)) (c .column-over .ensures .0)
 
   so-far : Apart 0 (from + m t) (s .args .out .now) new
   so-far = apart-then from (m t) (s .args .out .now) old new (t .before .loop .inv .1) written
@@ -153,8 +154,8 @@ module _ (c : tie.After-column-over Inv-loop μ-loop) where
 
 returns : tie.Need-returns Inv-loop μ-loop
 returns c = let o = c .before in let x = t o in let l = s o .args .entries .now in (
-  apart-wider (from o + m x) (live (m x) (n x)) (s o .args .out .now) (new o) (column-most l (border x) (j x) (in-columns x))
-      (so-far o),
+  apart-wider (from o + m x) (live (m x) (n x)) (s o .args .out .now) (new o)
+      (column-most l (border x) (j x) (in-columns x)) (so-far o),
   in-columns x,
 )
 

@@ -1,5 +1,5 @@
--- `pivot::wide::halves_of` meets its contract. The invariant: the cells passed are copied, the others 0. The measure is how many
--- are left. Assumes nothing.
+-- `pivot::wide::halves_of` meets its contract. The invariant: the cells passed are copied, the others 0. The measure is
+-- how many are left. Assumes nothing.
 use native.Mathlib.Omega.{arith}
 use mathlib.Core.Path.{_≡_, refl, ap, sym, _∙_}
 use mathlib.Core.List.{List}
@@ -68,7 +68,8 @@ loop-again : tie.Need-loop-again Inv-loop μ-loop
 loop-again c = (
   omega arith,
   simp (toZ-ofZ (fit c), toZ-ofZ (fit-half c))
-      (filled-more mostEntries (pos 0) (at (start c .args .cells .now)) (place c) (omega arith) (c .before .before .loop .inv .1) refl),
+      (filled-more mostEntries (pos 0) (at (start c .args .cells .now)) (place c) (omega arith)
+      (c .before .before .loop .inv .1) refl),
 )
 
 returns : tie.Need-returns Inv-loop μ-loop
@@ -76,7 +77,8 @@ returns c =
     let s = c .before .before in
     let l = s .args .cells .now in
     let e : c .before .loop .k ≡ mostEntries = omega arith in
-    c .before .loop .inv .1 ∙ ap (λ (k : ℕ). filled mostEntries (pos 0) k (at l)) e ∙ filled-all mostEntries (pos 0) (at l)
+    c .before .loop .inv .1
+    ∙ ap (λ (k : ℕ). filled mostEntries (pos 0) k (at l)) e ∙ filled-all mostEntries (pos 0) (at l)
     ∙ ap (λ (k : ℕ). table k (at l)) (sym (s .pre .0)) ∙ table-all l (pos 0)
 
 pub halves-of-spec : {M : Type 1} → statement M

@@ -98,7 +98,8 @@ module _ (c : tie.After-crossed4) where
 returns-4 : tie.Need-returns-4
 returns-4 c =
     simp (toZ-ofZ (fit-other c), chosen c .before .if1 .left, chosen c .if3 .left)
-    (simp (toZ-ofZ (fit-pivot c), toZ-ofZ (fit-own c), toZ-ofZ (fit-far c), toZ-ofZ (fit-over c)) at (c .crossed4 .ensures))
+    (simp (toZ-ofZ (fit-pivot c), toZ-ofZ (fit-own c), toZ-ofZ (fit-far c), toZ-ofZ (fit-over c))
+    at (c .crossed4 .ensures))
 
 pub mixed-spec : {M : Type 1} → statement M
 mixed-spec =

@@ -56,7 +56,8 @@ module _ (c : tie.After-place4) where
   inside i j a b = let h = start .pre .0 in flat-in m n i j a b (h .few-rows) (h .few-columns)
 
   pivots-in : pivots < mostEntries
-  pivots-in = rw (c .before .before .before .place .ensures) (inside _ _ (start .pre .0 .in-rows) (start .pre .0 .in-columns))
+  pivots-in =
+      rw (c .before .before .before .place .ensures) (inside _ _ (start .pre .0 .in-rows) (start .pre .0 .in-columns))
 
   owns-in : owns < mostEntries
   owns-in = rw (c .before .before .place2 .ensures) (inside _ _ (start .pre .1 .0) (start .pre .1 .1))

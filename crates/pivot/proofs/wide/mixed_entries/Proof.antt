@@ -1,5 +1,5 @@
--- `pivot::wide::mixed_entries` meets its contract. The invariant: the lines passed are the definition's, the other cells
--- 0. The measure is the lines left. Assumes nothing.
+-- `pivot::wide::mixed_entries` meets its contract. The invariant: the lines passed are the definition's, the other
+-- cells 0. The measure is the lines left. Assumes nothing.
 use mathlib.Core.Path.{_≡_, _∙_}
 use Prim.Native.Nat.{ℕ, _-_, _≤_, _<_}
 use native.Mathlib.Omega.{arith}
