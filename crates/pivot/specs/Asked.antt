@@ -3,9 +3,9 @@ use Prim.Native.Nat.{ℕ}
 use mathlib.Core.Bool.{Bool}
 use mathlib.Core.List.{List}
 use lib.IntN.{ℤ}
-use Rattle.pivot.specs.declared.Asked.{Asked}
+use Rattle.pivot.specs.declared.asked.Asked.{Asked}
 use Rattle.pivot.specs.Layout.{entryIn}
-use Rattle.pivot.specs.Pivot.{Pivotable, mixedCell, mixedUpTo, fitsAfter, commonAfter, entriesAfter}
+use Rattle.pivot.specs.Pivot.{Pivotable, product, mixedCell, mixedUpTo, fitsAfter, commonAfter, entriesAfter}
 
 module _ (l : List ℤ) (a : Asked) where
   abbrev pub Able : Type 0
@@ -14,6 +14,10 @@ module _ (l : List ℤ) (a : Asked) where
   -- the pivot
   abbrev pub pivotFor : ℤ
   pivotFor = entryIn (a .rows) (a .columns) l (a .spot .row .0) (a .spot .column .0)
+
+  -- the common number after it, before reduction
+  abbrev pub productFor : ℤ
+  productFor = product (a .rows) (a .columns) l (a .common) (a .spot .row .0) (a .spot .column .0)
 
   -- the number of row place i and column place j before reduction, and the first k cells
   abbrev pub cellFor : ℕ → ℕ → ℤ

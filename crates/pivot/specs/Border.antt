@@ -11,7 +11,7 @@ use Rattle.whole.specs.Numbers.{Within, AllWithin}
 use Rattle.whole.specs.Tables.{filled}
 use Rattle.divisor.specs.Cells.{divisorBelow}
 use Rattle.rules.specs.Sizes.{mostColumns, mostRows, largestNumber}
-use Rattle.pivot.specs.declared.Asked.{Asked}
+use Rattle.pivot.specs.declared.asked.Asked.{Asked}
 use Rattle.pivot.specs.declared.border.Border.{Border}
 use Rattle.pivot.specs.declared.layout.Strip.{Strip}
 use Rattle.pivot.specs.Layout.{mostEntries, rowAt, columnAt, live, along, rowStrip, columnStrip, entryIn}

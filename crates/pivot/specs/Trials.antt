@@ -11,7 +11,7 @@ use Rattle.whole.specs.Below.{foldBelow, someBelow}
 use Rattle.whole.specs.Divisors.{gcd}
 use Rattle.whole.specs.Numbers.{Within, AllWithin}
 use Rattle.rules.specs.Sizes.{mostRows, largestNumber}
-use Rattle.pivot.specs.declared.Asked.{Asked}
+use Rattle.pivot.specs.declared.asked.Asked.{Asked}
 use Rattle.pivot.specs.declared.border.Border.{Border}
 use Rattle.pivot.specs.declared.column.Column.{Column}
 use Rattle.pivot.specs.declared.settle.Tried.{Tried}

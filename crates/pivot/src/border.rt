@@ -13,8 +13,9 @@ ghost use Rattle.divisor.specs.Cells.{divisorBelow};
 ghost use Rattle.rules.specs.Sizes.{mostRows, mostColumns, largestNumber};
 ghost use Rattle.pivot.specs.Asked.{Able, pivotFor};
 ghost use Rattle.pivot.specs.Border.{raisedBy, raisedStrip, Bears, borderFor, borderDivisor};
-use crate::Asked;
 use crate::MOST_ENTRIES;
+use crate::asked;
+use crate::asked::Asked;
 use crate::layout;
 use crate::layout::Strip;
 
@@ -62,13 +63,12 @@ pub fn border_of(entries: &[i32; MOST_ENTRIES], asked: Asked) -> Border
 {
     let row = asked.spot.row;
     let column = asked.spot.column;
-    let at = layout::place(asked.rows, asked.columns, row, column);
     let down = layout::column_strip(asked.rows, asked.columns, column);
     let across = layout::row_strip(asked.rows, asked.columns, row);
     Border {
         rows: asked.rows,
         columns: asked.columns,
-        pivot: entries[at],
+        pivot: asked::pivot_of(entries, asked),
         besides: raised_strip(entries, down, row.0 as usize, asked.common),
         aboves: raised_strip(entries, across, column.0 as usize, -asked.common),
     }

@@ -7,9 +7,11 @@
 // The entries lie flat, as specs/Layout.antt says; a cell that is not in use is 0.
 ghost use mathlib.Core.Path.{_≡_};
 ghost use Rattle.pivot.specs.Pivot.{Pivotable, fitsAfter, commonAfter, entriesAfter, pivotedBy, entriesBy};
+use asked::Asked;
 use layout::Spot;
 use settle::Settled;
 
+mod asked;
 mod border;
 mod column;
 mod guess;
@@ -27,14 +29,6 @@ pub const MOST_ENTRIES: usize = divisor::MOST_CELLS;
 pub struct RowPlace(pub u8);
 
 pub struct ColumnPlace(pub u8);
-
-// A pivot that is asked for: the sizes, the common number, and the spot of the pivot.
-pub struct Asked {
-    pub rows: usize,
-    pub columns: usize,
-    pub common: i32,
-    pub spot: Spot,
-}
 
 // What a pivot comes to: the new common number, or a number beyond the largest.
 pub enum Pivoted {
@@ -74,8 +68,7 @@ pub fn pivot(
     let Settled::By(by) = settled else {
         return wide::pivot(entries, asked);
     };
-    let at = layout::place(rows, columns, spot.row, spot.column);
-    let after = entries[at] as i64 * common as i64 / by as i64;
+    let after = asked::product_of(entries, asked) / by as i64;
     if after > rules::LARGEST_NUMBER {
         return Pivoted::Beyond;
     }

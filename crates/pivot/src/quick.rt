@@ -9,10 +9,10 @@ ghost use Rattle.rules.specs.Sizes.{largestNumber};
 ghost use Rattle.pivot.specs.Asked.{Able};
 ghost use Rattle.pivot.specs.Layout.{mostEntries};
 ghost use Rattle.pivot.specs.Trials.{EndsAs};
-use crate::Asked;
 use crate::MOST_ENTRIES;
+use crate::asked;
+use crate::asked::Asked;
 use crate::border;
-use crate::layout;
 use crate::numbers;
 use crate::settle;
 use crate::settle::Settled;
@@ -32,9 +32,7 @@ pub fn quick(entries: &[i32; MOST_ENTRIES], asked: Asked, out: &mut [i32; MOST_E
     requires { ⌜ now out ≡ replicate mostEntries (pos 0) ⌝ }
     ensures { λ r. ⌜ EndsAs (now (entries .entry)) asked r (now (out .exit)) ⌝ }
 {
-    let at = layout::place(asked.rows, asked.columns, asked.spot.row, asked.spot.column);
-    let pivot = entries[at];
-    if !are_near(pivot, asked.common) {
+    if !are_near(asked::pivot_of(entries, asked), asked.common) {
         return Settled::Open;
     }
     let border = border::border_of(entries, asked);
@@ -42,7 +40,6 @@ pub fn quick(entries: &[i32; MOST_ENTRIES], asked: Asked, out: &mut [i32; MOST_E
     if first > rules::LARGEST_NUMBER as u64 {
         return Settled::Open;
     }
-    let product = pivot as i64 * asked.common as i64;
-    let from = numbers::signed(product, first) as i32;
+    let from = numbers::signed(asked::product_of(entries, asked), first) as i32;
     settle::settle(entries, border, from, out)
 }

@@ -8,9 +8,10 @@ ghost use Rattle.rules.specs.Sizes.{largestNumber};
 ghost use Rattle.pivot.specs.Layout.{mostEntries, lines, lineAt, live};
 ghost use Rattle.pivot.specs.Pivot.{mixedOf, Mixable, pivotedBy, entriesBy};
 ghost use Rattle.pivot.specs.Asked.{Able, cellFor, cellsFor, fitsFor, commonFor, entriesFor};
-use crate::Asked;
 use crate::MOST_ENTRIES;
 use crate::Pivoted;
+use crate::asked;
+use crate::asked::Asked;
 use crate::layout;
 use crate::layout::Spot;
 use crate::numbers;
@@ -126,9 +127,8 @@ pub fn pivot(entries: &mut [i32; MOST_ENTRIES], asked: Asked) -> Pivoted
         ≡ entriesBy (fitsFor (now (entries .entry)) asked) (now (entries .entry))
         (entriesFor (now (entries .entry)) asked) ⌝ }
 {
-    let at = layout::place(asked.rows, asked.columns, asked.spot.row, asked.spot.column);
     let end = layout::live(asked.rows, asked.columns);
-    let product = entries[at] as i64 * asked.common as i64;
+    let product = asked::product_of(entries, asked);
     let mut cells = mixed_entries(entries, asked);
     let by = numbers::signed(product, divisor::divisor_of(&cells, end, product));
     divisor::divide(&mut cells, end, by);

@@ -1,12 +1,12 @@
 -- Arrays of which a part is written, and quotients that stand there.
---   apart-start, -more, -then, -wider, -twice           nothing written, one cell more, one part after another, a larger
---                                                       part, twice
+--   apart-start, -more, -then, -wider, -twice           nothing written, one cell more, one part after another, a
+--                                                       larger part, twice
 --   each-more                                           what holds of each cell written, with one cell more
 --   column-none, -more, -divides, -greatest             the divisor of a column
 --   crossed-within, above-none, -more, -here, -at       the sizes of its cells
 --   column-alike                                        a column of equal parts
 --   column-end, -live, -most, columned, cell-here       a column of a border
---   quotients-then                                      right quotients before a column and in it
+--   quotients-then, columns-all                         right quotients before a column and in it; all columns
 use Prim.Native.Nat.{ℕ, _+_, _-_, _≤_, _<_, _∣_}
 use native.Mathlib.Decide.{ℕ-discrete, decLt}
 use native.Mathlib.Nat.{le-refl, le-trans, mul-le-mul}
@@ -179,6 +179,11 @@ module _ (l : List ℤ) (b : Border) (j : ℕ) (in-columns : j < b .columns) whe
           let g : i < m = omega arith in
           subst (λ k. Quotient by (crossedAt l b k) (getD new k (pos 0))) f
           (subst (λ z. Quotient by z (getD new (from + i) (pos 0))) (sym (cell-here i g)) (here i g))
+
+-- all columns are what is live
+pub columns-all : (b : Border) {j : ℕ} → j ≡ b .columns → lineAt (b .rows) (b .columns) j ≡ live (b .rows) (b .columns)
+columns-all b e = let m = b .rows in let n = b .columns in
+    ap (lineAt m n) (e ∙ sym (lines-are m n)) ∙ lines-live m n
 
 -- ---- the sizes of a column's cells
 

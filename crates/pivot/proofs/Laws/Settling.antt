@@ -1,6 +1,6 @@
 -- A divisor that trials settle on is the pivot's.
---   first-divides, first-multiple, first-above   the common number times the border's divisor: it divides the new common
---                                                number, the divisor divides it, and it is above 0
+--   first-divides, first-multiple, first-above   the common number times the border's divisor: it divides the new
+--                                                common number, the divisor divides it, and it is above 0
 --   found-by, -entries, -within, -fits, -most    what was found is the definition's
 --   exceeds-beyond                               a cell beyond the range
 --   settled-ends                                 what trials from a first divisor end with
@@ -34,7 +34,7 @@ use Rattle.whole.proofs.Tools.{ring-at}
 use Rattle.divisor.specs.Cells.{divisorBelow, quotients}
 use Rattle.divisor.proofs.Laws.Cells.{divisor-divides, divisor-greatest, divisor-above-zero}
 use Rattle.rules.specs.Sizes.{largestNumber}
-use Rattle.pivot.specs.declared.Asked.{Asked}
+use Rattle.pivot.specs.declared.asked.Asked.{Asked}
 use Rattle.pivot.specs.declared.border.Border.{Border}
 use Rattle.pivot.specs.declared.settle.Settled.{Settled}
 use Rattle.pivot.specs.declared.settle.Settled.the-variants as ends

@@ -1,5 +1,5 @@
--- `pivot::border::part_of` meets its contract. The invariant: g is the divisor of the start and the numbers passed. Once
--- g is 1, so is the divisor of all. The measure is how many are left. Assumes nothing.
+-- `pivot::border::part_of` meets its contract. The invariant: g is the divisor of the start and the numbers passed.
+-- Once g is 1, so is the divisor of all. The measure is how many are left. Assumes nothing.
 use native.Mathlib.Omega.{arith}
 use mathlib.Core.Path.{_≡_, ap, ap₂, sym, _∙_}
 use Prim.Native.Nat.{ℕ, _≤_, _-_}

@@ -1,5 +1,5 @@
--- `pivot::column::column_divisor` meets its contract. The invariant: g is the divisor of the number and the cells passed.
--- The measure is how many are left. Assumes nothing.
+-- `pivot::column::column_divisor` meets its contract. The invariant: g is the divisor of the number and the cells
+-- passed. The measure is how many are left. Assumes nothing.
 use native.Mathlib.Omega.{arith}
 use mathlib.Core.Path.{_≡_, ap, ap₂, sym, _∙_}
 use Prim.Native.Nat.{ℕ, _≤_, _-_}

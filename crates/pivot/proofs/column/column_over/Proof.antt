@@ -1,5 +1,6 @@
 -- `pivot::column::column_over` meets its contract. The invariant: the cells passed are written, the others are as they
--- were, and while none of the quotients is wrong each of them is right. The measure is how many are left. Assumes nothing.
+-- were, and while none of the quotients is wrong each of them is right. The measure is how many are left. Assumes
+-- nothing.
 use native.Mathlib.Omega.{arith}
 use mathlib.Core.Path.{_≡_, subst}
 use Prim.Native.Nat.{ℕ, _+_, _≤_, _<_, _-_}
@@ -86,8 +87,8 @@ module _ (c : tie.After-wrong-of Inv-loop μ-loop) where
   fit-raw = search needs
 
   right : c .wrong-of .result ≡ 0 →
-      Quotient (s .args .divider .by) (crossedIn (s .args .entries .now) (s .args .besides .now) (s .args .column) (i a))
-      (a .guess .result)
+      Quotient (s .args .divider .by)
+      (crossedIn (s .args .entries .now) (s .args .besides .now) (s .args .column) (i a)) (a .guess .result)
   right e = rw (← a .before .cell-at .ensures)
       (simp (toZ-ofZ fit-q, toZ-ofZ fit-by, toZ-ofZ fit-raw) at (c .wrong-of .ensures .1) e)
 

@@ -8,16 +8,16 @@ use Rattle.pivot.specs.Layout.{linesLaid, stepsLaid}
 use Rattle.pivot.proofs.layout.line_at.Statement.{statement}
 use Rattle.pivot.proofs.layout.line_at.Tie as tie
 
+returns : tie.Need-returns
+unfolding stepsLaid
+returns c = refl
+
 small : (c : tie.Start) → c .args .line * c .args .rows ≤ mostColumns * mostRows
 unfolding linesLaid
 small c = let h : c .args .line ≤ mostColumns = omega arith in mul-le-mul h (c .pre .0)
 
 mul-result : tie.Need-mul-result
 mul-result c = omega (arith, small c)
-
-returns : tie.Need-returns
-unfolding stepsLaid
-returns c = refl
 
 pub line-at-spec : {M : Type 1} → statement M
 line-at-spec = tie.close (tie.spec mul-result returns)

@@ -1,15 +1,15 @@
--- `pivot::quick::quick` meets its contract: the first divisor that is tried is a multiple of the divisor and divides the
--- new common number, so what trials settle on is the definition's. Assumes nothing.
-use borrow.Author.Needs.{needs, sfits-of}
+-- `pivot::quick::quick` meets its contract: the first divisor that is tried is a multiple of the divisor and divides
+-- the new common number, so what trials settle on is the definition's. Assumes nothing.
+use borrow.Author.Needs.{needs}
 use mathlib.Core.List.{List}
 use mathlib.Core.Logic.{_≢_}
 use mathlib.Core.Path.{_≡_, ap, ap₂, sym, subst, _∙_}
-use Prim.Native.Nat.{ℕ, _+_, _*_, _≤_, _<_}
+use Prim.Native.Nat.{ℕ, _+_, _*_, _≤_}
 use native.Mathlib.Nat.{le-of-dvd, le-trans}
 use native.Mathlib.Omega.{arith}
 use lib.Dec.{leb→le, lit≤}
-use lib.IntN.{ℤ, pos, natAbs, _*ℤ_}
-use lib.ListN.{getD, length, length-replicate}
+use lib.IntN.{ℤ, pos, natAbs}
+use lib.ListN.{length, length-replicate}
 use mir.Facts.{toZ-ofZ}
 use mir.Syntax.{w32, w64}
 use mir.Val.{SFits}
@@ -18,7 +18,7 @@ use Rattle.whole.proofs.Bools.{not-false, true→T}
 use Rattle.whole.proofs.Sizes.{fits-by, size-pos, within-le}
 use Rattle.rules.specs.Sizes.{largestNumber}
 use Rattle.divisor.specs.Cells.{largestSize}
-use Rattle.pivot.specs.declared.Asked.{Asked}
+use Rattle.pivot.specs.declared.asked.Asked.{Asked}
 use Rattle.pivot.specs.declared.border.Border.{Border}
 use Rattle.pivot.specs.declared.settle.Settled.{Settled}
 use Rattle.pivot.specs.Asked.{Able, pivotFor}
@@ -27,9 +27,9 @@ use Rattle.pivot.specs.Pivot.{product, signedBy}
 use Rattle.pivot.specs.Border.{borderFor, borderDivisor, Bordered}
 use Rattle.pivot.specs.Trials.{SettledAs}
 use Rattle.pivot.proofs.Laws.Crossed.{bordered}
-use Rattle.pivot.proofs.Laws.Halves.{wide, widened, half-product}
+use Rattle.pivot.proofs.Laws.Halves.{wide, widened}
 use Rattle.pivot.proofs.Laws.Mixes.{signed-nonzero}
-use Rattle.pivot.proofs.Laws.Reductions.{pivot-in, within-size, nonzero-product}
+use Rattle.pivot.proofs.Laws.Reductions.{within-size, nonzero-product}
 use Rattle.pivot.proofs.Laws.Settling.{first-multiple, first-divides, first-above, settled-ends}
 use Rattle.pivot.proofs.Laws.Signs.{size-signed}
 use Rattle.pivot.proofs.quick.quick.Statement.{statement}
@@ -59,52 +59,36 @@ module _ (s : tie.Start) where
   abbrev first : ℕ
   first = natAbs common * borderDivisor border common
 
-place-requires : tie.Need-place-requires
-place-requires c κs = search needs
-
-inside : (c : tie.After-place) → c .place .result < mostEntries
-inside c = rw (c .place .ensures) (pivot-in (able (c .before)))
-
-mul-pivot : tie.Need-mul-pivot
-mul-pivot c = omega (arith, inside c)
-
-element-copy-out-pivot : tie.Need-element-copy-out-pivot
-element-copy-out-pivot c = inside c
+pivot-of-requires : tie.Need-pivot-of-requires
+pivot-of-requires c κs = search needs
 
 -- the pivot is read
-module _ (c : tie.After-pivot) where
+module _ (c : tie.After-pivot-of) where
   abbrev s : tie.Start
-  s = c .before .before
+  s = c .before
 
   abbrev here : ℤ
-  here = getD (old s) (c .before .place .result) (pos 0)
+  here = c .pivot-of .result
+
+  here-is : here ≡ pivotFor (old s) (asked s)
+  here-is = c .pivot-of .ensures
 
   fit-here : SFits w32 here
-  fit-here = sfits-of (c .pivot .given)
+  fit-here = search needs
 
   fit-common : SFits w32 (common s)
   fit-common = search needs
 
-  here-is : here ≡ pivotFor (old s) (asked s)
-  here-is = ap (λ (k : ℕ). getD (old s) k (pos 0)) (c .before .place .ensures)
-
-  fit-product : SFits w64 (here *ℤ common s)
-  fit-product = half-product fit-here fit-common
-
-  product-is : here *ℤ common s ≡ new s
-  product-is = ap (λ (z : ℤ). z *ℤ common s) here-is
-
 are-near-requires : tie.Need-are-near-requires
 are-near-requires c κs = let o = c .before in let h = able (s o) in
-    simp (toZ-ofZ (fit-here o), toZ-ofZ (fit-common o))
-    (h .all-within .each (o .before .place .result), h .common-within)
+    simp (toZ-ofZ (fit-here o), toZ-ofZ (fit-common o)) (rw (here-is o) (h .all-within .each _), h .common-within)
 
 returns : tie.Need-returns
 returns c = tt
 
 -- the pivot and the common number are near
 module _ (c : tie.Else1) where
-  abbrev read : tie.After-pivot
+  abbrev read : tie.After-pivot-of
   read = c .before .before .before
 
   near : natAbs (pivotFor (old (s read)) (asked (s read))) + natAbs (common (s read)) ≤ largestNumber
@@ -125,7 +109,7 @@ size-requires c κs = let o = read (c .before .before .before) in
 
 -- the border
 module _ (c : tie.After-border-of) where
-  abbrev seen : tie.After-pivot
+  abbrev seen : tie.After-pivot-of
   seen = read (c .before)
 
   border-is : c .border-of .result ≡ border (s seen)
@@ -142,7 +126,7 @@ module _ (c : tie.After-border-divisor) where
   abbrev bounded : tie.After-border-of
   bounded = c .before .before .before .before .before
 
-  abbrev known : tie.After-pivot
+  abbrev known : tie.After-pivot-of
   known = seen bounded
 
   first-is : c .before .before .size .result * c .border-divisor .result ≡ first (s known)
@@ -166,37 +150,33 @@ returns-2 c = tt
 
 -- the first divisor is in range
 module _ (c : tie.Else2) where
-  abbrev r : tie.After-pivot
+  abbrev r : tie.After-pivot-of
   r = known (c .before)
 
   first-small : first (s r) ≤ largestNumber
   first-small = let h = c .if2 .left in omega (arith, first-is (c .before))
 
-cast-product : tie.Need-cast-product
-cast-product c = simp (toZ-ofZ (fit-here (r c))) (wide (fit-here (r c)))
-
-cast-product-2 : tie.Need-cast-product-2
-cast-product-2 c = let o = r (c .before .before) in simp (toZ-ofZ (fit-common o)) (wide (fit-common o))
-
-mul-product : tie.Need-mul-product
-mul-product c = let o = r (c .before .before) in simp (widened (fit-here o), widened (fit-common o)) (fit-product o)
+product-of-requires : tie.Need-product-of-requires
+product-of-requires c κs = search needs
 
 signed-requires : tie.Need-signed-requires
-signed-requires c κs = let o = c .before .before in
+signed-requires c κs = let o = c .before in
     subst (λ (n : ℕ). n ≤ largestSize) (sym (first-is (o .before))) (first-most (o .before))
 
 -- .. and has a sign
 module _ (c : tie.After-signed) where
   abbrev small : tie.Else2
-  small = c .before .before .before
+  small = c .before .before
 
-  abbrev o : tie.After-pivot
+  abbrev o : tie.After-pivot-of
   o = r small
 
+  fit-product : SFits w64 (c .before .product-of .result)
+  fit-product = search needs
+
   signed-is : c .signed .result ≡ signedBy (new (s o)) (first (s o))
-  signed-is =
-      (simp (widened (fit-here o), widened (fit-common o), toZ-ofZ (fit-product o)) at (c .signed .ensures))
-      ∙ ap₂ signedBy (product-is o) (first-is (small .before))
+  signed-is = (simp (toZ-ofZ fit-product) at (c .signed .ensures))
+      ∙ ap₂ signedBy (c .before .product-of .ensures) (first-is (small .before))
 
   fit-signed : SFits w64 (c .signed .result)
   fit-signed = search needs
@@ -231,7 +211,8 @@ returns-3 c =
     let v = s (o x) in
     let h = able v in
     let out = c .settle .last .1 .1 .1 .0 in
-    settled-ends h (first v) (first-above h) (first-small (small x)) (first-divides h) (first-multiple h) (c .settle .result) out
+    settled-ends h (first v) (first-above h) (first-small (small x)) (first-divides h) (first-multiple h)
+    (c .settle .result) out
     (right (old v) (c .settle .result) out (border-is (bounded (small x .before))) (signed-is x) (v .pre .1)
     (simp (toZ-ofZ (fit-signed x), toZ-ofZ (fit-half x)) at (c .settle .ensures)))
   where
@@ -245,9 +226,7 @@ pub quick-spec : {M : Type 1} → statement M
 quick-spec =
     tie.close
     (tie.spec
-    place-requires
-    mul-pivot
-    element-copy-out-pivot
+    pivot-of-requires
     are-near-requires
     returns
     border-of-requires
@@ -257,9 +236,7 @@ quick-spec =
     mul-first
     cast-if2
     returns-2
-    cast-product
-    cast-product-2
-    mul-product
+    product-of-requires
     signed-requires
     cast-from
     settle-requires

@@ -1,7 +1,7 @@
 -- `pivot::settle::try_all` meets its contract. The invariant: the columns passed are written with right quotients, the
 -- others are as they were. The measure is how many are left. Assumes nothing.
 use native.Mathlib.Omega.{arith}
-use mathlib.Core.Path.{_≡_, ap, sym, subst, _∙_}
+use mathlib.Core.Path.{_≡_, sym, subst, _∙_}
 use mathlib.Core.List.{List}
 use Prim.Native.Nat.{ℕ, _+_, _≤_, _<_, _-_}
 use borrow.Author.Needs.{needs}
@@ -17,8 +17,8 @@ use Rattle.pivot.specs.Layout.{mostEntries, lineAt, live}
 use Rattle.pivot.specs.Border.{Bordered, crossedAt}
 use Rattle.pivot.specs.Trials.{Apart, Quotient, Columned, columnOf, crossedIn}
 use Rattle.pivot.proofs.Laws.Columns.{apart-start, apart-then, apart-wider, column-alike, column-end}
-use Rattle.pivot.proofs.Laws.Columns.{column-most, columned, quotients-then}
-use Rattle.pivot.proofs.Laws.Layout.{lines-are, lines-live}
+use Rattle.pivot.proofs.Laws.Columns.{column-most, columned, columns-all, quotients-then}
+use Rattle.pivot.proofs.Laws.Layout.{lines-are}
 use Rattle.pivot.proofs.settle.try_all.Statement.{statement}
 use Rattle.pivot.proofs.settle.try_all.Tie as tie
 
@@ -185,8 +185,7 @@ returns-2 c =
     let s = c .before .before .before in
     let b = s .args .t2 in
     let e : l .j ≡ b .columns = omega arith in
-    let f : lineAt (b .rows) (b .columns) (l .j) ≡ live (b .rows) (b .columns) =
-    ap (lineAt (b .rows) (b .columns)) (e ∙ sym (lines-are (b .rows) (b .columns))) ∙ lines-live (b .rows) (b .columns) in (
+    let f = columns-all b e in (
       subst (λ (k : ℕ). Apart 0 k (s .args .out .now) (l .out)) f (l .inv .1),
       subst (λ (n : ℕ). (k : ℕ) → k < n →
           Quotient (s .args .by) (crossedAt (s .args .entries .now) b k) (getD (l .out) k (pos 0))) f

@@ -4,10 +4,9 @@ use mathlib.Core.Bool.{Bool, true}
 use mathlib.Core.List.{List}
 use mathlib.Core.Path.{_≡_, ap, ap₂, sym, subst, _∙_}
 use Prim.Native.Nat.{ℕ, _≤_}
-use native.Mathlib.Omega.{arith}
-use borrow.Author.Needs.{needs, sfits-of}
-use lib.IntN.{ℤ, pos, _*ℤ_}
-use lib.ListN.{getD, length}
+use borrow.Author.Needs.{needs}
+use lib.IntN.{ℤ, pos}
+use lib.ListN.{length}
 use lib.Signed.{quotZ}
 use mir.Facts.{toZ-ofZ}
 use mir.Syntax.{w32, w64}
@@ -18,23 +17,25 @@ use Rattle.whole.proofs.Sizes.{fits-by}
 use Rattle.whole.proofs.Tables.{filled-length}
 use Rattle.divisor.specs.Cells.{dividedCells, divisorBelow}
 use Rattle.rules.specs.Sizes.{largestNumber}
-use Rattle.pivot.specs.declared.Asked.{Asked}
+use Rattle.pivot.specs.declared.asked.Asked.{Asked}
 use Rattle.pivot.specs.declared.Pivoted.{Pivoted}
 use Rattle.pivot.specs.declared.Pivoted.the-variants as pivots
 use Rattle.pivot.specs.Asked.{Able, commonFor, entriesFor, fitsFor}
 use Rattle.pivot.specs.Layout.{live, mostEntries}
 use Rattle.pivot.specs.Pivot.{signedBy, smallBelow, entriesBy, product, mix, by, pivotedBy}
-use Rattle.pivot.proofs.Laws.Halves.{wide, widened}
-use Rattle.pivot.proofs.Laws.Reductions.{pivot-in, end-in, within-product, within-size, mix-within, size-most}
+use Rattle.pivot.proofs.Laws.Reductions.{end-in, within-size, mix-within, size-most}
 use Rattle.pivot.proofs.Laws.Reductions.{nonzero-by, quotient-fits, divided-all, fits-common, fits-entries}
 use Rattle.pivot.proofs.wide.pivot.Statement.{statement}
 use Rattle.pivot.proofs.wide.pivot.Tie as tie
 
-place-requires : tie.Need-place-requires
-place-requires c κs = search needs
-
 live-requires : tie.Need-live-requires
 live-requires c κs = search needs
+
+product-of-requires : tie.Need-product-of-requires
+product-of-requires c κs = search needs
+
+mixed-entries-requires : tie.Need-mixed-entries-requires
+mixed-entries-requires c κs = search needs
 
 -- the definition's parts
 module _ (s : tie.Start) where
@@ -71,49 +72,25 @@ module _ (s : tie.Start) where
   abbrev left : Bool → List ℤ
   left b = entriesBy b old (entriesFor old asked)
 
-mul-product : tie.Need-mul-product
-mul-product c = rw (c .before .place .ensures) (omega (arith, pivot-in (c .before .before .pre)))
-
-element-copy-out-product : tie.Need-element-copy-out-product
-element-copy-out-product c = rw (c .before .place .ensures) (pivot-in (c .before .before .pre))
-
--- the pivot is read
-module _ (c : tie.After-product) where
+-- the product is known
+module _ (c : tie.After-product-of) where
   abbrev start : tie.Start
   start = c .before .before .before
 
-  abbrev here : ℤ
-  here = getD (old start) (c .before .before .place .result) (pos 0)
+  abbrev found : ℤ
+  found = c .product-of .result
 
-  fit-pivot : SFits w32 here
-  fit-pivot = sfits-of (c .product .given)
+  product-is : found ≡ new start
+  product-is = c .product-of .ensures
 
-  fit-common : SFits w32 (common start)
-  fit-common = search needs
+  fit-product : SFits w64 found
+  fit-product = search needs
 
-  fit-product : SFits w64 (here *ℤ common start)
-  fit-product = fits-by (within-product (able start) (c .before .before .place .result)) tt
+  live-is : c .before .before .live .result ≡ live (m start) (n start)
+  live-is = c .before .before .live .ensures
 
-  product-is : here *ℤ common start ≡ new start
-  product-is = ap (λ (k : ℕ). getD (old start) k (pos 0) *ℤ common start) (c .before .before .place .ensures)
-
-  live-is : c .before .live .result ≡ live (m start) (n start)
-  live-is = c .before .live .ensures
-
-  end-small : c .before .live .result ≤ mostEntries
+  end-small : c .before .before .live .result ≤ mostEntries
   end-small = rw live-is (end-in (able start))
-
-cast-product : tie.Need-cast-product
-cast-product c = simp (toZ-ofZ (fit-pivot c)) (wide (fit-pivot c))
-
-cast-product-2 : tie.Need-cast-product-2
-cast-product-2 c = let o = c .before .before in simp (toZ-ofZ (fit-common o)) (wide (fit-common o))
-
-mul-product-2 : tie.Need-mul-product-2
-mul-product-2 c = let o = c .before .before in simp (widened (fit-pivot o), widened (fit-common o)) (fit-product o)
-
-mixed-entries-requires : tie.Need-mixed-entries-requires
-mixed-entries-requires c κs = search needs
 
 -- a function of live cells, an array and a number, at equal arguments
 alike : {A : Type 0} (f : ℕ → List ℤ → ℤ → A) {e e′ : ℕ} {l l′ : List ℤ} {z z′ : ℤ} →
@@ -122,8 +99,8 @@ alike f {e} {e′} {l} {l′} {z} {z′} a b c = ap (λ e. f e l z) a ∙ ap₂ 
 
 -- what the call gives are the definition's entries
 module _ (c : tie.After-mixed-entries) where
-  abbrev asks : tie.After-product
-  asks = c .before .before .before .before
+  abbrev asks : tie.After-product-of
+  asks = c .before .before
 
   mixed-right : c .mixed-entries .result ≡ mixes (start asks)
   mixed-right = c .mixed-entries .ensures
@@ -132,7 +109,7 @@ divisor-of-requires : tie.Need-divisor-of-requires
 divisor-of-requires c κs = let o = asks (c .before) in let h = able (start o) in (
   end-small o,
   (
-    simp (widened (fit-pivot o), widened (fit-common o), toZ-ofZ (fit-product o)) (rw (product-is o) (within-size h)),
+    simp (toZ-ofZ (fit-product o)) (rw (product-is o) (within-size h)),
     rw (mixed-right (c .before)) (mix-within h),
   ),
 )
@@ -145,14 +122,14 @@ module _ (c : tie.After-divisor-of) where
   divisor-right : let s = start (asks mixed) in
       c .divisor-of .result ≡ divisorBelow (live (m s) (n s)) (mixes s) (new s)
   divisor-right = let o = asks mixed in
-      (simp (widened (fit-pivot o), widened (fit-common o), toZ-ofZ (fit-product o)) at (c .divisor-of .ensures))
+      (simp (toZ-ofZ (fit-product o)) at (c .divisor-of .ensures))
       ∙ alike divisorBelow (live-is o) (mixed-right mixed) (product-is o)
 
 signed-requires : tie.Need-signed-requires
 signed-requires c κs = rw (divisor-right c) (size-most (able (start (asks (mixed c)))))
 
 module _ (c : tie.After-signed) where
-  abbrev read : tie.After-product
+  abbrev read : tie.After-product-of
   read = asks (mixed (c .before))
 
   abbrev first : tie.Start
@@ -160,13 +137,13 @@ module _ (c : tie.After-signed) where
 
   signed-right : c .signed .result ≡ part first
   signed-right =
-      (simp (widened (fit-pivot read), widened (fit-common read), toZ-ofZ (fit-product read)) at (c .signed .ensures))
+      (simp (toZ-ofZ (fit-product read)) at (c .signed .ensures))
       ∙ ap₂ signedBy (product-is read) (divisor-right (c .before))
 
   fit-signed : SFits w64 (c .signed .result)
   fit-signed = search needs
 
-  quotient-right : quotZ (here read *ℤ common first) (c .signed .result) ≡ commonFor (old first) (asked first)
+  quotient-right : quotZ (found read) (c .signed .result) ≡ commonFor (old first) (asked first)
   quotient-right = ap₂ quotZ (product-is read) signed-right
 
 divide-requires : tie.Need-divide-requires
@@ -194,14 +171,14 @@ module _ (c : tie.After-divide) where
       ∙ alike dividedCells (live-is (read sign)) (mixed-right (mixed (sign .before))) (signed-right sign)
       ∙ divided-all (live (m had) (n had)) _ (part had)
 
-  common-right : toZ w64 (ofZ w64 (quotZ (here (read sign) *ℤ common had) (sign .signed .result)))
+  common-right : toZ w64 (ofZ w64 (quotZ (found (read sign)) (sign .signed .result)))
       ≡ commonFor (old had) (asked had)
   common-right = ap (λ (z : ℤ). toZ w64 (ofZ w64 z)) (quotient-right sign) ∙ toZ-ofZ (quotient-fits (able had))
 
 div-after : tie.Need-div-after
 div-after c = let s = sign c in let o = read s in (
   bits-nonzero w64 (s .signed .result) (fit-signed s) (rw (signed-right s) (nonzero-by (able (had c)))),
-  simp (widened (fit-pivot o), widened (fit-common o), toZ-ofZ (fit-product o), toZ-ofZ (fit-signed s))
+  simp (toZ-ofZ (fit-product o), toZ-ofZ (fit-signed s))
       (rw (quotient-right s) (quotient-fits (able (had c)))),
 )
 
@@ -218,7 +195,7 @@ module _ (c : tie.After-all-in-range) where
 
   test-right : c .all-in-range .result ≡ fitsFor (old begun) (asked begun)
   test-right = let o = read (sign made) in
-      (simp (widened (fit-pivot o), widened (fit-common o), toZ-ofZ (fit-product o), toZ-ofZ (fit-signed (sign made)))
+      (simp (toZ-ofZ (fit-product o), toZ-ofZ (fit-signed (sign made)))
       at (c .all-in-range .ensures))
       ∙ alike smallBelow (live-is o) (divided-right made) (common-right made)
 
@@ -242,34 +219,24 @@ module _ (c : tie.After-halves-of) where
   abbrev o : tie.After-all-in-range
   o = tested (c .before)
 
-  abbrev r : tie.After-product
+  abbrev r : tie.After-product-of
   r = read (sign (made o))
 
   fit-after : SFits w32 (commonFor (old (begun o)) (asked (begun o)))
   fit-after = fits-by (fits-common (able (begun o)) (fits (c .before))) tt
 
-  after-right : toZ w32 (ofZ w32 (toZ w64 (ofZ w64 (quotZ (here r *ℤ common (start r)) (sign (made o) .signed .result)))))
+  after-right : toZ w32 (ofZ w32 (toZ w64 (ofZ w64 (quotZ (found r) (sign (made o) .signed .result)))))
       ≡ commonFor (old (begun o)) (asked (begun o))
   after-right = ap (λ (z : ℤ). toZ w32 (ofZ w32 z)) (common-right (made o)) ∙ toZ-ofZ fit-after
 
-cast-t25 : tie.Need-cast-t25
-cast-t25 c =
-    simp (
-      widened (fit-pivot (r c)),
-      widened (fit-common (r c)),
-      toZ-ofZ (fit-product (r c)),
-      toZ-ofZ (fit-signed (sign (made (o c)))),
-    )
+cast-t19 : tie.Need-cast-t19
+cast-t19 c =
+    simp (toZ-ofZ (fit-product (r c)), toZ-ofZ (fit-signed (sign (made (o c)))))
     (subst (λ (z : ℤ). SFits w32 z) (sym (common-right (made (o c)))) (fit-after c))
 
 returns : tie.Need-returns
 returns c = let e = sym (fits (c .before)) in (
-  simp (
-    widened (fit-pivot (r c)),
-    widened (fit-common (r c)),
-    toZ-ofZ (fit-product (r c)),
-    toZ-ofZ (fit-signed (sign (made (o c)))),
-  )
+  simp (toZ-ofZ (fit-product (r c)), toZ-ofZ (fit-signed (sign (made (o c)))))
       (ap pivots.Common (after-right c) ∙ ap (answer (begun (o c))) e),
   c .halves-of .ensures ∙ divided-right (made (o c)) ∙ ap (left (begun (o c))) e,
 )
@@ -282,13 +249,8 @@ pub pivot-spec : {M : Type 1} → statement M
 pivot-spec =
     tie.close
     (tie.spec
-    place-requires
     live-requires
-    mul-product
-    element-copy-out-product
-    cast-product
-    cast-product-2
-    mul-product-2
+    product-of-requires
     mixed-entries-requires
     divisor-of-requires
     signed-requires
@@ -296,6 +258,6 @@ pivot-spec =
     div-after
     all-in-range-requires
     halves-of-requires
-    cast-t25
+    cast-t19
     returns
     returns-2)
