@@ -1,5 +1,5 @@
 -- A pivot by place: the entries before reduction, their divisor, and the entries in lowest common form.
-use Prim.Native.Nat.{ℕ, _≤_, _<_}
+use Prim.Native.Nat.{ℕ, _+_, _≤_, _<_}
 use mathlib.Core.Bool.{Bool, true, false, cond, _&&_}
 use mathlib.Core.List.{List}
 use mathlib.Core.Logic.{_≢_}
@@ -7,7 +7,7 @@ use lib.Dec.{eqb}
 use lib.ListN.{getD}
 use lib.IntN.{ℤ, pos, negℤ, _*ℤ_, _-ℤ_}
 use lib.Signed.{quotZ}
-use Rattle.whole.specs.Below.{allBelow}
+use Rattle.whole.specs.Below.{allBelow, foldBelow}
 use Rattle.whole.specs.Numbers.{Within, AllWithin, within, isNeg}
 use Rattle.whole.specs.Tables.{filled}
 use Rattle.divisor.specs.Cells.{divisorBelow, quotients}
@@ -72,6 +72,14 @@ inRange z = within largestNumber z
 -- the common number and the first k cells are within the largest number
 unfoldable pub smallBelow : ℕ → List ℤ → ℤ → Bool
 smallBelow k l common = inRange common && allBelow k (λ i. inRange (getD l i (pos 0)))
+
+-- 1 for a number beyond the range, else 0
+abbrev pub beyondOf : ℤ → ℕ
+beyondOf z = cond (inRange z) 0 1
+
+-- how many of the first k cells are beyond it
+unfoldable pub beyondBelow : ℕ → List ℤ → ℕ
+beyondBelow k l = foldBelow k (λ i many. many + beyondOf (getD l i (pos 0))) 0
 
 -- ---- the whole pivot, of m rows and n columns with these entries and this common number
 

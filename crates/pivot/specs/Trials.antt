@@ -18,15 +18,14 @@ use Rattle.pivot.specs.declared.settle.Tried.{Tried}
 use Rattle.pivot.specs.declared.settle.Tried.the-variants as tries
 use Rattle.pivot.specs.declared.settle.Settled.{Settled}
 use Rattle.pivot.specs.declared.settle.Settled.the-variants as ends
-use Rattle.pivot.specs.Asked.{commonFor, entriesFor, fitsFor}
+use Rattle.pivot.specs.Asked.{entriesFor, fitsFor}
 use Rattle.pivot.specs.Layout.{mostEntries, lineAt}
 use Rattle.pivot.specs.Border.{crossedOf, crossedAt, inBorder}
-use Rattle.pivot.specs.Pivot.{signedBy, inRange, by}
+use Rattle.pivot.specs.Pivot.{signedBy, by}
 
--- q is the quotient of a number, and in range
-pub record Quotient (by raw q : ℤ) : Type 0 where
-  pub back : q *ℤ by ≡ raw
-  pub in-range : Within q largestNumber
+-- q is the quotient of a number: multiplied back, it is that number
+abbrev pub Quotient : ℤ → ℤ → ℤ → Type 0
+Quotient by raw q = q *ℤ by ≡ raw
 
 -- the column of column place j, which is a line of the array
 abbrev pub columnOf : Border → ℕ → Column
@@ -93,12 +92,11 @@ SettledAs l b from old ends.Open out = T true
 -- ---- the trials of a pivot that is asked for
 
 module _ (l : List ℤ) (a : Asked) where
-  -- the divisor is found, and the entries are the definition's and in range
+  -- the divisor is found, and the entries are the definition's, in range or not
   pub record Settles (z : ℤ) (out : List ℤ) : Type 0 where
     pub by-is : z ≡ by (a .rows) (a .columns) l (a .common) (a .spot .row .0) (a .spot .column .0)
     pub by-within : Within z largestNumber
     pub entries-are : out ≡ entriesFor l a
-    pub fits : inRange (commonFor l a) ≡ true → fitsFor l a ≡ true
 
   abbrev pub EndsAs : Settled → List ℤ → Type 0
   EndsAs (ends.By z) out = Settles z out

@@ -35,16 +35,13 @@ fn cell_at<'a>(
     numbers::crossed(column.pivot, own, beside, column.above)
 }
 
-// 1 where a quotient, multiplied back, is another number, or is the least one, else 0.
+// 1 where a quotient, multiplied back, is another number, else 0.
 fn wrong_of(q: i32, by: i32, raw: i64) -> u32
     ensures few { λ r. ⌜ r ≤ 1 ⌝ }
     ensures right { λ r. ⌜ (r ≡ 0 → Quotient by raw q) ⌝ }
 {
     let back = q as i64 * by as i64;
     if back != raw {
-        return 1;
-    }
-    if q == -2147483648 {
         return 1;
     }
     0

@@ -3,7 +3,8 @@
 // the leaving row c at u:
 //   D x = .. + p w + c u ..     the leaving row, solved for w: p w = D x - c u ..
 //   D y = .. + b w + a u ..     another row, times p: D p y = b D x + (p a - b c) u ..
-// The quotients are guessed and multiplied back; where that settles nothing, the numbers are divided in the full width.
+// The quotients are guessed and multiplied back, and their range is tested once they are right; where that settles
+// nothing, the numbers are divided in the full width.
 // The entries lie flat, as specs/Layout.antt says; a cell that is not in use is 0.
 ghost use mathlib.Core.Path.{_≡_};
 ghost use Rattle.pivot.specs.Pivot.{Pivotable, fitsAfter, commonAfter, entriesAfter, pivotedBy, entriesBy};
@@ -68,6 +69,9 @@ pub fn pivot(
     let Settled::By(by) = settled else {
         return wide::pivot(entries, asked);
     };
+    if range::beyond_in(&cells, layout::live(rows, columns)) != 0 {
+        return Pivoted::Beyond;
+    }
     let after = asked::product_of(entries, asked) / by as i64;
     if after > rules::LARGEST_NUMBER {
         return Pivoted::Beyond;

@@ -1,7 +1,7 @@
 -- A divisor that trials settle on is the pivot's.
 --   first-divides, first-multiple, first-above   the common number times the border's divisor: it divides the new
 --                                                common number, the divisor divides it, and it is above 0
---   found-by, -entries, -within, -fits, -most    what was found is the definition's
+--   found-by, -entries, -most                    what was found is the definition's
 --   exceeds-beyond                               a cell beyond the range
 --   settled-ends                                 what trials from a first divisor end with
 --   after-up, within-up, beyond-up               the new common number is above 0, in range or beyond
@@ -22,7 +22,6 @@ use lib.ListN.{getD, length, replicate, length-replicate}
 use lib.Seq.{ext-getD}
 use lib.Signed.{quotZ, _≤ℤ_, _<ℤ_, clashℤ}
 use Rattle.whole.proofs.Reify.{reify}
-use Rattle.whole.proofs.Below.{all-of}
 use Rattle.whole.specs.Divisors.{gcd}
 use Rattle.whole.proofs.Division.{size-quot}
 use Rattle.whole.proofs.Divisors.{fold-times, gcd-dvd-l, gcd-times}
@@ -47,7 +46,7 @@ use Rattle.pivot.specs.Trials.{Found, Exceeds, SettledAs, EndsAs}
 use Rattle.pivot.proofs.Laws.Crossed.{beside-is, above-is, crossed-is}
 use Rattle.pivot.proofs.Laws.Divides.{over-neg, over-sum, over-sizes, quotient-is, back-divides}
 use Rattle.pivot.proofs.Laws.Layout.{flat-live, row-flat, column-flat}
-use Rattle.pivot.proofs.Laws.Ranges.{small-all, small-cell, small-common}
+use Rattle.pivot.proofs.Laws.Ranges.{small-cell, small-common}
 use Rattle.pivot.proofs.Laws.Reductions.{nonzero-product, nonzero-by, end-in}
 use Rattle.pivot.proofs.Laws.Signs.{size-signed, signed-again, quotient-up}
 
@@ -181,7 +180,7 @@ module _ {m n : ℕ} {l : List ℤ} {c : ℤ} {p q : ℕ} (h : Pivotable m n l c
         (divisor-greatest mixes new (live m n) (natAbs z)
         (dvd-trans (natAbs z) (subst (λ k. natAbs z ∣ k) (size-signed new from) (F .divides)) divides)
         (λ k b. subst (λ x. natAbs z ∣ natAbs x) (cell k b ∙ sym (mix-at k b))
-        (back-divides (getD out k (pos 0)) z _ (F .right k b .back))))
+        (back-divides (getD out k (pos 0)) z _ (F .right k b))))
         (F .greatest T (subst (λ k. T ∣ k) (sym (size-signed new from)) multiple)
         (λ k b. subst (λ x. T ∣ natAbs x) (sym (cell k b)) (T-mix k b)))
 
@@ -199,7 +198,7 @@ module _ {m n : ℕ} {l : List ℤ} {c : ℤ} {p q : ℕ} (h : Pivotable m n l c
     each k = go (decLt k (live m n))
       where
         go : Dec (k < live m n) → getD out k (pos 0) ≡ getD (entriesAfter m n l c p q) k (pos 0)
-        go (yes b) = sym (quotient-is (getD out k (pos 0)) z _ nonzero (F .right k b .back))
+        go (yes b) = sym (quotient-is (getD out k (pos 0)) z _ nonzero (F .right k b))
             ∙ ap₂ quotZ (cell k b ∙ sym (mix-at k b)) found-by
             ∙ sym (filled-in mostEntries (pos 0) (live m n) (quotients mixes (by m n l c p q)) k b)
         go (no b) = F .apart .kept k (inr (omega arith)) ∙ replicate-at mostEntries (pos 0) k
@@ -207,14 +206,6 @@ module _ {m n : ℕ} {l : List ℤ} {c : ℤ} {p q : ℕ} (h : Pivotable m n l c
 
     pub found-entries : out ≡ entriesAfter m n l c p q
     found-entries = ext-getD (pos 0) out (entriesAfter m n l c p q) as-long (λ k b. each k)
-
-    pub found-within : (k : ℕ) → k < live m n → inRange (getD (entriesAfter m n l c p q) k (pos 0)) ≡ true
-    found-within k b = subst (λ x. inRange x ≡ true) (each k)
-        (tells-true (tells-within largestNumber (getD out k (pos 0))) (F .right k b .in-range))
-
-    pub found-fits : inRange (commonAfter m n l c p q) ≡ true → fitsAfter m n l c p q ≡ true
-    found-fits e = small-all (live m n) (entriesAfter m n l c p q) (commonAfter m n l c p q) e
-        (all-of (live m n) (λ k. inRange (getD (entriesAfter m n l c p q) k (pos 0))) found-within)
 
     -- .. and no larger than what was tried first
     pub found-most : natAbs z ≤ from
@@ -277,7 +268,6 @@ module _ {l : List ℤ} {a : Asked} (h : Able l a) (from : ℕ) (some : 0 < from
     by-is = found-by h from some divides multiple F;
     by-within = record { within = le-trans (found-most h from some divides multiple F) few };
     entries-are = found-entries h from some divides multiple F;
-    fits = found-fits h from some divides multiple F;
   }
   settled-ends divides multiple ends.Beyond out X = exceeds-beyond h from multiple X
   settled-ends divides multiple ends.Open out t = tt

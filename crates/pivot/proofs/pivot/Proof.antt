@@ -1,10 +1,10 @@
--- `pivot::pivot` meets its contract: what the quick way settles is the definition's, and where it settles nothing the
--- wide way is taken. Assumes nothing.
+-- `pivot::pivot` meets its contract: what the quick way settles is the definition's, its range is tested, and where
+-- nothing is settled the wide way is taken. Assumes nothing.
 use borrow.Author.Needs.{needs}
 use mathlib.Core.Bool.{Bool, true}
 use mathlib.Core.List.{List}
 use mathlib.Core.Path.{_≡_, ap, ap₂, sym, subst, _∙_}
-use Prim.Native.Nat.{ℕ}
+use Prim.Native.Nat.{ℕ, _≤_}
 use lib.IntN.{ℤ, pos}
 use lib.Signed.{quotZ, _≤ℤ_, _<ℤ_}
 use mir.Facts.{toZ-ofZ}
@@ -20,10 +20,12 @@ use Rattle.pivot.specs.declared.Pivoted.the-variants as pivots
 use Rattle.pivot.specs.declared.settle.Settled.{Settled}
 use Rattle.pivot.specs.declared.settle.Settled.the-variants as ends
 use Rattle.pivot.specs.Asked.{productFor}
-use Rattle.pivot.specs.Pivot.{Pivotable, commonAfter, entriesAfter, fitsAfter, pivotedBy, entriesBy}
+use Rattle.pivot.specs.Layout.{mostEntries, live}
+use Rattle.pivot.specs.Pivot.{Pivotable, commonAfter, entriesAfter, fitsAfter, pivotedBy, entriesBy, beyondBelow}
 use Rattle.pivot.specs.Trials.{Settles, EndsAs}
 use Rattle.pivot.proofs.Laws.Halves.{wide, widened}
-use Rattle.pivot.proofs.Laws.Reductions.{nonzero-by, quotient-fits, fits-common}
+use Rattle.pivot.proofs.Laws.Ranges.{small-none, small-some}
+use Rattle.pivot.proofs.Laws.Reductions.{nonzero-by, quotient-fits, fits-common, end-in}
 use Rattle.pivot.proofs.Laws.Settling.{within-up, beyond-up}
 use Rattle.pivot.proofs.pivot.Statement.{statement}
 use Rattle.pivot.proofs.pivot.Tie as tie
@@ -63,11 +65,14 @@ module _ (s : tie.Start) where
   abbrev fits : Bool
   fits = fitsAfter m n old common p q
 
+  abbrev new : List ℤ
+  new = entriesAfter m n old common p q
+
   abbrev answer : Bool → Pivoted
   answer b = pivotedBy b after
 
   abbrev left : Bool → List ℤ
-  left b = entriesBy b old (entriesAfter m n old common p q)
+  left b = entriesBy b old new
 
 quick-requires : tie.Need-quick-requires
 quick-requires c κs = search needs
@@ -103,9 +108,6 @@ pivot-requires c κs = search needs
 returns-2 : tie.Need-returns-2
 returns-2 c = let b = s (c .before .before .before .before) in simp (toZ-ofZ (fit-common b)) at (c .pivot .ensures)
 
-product-of-requires : tie.Need-product-of-requires
-product-of-requires c κs = search needs
-
 -- the divisor is found
 module _ (c : tie.After-known-told) where
   abbrev o : tie.After-quick
@@ -120,10 +122,45 @@ module _ (c : tie.After-known-told) where
   fit-z : SFits w32 z
   fit-z = fits-by (settles .by-within) tt
 
+live-requires : tie.Need-live-requires
+live-requires c κs = search needs
+
+beyond-in-requires : tie.Need-beyond-in-requires
+beyond-in-requires c κs = subst (λ (e : ℕ). e ≤ mostEntries) (sym (c .live .ensures))
+    (end-in (able (s (o (c .before .before)))))
+
+-- the entries beyond the range are counted
+module _ (c : tie.After-beyond-in) where
+  abbrev f : tie.After-known-told
+  f = c .before .before .before
+
+  abbrev t : tie.Start
+  t = s (o f)
+
+  abbrev end : ℕ
+  end = live (m t) (n t)
+
+  count-is : c .beyond-in .result ≡ beyondBelow end (new t)
+  count-is = c .beyond-in .ensures ∙ ap₂ beyondBelow (c .before .live .ensures) (settles f .entries-are)
+
+-- one of them is beyond the range, and all is as it was
+returns-3 : tie.Need-returns-3
+returns-3 c =
+    let x = c .before in
+    let b = t x in
+    let e = sym (small-some (end x) (new b) (after b) (λ y. c .if1 .taken (count-is x ∙ y))) in
+    (ap (answer b) e, ap (left b) e)
+
+product-of-requires : tie.Need-product-of-requires
+product-of-requires c κs = search needs
+
 -- the product is known
 module _ (c : tie.After-product-of) where
+  abbrev counted : tie.Else1
+  counted = c .before .before
+
   abbrev k : tie.After-known-told
-  k = c .before .before
+  k = f (counted .before)
 
   abbrev b : tie.Start
   b = s (o k)
@@ -155,26 +192,28 @@ div-after c = (
 )
 
 -- the new common number is beyond the range, and all is as it was
-returns-3 : tie.Need-returns-3
-returns-3 c =
+returns-4 : tie.Need-returns-4
+returns-4 c =
     let x = c .before in
     let h : pos largestNumber <ℤ made x = true→lt
-    (simp (toZ-ofZ (fit-product x), widened (fit-z (k x)), toZ-ofZ (fit-made x)) at (c .if1 .taken)) in
+    (simp (toZ-ofZ (fit-product x), widened (fit-z (k x)), toZ-ofZ (fit-made x)) at (c .if2 .taken)) in
     let e = sym (beyond-up (able (b x)) (subst (λ (y : ℤ). pos largestNumber <ℤ y) (made-is x) h)) in
     (ap (answer (b x)) e, ap (left (b x)) e)
 
 -- .. or in range
-module _ (c : tie.Else1) where
+module _ (c : tie.Else2) where
   abbrev x : tie.After-product-of
   x = c .before
 
   low : after (b x) ≤ℤ pos largestNumber
   low = subst (λ (y : ℤ). y ≤ℤ pos largestNumber) (made-is x)
       (false→le {a = made x} {b = pos largestNumber}
-      (simp (toZ-ofZ (fit-product x), widened (fit-z (k x)), toZ-ofZ (fit-made x)) at (c .if1 .left)))
+      (simp (toZ-ofZ (fit-product x), widened (fit-z (k x)), toZ-ofZ (fit-made x)) at (c .if2 .left)))
 
   all-fits : fits (b x) ≡ true
-  all-fits = settles (k x) .fits (within-up (able (b x)) low)
+  all-fits = let y = counted x in
+      small-none (end (y .before)) (new (b x)) (after (b x)) (within-up (able (b x)) low)
+      (sym (count-is (y .before)) ∙ y .if1 .left)
 
   fit-half : SFits w32 (after (b x))
   fit-half = fits-by (fits-common (able (b x)) all-fits) tt
@@ -182,13 +221,13 @@ module _ (c : tie.Else1) where
   after-right : toZ w32 (ofZ w32 (toZ w64 (ofZ w64 (made x)))) ≡ after (b x)
   after-right = ap (λ (y : ℤ). toZ w32 (ofZ w32 y)) (toZ-ofZ (fit-made x) ∙ made-is x) ∙ toZ-ofZ fit-half
 
-cast-t19 : tie.Need-cast-t19
-cast-t19 c = let y = x c in
+cast-t22 : tie.Need-cast-t22
+cast-t22 c = let y = x c in
     simp (toZ-ofZ (fit-product y), widened (fit-z (k y)), toZ-ofZ (fit-made y))
     (subst (λ (z : ℤ). SFits w32 z) (sym (made-is y)) (fit-half c))
 
-returns-4 : tie.Need-returns-4
-returns-4 c = let y = x c in let e = sym (all-fits c) in (
+returns-5 : tie.Need-returns-5
+returns-5 c = let y = x c in let e = sym (all-fits c) in (
   simp (toZ-ofZ (fit-product y), widened (fit-z (k y)))
       (ap pivots.Common (after-right c) ∙ ap (answer (b y)) e),
   settles (k y) .entries-are ∙ ap (left (b y)) e,
@@ -204,9 +243,12 @@ pivot-spec =
     enum-known-settled
     pivot-requires
     returns-2
+    live-requires
+    beyond-in-requires
+    returns-3
     product-of-requires
     cast-after
     div-after
-    returns-3
-    cast-t19
-    returns-4)
+    returns-4
+    cast-t22
+    returns-5)

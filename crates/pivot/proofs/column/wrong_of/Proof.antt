@@ -1,13 +1,13 @@
--- `pivot::column::wrong_of` meets its contract: what passes both tests is a quotient in range. Assumes nothing.
+-- `pivot::column::wrong_of` meets its contract: what passes the test is a quotient. Assumes nothing.
 use native.Mathlib.Omega.{arith}
-use mathlib.Core.Path.{ap, sym}
+use mathlib.Core.Path.{sym}
 use lib.IntN.{_*ℤ_}
 use mir.Facts.{toZ-ofZ}
-use mir.Syntax.{w32, w64}
-use mir.Val.{SFits, ofZ}
+use mir.Syntax.{w64}
+use mir.Val.{SFits}
 use Rattle.whole.proofs.Bools.{zero-one}
 use Rattle.whole.proofs.Tests.{test-eq}
-use Rattle.pivot.proofs.Laws.Halves.{wide, half-product, widened, not-least}
+use Rattle.pivot.proofs.Laws.Halves.{wide, half-product, widened}
 use Rattle.pivot.proofs.column.wrong_of.Statement.{statement}
 use Rattle.pivot.proofs.column.wrong_of.Tie as tie
 
@@ -28,17 +28,11 @@ returns : tie.Need-returns
 returns c = (omega arith, λ e. zero-one (sym e))
 
 returns-2 : tie.Need-returns-2
-returns-2 c = (omega arith, λ e. zero-one (sym e))
-
-returns-3 : tie.Need-returns-3
-returns-3 c = let s = c .before .before in (
+returns-2 c = let s = c .before in (
   omega arith,
-  λ e. record {
-    back = test-eq w64 (fit-product s) (s .fits .raw)
-        (rw (widened (s .fits .q), widened (s .fits .by)) at (c .before .if1 .left));
-    in-range = not-least (s .args .q) (s .fits .q) (λ z. c .if2 .left (ap (ofZ w32) z));
-  },
+  λ e. test-eq w64 (fit-product s) (s .fits .raw)
+      (rw (widened (s .fits .q), widened (s .fits .by)) at (c .if1 .left)),
 )
 
 pub wrong-of-spec : {M : Type 1} → statement M
-wrong-of-spec = tie.close (tie.spec cast-back cast-back-2 mul-back returns returns-2 returns-3)
+wrong-of-spec = tie.close (tie.spec cast-back cast-back-2 mul-back returns returns-2)
