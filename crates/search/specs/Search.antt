@@ -1,4 +1,5 @@
--- The search for the next pivot, by place: docs/RULES.md, "The run", over the struct. Both searches go by the variables' numbers.
+-- The search for the next pivot, by place: docs/RULES.md, "The run", over the struct. Both searches go by the variables'
+-- numbers.
 use mathlib.Core.Path.{_≡_}
 use mathlib.Core.Bool.{Bool, true, false, cond}
 use mathlib.Core.List.{List, []}
@@ -12,18 +13,16 @@ use Rattle.whole.specs.Sums.{sum}
 use Rattle.whole.specs.Values.{whole}
 use Rattle.rules.specs.Sizes.{mostColumns, mostRows, largestLimit}
 use Rattle.rules.specs.Step.{Side, Leaving, leaves, shortfallBy, pull, suits}
-use Rattle.tableau.specs.declared.Limits.{Limits}
-use Rattle.tableau.specs.declared.Seat.{Seat}
 use Rattle.tableau.specs.declared.Tableau.{Tableau}
 use Rattle.tableau.specs.Layout.{Order, inUse}
-use Rattle.tableau.specs.Parts.{cellLaid, entryLaid, entryIn, valueAt, seatAt, rowOf, columnOf, lowerOf, upperOf}
+use Rattle.tableau.specs.Parts.{cellLaid, entryLaid, valueAt, seatAt, rowOf, columnOf, lowerOf, upperOf}
 use Rattle.tableau.specs.Pivot.{Cells}
-use Rattle.search.specs.declared.sides.LimitPair.{LimitPair}
 use Rattle.search.specs.declared.Blocked.{Blocked}
 use Rattle.search.specs.declared.Choice.{Choice}
 use Rattle.search.specs.declared.Next.{Next}
 use Rattle.search.specs.declared.Next.the-variants as variants
-use Rattle.search.specs.Sides.{sideOf, rising, suitsOf}
+use Rattle.search.specs.declared.View.{View}
+use Rattle.search.specs.Sides.{sideOf, rising}
 
 abbrev pub tagged : ℕ → Option Side → (Side → ℤ) → Option (Leaving ℤ)
 tagged v none short = none
@@ -135,22 +134,30 @@ nextAt = nextLaid inUse
 
 -- ---- what the code reads
 
--- the nonbasic variable of column place j, with these limits, can move the basic variable of row place i the right way
-unfoldable pub movesAt : ℕ → ℕ → List ℤ → List ℤ → ℕ → ℕ → Bool → LimitPair → Bool
-movesAt m n l x i j rises p = suitsOf rises (entryIn m n l i j) (getD x j (pos 0)) p
-
--- the tableau as the search reads it: which variable is at which place is not asked
-abbrev pub seen : List ℤ → List ℤ → List Seat → Limits → ℤ → ℕ → ℕ → Tableau
-seen entries values seats limits common rows columns = record {
-  rows = rows;
-  columns = columns;
-  common = common;
+-- the tableau as the search and a step read it: which variable is at which column place is not asked
+abbrev pub seen : List ℤ → View → Tableau
+seen entries view = record {
+  rows = view .rows;
+  columns = view .columns;
+  common = view .common;
   entries = entries;
-  basic = [];
+  basic = view .basic;
   nonbasic = [];
-  values = values;
-  seats = seats;
-  limits = limits;
+  values = view .values;
+  seats = view .seats;
+  limits = view .limits;
+}
+
+-- what they read of a tableau beside its entries
+abbrev pub viewOf : Tableau → View
+viewOf t = record {
+  rows = t .rows;
+  columns = t .columns;
+  common = t .common;
+  values = t .values;
+  basic = t .basic;
+  seats = t .seats;
+  limits = t .limits;
 }
 
 -- what the search needs: sizes, ranges, and that seats are places

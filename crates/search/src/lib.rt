@@ -1,25 +1,43 @@
-// The search for the next pivot: the lowest-numbered basic variable outside its limits, and the lowest-numbered nonbasic
-// one that can move it.
+// The search for the next pivot: the lowest-numbered basic variable outside its limits, and the lowest-numbered
+// nonbasic one that can move it.
 ghost use mathlib.Core.Path.{_≡_};
-ghost use Prim.Native.Nat.{ℕ, _≤_, _<_};
-ghost use lib.IntN.{ℤ, pos};
+ghost use Prim.Native.Nat.{ℕ, _+_, _≤_, _<_};
+ghost use lib.IntN.{pos};
 ghost use lib.ListN.{getD};
 ghost use Rattle.whole.specs.Numbers.{Within};
-ghost use Rattle.rules.specs.Sizes.{mostColumns, mostRows, largestNumber, largestLimit};
-ghost use Rattle.search.specs.Search.{rowSum, movesAt, Searchable, seen, nextAt};
-use sides::LimitPair;
+ghost use Rattle.rules.specs.Sizes.{mostColumns, mostRows, mostVariables, largestNumber, largestLimit};
+ghost use Rattle.tableau.specs.Parts.{entryIn};
+ghost use Rattle.search.specs.Search.{rowSum, Searchable, seen, nextAt};
 use tableau::ColumnPlace;
 use tableau::Limits;
 use tableau::RowPlace;
 use tableau::Seat;
 use tableau::Tableau;
+use tableau::Variable;
 use tableau::layout;
 
 pub mod sides;
 
-// The row and the column of a pivot. The leaving variable is the one of the row: it must rise where it is below its lower limit,
-// and fall where it is above its upper one; its shortfall is how far D times its value is from D times that limit. At the
-// first step of case A of docs/RULES.md, whose D is 1, variable 2 must rise by 2: it is 0 and its lower limit is 2.
+// What a step reads of a tableau beside its entries. Which variable is in which column it does not ask.
+pub struct View {
+    pub rows: usize,
+    pub columns: usize,
+    pub common: i64,
+    pub values: [i64; Tableau::MOST_COLUMNS],
+    pub basic: [Variable; Tableau::MOST_ROWS],
+    pub seats: [Seat; Tableau::MOST_VARIABLES],
+    pub limits: Limits,
+}
+
+// How many rows and columns there are.
+pub struct Size {
+    pub rows: usize,
+    pub columns: usize,
+}
+
+// The row and the column of a pivot. The leaving variable is the one of the row: it must rise where it is below its lower
+// limit, and fall where it is above its upper one; its shortfall is how far D times its value is from D times that limit.
+// At the first step of case A of docs/RULES.md, whose D is 1, variable 2 must rise by 2: it is 0 and its lower limit is 2.
 pub struct Choice {
     pub row: RowPlace,
     pub column: ColumnPlace,
@@ -41,108 +59,108 @@ pub enum Next {
     Pivot(Choice),
 }
 
+// The entry of a row and a column.
+pub fn entry_at(
+    entries: &[i64; Tableau::MOST_ENTRIES],
+    size: Size,
+    row: RowPlace,
+    column: ColumnPlace,
+) -> i64
+    requires { ⌜ (row .0 < size .rows) × (column .0 < size .columns)
+        × (size .rows ≤ mostRows) × (size .columns ≤ mostColumns) ⌝ }
+    ensures { λ r. ⌜ r ≡ entryIn (size .rows) (size .columns) (now (entries .entry)) (row .0) (column .0) ⌝ }
+{
+    let k = layout::place(size.rows, size.columns, row, column);
+    entries[k]
+}
+
 // D times the value of the basic variable of a row.
 pub fn row_value<'a>(
     entries: &'a [i64; Tableau::MOST_ENTRIES],
     values: &'a [i64; Tableau::MOST_COLUMNS],
-    rows: usize,
-    columns: usize,
+    size: Size,
     row: RowPlace,
 ) -> i64
-    requires { ⌜ (rows ≤ mostRows) × (columns ≤ mostColumns) × (row .0 < rows) ⌝ }
+    requires { ⌜ (size .rows ≤ mostRows) × (size .columns ≤ mostColumns) × (row .0 < size .rows) ⌝ }
     requires { ⌜ ((k : ℕ) → Within (getD (now entries) k (pos 0)) largestNumber) ⌝ }
     requires { ⌜ ((j : ℕ) → Within (getD (now values) j (pos 0)) largestLimit) ⌝ }
-    ensures { λ r. ⌜ r ≡ rowSum rows columns (now (entries .entry)) (now (values .entry)) (row .0) ⌝ }
+    ensures { λ r. ⌜ r ≡ rowSum (size .rows) (size .columns) (now (entries .entry)) (now (values .entry)) (row .0) ⌝ }
 {
+    let columns = size.columns;
     let mut sum = 0i64;
     for j in 0..columns {
-        let k = layout::place(rows, columns, row, ColumnPlace(j));
-        let e = entries[k];
+        let e = entry_at(entries, size, row, ColumnPlace(j));
         let x = values[j];
         sum = sum + e * x;
     }
     sum
 }
 
-// Whether the nonbasic variable of a column can move the basic variable of a row the right way.
-fn can_move<'a>(
-    entries: &'a [i64; Tableau::MOST_ENTRIES],
-    values: &'a [i64; Tableau::MOST_COLUMNS],
-    rows: usize,
-    columns: usize,
-    row: RowPlace,
-    column: ColumnPlace,
-    rises: bool,
-    limits: LimitPair,
-) -> bool
-    requires { ⌜ (row .0 < rows) × (column .0 < columns) × (rows ≤ mostRows) × (columns ≤ mostColumns) ⌝ }
-    ensures { λ r. ⌜ r
-        ≡ movesAt rows columns (now (entries .entry)) (now (values .entry)) (row .0) (column .0) rises limits ⌝ }
+// The next variable by number.
+pub fn after(v: Variable) -> Variable
+    requires { ⌜ v .0 < mostVariables ⌝ }
+    ensures { λ r. ⌜ r ≡ record { 0 = v .0 + 1 } ⌝ }
 {
-    let k = layout::place(rows, columns, row, column);
-    let e = entries[k];
-    let j = column.0;
-    let x = values[j];
-    sides::suits(rises, e, x, limits)
+    Variable(v.0 + 1)
 }
 
-// The search runs over the basic variables, and for the first one outside its limits over the nonbasic ones, both in order
-// of their numbers.
-pub fn next_step<'a>(
-    entries: &'a [i64; Tableau::MOST_ENTRIES],
-    values: &'a [i64; Tableau::MOST_COLUMNS],
-    seats: [Seat; Tableau::MOST_VARIABLES],
-    limits: Limits,
-    common: i64,
-    rows: usize,
-    columns: usize,
-) -> Next
-    requires { ⌜ Searchable (seen (now entries) (now values) seats limits common rows columns) ⌝ }
-    ensures { λ r. ⌜ r ≡ nextAt (seen (now (entries .entry)) (now (values .entry)) seats limits common rows columns) ⌝ }
+// The search runs over the basic variables, and for the first one outside its limits over the nonbasic ones, both in
+// order of their numbers.
+pub fn next_step(entries: &[i64; Tableau::MOST_ENTRIES], view: View) -> Next
+    requires { ⌜ Searchable (seen (now entries) view) ⌝ }
+    ensures { λ r. ⌜ r ≡ nextAt (seen (now (entries .entry)) view) ⌝ }
 {
-    let end = rows + columns;
-    let mut v = 0usize;
+    let size = Size {
+        rows: view.rows,
+        columns: view.columns,
+    };
+    let end = size.rows + size.columns;
+    let mut v = Variable(0);
     let found = 'search: loop {
-        if v >= end {
+        let at = v.0;
+        if at >= end {
             break 'search Next::Within;
         }
-        let seat = seats[v];
+        let seat = view.seats[at];
         if !seat.basic {
-            v += 1;
+            v = after(v);
             continue 'search;
         }
         let row = seat.row;
-        let value = row_value(entries, values, rows, columns, row);
+        let value = row_value(entries, &view.values, size, row);
         let own = sides::limits_of(
-            &limits.lowers,
-            &limits.lower,
-            &limits.uppers,
-            &limits.upper,
+            &view.limits.lowers,
+            &view.limits.lower,
+            &view.limits.uppers,
+            &view.limits.upper,
             v,
         );
-        let outside = sides::breach_of(common, value, own);
+        let outside = sides::breach_of(view.common, value, own);
         if !outside.violated {
-            v += 1;
+            v = after(v);
             continue 'search;
         }
         let rises = outside.rises;
         let shortfall = outside.shortfall;
-        let mut w = 0usize;
-        while w < end {
-            let other = seats[w];
+        let mut w = Variable(0);
+        while w.0 < end {
+            let place = w.0;
+            let other = view.seats[place];
             if other.basic {
-                w += 1;
+                w = after(w);
                 continue;
             }
             let column = other.column;
+            let j = column.0;
+            let entry = entry_at(entries, size, row, column);
             let its = sides::limits_of(
-                &limits.lowers,
-                &limits.lower,
-                &limits.uppers,
-                &limits.upper,
+                &view.limits.lowers,
+                &view.limits.lower,
+                &view.limits.uppers,
+                &view.limits.upper,
                 w,
             );
-            if can_move(entries, values, rows, columns, row, column, rises, its) {
+            if sides::suits(rises, entry, view.values[j], its) {
                 break 'search Next::Pivot(Choice {
                     row,
                     column,
@@ -150,7 +168,7 @@ pub fn next_step<'a>(
                     shortfall,
                 });
             }
-            w += 1;
+            w = after(w);
         }
         break 'search Next::Stuck(Blocked {
             row,

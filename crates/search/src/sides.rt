@@ -9,10 +9,11 @@ ghost use Rattle.rules.specs.Step as step;
 ghost use Rattle.rules.specs.Step.{mayRise, mayFall};
 ghost use Rattle.search.specs.Sides.{pairAt, breachOf, suitsOf};
 use tableau::Tableau;
+use tableau::Variable;
 
-// Whether a variable is outside its limits; whether it must rise to come inside, that is, whether it is below its lower limit
-// and not above its upper one; and how far D times its value is from D times that limit, which is above 0. A variable within its
-// limits has a shortfall of 0.
+// Whether a variable is outside its limits; whether it must rise to come inside, that is, whether it is below its lower
+// limit and not above its upper one; and how far D times its value is from D times that limit, which is above 0. A
+// variable within its limits has a shortfall of 0.
 pub struct Breach {
     pub violated: bool,
     pub rises: bool,
@@ -27,17 +28,19 @@ pub struct LimitPair {
     pub upper: i64,
 }
 
-// The limits of variable v, from the four arrays of the tableau's limits.
+// The limits of a variable, from the four arrays of the tableau's limits.
 pub fn limits_of<'a>(
     lowers: &'a [bool; Tableau::MOST_VARIABLES],
     lower: &'a [i64; Tableau::MOST_VARIABLES],
     uppers: &'a [bool; Tableau::MOST_VARIABLES],
     upper: &'a [i64; Tableau::MOST_VARIABLES],
-    v: usize,
+    variable: Variable,
 ) -> LimitPair
-    requires { ⌜ v < mostVariables ⌝ }
-    ensures { λ r. ⌜ r ≡ pairAt (now (lowers .entry)) (now (lower .entry)) (now (uppers .entry)) (now (upper .entry)) v ⌝ }
+    requires { ⌜ variable .0 < mostVariables ⌝ }
+    ensures { λ r. ⌜ r
+        ≡ pairAt (now (lowers .entry)) (now (lower .entry)) (now (uppers .entry)) (now (upper .entry)) (variable .0) ⌝ }
 {
+    let v = variable.0;
     LimitPair {
         lowers: lowers[v],
         lower: lower[v],

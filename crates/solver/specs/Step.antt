@@ -1,6 +1,6 @@
 -- One step by place: docs/RULES.md, "The run", over the struct.
 use mathlib.Core.Bool.{Bool, true, false}
-use mathlib.Core.List.{List, []}
+use mathlib.Core.List.{List}
 use mathlib.Core.Path.{_≡_}
 use Prim.Native.Nat.{ℕ, _<_}
 use lib.IntN.{ℤ, pos}
@@ -10,10 +10,7 @@ use Rattle.rules.specs.Problem.{Problem}
 use Rattle.rules.specs.Sizes.{mostRows, mostVariables}
 use Rattle.rules.specs.Step.{State}
 use Rattle.rules.proofs.Sound.{Rowed}
-use Rattle.tableau.specs.declared.Limits.{Limits}
-use Rattle.tableau.specs.declared.Seat.{Seat}
 use Rattle.tableau.specs.declared.Tableau.{Tableau}
-use Rattle.tableau.specs.declared.Variable.{Variable}
 use Rattle.tableau.specs.Layout.{Order, inUse}
 use Rattle.tableau.specs.Parts.{basicAt}
 use Rattle.tableau.specs.Pivot.{Pivotable, commonAfter, entriesAfter, entriesBy, fitsLaid, pivotedLaid, swappedAt}
@@ -93,20 +90,6 @@ abbrev pub steppedAt : Tableau → Stepped
 steppedAt = steppedLaid inUse
 
 -- ---- a step as the code makes it: its answer, and the entries that it leaves
-
--- the tableau as a step reads it: which variable is at which column place is not asked
-abbrev pub readAs : List ℤ → List ℤ → List Variable → List Seat → Limits → ℤ → ℕ → ℕ → Tableau
-readAs entries values basic seats limits common rows columns = record {
-  rows = rows;
-  columns = columns;
-  common = common;
-  entries = entries;
-  basic = basic;
-  nonbasic = [];
-  values = values;
-  seats = seats;
-  limits = limits;
-}
 
 abbrev pub answerBy : Bool → Tableau → Choice → Outcome
 answerBy true t c = outcomes.Goes (c .row) (c .column) (valueAfter t c)

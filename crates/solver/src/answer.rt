@@ -1,19 +1,28 @@
 // The words of an answer: verdict, count of pivots, denominator, and two words for each variable.
 ghost use mathlib.Core.Path.{_≡_};
 ghost use Prim.Native.Nat.{ℕ, _+_, _*_, _≤_, _<_};
-ghost use lib.IntN.{ℤ, pos};
 ghost use lib.ListN.{getD, length};
 ghost use Rattle.rules.specs.Sizes.{mostColumns, mostRows, mostVariables};
 ghost use Rattle.tableau.specs.Parts.{nowhere};
 ghost use Rattle.solver.specs.Answer.{numberOf, Numerable, numeratorOf, numeratorsIn};
 ghost use Rattle.solver.specs.Answer.{copiedAt, mostCount, wordsAt, laidOver};
+use search::Size;
+use search::after;
 use tableau::Seat;
 use tableau::Tableau;
+use tableau::Variable;
 
 pub enum Verdict {
     Can,
     Cannot,
     Range,
+}
+
+// The first three words of an answer: how it ends, after how many pivots, and over which denominator.
+pub struct Head {
+    pub verdict: Verdict,
+    pub count: usize,
+    pub denominator: i64,
 }
 
 // The number of a verdict in an answer.
@@ -31,16 +40,16 @@ fn number_of(verdict: Verdict) -> i64
 fn numerator_of<'a>(
     entries: &'a [i64; Tableau::MOST_ENTRIES],
     values: &'a [i64; Tableau::MOST_COLUMNS],
-    rows: usize,
-    columns: usize,
+    size: Size,
     common: i64,
     seat: Seat,
 ) -> i64
-    requires { ⌜ Numerable (now entries) (now values) rows columns common seat ⌝ }
-    ensures { λ r. ⌜ r ≡ numeratorOf (now (entries .entry)) (now (values .entry)) rows columns common seat ⌝ }
+    requires { ⌜ Numerable (now entries) (now values) (size .rows) (size .columns) common seat ⌝ }
+    ensures { λ r. ⌜ r
+        ≡ numeratorOf (now (entries .entry)) (now (values .entry)) (size .rows) (size .columns) common seat ⌝ }
 {
     if seat.basic {
-        return search::row_value(entries, values, rows, columns, seat.row);
+        return search::row_value(entries, values, size, seat.row);
     }
     let column = seat.column;
     let j = column.0;
@@ -54,19 +63,22 @@ pub fn numerators_of<'a>(
     values: &'a [i64; Tableau::MOST_COLUMNS],
     seats: [Seat; Tableau::MOST_VARIABLES],
     common: i64,
-    rows: usize,
-    columns: usize,
+    size: Size,
 ) -> [i64; Tableau::MOST_VARIABLES]
-    requires { ⌜ (rows ≤ mostRows) × (columns ≤ mostColumns) ⌝ }
-    requires { ⌜ ((v : ℕ) → v < rows + columns →
-        Numerable (now entries) (now values) rows columns common (getD seats v nowhere)) ⌝ }
-    ensures { λ r. ⌜ r ≡ numeratorsIn (now (entries .entry)) (now (values .entry)) seats common rows columns ⌝ }
+    requires { ⌜ (size .rows ≤ mostRows) × (size .columns ≤ mostColumns) ⌝ }
+    requires { ⌜ ((v : ℕ) → v < size .rows + size .columns →
+        Numerable (now entries) (now values) (size .rows) (size .columns) common (getD seats v nowhere)) ⌝ }
+    ensures { λ r. ⌜ r
+        ≡ numeratorsIn (now (entries .entry)) (now (values .entry)) seats common (size .rows) (size .columns) ⌝ }
 {
-    let variables = rows + columns;
+    let variables = size.rows + size.columns;
     let mut numerators = [0i64; Tableau::MOST_VARIABLES];
-    for v in 0..variables {
-        let seat = seats[v];
-        numerators[v] = numerator_of(entries, values, rows, columns, common, seat);
+    let mut v = Variable(0);
+    while v.0 < variables {
+        let at = v.0;
+        let seat = seats[at];
+        numerators[at] = numerator_of(entries, values, size, common, seat);
+        v = after(v);
     }
     numerators
 }
@@ -86,19 +98,20 @@ fn copy_at(out: &mut [i64], at: usize, many: usize, from: &[i64; Tableau::MOST_V
 // The whole answer.
 pub fn write<'a>(
     out: &mut [i64],
-    verdict: Verdict,
-    count: usize,
-    denominator: i64,
+    head: Head,
     variables: usize,
     lower: &'a [i64; Tableau::MOST_VARIABLES],
     upper: &'a [i64; Tableau::MOST_VARIABLES],
 )
-    requires { ⌜ (3 + 2 * variables ≤ length (now out)) × (variables ≤ mostVariables) × (count < mostCount) ⌝ }
+    requires { ⌜ (3 + 2 * variables ≤ length (now out)) × (variables ≤ mostVariables) × (head .count < mostCount) ⌝ }
     ensures { λ r. ⌜ now (out .exit) ≡ laidOver variables (now (out .entry))
-        (wordsAt verdict count denominator variables (now (lower .entry)) (now (upper .entry))) ⌝ }
+        (wordsAt (head .verdict) (head .count) (head .denominator) variables
+        (now (lower .entry)) (now (upper .entry))) ⌝ }
 {
+    let verdict = head.verdict;
     out[0] = number_of(verdict);
-    out[1] = count as i64;
+    out[1] = head.count as i64;
+    let denominator = head.denominator;
     out[2] = denominator;
     copy_at(out, 3, variables, lower);
     copy_at(out, 3 + variables, variables, upper);

@@ -6,6 +6,7 @@ ghost use Rattle.rules.specs.Sizes.{mostVariables};
 ghost use Rattle.rules.specs.Run.{crossed};
 ghost use Rattle.search.specs.Sides.{lowerIn, upperIn};
 ghost use Rattle.solver.specs.Conflict.{conflictAt};
+use search::after;
 use search::sides;
 use search::sides::LimitPair;
 use tableau::Limits;
@@ -35,7 +36,8 @@ pub fn conflict_of(limits: Limits, variables: usize) -> Crossed
     requires { ⌜ variables ≤ mostVariables ⌝ }
     ensures { λ r. ⌜ r ≡ conflictAt limits variables ⌝ }
 {
-    for v in 0..variables {
+    let mut v = Variable(0);
+    while v.0 < variables {
         let own = sides::limits_of(
             &limits.lowers,
             &limits.lower,
@@ -44,8 +46,9 @@ pub fn conflict_of(limits: Limits, variables: usize) -> Crossed
             v,
         );
         if is_crossed(own) {
-            return Crossed::At(Variable(v));
+            return Crossed::At(v);
         }
+        v = after(v);
     }
     Crossed::Nowhere
 }

@@ -6,6 +6,7 @@ ghost use Rattle.rules.specs.Answer.{answerFrom, written};
 ghost use Rattle.rules.specs.Refusal.{refusal};
 ghost use Rattle.solver.specs.Answer.{laidOver};
 ghost use Rattle.solver.specs.Run.{Begun};
+use answer::Head;
 use answer::Verdict;
 use conflict::Crossed;
 use tableau::Tableau;
@@ -32,7 +33,12 @@ fn check(t: Tableau, out: &mut [i64])
     match crossed {
         Crossed::At(variable) => {
             let ones = multipliers::unit(variable);
-            answer::write(out, Verdict::Cannot, 0, 0, variables, &ones, &ones);
+            let head = Head {
+                verdict: Verdict::Cannot,
+                count: 0,
+                denominator: 0,
+            };
+            answer::write(out, head, variables, &ones, &ones);
         }
         Crossed::Nowhere => {
             run::run(t, out);

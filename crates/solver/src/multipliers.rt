@@ -2,7 +2,6 @@
 // crossed limits.
 ghost use mathlib.Core.Path.{_≡_};
 ghost use Prim.Native.Nat.{ℕ, _+_, _≤_, _<_};
-ghost use lib.IntN.{ℤ};
 ghost use lib.ListN.{getD};
 ghost use Rattle.whole.specs.Numbers.{Within};
 ghost use Rattle.rules.specs.Sizes.{mostColumns, mostRows, mostVariables, largestNumber};
@@ -12,11 +11,11 @@ ghost use Rattle.tableau.specs.Parts.{nowhere};
 ghost use Rattle.search.specs.Sides.{sideBy};
 ghost use Rattle.solver.specs.Multipliers.{Blockable, unitAt, pullOf, multipliersIn};
 use search::Blocked;
-use tableau::RowPlace;
+use search::Size;
+use search::after;
 use tableau::Seat;
 use tableau::Tableau;
 use tableau::Variable;
-use tableau::layout;
 
 // One multiplier for the lower and one for the upper limit of each variable.
 pub struct Multipliers {
@@ -56,23 +55,21 @@ fn turned(rises: bool, entry: i64) -> i64
     -entry
 }
 
-// The row as an equation "the sum is 0", turned to rise, at the variable of a seat: minus D at the row's own variable, 0 at
-// the other basic ones.
+// The row as an equation "the sum is 0", turned to rise, at the variable of a seat: minus D at the row's own variable, 0
+// at the other basic ones.
 fn pull_of(
     entries: &[i64; Tableau::MOST_ENTRIES],
-    rows: usize,
-    columns: usize,
+    size: Size,
     common: i64,
     blocked: Blocked,
     seat: Seat,
 ) -> i64
-    requires { ⌜ Blockable (now entries) rows columns common (blocked .row .0) seat ⌝ }
-    ensures { λ r. ⌜ r ≡ pullOf (now (entries .entry)) rows columns common blocked seat ⌝ }
+    requires { ⌜ Blockable (now entries) (size .rows) (size .columns) common (blocked .row .0) seat ⌝ }
+    ensures { λ r. ⌜ r ≡ pullOf (now (entries .entry)) (size .rows) (size .columns) common blocked seat ⌝ }
 {
     let row = blocked.row;
     if !seat.basic {
-        let k = layout::place(rows, columns, row, seat.column);
-        let e = entries[k];
+        let e = search::entry_at(entries, size, row, seat.column);
         return turned(blocked.rises, e);
     }
     let own = seat.row;
@@ -89,23 +86,25 @@ pub fn multipliers_of(
     entries: &[i64; Tableau::MOST_ENTRIES],
     seats: [Seat; Tableau::MOST_VARIABLES],
     common: i64,
-    rows: usize,
-    columns: usize,
+    size: Size,
     blocked: Blocked,
 ) -> Multipliers
-    requires { ⌜ (rows ≤ mostRows) × (columns ≤ mostColumns) ⌝ }
-    requires { ⌜ ((v : ℕ) → v < rows + columns →
-        Blockable (now entries) rows columns common (blocked .row .0) (getD seats v nowhere)) ⌝ }
-    ensures { λ r. ⌜ r ≡ multipliersIn (now (entries .entry)) seats common rows columns blocked ⌝ }
+    requires { ⌜ (size .rows ≤ mostRows) × (size .columns ≤ mostColumns) ⌝ }
+    requires { ⌜ ((v : ℕ) → v < size .rows + size .columns →
+        Blockable (now entries) (size .rows) (size .columns) common (blocked .row .0) (getD seats v nowhere)) ⌝ }
+    ensures { λ r. ⌜ r ≡ multipliersIn (now (entries .entry)) seats common (size .rows) (size .columns) blocked ⌝ }
 {
-    let variables = rows + columns;
+    let variables = size.rows + size.columns;
     let mut lower = [0i64; Tableau::MOST_VARIABLES];
     let mut upper = [0i64; Tableau::MOST_VARIABLES];
-    for v in 0..variables {
-        let seat = seats[v];
-        let y = pull_of(entries, rows, columns, common, blocked, seat);
-        lower[v] = positive(-y);
-        upper[v] = positive(y);
+    let mut v = Variable(0);
+    while v.0 < variables {
+        let at = v.0;
+        let seat = seats[at];
+        let y = pull_of(entries, size, common, blocked, seat);
+        lower[at] = positive(-y);
+        upper[at] = positive(y);
+        v = after(v);
     }
     Multipliers { lower, upper }
 }

@@ -6,6 +6,7 @@ ghost use lib.ListN.{length};
 ghost use Rattle.rules.specs.Answer.{answerFrom};
 ghost use Rattle.solver.specs.Answer.{laidOver};
 ghost use Rattle.solver.specs.Run.{Startable, Tellable, endWords};
+use crate::answer::Head;
 use crate::answer::Verdict;
 use crate::answer::numerators_of;
 use crate::answer::write;
@@ -13,6 +14,8 @@ use crate::multipliers::multipliers_of;
 use crate::step::End;
 use crate::step::Outcome;
 use crate::step::step;
+use search::Size;
+use search::View;
 use tableau::ColumnPlace;
 use tableau::RowPlace;
 use tableau::Seat;
@@ -32,31 +35,40 @@ fn tell(last: Tableau, end: End, count: usize, out: &mut [i64])
     ensures { λ r. ⌜ now (out .exit) ≡ laidOver (last .rows + last .columns) (now (out .entry))
         (endWords end count last (last .rows + last .columns)) ⌝ }
 {
-    let rows = last.rows;
-    let columns = last.columns;
-    let variables = rows + columns;
+    let size = Size {
+        rows: last.rows,
+        columns: last.columns,
+    };
+    let variables = size.rows + size.columns;
     let common = last.common;
     let seats = last.seats;
     let zeros = [0i64; Tableau::MOST_VARIABLES];
     match end {
         End::Can => {
-            let found = numerators_of(&last.entries, &last.values, seats, common, rows, columns);
-            write(out, Verdict::Can, count, common, variables, &found, &zeros);
+            let found = numerators_of(&last.entries, &last.values, seats, common, size);
+            let head = Head {
+                verdict: Verdict::Can,
+                count,
+                denominator: common,
+            };
+            write(out, head, variables, &found, &zeros);
         }
         End::Cannot(blocked) => {
-            let found = multipliers_of(&last.entries, seats, common, rows, columns, blocked);
-            write(
-                out,
-                Verdict::Cannot,
+            let found = multipliers_of(&last.entries, seats, common, size, blocked);
+            let head = Head {
+                verdict: Verdict::Cannot,
                 count,
-                0,
-                variables,
-                &found.lower,
-                &found.upper,
-            );
+                denominator: 0,
+            };
+            write(out, head, variables, &found.lower, &found.upper);
         }
         End::Range => {
-            write(out, Verdict::Range, count, 0, variables, &zeros, &zeros);
+            let head = Head {
+                verdict: Verdict::Range,
+                count,
+                denominator: 0,
+            };
+            write(out, head, variables, &zeros, &zeros);
         }
     }
 }
@@ -70,20 +82,16 @@ pub fn run(mut t: Tableau, out: &mut [i64])
 {
     let mut count = 0usize;
     let end = 'run: loop {
-        let values = t.values;
-        let basic = t.basic;
-        let seats = t.seats;
-        let limits = t.limits;
-        let next = step(
-            values,
-            basic,
-            seats,
-            limits,
-            t.common,
-            t.rows,
-            t.columns,
-            &mut t.entries,
-        );
+        let view = View {
+            rows: t.rows,
+            columns: t.columns,
+            common: t.common,
+            values: t.values,
+            basic: t.basic,
+            seats: t.seats,
+            limits: t.limits,
+        };
+        let next = step(view, &mut t.entries);
         match next {
             Outcome::Ended(last) => break 'run last,
             Outcome::Goes(row, column, value, common) => {

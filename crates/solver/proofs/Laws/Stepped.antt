@@ -20,14 +20,14 @@ use Rattle.search.specs.declared.Blocked.{Blocked}
 use Rattle.search.specs.declared.Choice.{Choice}
 use Rattle.search.specs.declared.Next.{Next}
 use Rattle.search.specs.declared.Next.the-variants as nexts
-use Rattle.search.specs.Search.{nextAt}
+use Rattle.search.specs.Search.{nextAt, seen, viewOf}
 use Rattle.search.proofs.Laws.Seen.{next-as}
 use Rattle.solver.specs.declared.step.End.{End}
 use Rattle.solver.specs.declared.step.End.the-variants as ends
 use Rattle.solver.specs.declared.step.Outcome.the-variants as outcomes
 use Rattle.solver.specs.Step.{Stepped, admitAt, answerBy, endedAs, entriesLeft, fitsBy, leftAt, movedAt}
 use Rattle.solver.specs.Step.{movedLaid, on}
-use Rattle.solver.specs.Step.{outcomeAt, outcomeBy, readAs, stepBy, stepLaid, steppedAt, steppedLaid, valueAfter}
+use Rattle.solver.specs.Step.{outcomeAt, outcomeBy, stepBy, stepLaid, steppedAt, steppedLaid, valueAfter}
 
 module _ (t : Tableau) where
   pub stepped-none : nextAt t ≡ nexts.Within → steppedAt t ≡ endedAs t ends.Can
@@ -45,7 +45,7 @@ module _ (t : Tableau) where
 -- ---- what a step reads
 
 abbrev pub readOf : Tableau → Tableau
-readOf t = readAs (t .entries) (t .values) (t .basic) (t .seats) (t .limits) (t .common) (t .rows) (t .columns)
+readOf t = seen (t .entries) (viewOf t)
 
 pub next-read : (t : Tableau) → nextAt (readOf t) ≡ nextAt t
 next-read t = next-as t (t .basic) []

@@ -1,17 +1,27 @@
--- `solver::answer::numerator_of` meets its contract: D times a value that is a limit or 0 stays in 64 bits. Assumes nothing.
-use mathlib.Core.Path.{ap, refl, sym, _∙_}
+-- `solver::answer::numerator_of` meets its contract: D times a value that is a limit or 0 stays in 64 bits. Assumes
+-- nothing.
+use mathlib.Core.Bool.{Bool}
+use mathlib.Core.Path.{ap, sym, _∙_}
+use Prim.Native.Nat.{_<_}
 use native.Mathlib.Omega.{arith}
 use borrow.Author.Needs.{needs, sfits-of}
-use lib.IntN.{pos, _*ℤ_}
+use lib.IntN.{ℤ, pos, _*ℤ_}
 use lib.ListN.{getD}
 use mir.Facts.{toZ-ofZ}
 use mir.Syntax.{w64}
 use mir.Val.{SFits}
 use Rattle.whole.proofs.Sizes.{fits-by, within-*}
+use Rattle.rules.specs.Sizes.{mostColumns}
 use Rattle.search.specs.Search.{rowSum}
 use Rattle.solver.specs.Answer.{numeratorFrom, numeratorLaid}
 use Rattle.solver.proofs.answer.numerator_of.Statement.{statement}
 use Rattle.solver.proofs.answer.numerator_of.Tie as tie
+
+-- the numerator by the flag of the seat
+abbrev numerator : tie.Start → Bool → ℤ
+numerator s b = let a = s .args in
+    numeratorFrom b (rowSum (a .size .rows) (a .size .columns) (a .entries .now) (a .values .now) (a .seat .row .0))
+    (a .common *ℤ getD (a .values .now) (a .seat .column .0) (pos 0))
 
 row-value-requires : tie.Need-row-value-requires
 row-value-requires c κs = let p = c .before .pre in (
@@ -24,16 +34,17 @@ fit-row c = search needs
 
 returns : tie.Need-returns
 unfolding numeratorLaid
-returns c = let s = c .before .before .args in
-    toZ-ofZ (fit-row c) ∙ c .row-value .ensures
-    ∙ sym (ap (λ b. numeratorFrom b (rowSum (s .rows) (s .columns) (s .entries .now) (s .values .now) (s .seat .row .0))
-    (s .common *ℤ getD (s .values .now) (s .seat .column .0) (pos 0))) (c .before .if1 .taken))
+returns c = toZ-ofZ (fit-row c) ∙ c .row-value .ensures
+    ∙ sym (ap (numerator (c .before .before)) (c .before .if1 .taken))
+
+in-columns : (c : tie.Else1) → c .before .args .seat .column .0 < mostColumns
+in-columns c = let p = c .before .pre in let z = p .in-columns (c .if1 .left) in let k = p .few-columns in omega arith
 
 mul-x : tie.Need-mul-x
-mul-x c = let p = c .before .before .pre in let z = p .in-columns (c .before .if1 .left) in let k = p .few-columns in omega arith
+mul-x c = let z = in-columns (c .before) in omega arith
 
 element-copy-out-x : tie.Need-element-copy-out-x
-element-copy-out-x c = let p = c .before .before .pre in let z = p .in-columns (c .before .if1 .left) in let k = p .few-columns in omega arith
+element-copy-out-x c = in-columns (c .before)
 
 module _ (c : tie.After-x) where
   abbrev start : tie.Start
@@ -42,18 +53,17 @@ module _ (c : tie.After-x) where
   fit-value : SFits w64 (getD (start .args .values .now) (start .args .seat .column .0) (pos 0))
   fit-value = sfits-of (c .x .given)
 
-  fit-product : SFits w64 (start .args .common *ℤ getD (start .args .values .now) (start .args .seat .column .0) (pos 0))
-  fit-product = fits-by (within-* (start .pre .common-within) (start .pre .values-within (start .args .seat .column .0))) tt
+  fit-product : let a = start .args in SFits w64 (a .common *ℤ getD (a .values .now) (a .seat .column .0) (pos 0))
+  fit-product = let p = start .pre in
+      fits-by (within-* (p .common-within) (p .values-within (start .args .seat .column .0))) tt
 
 mul-result : tie.Need-mul-result
 mul-result c = simp (toZ-ofZ (start c .fits .common), toZ-ofZ (fit-value c)) (fit-product c)
 
 returns-2 : tie.Need-returns-2
 unfolding numeratorLaid
-returns-2 c = let s = start c .args in
-    simp (toZ-ofZ (start c .fits .common), toZ-ofZ (fit-value c), toZ-ofZ (fit-product c))
-    (sym (ap (λ b. numeratorFrom b (rowSum (s .rows) (s .columns) (s .entries .now) (s .values .now) (s .seat .row .0))
-    (s .common *ℤ getD (s .values .now) (s .seat .column .0) (pos 0))) (c .before .before .if1 .left)))
+returns-2 c = simp (toZ-ofZ (start c .fits .common), toZ-ofZ (fit-value c), toZ-ofZ (fit-product c))
+    (sym (ap (numerator (start c)) (c .before .before .if1 .left)))
 
 pub numerator-of-spec : {M : Type 1} → statement M
 numerator-of-spec =

@@ -1,6 +1,6 @@
--- `solver::answer::numerators_of` meets its contract. The loop's invariant: the numerators of the variables passed stand in
--- the array, and 0 elsewhere. The measure is the variables that are left. Assumes nothing.
-use mathlib.Core.Path.{_≡_, ap, sym, _∙_}
+-- `solver::answer::numerators_of` meets its contract. The loop's invariant: the numerators of the variables passed stand
+-- in the array, and 0 elsewhere. The measure is the variables that are left. Assumes nothing.
+use mathlib.Core.Path.{_≡_, ap, _∙_}
 use Prim.Native.Nat.{ℕ, _+_, _-_, _<_, _≤_}
 use native.Mathlib.Omega.{arith}
 use borrow.Author.Needs.{needs}
@@ -16,32 +16,37 @@ use Rattle.solver.proofs.answer.numerators_of.Statement.{statement}
 use Rattle.solver.proofs.answer.numerators_of.Tie as tie
 
 abbrev Inv-loop : tie.InvT-loop
-Inv-loop entries values common rows columns seats variables numerators₀ v₀ numerators v = (v ≤ variables)
-    × (numerators ≡ filled mostVariables (pos 0) v (numeratorIn entries values seats (toZ w64 common) rows columns))
+Inv-loop entries values common size seats variables numerators₀ v₀ numerators v = (v .0 ≤ variables)
+    × (numerators ≡ filled mostVariables (pos 0) (v .0)
+    (numeratorIn entries values seats (toZ w64 common) (size .rows) (size .columns)))
 
 abbrev μ-loop : tie.MeasureT-loop
-μ-loop entries values common rows columns seats variables numerators₀ v₀ numerators v = variables - v
+μ-loop entries values common size seats variables numerators₀ v₀ numerators v = variables - v .0
 
 -- the numerator of a variable, the common number by its bits
 abbrev read : tie.Start Inv-loop μ-loop → ℕ → ℤ
 read s = let a = s .args in
-    numeratorIn (a .entries .now) (a .values .now) (a .t3) (toZ w64 (ofZ w64 (a .common))) (a .rows) (a .columns)
+    numeratorIn (a .entries .now) (a .values .now) (a .t3) (toZ w64 (ofZ w64 (a .common)))
+    (a .size .rows) (a .size .columns)
 
 add-variables : tie.Need-add-variables Inv-loop μ-loop
 add-variables c = omega arith
 
 loop-holds : tie.Need-loop-holds Inv-loop μ-loop
-loop-holds c = (omega arith, filled-start mostVariables (pos 0) (read c))
+loop-holds c = (omega arith, filled-start mostVariables (pos 0) (read (c .before)))
 
 -- at a variable
-module _ (c : tie.In-loop Inv-loop μ-loop) where
+module _ (c : tie.Then1 Inv-loop μ-loop) where
+  abbrev head : tie.At-loop Inv-loop μ-loop
+  head = c .before .before
+
   abbrev start : tie.Start Inv-loop μ-loop
-  start = c .before .before
+  start = head .before .before
 
   abbrev number : ℕ
-  number = c .before .loop .v
+  number = head .loop .v .0
 
-  in-range : number < start .args .rows + start .args .columns
+  in-range : number < start .args .size .rows + start .args .size .columns
   in-range = omega arith
 
   few : number < mostVariables
@@ -58,7 +63,7 @@ numerator-of-requires c κs = let o = c .before in let s = start o in
     simp (toZ-ofZ (s .fits .common)) (s .pre .1 (number o) (in-range o))
 
 module _ (c : tie.After-numerator-of Inv-loop μ-loop) where
-  abbrev here : tie.In-loop Inv-loop μ-loop
+  abbrev here : tie.Then1 Inv-loop μ-loop
   here = c .before .before
 
   fit-result : SFits w64 (c .numerator-of .result)
@@ -73,25 +78,25 @@ mul-numerators c = let z = few (here c) in omega arith
 array-set-from-numerators : tie.Need-array-set-from-numerators Inv-loop μ-loop
 array-set-from-numerators c = few (here c)
 
-add-v : tie.Need-add-v Inv-loop μ-loop
-add-v c = let z = few (here c) in omega arith
+after-requires : tie.Need-after-requires Inv-loop μ-loop
+after-requires c κs = few (here c)
 
 loop-less : tie.Need-loop-less Inv-loop μ-loop
-loop-less c = let z = in-range (here c) in omega arith
+loop-less c = let z = in-range (here (c .before)) in rw (c .after .ensures) (omega arith)
 
 loop-again : tie.Need-loop-again Inv-loop μ-loop
-loop-again c = let z = in-range (here c) in (
+loop-again c = let d = c .before in let o = here d in let z = in-range o in rw (c .after .ensures) (
   omega arith,
-  filled-more mostVariables (pos 0) (read (start (here c))) (number (here c)) (few (here c)) (here c .before .loop .inv .1)
-      (toZ-ofZ (fit-result c) ∙ numerator-is c),
+  filled-more mostVariables (pos 0) (read (start o)) (number o) (few o) (head o .loop .inv .1)
+      (toZ-ofZ (fit-result d) ∙ numerator-is d),
 )
 
 returns : tie.Need-returns Inv-loop μ-loop
 unfolding numeratorsLaid
-returns c = let s = c .before .before in let a = s .args in
-    let e : c .before .loop .v ≡ a .rows + a .columns = omega arith in
-    c .before .loop .inv .1 ∙ ap (λ k. filled mostVariables (pos 0) k (read s)) e
-    ∙ ap (λ d. numeratorsIn (a .entries .now) (a .values .now) (a .t3) d (a .rows) (a .columns))
+returns c = let h = c .before .before in let s = h .before .before in let a = s .args in
+    let e : h .loop .v .0 ≡ a .size .rows + a .size .columns = omega arith in
+    h .loop .inv .1 ∙ ap (λ k. filled mostVariables (pos 0) k (read s)) e
+    ∙ ap (λ d. numeratorsIn (a .entries .now) (a .values .now) (a .t3) d (a .size .rows) (a .size .columns))
     (toZ-ofZ (s .fits .common))
 
 pub numerators-of-spec : {M : Type 1} → statement M
@@ -107,7 +112,7 @@ numerators-of-spec =
     numerator-of-requires
     mul-numerators
     array-set-from-numerators
-    add-v
+    after-requires
     loop-less
     loop-again
     returns)

@@ -44,24 +44,28 @@ copy-at-requires c κs = (simp length-set (omega arith), omega arith)
 -- the three first words
 module _ (c : tie.After-copy-at) where
   abbrev start : tie.Start
-  start = c .before .before .before
+  start = c .before .before .before .before .before
+
+  fit-denominator : SFits w64 (start .args .head .denominator)
+  fit-denominator = search needs
 
   abbrev three : List ℤ
-  three = set (set (set (start .args .out .now) 0 (numberOf (start .args .verdict))) 1 (pos (start .args .count))) 2 (start .args .denominator)
+  three = let h = start .args .head in
+      set (set (set (start .args .out .now) 0 (numberOf (h .verdict))) 1 (pos (h .count))) 2 (h .denominator)
 
   three-long : length three ≡ length (start .args .out .now)
   three-long = simp length-set
 
-  number-is : c .before .before .number-of .result ≡ numberOf (start .args .verdict)
-  number-is = c .before .before .number-of .ensures
+  number-is : c .before .before .before .before .number-of .result ≡ numberOf (start .args .head .verdict)
+  number-is = c .before .before .before .before .number-of .ensures
 
   -- .. and the first half
   half-is : c .copy-at .last .0 ≡ copiedAt three 3 (start .args .variables) (start .args .lower .now)
   half-is = simp (
     number-is,
-    toZ-ofZ (number-fits (start .args .verdict)),
-    toZ-pos w64 {n = start .args .count} (omega arith),
-    toZ-ofZ (start .fits .denominator),
+    toZ-ofZ (number-fits (start .args .head .verdict)),
+    toZ-pos w64 {n = start .args .head .count} (omega arith),
+    toZ-ofZ fit-denominator,
   )
       at (c .copy-at .ensures)
 
@@ -95,10 +99,10 @@ same-length : tie.Need-same-length
 same-length c = whole-long (c .before)
 
 returns : tie.Need-returns
-returns c = let s = c .before .before .before .before .before .before .before .args in
+returns c = let s = start (half (c .before)) in let a = s .args in
     whole-is (c .before)
-    ∙ written-all (s .verdict) (s .count) (s .denominator) (s .variables) (s .lower .now) (s .upper .now) (s .out .now)
-    (c .before .before .before .before .before .before .before .pre .0)
+    ∙ written-all (a .head .verdict) (a .head .count) (a .head .denominator) (a .variables)
+    (a .lower .now) (a .upper .now) (a .out .now) (s .pre .0)
 
 pub write-spec : {M : Type 1} → statement M
 write-spec =

@@ -13,10 +13,10 @@ use Rattle.solver.proofs.conflict.conflict_of.Statement.{statement}
 use Rattle.solver.proofs.conflict.conflict_of.Tie as tie
 
 abbrev Inv-loop : tie.InvT-loop
-Inv-loop variables limits v₀ v = (v ≤ variables) × (lowest v (crossesAt limits) ≡ none)
+Inv-loop variables limits v₀ v = (v .0 ≤ variables) × (lowest (v .0) (crossesAt limits) ≡ none)
 
 abbrev μ-loop : tie.MeasureT-loop
-μ-loop variables limits v₀ v = variables - v
+μ-loop variables limits v₀ v = variables - v .0
 
 loop-holds : tie.Need-loop-holds Inv-loop μ-loop
 loop-holds c = (omega arith, lowest-start (crossesAt (c .args .t1)))
@@ -30,17 +30,18 @@ is-crossed-requires c κs = tt
 -- what the test says of a variable
 module _ (c : tie.After-is-crossed Inv-loop μ-loop) where
   abbrev head : tie.At-loop Inv-loop μ-loop
-  head = c .before .before .before .before .before .before .before .before
+  head = c .before .before .before .before .before .before .before .before .before
 
   abbrev limits : Limits
   limits = head .before .args .t1
 
   abbrev number : ℕ
-  number = head .loop .v
+  number = head .loop .v .0
 
   crossed-is : crossesAt limits number ≡ cond (c .is-crossed .result) (some number) none
   unfolding crossesAt
-  crossed-is = ap (λ b. cond b (some number) none) (sym (simp (c .before .limits-of .ensures) at (c .is-crossed .ensures)))
+  crossed-is = ap (λ b. cond b (some number) none)
+      (sym (simp (c .before .limits-of .ensures) at (c .is-crossed .ensures)))
 
   crossed-by : {b : Bool} → c .is-crossed .result ≡ b → crossesAt limits number ≡ cond b (some number) none
   crossed-by e = crossed-is ∙ ap (λ b. cond b (some number) none) e
@@ -49,22 +50,25 @@ returns : tie.Need-returns Inv-loop μ-loop
 unfolding conflictAt crossedFrom
 returns c = let o = c .before in
     sym (ap crossedFrom (lowest-here (crossesAt (limits o)) (head o .before .args .variables) (number o) (number o)
-    (omega arith) (head o .loop .inv .1) (crossed-by o (c .if1 .taken))))
+    (omega arith) (head o .loop .inv .1) (crossed-by o (c .if2 .taken))))
 
-add-v : tie.Need-add-v Inv-loop μ-loop
-add-v c = omega arith
+after-requires : tie.Need-after-requires Inv-loop μ-loop
+after-requires c κs = omega arith
 
 loop-less : tie.Need-loop-less Inv-loop μ-loop
-loop-less c = omega arith
+loop-less c = rw (c .after .ensures) (omega arith)
 
 loop-again : tie.Need-loop-again Inv-loop μ-loop
-loop-again c = let o = c .before in
-    (omega arith, lowest-more (crossesAt (limits o)) (number o) (head o .loop .inv .1) (crossed-by o (c .if1 .left)))
+loop-again c = let o = c .before .before in rw (c .after .ensures) (
+  omega arith,
+  lowest-more (crossesAt (limits o)) (number o) (head o .loop .inv .1) (crossed-by o (c .before .if2 .left)),
+)
 
 returns-2 : tie.Need-returns-2 Inv-loop μ-loop
 unfolding conflictAt crossedFrom
-returns-2 c = let s = c .before .before .args in let e : s .variables ≡ c .before .loop .v = omega arith in
-    sym (ap crossedFrom (ap (λ k. lowest k (crossesAt (s .t1))) e ∙ c .before .loop .inv .1))
+returns-2 c = let h = c .before .before in let s = h .before .args in
+    let e : s .variables ≡ h .loop .v .0 = omega arith in
+    sym (ap crossedFrom (ap (λ k. lowest k (crossesAt (s .t1))) e ∙ h .loop .inv .1))
 
 pub conflict-of-spec : {M : Type 1} → statement M
 conflict-of-spec =
@@ -76,7 +80,7 @@ conflict-of-spec =
     limits-of-requires
     is-crossed-requires
     returns
-    add-v
+    after-requires
     loop-less
     loop-again
     returns-2)

@@ -1,6 +1,6 @@
--- `solver::multipliers::multipliers_of` meets its contract. The loop's invariant: the multipliers of the variables passed
--- stand in the two arrays, and 0 elsewhere. The measure is the variables that are left. Assumes nothing.
-use mathlib.Core.Path.{_≡_, ap, ap₂, sym, _∙_}
+-- `solver::multipliers::multipliers_of` meets its contract. The loop's invariant: the multipliers of the variables
+-- passed stand in the two arrays, and 0 elsewhere. The measure is the variables that are left. Assumes nothing.
+use mathlib.Core.Path.{_≡_, ap, ap₂, _∙_}
 use Prim.Native.Nat.{ℕ, _+_, _-_, _<_, _≤_}
 use native.Mathlib.Omega.{arith}
 use borrow.Author.Needs.{needs}
@@ -22,19 +22,19 @@ use Rattle.solver.proofs.multipliers.multipliers_of.Statement.{statemen
 use Rattle.solver.proofs.multipliers.multipliers_of.Tie as tie
 
 abbrev Inv-loop : tie.InvT-loop
-Inv-loop entries common rows columns blocked seats variables lower₀ upper₀ v₀ lower upper v = (v ≤ variables)
-    × (lower ≡ filled mostVariables (pos 0) v
-    (λ v. positive (negℤ (pullIn entries seats rows columns (toZ w64 common) blocked v))))
-    × (upper ≡ filled mostVariables (pos 0) v
-    (λ v. positive (pullIn entries seats rows columns (toZ w64 common) blocked v)))
+Inv-loop entries common size blocked seats variables lower₀ upper₀ v₀ lower upper v = (v .0 ≤ variables)
+    × (lower ≡ filled mostVariables (pos 0) (v .0)
+    (λ v. positive (negℤ (pullIn entries seats (size .rows) (size .columns) (toZ w64 common) blocked v))))
+    × (upper ≡ filled mostVariables (pos 0) (v .0)
+    (λ v. positive (pullIn entries seats (size .rows) (size .columns) (toZ w64 common) blocked v)))
 
 abbrev μ-loop : tie.MeasureT-loop
-μ-loop entries common rows columns blocked seats variables lower₀ upper₀ v₀ lower upper v = variables - v
+μ-loop entries common size blocked seats variables lower₀ upper₀ v₀ lower upper v = variables - v .0
 
 -- the pull at a variable, the common number by its bits
 abbrev read : tie.Start Inv-loop μ-loop → ℕ → ℤ
 read s = let a = s .args in
-    pullIn (a .entries .now) (a .t2) (a .rows) (a .columns) (toZ w64 (ofZ w64 (a .common))) (a .blocked)
+    pullIn (a .entries .now) (a .t2) (a .size .rows) (a .size .columns) (toZ w64 (ofZ w64 (a .common))) (a .blocked)
 
 add-variables : tie.Need-add-variables Inv-loop μ-loop
 add-variables c = omega arith
@@ -43,24 +43,27 @@ loop-holds : tie.Need-loop-holds Inv-loop μ-loop
 loop-holds c = (omega arith, filled-start mostVariables (pos 0) _, filled-start mostVariables (pos 0) _)
 
 -- at a variable
-module _ (c : tie.In-loop Inv-loop μ-loop) where
+module _ (c : tie.Then1 Inv-loop μ-loop) where
+  abbrev head : tie.At-loop Inv-loop μ-loop
+  head = c .before .before
+
   abbrev start : tie.Start Inv-loop μ-loop
-  start = c .before .before
+  start = head .before .before
 
   abbrev pulls : ℕ → ℤ
   pulls = read start
 
   abbrev number : ℕ
-  number = c .before .loop .v
+  number = head .loop .v .0
 
-  in-range : number < start .args .rows + start .args .columns
+  in-range : number < start .args .size .rows + start .args .size .columns
   in-range = omega arith
 
   few : number < mostVariables
   few = omega arith
 
   blockable : let a = start .args in
-      Blockable (a .entries .now) (a .rows) (a .columns) (toZ w64 (ofZ w64 (a .common))) (a .blocked .row .0)
+      Blockable (a .entries .now) (a .size .rows) (a .size .columns) (toZ w64 (ofZ w64 (a .common))) (a .blocked .row .0)
       (getD (a .t2) number nowhere)
   blockable = simp (toZ-ofZ (start .fits .common)) (start .pre .1 number in-range)
 
@@ -75,7 +78,7 @@ pull-of-requires c κs = blockable (c .before)
 
 -- the pull of its entry
 module _ (c : tie.After-pull-of Inv-loop μ-loop) where
-  abbrev here : tie.In-loop Inv-loop μ-loop
+  abbrev here : tie.Then1 Inv-loop μ-loop
   here = c .before .before
 
   fit-pull : SFits w64 (c .pull-of .result)
@@ -112,18 +115,18 @@ mul-upper c = let z = few (here (c .before .before)) in omega arith
 array-set-from-upper : tie.Need-array-set-from-upper Inv-loop μ-loop
 array-set-from-upper c = few (here (c .before .before))
 
-add-v : tie.Need-add-v Inv-loop μ-loop
-add-v c = let z = few (here (c .before .before)) in omega arith
+after-requires : tie.Need-after-requires Inv-loop μ-loop
+after-requires c κs = few (here (c .before .before))
 
 loop-less : tie.Need-loop-less Inv-loop μ-loop
-loop-less c = let z = in-range (here (c .before .before)) in omega arith
+loop-less c = let z = in-range (here (c .before .before .before)) in rw (c .after .ensures) (omega arith)
 
 -- the two multipliers
 module _ (c : tie.After-positive2 Inv-loop μ-loop) where
   abbrev pulled : tie.After-pull-of Inv-loop μ-loop
   pulled = c .before .before
 
-  abbrev it : tie.In-loop Inv-loop μ-loop
+  abbrev it : tie.Then1 Inv-loop μ-loop
   it = here pulled
 
   fit-lower : SFits w64 (c .before .positive .result)
@@ -140,22 +143,23 @@ module _ (c : tie.After-positive2 Inv-loop μ-loop) where
   upper-is = (simp (toZ-ofZ (fit-pull pulled)) at (c .positive2 .ensures)) ∙ ap (λ y. positive y) (pull-is pulled)
 
 loop-again : tie.Need-loop-again Inv-loop μ-loop
-loop-again c = let o = it c in let z = in-range o in (
+loop-again c = let d = c .before in let o = it d in let z = in-range o in rw (c .after .ensures) (
   omega arith,
-  filled-more mostVariables (pos 0) (λ v. positive (negℤ (pulls o v))) (number o) (few o) (o .before .loop .inv .1)
-      (toZ-ofZ (fit-lower c) ∙ lower-is c),
-  filled-more mostVariables (pos 0) (λ v. positive (pulls o v)) (number o) (few o) (o .before .loop .inv .2)
-      (toZ-ofZ (fit-upper c) ∙ upper-is c),
+  filled-more mostVariables (pos 0) (λ v. positive (negℤ (pulls o v))) (number o) (few o) (head o .loop .inv .1)
+      (toZ-ofZ (fit-lower d) ∙ lower-is d),
+  filled-more mostVariables (pos 0) (λ v. positive (pulls o v)) (number o) (few o) (head o .loop .inv .2)
+      (toZ-ofZ (fit-upper d) ∙ upper-is d),
 )
 
 returns : tie.Need-returns Inv-loop μ-loop
 unfolding multipliersLaid
-returns c = let s = c .before .before in let a = s .args in
-    let e : c .before .loop .v ≡ a .rows + a .columns = omega arith in
+returns c = let h = c .before .before in let s = h .before .before in let a = s .args in
+    let e : h .loop .v .0 ≡ a .size .rows + a .size .columns = omega arith in
     ap₂ (λ l u. record { lower = l; upper = u })
-    (c .before .loop .inv .1 ∙ ap (λ k. filled mostVariables (pos 0) k (λ v. positive (negℤ (read s v)))) e)
-    (c .before .loop .inv .2 ∙ ap (λ k. filled mostVariables (pos 0) k (λ v. positive (read s v))) e)
-    ∙ ap (λ d. multipliersIn (a .entries .now) (a .t2) d (a .rows) (a .columns) (a .blocked)) (toZ-ofZ (s .fits .common))
+    (h .loop .inv .1 ∙ ap (λ k. filled mostVariables (pos 0) k (λ v. positive (negℤ (read s v)))) e)
+    (h .loop .inv .2 ∙ ap (λ k. filled mostVariables (pos 0) k (λ v. positive (read s v))) e)
+    ∙ ap (λ d. multipliersIn (a .entries .now) (a .t2) d (a .size .rows) (a .size .columns) (a .blocked))
+    (toZ-ofZ (s .fits .common))
 
 pub multipliers-of-spec : {M : Type 1} → statement M
 multipliers-of-spec =
@@ -175,7 +179,7 @@ multipliers-of-spec =
     positive-requires-2
     mul-upper
     array-set-from-upper
-    add-v
+    after-requires
     loop-less
     loop-again
     returns)

@@ -2,21 +2,19 @@
 use mathlib.Core.Bool.{Bool, true, false}
 use mathlib.Core.Path.{_≡_, ap, ap₂, refl, sym, _∙_}
 use Prim.Native.Nat.{_<_}
-use native.Mathlib.Omega.{arith}
-use borrow.Author.Needs.{needs, sfits-of}
+use borrow.Author.Needs.{needs}
 use borrow.Author.Tests.{eq-eqb, ne-eqb, not-false, not-true}
 use lib.Dec.{eqb}
 use lib.IntN.{ℤ, negℤ, pos, +ℤ-idl}
-use lib.ListN.{getD}
 use mir.Facts.{toZ-ofZ}
 use mir.Syntax.{w64}
 use mir.Val.{SFits}
+use Rattle.whole.specs.Numbers.{Within}
 use Rattle.whole.proofs.Sizes.{fits-by, within-neg}
-use Rattle.rules.specs.Sizes.{mostColumns}
+use Rattle.rules.specs.Sizes.{largestNumber}
 use Rattle.rules.specs.Step.{pull}
-use Rattle.tableau.specs.Layout.{mostEntries}
+use Rattle.tableau.specs.Layout.{flat}
 use Rattle.tableau.specs.Parts.{entryIn}
-use Rattle.tableau.proofs.Laws.Layout.{flat-in}
 use Rattle.search.specs.Sides.{sideBy}
 use Rattle.solver.specs.Multipliers.{pullLaid, relationFrom}
 use Rattle.solver.proofs.multipliers.pull_of.Statement.{statement}
@@ -26,7 +24,7 @@ use Rattle.solver.proofs.multipliers.pull_of.Tie as tie
 abbrev relation : tie.Start → Bool → Bool → ℤ
 relation s basic own = let a = s .args in
     pull (sideBy (a .blocked .rises)) (relationFrom basic own (a .common)
-    (entryIn (a .rows) (a .columns) (a .entries .now) (a .blocked .row .0) (a .seat .column .0)))
+    (entryIn (a .size .rows) (a .size .columns) (a .entries .now) (a .blocked .row .0) (a .seat .column .0)))
 
 pull-zero : (b : Bool) → pull (sideBy b) (pos 0) ≡ pos 0
 unfolding pull
@@ -34,29 +32,34 @@ pull-zero true = refl
 pull-zero false = refl
 
 -- the seat's column is one
-in-columns : (c : tie.Then1) → let a = c .before .before .before .args in a .seat .column .0 < a .columns
+in-columns : (c : tie.Then1) → let a = c .before .before .before .args in a .seat .column .0 < a .size .columns
 in-columns c = c .before .before .before .pre .in-columns (not-true _ (c .if1 .taken))
 
-place-requires : tie.Need-place-requires
-place-requires c κs = let p = c .before .before .before .pre in (p .in-rows, in-columns c, p .few-rows, p .few-columns)
+entry-at-requires : tie.Need-entry-at-requires
+entry-at-requires c κs = let p = c .before .before .before .pre in
+    (p .in-rows, in-columns c, p .few-rows, p .few-columns)
 
-place-in : (c : tie.After-place) → c .place .result < mostEntries
-place-in c = let s = c .before .before .before .before in
-    rw (c .place .ensures)
-    (flat-in (s .args .rows) (s .args .columns) (s .args .blocked .row .0) (s .args .seat .column .0)
-    (s .pre .in-rows) (in-columns (c .before)) (s .pre .few-rows) (s .pre .few-columns))
+-- its entry
+module _ (c : tie.After-entry-at) where
+  abbrev first : tie.Start
+  first = c .before .before .before .before
 
-mul-e : tie.Need-mul-e
-mul-e c = let z = place-in c in omega arith
+  abbrev entry : ℤ
+  entry = let a = first .args in
+      entryIn (a .size .rows) (a .size .columns) (a .entries .now) (a .blocked .row .0) (a .seat .column .0)
 
-element-copy-out-e : tie.Need-element-copy-out-e
-element-copy-out-e c = let z = place-in c in omega arith
+  entry-is : c .entry-at .result ≡ entry
+  entry-is = c .entry-at .ensures
 
-fit-entry : (c : tie.After-e) → SFits w64 (getD (c .before .before .before .before .before .args .entries .now) (c .before .place .result) (pos 0))
-fit-entry c = sfits-of (c .e .given)
+  within-entry : Within entry largestNumber
+  within-entry = let a = first .args in
+      first .pre .entries-within (flat (a .size .rows) (a .size .columns) (a .blocked .row .0) (a .seat .column .0))
+
+  fit-entry : SFits w64 entry
+  fit-entry = fits-by within-entry tt
 
 turned-requires : tie.Need-turned-requires
-turned-requires c κs = simp (toZ-ofZ (fit-entry c)) (c .before .before .before .before .before .pre .entries-within (c .before .place .result))
+turned-requires c κs = simp (entry-is c, toZ-ofZ (fit-entry c)) (within-entry c)
 
 -- the seat's variable is not basic
 free-is : (c : tie.Then1) → c .before .before .before .args .seat .basic ≡ false
@@ -67,16 +70,16 @@ fit-turned c = search needs
 
 returns : tie.Need-returns
 unfolding pullLaid
-returns c = let s = c .before .before .before .before .before .before in
-    toZ-ofZ (fit-turned c) ∙ (simp (toZ-ofZ (fit-entry (c .before))) at (c .turned .ensures))
-    ∙ ap (λ k. pull (sideBy (s .args .blocked .rises)) (getD (s .args .entries .now) k (pos 0))) (c .before .before .place .ensures)
-    ∙ sym (ap (λ b. relation s b (eqb (s .args .seat .row .0) (s .args .blocked .row .0))) (free-is (c .before .before .before)))
+returns c = let o = c .before in let s = first o in
+    toZ-ofZ (fit-turned c) ∙ (simp (entry-is o, toZ-ofZ (fit-entry o)) at (c .turned .ensures))
+    ∙ sym (ap (λ b. relation s b (eqb (s .args .seat .row .0) (s .args .blocked .row .0))) (free-is (o .before)))
 
 fit-common : (c : tie.Start) → SFits w64 (negℤ (c .args .common))
 fit-common c = fits-by (within-neg (c .pre .common-within)) tt
 
 sub-turned : tie.Need-sub-turned
-sub-turned c = let s = c .before .before .before .before .before .before .before in simp (toZ-ofZ (s .fits .common), +ℤ-idl) (fit-common s)
+sub-turned c = let s = c .before .before .before .before .before .before .before in
+    simp (toZ-ofZ (s .fits .common), +ℤ-idl) (fit-common s)
 
 turned-requires-2 : tie.Need-turned-requires-2
 turned-requires-2 c κs = let s = c .before .before .before .before .before .before .before in
@@ -107,9 +110,7 @@ pub pull-of-spec : {M : Type 1} → statement M
 pull-of-spec =
     tie.close
     (tie.spec
-    place-requires
-    mul-e
-    element-copy-out-e
+    entry-at-requires
     turned-requires
     returns
     sub-turned

@@ -69,7 +69,7 @@ module _ (c : tie.After-step Inv-run μ-run) where
   at = c .before .before .before .before .before .before .before
 
   abbrev left : List ℤ
-  left = c .step .last .1 .1 .1 .1 .1 .1 .1 .0
+  left = c .step .last .1 .0
 
   step-is : (c .step .result ≡ outcomeAt (readOf (here at))) × (left ≡ leftAt (readOf (here at)))
   step-is = simp (toZ-ofZ (fit-common at)) at (c .step .ensures)
@@ -154,8 +154,8 @@ element-set-from-t c = places (c .before .before .before .before) .entering-seat
 seated-requires-2 : tie.Need-seated-requires-2 Inv-run μ-run
 seated-requires-2 c κs = search needs
 
-mul-t27 : tie.Need-mul-t27 Inv-run μ-run
-mul-t27 c = omega (arith, places (c .before .before .before .before .before) .leaving-seat)
+mul-t28 : tie.Need-mul-t28 Inv-run μ-run
+mul-t28 c = omega (arith, places (c .before .before .before .before .before) .leaving-seat)
 
 element-set-from-t-2 : tie.Need-element-set-from-t-2 Inv-run μ-run
 element-set-from-t-2 c = places (c .before .before .before .before .before) .leaving-seat
@@ -239,7 +239,7 @@ run-spec =
     mul-t
     element-set-from-t
     seated-requires-2
-    mul-t27
+    mul-t28
     element-set-from-t-2
     add-count
     run-less

@@ -44,7 +44,7 @@ module _ (s : tie.Start) where
   fit-common = search needs
 
 add-variables : tie.Need-add-variables
-add-variables c = let z = few c in omega arith
+add-variables c = let z = few (c .before) in omega arith
 
 enum-told : tie.Need-enum-told
 enum-told c = search needs
@@ -53,7 +53,7 @@ enum-told c = search needs
 
 module _ (c : tie.After-enum-told) where
   abbrev start : tie.Start
-  start = c .before .before .before .before
+  start = c .before .before .before .before .before
 
 numerators-of-requires : tie.Need-numerators-of-requires
 numerators-of-requires c κs = let s = start (c .before .before .before) in
@@ -81,7 +81,7 @@ enum-known-end c = search needs
 
 module _ (c : tie.After-end) where
   abbrev entry : tie.Start
-  entry = c .before .before .before .before
+  entry = c .before .before .before .before .before
 
   abbrev blocked : Blocked
   blocked = c .end .given .0 .0
@@ -114,14 +114,15 @@ enum-told-2 : tie.Need-enum-told-2
 enum-told-2 c = search needs
 
 write-requires-3 : tie.Need-write-requires-3
-write-requires-3 c κs = let s = c .before .before .before .before .before .before .before in (s .pre .1, few s, s .pre .0 .counted)
+write-requires-3 c κs = let s = c .before .before .before .before .before .before .before .before in
+    (s .pre .1, few s, s .pre .0 .counted)
 
 same-length-3 : tie.Need-same-length-3
 same-length-3 c = search needs
 
 returns-3 : tie.Need-returns-3
 unfolding wordsLaid
-returns-3 c = let o = c .before .before .before .before .before in let s = o .before .before .before .before in
+returns-3 c = let o = c .before .before .before .before .before in let s = o .before .before .before .before .before in
     c .before .write3 .ensures ∙ sym (ap (told s) (o .enum-told2 .given .1))
 
 pub tell-spec : {M : Type 1} → statement M

@@ -1,41 +1,40 @@
 -- `solver::step::step` meets its contract: the answer of the search, and after a pivot that of the range test, is the
 -- definition's case. Assumes nothing.
 use mathlib.Core.Bool.{Bool, true, false}
-use mathlib.Core.List.{[]}
 use mathlib.Core.Path.{_≡_, ap, ap₂, refl, subst, sym, _∙_}
 use native.Mathlib.Omega.{arith}
 use Prim.Native.Nat.{ℕ}
-use borrow.Author.Needs.{needs, sfits-of}
-use lib.IntN.{ℤ, pos}
-use lib.ListN.{getD}
+use borrow.Author.Needs.{needs}
+use lib.IntN.{ℤ}
 use mir.Facts.{toZ-ofZ}
 use mir.Syntax.{w64}
 use mir.Val.{SFits}
 use Rattle.whole.proofs.Bools.{zero-one}
 use Rattle.tableau.specs.declared.pivot.Pivoted.the-variants as pivots
 use Rattle.tableau.specs.declared.Tableau.{Tableau}
-use Rattle.tableau.specs.Parts.{basicAt}
 use Rattle.tableau.specs.Pivot.{commonAfter, entriesAfter, entriesBy, pivotedBy}
 use Rattle.tableau.proofs.Laws.Reductions.{quotient-fits}
 use Rattle.search.specs.declared.Choice.{Choice}
 use Rattle.search.specs.declared.Next.the-variants as nexts
-use Rattle.search.specs.Search.{nextAt}
-use Rattle.search.proofs.Laws.Seen.{next-as, searchable-as}
+use Rattle.search.specs.Search.{nextAt, seen}
 use Rattle.solver.specs.declared.step.Outcome.the-variants as outcomes
-use Rattle.solver.specs.Step.{Movable, answerBy, entriesLeft, fitsBy, outcomeBy, readAs, valueAfter}
+use Rattle.solver.specs.Step.{Movable, answerBy, entriesLeft, fitsBy, outcomeBy, valueAfter}
 use Rattle.solver.proofs.step.step.Statement.{statement}
 use Rattle.solver.proofs.step.step.Tie as tie
 
 -- the tableau that is read
 abbrev old : tie.Start → Tableau
-old s = let a = s .args in readAs (a .entries .now) (a .t1) (a .t2) (a .seats) (a .t4) (a .common) (a .rows) (a .columns)
+old s = seen (s .args .entries .now) (s .args .t1)
+
+fit-common : (s : tie.Start) → SFits w64 (old s .common)
+fit-common s = search needs
 
 next-step-requires : tie.Need-next-step-requires
-next-step-requires c κs = let s = c .before .before in simp (toZ-ofZ (s .fits .common)) (searchable-as (old s) [] [] (s .pre .searchable))
+next-step-requires c κs = c .before .pre .searchable
 
 -- what the search finds is the definition's
-next-is : (c : tie.After-next-step) → c .next-step .result ≡ nextAt (old (c .before .before .before))
-next-is c = let s = c .before .before .before in (simp (toZ-ofZ (s .fits .common)) at (c .next-step .ensures)) ∙ next-as (old s) [] []
+next-is : (c : tie.After-next-step) → c .next-step .result ≡ nextAt (old (c .before .before))
+next-is c = c .next-step .ensures
 
 enum-told : tie.Need-enum-told
 enum-told c = search needs
@@ -49,7 +48,7 @@ enum-known-next-2 c = search needs
 -- a pivot is chosen
 module _ (c : tie.After-next2) where
   abbrev start : tie.Start
-  start = c .before .before .before .before .before
+  start = c .before .before .before .before
 
   abbrev choice : Choice
   choice = c .next2 .given .0 .0
@@ -63,27 +62,23 @@ module _ (c : tie.After-next2) where
 mul-leaving : tie.Need-mul-leaving
 mul-leaving c = omega (arith, movable (c .before .before .before) .row-place)
 
-array-copy-out-leaving : tie.Need-array-copy-out-leaving
-array-copy-out-leaving c = movable (c .before .before .before) .row-place
+element-copy-out-leaving : tie.Need-element-copy-out-leaving
+element-copy-out-leaving c = movable (c .before .before .before) .row-place
 
-mul-violated-limit : tie.Need-mul-violated-limit
-mul-violated-limit c = omega (arith, movable (c .before .before .before .before) .leaving-seat)
-
-element-copy-out-violated-limit : tie.Need-element-copy-out-violated-limit
-element-copy-out-violated-limit c = movable (c .before .before .before .before) .leaving-seat
-
-mul-violated-limit-2 : tie.Need-mul-violated-limit-2
-mul-violated-limit-2 c = omega (arith, movable (c .before .before .before .before .before) .leaving-seat)
-
-element-copy-out-violated-limit-2 : tie.Need-element-copy-out-violated-limit-2
-element-copy-out-violated-limit-2 c = movable (c .before .before .before .before .before) .leaving-seat
+limits-of-requires : tie.Need-limits-of-requires
+limits-of-requires c κs = let o = c .before .before .before .before .before in
+    movable (o .before .before .before .before) .leaving-seat
 
 violated-limit-requires : tie.Need-violated-limit-requires
 violated-limit-requires c κs = search needs
 
+-- the choice that the value belongs to
+abbrev choosing : tie.After-violated-limit → tie.After-next2
+choosing c = let o = c .before .before .before .before .before .before in o .before .before .before .before .before
+
 pivot-requires : tie.Need-pivot-requires
-pivot-requires c κs = let o = c .before .before .before .before .before .before .before .before in
-    simp (toZ-ofZ (start o .fits .common)) (movable o .pivotable)
+pivot-requires c κs = let o = choosing (c .before .before) in
+    simp (toZ-ofZ (fit-common (start o))) (movable o .pivotable)
 
 enum-known-turned : tie.Need-enum-known-turned
 enum-known-turned c = search needs
@@ -103,7 +98,7 @@ beyond-told false d e = refl
 -- the pivot is made
 module _ (c : tie.After-pivot) where
   abbrev chosen : tie.After-next2
-  chosen = c .before .before .before .before .before .before .before .before .before
+  chosen = choosing (c .before .before .before)
 
   abbrev t : Tableau
   t = old (start chosen)
@@ -114,7 +109,7 @@ module _ (c : tie.After-pivot) where
   turned-is : (c .pivot .result ≡ pivotedBy (fitsBy t (choice chosen)) common)
       × (c .pivot .last .0 ≡ entriesBy (fitsBy t (choice chosen)) (t .entries)
       (entriesAfter (t .rows) (t .columns) (t .entries) (t .common) (choice chosen .row .0) (choice chosen .column .0)))
-  turned-is = simp (toZ-ofZ (start chosen .fits .common)) at (c .pivot .ensures)
+  turned-is = simp (toZ-ofZ (fit-common (start chosen))) at (c .pivot .ensures)
 
   left-is : c .pivot .last .0 ≡ entriesLeft t (nextAt t)
   unfolding entriesLeft
@@ -124,27 +119,24 @@ module _ (c : tie.After-pivot) where
   unfolding outcomeBy
   answer-is b e = ap (λ b. answerBy b t (choice chosen)) (sym e) ∙ sym (ap (outcomeBy t) (chosen-is chosen))
 
-  fit-lower : SFits w64 (getD (t .limits .lower) (basicAt t (choice chosen .row .0)) (pos 0))
-  fit-lower = sfits-of (c .before .before .before .before .violated-limit-arg .given)
+  abbrev valued : tie.After-violated-limit
+  valued = c .before .before .before
 
-  fit-upper : SFits w64 (getD (t .limits .upper) (basicAt t (choice chosen .row .0)) (pos 0))
-  fit-upper = sfits-of (c .before .before .before .violated-limit-arg2 .given)
-
-  fit-value : SFits w64 (c .before .before .violated-limit .result)
+  fit-value : SFits w64 (valued .violated-limit .result)
   fit-value = search needs
 
-  value-is : c .before .before .violated-limit .result ≡ valueAfter t (choice chosen)
-  value-is = simp (toZ-ofZ fit-lower, toZ-ofZ fit-upper) at (c .before .before .violated-limit .ensures)
+  value-is : valued .violated-limit .result ≡ valueAfter t (choice chosen)
+  value-is = simp (valued .before .limits-of .ensures) at (valued .violated-limit .ensures)
 
 returns : tie.Need-returns
 unfolding outcomeBy entriesLeft
-returns c = let o = c .before .before in let t = old (o .before .before .before) in
+returns c = let o = c .before .before in let t = old (o .before .before) in
     let e : nextAt t ≡ nexts.Within = sym (next-is o) ∙ c .enum-told .given .1 in
     (sym (ap (outcomeBy t) e), sym (ap (entriesLeft t) e))
 
 returns-2 : tie.Need-returns-2
 unfolding outcomeBy entriesLeft
-returns-2 c = let o = c .before .before .before in let t = old (o .before .before .before) in
+returns-2 c = let o = c .before .before .before in let t = old (o .before .before) in
     let e : nextAt t ≡ nexts.Stuck (c .before .next .given .0 .0) = sym (next-is o) ∙ c .before .next .given .1 in
     (sym (ap (outcomeBy t) e), sym (ap (entriesLeft t) e))
 
@@ -175,11 +167,8 @@ step-spec =
     enum-known-next
     enum-known-next-2
     mul-leaving
-    array-copy-out-leaving
-    mul-violated-limit
-    element-copy-out-violated-limit
-    mul-violated-limit-2
-    element-copy-out-violated-limit-2
+    element-copy-out-leaving
+    limits-of-requires
     violated-limit-requires
     pivot-requires
     enum-known-turned
