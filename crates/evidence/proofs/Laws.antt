@@ -1,4 +1,5 @@
 pub mod Weights
+pub mod Tests
 pub mod Shown
 pub mod Read
 pub mod Checks

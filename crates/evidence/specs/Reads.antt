@@ -13,8 +13,9 @@ use Rattle.rules.specs.Sizes.{mostRows, mostColumns, largestCoefficient, larges
 use Rattle.rules.specs.Problem.{Problem}
 use Rattle.rules.specs.Step.{seated}
 use Rattle.rules.specs.Evidence.{lowerPart, upperPart, atLeast, atMost}
+use Rattle.pivot.specs.Layout.{entryIn}
 use Rattle.tableau.specs.declared.Limits.{Limits}
-use Rattle.tableau.specs.Parts.{entryIn, lowerOf, upperOf}
+use Rattle.tableau.specs.Parts.{lowerOf, upperOf}
 
 -- ---- the problem: at the start the entries are the coefficients
 

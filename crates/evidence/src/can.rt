@@ -1,4 +1,5 @@
-// Verdict 1: numerators over one denominator that meet every row and every limit.
+// Verdict 1: numerators over one denominator that meet every row and every limit. A loop asks its tests of every variable
+// and joins the answers, so that nothing in it branches.
 ghost use mathlib.Core.Path.{_≡_};
 ghost use Prim.Native.Nat.{ℕ, _+_, _*_, _≤_, _<_};
 ghost use lib.ListN.{length};
@@ -9,10 +10,12 @@ ghost use Rattle.rules.specs.Sizes.{largestNumber, largestNumerator};
 ghost use Rattle.rules.specs.Limit.{present};
 ghost use Rattle.rules.specs.Evidence.{lowerPart, atLeast, atMost, showsCan};
 ghost use Rattle.evidence.specs.Reads.{problemOf, Readable, Limited, rowSumAt};
-ghost use Rattle.evidence.specs.Reads.{numeratorsFit, rowsHold, meetsBoth, limitsHold, restIsZero};
+ghost use Rattle.evidence.specs.Reads.{numeratorsFit, rowsHold, limitsHold, restIsZero};
 use crate::parts::is_outside;
+use pivot::ColumnPlace;
+use pivot::RowPlace;
+use pivot::layout;
 use tableau::Limits;
-use tableau::RowPlace;
 use tableau::Tableau;
 
 const LARGEST_NUMERATOR: i64 = 515396075280000;
@@ -22,20 +25,17 @@ fn numerators_fit(answer: &[i64], variables: usize) -> bool
     requires { ⌜ (variables ≤ mostVariables) × (3 + variables ≤ length (now answer)) ⌝ }
     ensures { λ r. ⌜ r ≡ numeratorsFit (now (answer .entry)) variables ⌝ }
 {
-    let mut v = 0;
-    while v < variables {
+    let mut fine = true;
+    for v in 0..variables {
         let at = 3 + v;
-        if is_outside(answer[at], -LARGEST_NUMERATOR, LARGEST_NUMERATOR) {
-            return false;
-        }
-        v += 1;
+        fine = fine & !is_outside(answer[at], -LARGEST_NUMERATOR, LARGEST_NUMERATOR);
     }
-    true
+    fine
 }
 
 // The sum of a row over the numerators of the problem's variables.
 fn row_sum(
-    entries: &[i64; Tableau::MOST_ENTRIES],
+    entries: &[i32; Tableau::MOST_ENTRIES],
     answer: &[i64],
     row: RowPlace,
     rows: usize,
@@ -48,18 +48,18 @@ fn row_sum(
 {
     let mut sum = 0i64;
     for j in 0..columns {
-        let k = tableau::layout::place(rows, columns, row, tableau::ColumnPlace(j));
+        let k = layout::place(rows, columns, row, ColumnPlace(j as u8));
         let at = 3 + j;
         let e = entries[k];
         let x = answer[at];
-        sum = sum + e * x;
+        sum = sum + e as i64 * x;
     }
     sum
 }
 
 // The numerator of each row's variable equals its row's sum.
 fn rows_hold(
-    entries: &[i64; Tableau::MOST_ENTRIES],
+    entries: &[i32; Tableau::MOST_ENTRIES],
     answer: &[i64],
     rows: usize,
     columns: usize,
@@ -69,47 +69,28 @@ fn rows_hold(
     requires { ⌜ ((v : ℕ) → v < columns → Within (lowerPart (now answer) v) largestNumerator) ⌝ }
     ensures { λ r. ⌜ r ≡ rowsHold (now (entries .entry)) (now (answer .entry)) rows columns ⌝ }
 {
-    let mut i = 0;
-    while i < rows {
+    let mut fine = true;
+    for i in 0..rows {
         let at = 3 + (columns + i);
         let x = answer[at];
-        if x != row_sum(entries, answer, RowPlace(i), rows, columns) {
-            return false;
-        }
-        i += 1;
+        fine = fine & (x == row_sum(entries, answer, RowPlace(i as u8), rows, columns));
     }
-    true
+    fine
 }
 
 // A numerator over a denominator against a limit that may be missing.
-fn at_least(denominator: i64, x: i64, lowers: bool, lower: i64) -> bool
+fn at_least(denominator: i64, x: i64, lowers: bool, lower: i32) -> bool
     requires { ⌜ (Within denominator largestNumber) × (Within lower largestLimit) ⌝ }
     ensures { λ r. ⌜ r ≡ atLeast (present lowers lower) denominator x ⌝ }
 {
-    if lowers {
-        return denominator * lower <= x;
-    }
-    true
+    !lowers | (denominator * lower as i64 <= x)
 }
 
-fn at_most(denominator: i64, x: i64, uppers: bool, upper: i64) -> bool
+fn at_most(denominator: i64, x: i64, uppers: bool, upper: i32) -> bool
     requires { ⌜ (Within denominator largestNumber) × (Within upper largestLimit) ⌝ }
     ensures { λ r. ⌜ r ≡ atMost (present uppers upper) denominator x ⌝ }
 {
-    if uppers {
-        return x <= denominator * upper;
-    }
-    true
-}
-
-fn between(denominator: i64, x: i64, lowers: bool, lower: i64, uppers: bool, upper: i64) -> bool
-    requires { ⌜ (Within denominator largestNumber) × (Within lower largestLimit) × (Within upper largestLimit) ⌝ }
-    ensures { λ r. ⌜ r ≡ meetsBoth (present lowers lower) (present uppers upper) denominator x ⌝ }
-{
-    if !at_least(denominator, x, lowers, lower) {
-        return false;
-    }
-    at_most(denominator, x, uppers, upper)
+    !uppers | (x <= denominator * upper as i64)
 }
 
 // Every present limit holds.
@@ -119,23 +100,15 @@ fn limits_hold(limits: Limits, answer: &[i64], variables: usize, denominator: i6
     requires { ⌜ Limited limits ⌝ }
     ensures { λ r. ⌜ r ≡ limitsHold limits (now (answer .entry)) variables denominator ⌝ }
 {
-    let mut v = 0;
-    while v < variables {
+    let mut fine = true;
+    for v in 0..variables {
         let at = 3 + v;
         let x = answer[at];
-        if !between(
-            denominator,
-            x,
-            limits.lowers[v],
-            limits.lower[v],
-            limits.uppers[v],
-            limits.upper[v],
-        ) {
-            return false;
-        }
-        v += 1;
+        let over = at_least(denominator, x, limits.lowers[v], limits.lower[v]);
+        let under = at_most(denominator, x, limits.uppers[v], limits.upper[v]);
+        fine = fine & (over & under);
     }
-    true
+    fine
 }
 
 // The second half of the answer is 0.
@@ -143,20 +116,17 @@ fn rest_is_zero(answer: &[i64], variables: usize) -> bool
     requires { ⌜ (variables ≤ mostVariables) × (3 + 2 * variables ≤ length (now answer)) ⌝ }
     ensures { λ r. ⌜ r ≡ restIsZero (now (answer .entry)) variables ⌝ }
 {
-    let mut v = 0;
-    while v < variables {
+    let mut fine = true;
+    for v in 0..variables {
         let at = 3 + variables + v;
-        if answer[at] != 0 {
-            return false;
-        }
-        v += 1;
+        fine = fine & (answer[at] == 0);
     }
-    true
+    fine
 }
 
 // The words are right and within the ranges for verdict 1.
 pub fn shows_can(
-    entries: &[i64; Tableau::MOST_ENTRIES],
+    entries: &[i32; Tableau::MOST_ENTRIES],
     limits: Limits,
     rows: usize,
     columns: usize,

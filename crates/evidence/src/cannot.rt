@@ -1,8 +1,7 @@
-// Verdict 2: multipliers of the limits whose sum is a contradiction.
+// Verdict 2: multipliers of the limits whose sum is a contradiction. The loops are made as those of verdict 1.
 ghost use mathlib.Core.Path.{_≡_};
-ghost use mathlib.Core.Bool.{_&&_};
 ghost use Prim.Native.Nat.{_+_, _*_, _≤_, _<_};
-ghost use lib.IntN.{_*ℤ_, _-ℤ_};
+ghost use lib.IntN.{_*ℤ_};
 ghost use lib.ListN.{length};
 ghost use Rattle.whole.specs.Numbers.{Within, AllWithin};
 ghost use Rattle.whole.specs.Values.{whole};
@@ -14,57 +13,42 @@ ghost use Rattle.rules.specs.Evidence.{showsCannot};
 ghost use Rattle.evidence.specs.Reads.{problemOf, Readable, Limited, Multiplied, balanceAt, columnAtEntries};
 ghost use Rattle.evidence.specs.Reads.{fairOf, multipliersFair, columnsCancel, surplusOf};
 use crate::parts::is_outside;
-use tableau::ColumnPlace;
+use pivot::ColumnPlace;
+use pivot::RowPlace;
+use pivot::layout;
 use tableau::Limits;
-use tableau::RowPlace;
 use tableau::Tableau;
+use tableau::Variable;
 
 // A multiplier is in its range, and 0 where its limit is missing.
 fn fair(has: bool, k: i64) -> bool
     ensures { λ r. ⌜ r ≡ fairOf has k ⌝ }
 {
-    if has {
-        return !is_outside(k, 0, Tableau::LARGEST_NUMBER);
-    }
-    k == 0
-}
-
-fn both_fair(lowers: bool, low: i64, uppers: bool, high: i64) -> bool
-    ensures { λ r. ⌜ r ≡ (fairOf lowers low && fairOf uppers high) ⌝ }
-{
-    if !fair(lowers, low) {
-        return false;
-    }
-    fair(uppers, high)
+    (has & !is_outside(k, 0, Tableau::LARGEST_NUMBER)) | (k == 0)
 }
 
 fn multipliers_fair(limits: Limits, answer: &[i64], variables: usize) -> bool
     requires { ⌜ (variables ≤ mostVariables) × (3 + 2 * variables ≤ length (now answer)) ⌝ }
     ensures { λ r. ⌜ r ≡ multipliersFair limits (now (answer .entry)) variables ⌝ }
 {
-    let mut v = 0;
-    while v < variables {
+    let mut fine = true;
+    for v in 0..variables {
         let low = 3 + v;
         let high = 3 + variables + v;
-        if !both_fair(
-            limits.lowers[v],
-            answer[low],
-            limits.uppers[v],
-            answer[high],
-        ) {
-            return false;
-        }
-        v += 1;
+        let first = fair(limits.lowers[v], answer[low]);
+        let second = fair(limits.uppers[v], answer[high]);
+        fine = fine & (first & second);
     }
-    true
+    fine
 }
 
 // The lower less the upper multiplier of a variable.
-fn balance(answer: &[i64], variables: usize, v: usize) -> i64
-    requires { ⌜ (v < variables) × (variables ≤ mostVariables) × (3 + 2 * variables ≤ length (now answer)) ⌝ }
+fn balance(answer: &[i64], variables: usize, variable: Variable) -> i64
+    requires { ⌜ (variable .0 < variables) × (variables ≤ mostVariables) × (3 + 2 * variables ≤ length (now answer)) ⌝ }
     requires { ⌜ Multiplied (now answer) variables ⌝ }
-    ensures { λ r. ⌜ r ≡ balanceAt (now (answer .entry)) variables v ⌝ }
+    ensures { λ r. ⌜ r ≡ balanceAt (now (answer .entry)) variables (variable .0) ⌝ }
 {
+    let v = variable.0 as usize;
     let low = 3 + v;
     let high = 3 + variables + v;
     answer[low] - answer[high]
@@ -72,7 +56,7 @@ fn balance(answer: &[i64], variables: usize, v: usize) -> i64
 
 // A column of the multipliers put through the rows.
 fn column_sum(
-    entries: &[i64; Tableau::MOST_ENTRIES],
+    entries: &[i32; Tableau::MOST_ENTRIES],
     answer: &[i64],
     rows: usize,
     columns: usize,
@@ -85,19 +69,18 @@ fn column_sum(
     ensures { λ r. ⌜ r ≡ columnAtEntries (now (entries .entry)) (now (answer .entry)) rows columns (column .0) ⌝ }
 {
     let variables = columns + rows;
-    let j = column.0;
-    let mut sum = balance(answer, variables, j);
+    let mut sum = balance(answer, variables, Variable(column.0));
     for i in 0..rows {
-        let k = tableau::layout::place(rows, columns, RowPlace(i), column);
+        let k = layout::place(rows, columns, RowPlace(i as u8), column);
         let e = entries[k];
-        sum = sum + e * balance(answer, variables, columns + i);
+        sum = sum + e as i64 * balance(answer, variables, Variable((columns + i) as u8));
     }
     sum
 }
 
 // Every column cancels.
 fn columns_cancel(
-    entries: &[i64; Tableau::MOST_ENTRIES],
+    entries: &[i32; Tableau::MOST_ENTRIES],
     answer: &[i64],
     rows: usize,
     columns: usize,
@@ -107,34 +90,22 @@ fn columns_cancel(
     requires { ⌜ Multiplied (now answer) (columns + rows) ⌝ }
     ensures { λ r. ⌜ r ≡ columnsCancel (now (entries .entry)) (now (answer .entry)) rows columns ⌝ }
 {
-    let mut j = 0;
-    while j < columns {
-        if column_sum(entries, answer, rows, columns, ColumnPlace(j)) != 0 {
-            return false;
-        }
-        j += 1;
+    let mut fine = true;
+    for j in 0..columns {
+        fine = fine & (column_sum(entries, answer, rows, columns, ColumnPlace(j as u8)) == 0);
     }
-    true
+    fine
 }
 
 // A multiplier times its limit, or 0 where that is missing.
-fn weighed(has: bool, limit: i64, k: i64) -> i64
+fn weighed(has: bool, limit: i32, k: i64) -> i64
     requires { ⌜ (Within limit largestLimit) × (Within k largestNumber) ⌝ }
     ensures { λ r. ⌜ r ≡ seated whole (present has limit) *ℤ k ⌝ }
 {
     if has {
-        return limit * k;
+        return limit as i64 * k;
     }
     0
-}
-
-// What a variable's two limits give.
-fn net(lowers: bool, lower: i64, low: i64, uppers: bool, upper: i64, high: i64) -> i64
-    requires { ⌜ (Within lower largestLimit) × (Within low largestNumber)
-        × (Within upper largestLimit) × (Within high largestNumber) ⌝ }
-    ensures { λ r. ⌜ r ≡ seated whole (present lowers lower) *ℤ low -ℤ seated whole (present uppers upper) *ℤ high ⌝ }
-{
-    weighed(lowers, lower, low) - weighed(uppers, upper, high)
 }
 
 // Lower limits times multipliers less upper limits times multipliers.
@@ -148,22 +119,16 @@ fn surplus(limits: Limits, answer: &[i64], variables: usize) -> i64
     for v in 0..variables {
         let low = 3 + v;
         let high = 3 + variables + v;
-        sum = sum
-            + net(
-                limits.lowers[v],
-                limits.lower[v],
-                answer[low],
-                limits.uppers[v],
-                limits.upper[v],
-                answer[high],
-            );
+        let gain = weighed(limits.lowers[v], limits.lower[v], answer[low]);
+        let loss = weighed(limits.uppers[v], limits.upper[v], answer[high]);
+        sum = sum + (gain - loss);
     }
     sum
 }
 
 // The words are right and within the ranges for verdict 2.
 pub fn shows_cannot(
-    entries: &[i64; Tableau::MOST_ENTRIES],
+    entries: &[i32; Tableau::MOST_ENTRIES],
     limits: Limits,
     rows: usize,
     columns: usize,

@@ -1,5 +1,5 @@
 // The evidence checker: accepts exactly what is right and within the number ranges, from anybody. It reads the problem
-// through the tableau type and shares nothing of the search or the run.
+// through the entries and the limits that the tableau type makes of the words. It shares nothing with search or run.
 ghost use mathlib.Core.Path.{_≡_};
 ghost use Rattle.rules.specs.Evidence.{checked};
 use can::shows_can;
@@ -18,20 +18,22 @@ pub fn check(words: &[i32], answer: &[i64]) -> u32
     if refused != 0 {
         return refused;
     }
-    let t = Tableau::new(words);
-    if answer.len() < 3 + 2 * (t.columns + t.rows) {
+    let columns = judge::count_at(words, 0);
+    let rows = judge::count_at(words, 1);
+    if answer.len() < 3 + 2 * (columns + rows) {
         return 7;
     }
-    let limits = t.limits;
+    let entries = Tableau::start_entries(words, columns, rows);
+    let limits = Tableau::limits_of(words, columns, rows);
     let verdict = answer[0];
     if verdict == 1 {
-        if shows_can(&t.entries, limits, t.rows, t.columns, answer) {
+        if shows_can(&entries, limits, rows, columns, answer) {
             return 8;
         }
         return 9;
     }
     if verdict == 2 {
-        if shows_cannot(&t.entries, limits, t.rows, t.columns, answer) {
+        if shows_cannot(&entries, limits, rows, columns, answer) {
             return 8;
         }
     }

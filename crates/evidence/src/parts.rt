@@ -7,8 +7,5 @@ ghost use lib.Signed.{ltZ};
 pub fn is_outside(z: i64, low: i64, high: i64) -> bool
     ensures { λ r. ⌜ r ≡ (ltZ z low || ltZ high z) ⌝ }
 {
-    if z < low {
-        return true;
-    }
-    high < z
+    (z < low) | (high < z)
 }

@@ -1,5 +1,5 @@
--- The search for the next pivot, by place: docs/RULES.md, "The run", over the struct. Both searches go by the variables'
--- numbers.
+-- The search for the next pivot, by place: docs/RULES.md, "The run", over the struct. Both searches go by the
+-- variables' numbers.
 use mathlib.Core.Path.{_≡_}
 use mathlib.Core.Bool.{Bool, true, false, cond}
 use mathlib.Core.List.{List, []}
@@ -14,8 +14,8 @@ use Rattle.whole.specs.Values.{whole}
 use Rattle.rules.specs.Sizes.{mostColumns, mostRows, largestLimit}
 use Rattle.rules.specs.Step.{Side, Leaving, leaves, shortfallBy, pull, suits}
 use Rattle.tableau.specs.declared.Tableau.{Tableau}
-use Rattle.tableau.specs.Layout.{Order, inUse}
-use Rattle.tableau.specs.Parts.{cellLaid, entryLaid, valueAt, seatAt, rowOf, columnOf, lowerOf, upperOf}
+use Rattle.pivot.specs.Layout.{Order, inUse, entryLaid}
+use Rattle.tableau.specs.Parts.{cellLaid, valueAt, seatAt, rowOf, columnOf, lowerOf, upperOf}
 use Rattle.tableau.specs.Pivot.{Cells}
 use Rattle.search.specs.declared.Blocked.{Blocked}
 use Rattle.search.specs.declared.Choice.{Choice}

@@ -6,15 +6,15 @@ ghost use lib.IntN.{pos};
 ghost use lib.ListN.{getD};
 ghost use Rattle.whole.specs.Numbers.{Within};
 ghost use Rattle.rules.specs.Sizes.{mostColumns, mostRows, mostVariables, largestNumber, largestLimit};
-ghost use Rattle.tableau.specs.Parts.{entryIn};
+ghost use Rattle.pivot.specs.Layout.{entryIn};
 ghost use Rattle.search.specs.Search.{rowSum, Searchable, seen, nextAt};
-use tableau::ColumnPlace;
+use pivot::ColumnPlace;
+use pivot::RowPlace;
+use pivot::layout;
 use tableau::Limits;
-use tableau::RowPlace;
 use tableau::Seat;
 use tableau::Tableau;
 use tableau::Variable;
-use tableau::layout;
 
 pub mod sides;
 
@@ -22,8 +22,8 @@ pub mod sides;
 pub struct View {
     pub rows: usize,
     pub columns: usize,
-    pub common: i64,
-    pub values: [i64; Tableau::MOST_COLUMNS],
+    pub common: i32,
+    pub values: [i32; Tableau::MOST_COLUMNS],
     pub basic: [Variable; Tableau::MOST_ROWS],
     pub seats: [Seat; Tableau::MOST_VARIABLES],
     pub limits: Limits,
@@ -35,9 +35,10 @@ pub struct Size {
     pub columns: usize,
 }
 
-// The row and the column of a pivot. The leaving variable is the one of the row: it must rise where it is below its lower
-// limit, and fall where it is above its upper one; its shortfall is how far D times its value is from D times that limit.
-// At the first step of case A of docs/RULES.md, whose D is 1, variable 2 must rise by 2: it is 0 and its lower limit is 2.
+// The row and the column of a pivot. The leaving variable is the one of the row: it must rise where it is below its
+// lower limit, and fall where it is above its upper one; its shortfall is how far D times its value is from D times
+// that limit. At the first step of case A of docs/RULES.md, whose D is 1, variable 2 must rise by 2: it is 0 and its lower
+// limit is 2.
 pub struct Choice {
     pub row: RowPlace,
     pub column: ColumnPlace,
@@ -61,11 +62,11 @@ pub enum Next {
 
 // The entry of a row and a column.
 pub fn entry_at(
-    entries: &[i64; Tableau::MOST_ENTRIES],
+    entries: &[i32; Tableau::MOST_ENTRIES],
     size: Size,
     row: RowPlace,
     column: ColumnPlace,
-) -> i64
+) -> i32
     requires { ⌜ (row .0 < size .rows) × (column .0 < size .columns)
         × (size .rows ≤ mostRows) × (size .columns ≤ mostColumns) ⌝ }
     ensures { λ r. ⌜ r ≡ entryIn (size .rows) (size .columns) (now (entries .entry)) (row .0) (column .0) ⌝ }
@@ -76,8 +77,8 @@ pub fn entry_at(
 
 // D times the value of the basic variable of a row.
 pub fn row_value<'a>(
-    entries: &'a [i64; Tableau::MOST_ENTRIES],
-    values: &'a [i64; Tableau::MOST_COLUMNS],
+    entries: &'a [i32; Tableau::MOST_ENTRIES],
+    values: &'a [i32; Tableau::MOST_COLUMNS],
     size: Size,
     row: RowPlace,
 ) -> i64
@@ -89,9 +90,9 @@ pub fn row_value<'a>(
     let columns = size.columns;
     let mut sum = 0i64;
     for j in 0..columns {
-        let e = entry_at(entries, size, row, ColumnPlace(j));
+        let e = entry_at(entries, size, row, ColumnPlace(j as u8));
         let x = values[j];
-        sum = sum + e * x;
+        sum = sum + sides::product(e, x);
     }
     sum
 }
@@ -106,7 +107,7 @@ pub fn after(v: Variable) -> Variable
 
 // The search runs over the basic variables, and for the first one outside its limits over the nonbasic ones, both in
 // order of their numbers.
-pub fn next_step(entries: &[i64; Tableau::MOST_ENTRIES], view: View) -> Next
+pub fn next_step(entries: &[i32; Tableau::MOST_ENTRIES], view: View) -> Next
     requires { ⌜ Searchable (seen (now entries) view) ⌝ }
     ensures { λ r. ⌜ r ≡ nextAt (seen (now (entries .entry)) view) ⌝ }
 {
@@ -117,7 +118,7 @@ pub fn next_step(entries: &[i64; Tableau::MOST_ENTRIES], view: View) -> Next
     let end = size.rows + size.columns;
     let mut v = Variable(0);
     let found = 'search: loop {
-        let at = v.0;
+        let at = v.0 as usize;
         if at >= end {
             break 'search Next::Within;
         }
@@ -143,15 +144,15 @@ pub fn next_step(entries: &[i64; Tableau::MOST_ENTRIES], view: View) -> Next
         let rises = outside.rises;
         let shortfall = outside.shortfall;
         let mut w = Variable(0);
-        while w.0 < end {
-            let place = w.0;
+        while (w.0 as usize) < end {
+            let place = w.0 as usize;
             let other = view.seats[place];
             if other.basic {
                 w = after(w);
                 continue;
             }
             let column = other.column;
-            let j = column.0;
+            let j = column.0 as usize;
             let entry = entry_at(entries, size, row, column);
             let its = sides::limits_of(
                 &view.limits.lowers,

@@ -1,6 +1,7 @@
 // Values against limits that may be missing: which side a variable is outside on, and which way one can move.
 ghost use mathlib.Core.Path.{_≡_};
 ghost use Prim.Native.Nat.{_<_};
+ghost use lib.IntN.{_*ℤ_};
 ghost use Rattle.whole.specs.Numbers.{Within};
 ghost use Rattle.whole.specs.Values.{whole};
 ghost use Rattle.rules.specs.Sizes.{mostVariables, largestNumber, largestLimit, largestNumerator};
@@ -23,24 +24,24 @@ pub struct Breach {
 // The two limits of one variable: whether there is one, and which.
 pub struct LimitPair {
     pub lowers: bool,
-    pub lower: i64,
+    pub lower: i32,
     pub uppers: bool,
-    pub upper: i64,
+    pub upper: i32,
 }
 
 // The limits of a variable, from the four arrays of the tableau's limits.
 pub fn limits_of<'a>(
     lowers: &'a [bool; Tableau::MOST_VARIABLES],
-    lower: &'a [i64; Tableau::MOST_VARIABLES],
+    lower: &'a [i32; Tableau::MOST_VARIABLES],
     uppers: &'a [bool; Tableau::MOST_VARIABLES],
-    upper: &'a [i64; Tableau::MOST_VARIABLES],
+    upper: &'a [i32; Tableau::MOST_VARIABLES],
     variable: Variable,
 ) -> LimitPair
     requires { ⌜ variable .0 < mostVariables ⌝ }
     ensures { λ r. ⌜ r
         ≡ pairAt (now (lowers .entry)) (now (lower .entry)) (now (uppers .entry)) (now (upper .entry)) (variable .0) ⌝ }
 {
-    let v = variable.0;
+    let v = variable.0 as usize;
     LimitPair {
         lowers: lowers[v],
         lower: lower[v],
@@ -49,82 +50,75 @@ pub fn limits_of<'a>(
     }
 }
 
-// A value, as D times it, against a limit.
-fn under(common: i64, value: i64, lowers: bool, lower: i64) -> bool
-    requires { ⌜ (Within common largestNumber) × (Within lower largestLimit) ⌝ }
-    ensures { λ r. ⌜ r ≡ step.under whole common value (present lowers lower) ⌝ }
+// The product of two numbers of 32 bits, which 64 bits hold.
+pub fn product(a: i32, b: i32) -> i64
+    ensures { λ r. ⌜ r ≡ a *ℤ b ⌝ }
 {
-    if lowers {
-        return value < common * lower;
-    }
-    false
+    a as i64 * b as i64
 }
 
-fn over(common: i64, value: i64, uppers: bool, upper: i64) -> bool
-    requires { ⌜ (Within common largestNumber) × (Within upper largestLimit) ⌝ }
+// A value, as D times it, against a limit.
+fn under(common: i32, value: i64, lowers: bool, lower: i32) -> bool
+    ensures { λ r. ⌜ r ≡ step.under whole common value (present lowers lower) ⌝ }
+{
+    lowers & (value < product(common, lower))
+}
+
+fn over(common: i32, value: i64, uppers: bool, upper: i32) -> bool
     ensures { λ r. ⌜ r ≡ step.over whole common value (present uppers upper) ⌝ }
 {
-    if uppers {
-        return common * upper < value;
-    }
-    false
+    uppers & (product(common, upper) < value)
 }
 
 // By which limit a value is outside, and by how much.
-pub fn breach_of(common: i64, value: i64, limits: LimitPair) -> Breach
-    requires { ⌜ (Within common largestNumber) × (Within (limits .lower) largestLimit) × (Within (limits .upper) largestLimit) ⌝ }
+pub fn breach_of(common: i32, value: i64, limits: LimitPair) -> Breach
+    requires { ⌜ (Within common largestNumber)
+        × (Within (limits .lower) largestLimit) × (Within (limits .upper) largestLimit) ⌝ }
     requires { ⌜ Within value largestNumerator ⌝ }
     ensures { λ r. ⌜ r ≡ breachOf common value limits ⌝ }
 {
-    if under(common, value, limits.lowers, limits.lower) {
+    let low = under(common, value, limits.lowers, limits.lower);
+    let high = over(common, value, limits.uppers, limits.upper);
+    if !(low | high) {
+        return Breach {
+            violated: false,
+            rises: false,
+            shortfall: 0,
+        };
+    }
+    if low {
         return Breach {
             violated: true,
             rises: true,
-            shortfall: common * limits.lower - value,
-        };
-    }
-    if over(common, value, limits.uppers, limits.upper) {
-        return Breach {
-            violated: true,
-            rises: false,
-            shortfall: value - common * limits.upper,
+            shortfall: product(common, limits.lower) - value,
         };
     }
     Breach {
-        violated: false,
+        violated: true,
         rises: false,
-        shortfall: 0,
+        shortfall: value - product(common, limits.upper),
     }
 }
 
 // A nonbasic variable may increase, and may decrease.
-fn may_rise(value: i64, uppers: bool, upper: i64) -> bool
+fn may_rise(value: i32, uppers: bool, upper: i32) -> bool
     ensures { λ r. ⌜ r ≡ mayRise whole value (present uppers upper) ⌝ }
 {
-    if uppers {
-        return value < upper;
-    }
-    true
+    !uppers | (value < upper)
 }
 
-fn may_fall(value: i64, lowers: bool, lower: i64) -> bool
+fn may_fall(value: i32, lowers: bool, lower: i32) -> bool
     ensures { λ r. ⌜ r ≡ mayFall whole value (present lowers lower) ⌝ }
 {
-    if lowers {
-        return lower < value;
-    }
-    true
+    !lowers | (lower < value)
 }
 
 // Whether a nonbasic variable can move the right way, by its entry in the row of the variable that must rise or fall.
-pub fn suits(rises: bool, entry: i64, value: i64, limits: LimitPair) -> bool
+pub fn suits(rises: bool, entry: i32, value: i32, limits: LimitPair) -> bool
     ensures { λ r. ⌜ r ≡ suitsOf rises entry value limits ⌝ }
 {
-    if entry == 0 {
-        return false;
-    }
-    if (entry < 0) == rises {
-        return may_fall(value, limits.lowers, limits.lower);
-    }
-    may_rise(value, limits.uppers, limits.upper)
+    let falls = (entry < 0) == rises;
+    let down = falls & may_fall(value, limits.lowers, limits.lower);
+    let up = !falls & may_rise(value, limits.uppers, limits.upper);
+    (entry != 0) & (down | up)
 }

@@ -12,8 +12,8 @@ use Rattle.rules.specs.Sizes.{mostColumns, mostRows, mostVariables, largestNumb
 use Rattle.rules.specs.Step.{pull, positive}
 use Rattle.tableau.specs.declared.Seat.{Seat}
 use Rattle.tableau.specs.declared.Tableau.{Tableau}
-use Rattle.tableau.specs.Layout.{Order, inUse}
-use Rattle.tableau.specs.Parts.{entryLaid, nowhere}
+use Rattle.pivot.specs.Layout.{Order, inUse, entryLaid}
+use Rattle.tableau.specs.Parts.{nowhere}
 use Rattle.search.specs.declared.Blocked.{Blocked}
 use Rattle.search.specs.Sides.{sideBy}
 use Rattle.solver.specs.declared.multipliers.Multipliers.{Multipliers}

@@ -11,9 +11,10 @@ use Rattle.rules.specs.Sizes.{mostRows, mostVariables}
 use Rattle.rules.specs.Step.{State}
 use Rattle.rules.proofs.Sound.{Rowed}
 use Rattle.tableau.specs.declared.Tableau.{Tableau}
-use Rattle.tableau.specs.Layout.{Order, inUse}
+use Rattle.pivot.specs.Layout.{Order, inUse}
 use Rattle.tableau.specs.Parts.{basicAt}
-use Rattle.tableau.specs.Pivot.{Pivotable, commonAfter, entriesAfter, entriesBy, fitsLaid, pivotedLaid, swappedAt}
+use Rattle.pivot.specs.Pivot.{Pivotable, commonAfter, entriesAfter, entriesBy, fitsLaid}
+use Rattle.tableau.specs.Pivot.{pivotedLaid, swappedAt}
 use Rattle.tableau.specs.Stands.{Ranged, Stands}
 use Rattle.search.specs.declared.Choice.{Choice}
 use Rattle.search.specs.declared.Next.{Next}

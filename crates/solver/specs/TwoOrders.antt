@@ -8,7 +8,7 @@ use Rattle.whole.specs.Values.{whole}
 use Rattle.rules.specs.Problem.{problem, varsOf}
 use Rattle.rules.specs.Run.{conflict}
 use Rattle.tableau.specs.declared.Tableau.{Tableau}
-use Rattle.tableau.specs.Layout.{Order, byColumns, byRows}
+use Rattle.pivot.specs.Layout.{Order, byColumns, byRows}
 use Rattle.tableau.specs.Start.{startLaid}
 use Rattle.tableau.specs.TwoOrders.{SameTableau}
 use Rattle.solver.specs.declared.step.End.{End}

@@ -8,6 +8,7 @@ ghost use Rattle.solver.specs.Answer.{numberOf, Numerable, numeratorOf, 
 ghost use Rattle.solver.specs.Answer.{copiedAt, mostCount, wordsAt, laidOver};
 use search::Size;
 use search::after;
+use search::sides::product;
 use tableau::Seat;
 use tableau::Tableau;
 use tableau::Variable;
@@ -38,10 +39,10 @@ fn number_of(verdict: Verdict) -> i64
 
 // D times the value of the variable of a seat.
 fn numerator_of<'a>(
-    entries: &'a [i64; Tableau::MOST_ENTRIES],
-    values: &'a [i64; Tableau::MOST_COLUMNS],
+    entries: &'a [i32; Tableau::MOST_ENTRIES],
+    values: &'a [i32; Tableau::MOST_COLUMNS],
     size: Size,
-    common: i64,
+    common: i32,
     seat: Seat,
 ) -> i64
     requires { ⌜ Numerable (now entries) (now values) (size .rows) (size .columns) common seat ⌝ }
@@ -52,17 +53,17 @@ fn numerator_of<'a>(
         return search::row_value(entries, values, size, seat.row);
     }
     let column = seat.column;
-    let j = column.0;
+    let j = column.0 as usize;
     let x = values[j];
-    common * x
+    product(common, x)
 }
 
 // The numerators of all variables, over D.
 pub fn numerators_of<'a>(
-    entries: &'a [i64; Tableau::MOST_ENTRIES],
-    values: &'a [i64; Tableau::MOST_COLUMNS],
+    entries: &'a [i32; Tableau::MOST_ENTRIES],
+    values: &'a [i32; Tableau::MOST_COLUMNS],
     seats: [Seat; Tableau::MOST_VARIABLES],
-    common: i64,
+    common: i32,
     size: Size,
 ) -> [i64; Tableau::MOST_VARIABLES]
     requires { ⌜ (size .rows ≤ mostRows) × (size .columns ≤ mostColumns) ⌝ }
@@ -74,8 +75,8 @@ pub fn numerators_of<'a>(
     let variables = size.rows + size.columns;
     let mut numerators = [0i64; Tableau::MOST_VARIABLES];
     let mut v = Variable(0);
-    while v.0 < variables {
-        let at = v.0;
+    while (v.0 as usize) < variables {
+        let at = v.0 as usize;
         let seat = seats[at];
         numerators[at] = numerator_of(entries, values, size, common, seat);
         v = after(v);

@@ -22,13 +22,7 @@ pub enum Crossed {
 fn is_crossed(limits: LimitPair) -> bool
     ensures { λ r. ⌜ r ≡ crossed whole (lowerIn limits) (upperIn limits) ⌝ }
 {
-    if !limits.lowers {
-        return false;
-    }
-    if !limits.uppers {
-        return false;
-    }
-    limits.upper < limits.lower
+    limits.lowers & limits.uppers & (limits.upper < limits.lower)
 }
 
 // The search over the first variables.
@@ -37,7 +31,7 @@ pub fn conflict_of(limits: Limits, variables: usize) -> Crossed
     ensures { λ r. ⌜ r ≡ conflictAt limits variables ⌝ }
 {
     let mut v = Variable(0);
-    while v.0 < variables {
+    while (v.0 as usize) < variables {
         let own = sides::limits_of(
             &limits.lowers,
             &limits.lower,

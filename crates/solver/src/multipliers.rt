@@ -29,7 +29,7 @@ pub fn unit(variable: Variable) -> [i64; Tableau::MOST_VARIABLES]
     ensures { λ r. ⌜ r ≡ unitAt (variable .0) ⌝ }
 {
     let mut ones = [0i64; Tableau::MOST_VARIABLES];
-    let v = variable.0;
+    let v = variable.0 as usize;
     ones[v] = 1;
     ones
 }
@@ -58,9 +58,9 @@ fn turned(rises: bool, entry: i64) -> i64
 // The row as an equation "the sum is 0", turned to rise, at the variable of a seat: minus D at the row's own variable, 0
 // at the other basic ones.
 fn pull_of(
-    entries: &[i64; Tableau::MOST_ENTRIES],
+    entries: &[i32; Tableau::MOST_ENTRIES],
     size: Size,
-    common: i64,
+    common: i32,
     blocked: Blocked,
     seat: Seat,
 ) -> i64
@@ -70,11 +70,11 @@ fn pull_of(
     let row = blocked.row;
     if !seat.basic {
         let e = search::entry_at(entries, size, row, seat.column);
-        return turned(blocked.rises, e);
+        return turned(blocked.rises, e as i64);
     }
     let own = seat.row;
     if own.0 == row.0 {
-        return turned(blocked.rises, -common);
+        return turned(blocked.rises, -(common as i64));
     }
     0
 }
@@ -83,9 +83,9 @@ fn pull_of(
 // limit that stops the entry's variable: the upper one if it would have to rise, the lower one if it would have to
 // fall. The rest is 0.
 pub fn multipliers_of(
-    entries: &[i64; Tableau::MOST_ENTRIES],
+    entries: &[i32; Tableau::MOST_ENTRIES],
     seats: [Seat; Tableau::MOST_VARIABLES],
-    common: i64,
+    common: i32,
     size: Size,
     blocked: Blocked,
 ) -> Multipliers
@@ -98,8 +98,8 @@ pub fn multipliers_of(
     let mut lower = [0i64; Tableau::MOST_VARIABLES];
     let mut upper = [0i64; Tableau::MOST_VARIABLES];
     let mut v = Variable(0);
-    while v.0 < variables {
-        let at = v.0;
+    while (v.0 as usize) < variables {
+        let at = v.0 as usize;
         let seat = seats[at];
         let y = pull_of(entries, size, common, blocked, seat);
         lower[at] = positive(-y);

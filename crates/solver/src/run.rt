@@ -14,10 +14,10 @@ use crate::multipliers::multipliers_of;
 use crate::step::End;
 use crate::step::Outcome;
 use crate::step::step;
+use pivot::ColumnPlace;
+use pivot::RowPlace;
 use search::Size;
 use search::View;
-use tableau::ColumnPlace;
-use tableau::RowPlace;
 use tableau::Seat;
 use tableau::Tableau;
 
@@ -46,10 +46,11 @@ fn tell(last: Tableau, end: End, count: usize, out: &mut [i64])
     match end {
         End::Can => {
             let found = numerators_of(&last.entries, &last.values, seats, common, size);
+            let denominator = common as i64;
             let head = Head {
                 verdict: Verdict::Can,
                 count,
-                denominator: common,
+                denominator,
             };
             write(out, head, variables, &found, &zeros);
         }
@@ -95,18 +96,20 @@ pub fn run(mut t: Tableau, out: &mut [i64])
         match next {
             Outcome::Ended(last) => break 'run last,
             Outcome::Goes(row, column, value, common) => {
-                let i = row.0;
-                let j = column.0;
+                let i = row.0 as usize;
+                let j = column.0 as usize;
                 let leaving = t.basic[i];
                 let entering = t.nonbasic[j];
-                let v = leaving.0;
-                let w = entering.0;
+                let v = leaving.0 as usize;
+                let w = entering.0 as usize;
                 t.common = common;
                 t.basic[i] = entering;
                 t.nonbasic[j] = leaving;
                 t.values[j] = value;
-                t.seats[w] = seated(true, row, column);
-                t.seats[v] = seated(false, row, column);
+                let entered = seated(true, row, column);
+                t.seats[w] = entered;
+                let left = seated(false, row, column);
+                t.seats[v] = left;
                 count += 1;
             }
         }

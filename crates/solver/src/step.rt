@@ -2,16 +2,16 @@
 ghost use mathlib.Core.Path.{_≡_};
 ghost use Rattle.search.specs.Search.{seen};
 ghost use Rattle.solver.specs.Step.{Steppable, leftAt, limitOf, outcomeAt};
+use pivot::ColumnPlace;
+use pivot::Pivoted;
+use pivot::RowPlace;
+use pivot::layout::Spot;
 use search::Blocked;
 use search::Next;
 use search::View;
 use search::sides;
 use search::sides::LimitPair;
-use tableau::ColumnPlace;
-use tableau::RowPlace;
 use tableau::Tableau;
-use tableau::pivot;
-use tableau::pivot::Pivoted;
 
 // How a run ends: every variable is within its limits, one is outside and stuck, or a number is too large.
 pub enum End {
@@ -24,11 +24,11 @@ pub enum End {
 // that leaves, and the new common number.
 pub enum Outcome {
     Ended(End),
-    Goes(RowPlace, ColumnPlace, i64, i64),
+    Goes(RowPlace, ColumnPlace, i32, i32),
 }
 
 // Of the limits of a variable the one that it violates.
-fn violated_limit(rises: bool, limits: LimitPair) -> i64
+fn violated_limit(rises: bool, limits: LimitPair) -> i32
     ensures { λ r. ⌜ r ≡ limitOf rises (limits .lower) (limits .upper) ⌝ }
 {
     if rises {
@@ -38,7 +38,7 @@ fn violated_limit(rises: bool, limits: LimitPair) -> i64
 }
 
 // One step: where a pivot is chosen it is made on the entries, and where it leads out of range they stay.
-pub fn step(view: View, entries: &mut [i64; Tableau::MOST_ENTRIES]) -> Outcome
+pub fn step(view: View, entries: &mut [i32; Tableau::MOST_ENTRIES]) -> Outcome
     requires { ⌜ Steppable (seen (now entries) view) ⌝ }
     ensures answer { λ r. ⌜ r ≡ outcomeAt (seen (now (entries .entry)) view) ⌝ }
     ensures numbers { λ r. ⌜ now (entries .exit) ≡ leftAt (seen (now (entries .entry)) view) ⌝ }
@@ -50,7 +50,7 @@ pub fn step(view: View, entries: &mut [i64; Tableau::MOST_ENTRIES]) -> Outcome
         Next::Pivot(choice) => {
             let row = choice.row;
             let column = choice.column;
-            let i = row.0;
+            let i = row.0 as usize;
             let leaving = view.basic[i];
             let own = sides::limits_of(
                 &view.limits.lowers,
@@ -60,7 +60,8 @@ pub fn step(view: View, entries: &mut [i64; Tableau::MOST_ENTRIES]) -> Outcome
                 leaving,
             );
             let value = violated_limit(choice.rises, own);
-            let turned = pivot::pivot(entries, view.rows, view.columns, view.common, row, column);
+            let spot = Spot { row, column };
+            let turned = pivot::pivot(entries, view.rows, view.columns, view.common, spot);
             match turned {
                 Pivoted::Common(after) => Outcome::Goes(row, column, value, after),
                 Pivoted::Beyond => Outcome::Ended(End::Range),

@@ -1,9 +1,5 @@
 -- Laws that this crate's proofs, and those of its callers, cite.
-pub mod Layout
-pub mod Lines
-pub mod Ranges
-pub mod Mixes
-pub mod Reductions
+pub mod Live
 pub mod Places
 pub mod Kinds
 pub mod Turns

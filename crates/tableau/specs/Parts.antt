@@ -1,47 +1,27 @@
 -- The parts of the struct by place and by variable.
 use Prim.Native.Nat.{ℕ}
 use mathlib.Core.Bool.{false}
-use mathlib.Core.List.{List}
 use mathlib.Core.Option.{Option}
 use lib.IntN.{ℤ, pos}
 use lib.ListN.{getD}
 use Rattle.rules.specs.Limit.{present}
+use Rattle.pivot.specs.Layout.{Order, inUse, row, column, entryLaid}
 use Rattle.tableau.specs.declared.Variable.{Variable}
-use Rattle.tableau.specs.declared.RowPlace.{RowPlace}
-use Rattle.tableau.specs.declared.ColumnPlace.{ColumnPlace}
 use Rattle.tableau.specs.declared.Seat.{Seat}
 use Rattle.tableau.specs.declared.Limits.{Limits}
 use Rattle.tableau.specs.declared.Tableau.{Tableau}
-use Rattle.tableau.specs.declared.layout.Spot.{Spot}
-use Rattle.tableau.specs.Layout.{Order, inUse, flatLaid, rowAt, columnAt}
 
 abbrev pub variable : ℕ → Variable
 variable v = record { 0 = v }
 
-abbrev pub row : ℕ → RowPlace
-row i = record { 0 = i }
-
-abbrev pub column : ℕ → ColumnPlace
-column j = record { 0 = j }
-
 abbrev pub nowhere : Seat
 nowhere = record { basic = false; row = row 0; column = column 0 }
 
--- the places of flat place k, for m rows and n columns
-abbrev pub spotAt : ℕ → ℕ → ℕ → Spot
-spotAt m n k = record { row = row (rowAt m n k); column = column (columnAt m n k) }
-
--- the number at a row place and a column place of an array of entries, and of a tableau
-abbrev pub entryLaid : Order → ℕ → ℕ → List ℤ → ℕ → ℕ → ℤ
-entryLaid o m n l i j = getD l (flatLaid o m n i j) (pos 0)
-
+-- the number at a row place and a column place of a tableau
 abbrev pub cellLaid : Order → Tableau → ℕ → ℕ → ℤ
 cellLaid o t i j = entryLaid o (t .rows) (t .columns) (t .entries) i j
 
 -- .. in the order in use, and the number at flat place k
-abbrev pub entryIn : ℕ → ℕ → List ℤ → ℕ → ℕ → ℤ
-entryIn = entryLaid inUse
-
 abbrev pub cellAt : Tableau → ℕ → ℕ → ℤ
 cellAt = cellLaid inUse
 

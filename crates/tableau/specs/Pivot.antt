@@ -1,145 +1,21 @@
--- A pivot by place: the entries before reduction, their divisor, and the tableau in lowest common form.
-use Prim.Native.Nat.{ℕ, _≤_, _<_}
-use mathlib.Core.Bool.{Bool, true, false, cond, _&&_}
+-- A pivot of a whole tableau: its numbers in lowest common form, and the two variables that change places.
+use Prim.Native.Nat.{ℕ, _<_}
+use mathlib.Core.Bool.{true, false}
 use mathlib.Core.List.{List}
-use mathlib.Core.Logic.{_≢_}
-use lib.Dec.{eqb}
+use lib.IntN.{ℤ}
 use lib.ListN.{getD, set}
-use lib.IntN.{ℤ, pos, negℤ, _*ℤ_, _-ℤ_}
-use lib.Signed.{quotZ}
-use Rattle.whole.specs.Below.{allBelow}
-use Rattle.whole.specs.Numbers.{Within, AllWithin, within, isNeg}
-use Rattle.whole.specs.Tables.{filled}
-use Rattle.divisor.specs.Cells.{divisorBelow, quotients}
+use Rattle.whole.specs.Numbers.{Within}
 use Rattle.rules.specs.Sizes.{mostColumns, mostRows, mostVariables, largestNumber}
+use Rattle.pivot.specs.Layout.{Order, inUse, row, column}
+use Rattle.pivot.specs.Pivot.{commonLaid, entriesLaid}
 use Rattle.tableau.specs.declared.Variable.{Variable}
 use Rattle.tableau.specs.declared.Tableau.{Tableau}
-use Rattle.tableau.specs.declared.pivot.Pivoted.{Pivoted}
-use Rattle.tableau.specs.declared.pivot.Pivoted.the-variants as pivots
-use Rattle.tableau.specs.Layout.{Order, inUse, mostEntries, rowLaid, columnLaid, rowAt, columnAt, live}
-use Rattle.tableau.specs.Parts.{variable, row, column, entryLaid, entryIn, cell, basicAt, nonbasicAt}
-
--- ---- one entry before reduction: `own` is the entry, `beside` stands in its row and the entering column, `above` in
--- its column and the leaving row
-
--- by whether it is in the leaving row and in the entering column
-abbrev pub mixedOf : Bool → Bool → ℤ → ℤ → ℤ → ℤ → ℤ → ℤ
-mixedOf true true common pivot own beside above = common *ℤ common
-mixedOf true false common pivot own beside above = negℤ (common *ℤ above)
-mixedOf false true common pivot own beside above = beside *ℤ common
-mixedOf false false common pivot own beside above = pivot *ℤ own -ℤ beside *ℤ above
-
-pub record Mixable (common pivot own beside above : ℤ) : Type 0 where
-  pub common-within : Within common largestNumber
-  pub pivot-within : Within pivot largestNumber
-  pub own-within : Within own largestNumber
-  pub beside-within : Within beside largestNumber
-  pub above-within : Within above largestNumber
+use Rattle.tableau.specs.Parts.{variable, cell, basicAt, nonbasicAt}
 
 -- every number of the tableau is within the largest one
 pub record Cells (t : Tableau) : Type 0 where
   pub common-within : Within (t .common) largestNumber
   pub cell-within : (k : ℕ) → Within (cell t k) largestNumber
-
--- the number of row place i and column place j after the pivot of row place p and column place q
-unfoldable pub mixedLaid : Order → ℕ → ℕ → ℤ → List ℤ → ℕ → ℕ → ℕ → ℕ → ℤ
-mixedLaid o m n common l p q i j = mixedOf (eqb i p) (eqb j q) common
-    (entryLaid o m n l p q) (entryLaid o m n l i j) (entryLaid o m n l i q) (entryLaid o m n l p j)
-
--- .. at every flat place, the cells that are not in use 0
-abbrev pub mixLaid : Order → ℕ → ℕ → ℤ → List ℤ → ℕ → ℕ → List ℤ
-mixLaid o m n common l p q =
-    filled mostEntries (pos 0) (live m n) (λ k. mixedLaid o m n common l p q (rowLaid o m n k) (columnLaid o m n k))
-
--- .. in the order in use
-abbrev pub mixedCell : ℕ → ℕ → ℤ → List ℤ → ℕ → ℕ → ℕ → ℕ → ℤ
-mixedCell = mixedLaid inUse
-
-abbrev pub mixedAt : ℕ → ℕ → ℤ → List ℤ → ℕ → ℕ → ℕ → ℤ
-mixedAt m n common l p q k = mixedCell m n common l p q (rowAt m n k) (columnAt m n k)
-
-abbrev pub mixedEntries : ℕ → ℕ → ℤ → List ℤ → ℕ → ℕ → List ℤ
-mixedEntries = mixLaid inUse
-
--- .. the first k cells alone; the others are 0
-abbrev pub mixedUpTo : ℕ → ℕ → ℤ → List ℤ → ℕ → ℕ → ℕ → List ℤ
-mixedUpTo m n common l p q k = filled mostEntries (pos 0) k (mixedAt m n common l p q)
-
--- ---- reduction
-
--- a divisor with the sign of the common number
-unfoldable pub signedBy : ℤ → ℕ → ℤ
-signedBy common g = cond (isNeg common) (negℤ (pos g)) (pos g)
-
--- ---- the range test
-
-abbrev pub inRange : ℤ → Bool
-inRange z = within largestNumber z
-
--- the common number and the first k cells are within the largest number
-unfoldable pub smallBelow : ℕ → List ℤ → ℤ → Bool
-smallBelow k l common = inRange common && allBelow k (λ i. inRange (getD l i (pos 0)))
-
--- ---- the whole pivot, of m rows and n columns with these entries and this common number
-
-module _ (o : Order) (m n : ℕ) (l : List ℤ) (common : ℤ) (p q : ℕ) where
-  -- the common number before reduction, and what it and the entries are divided by
-  abbrev pub productLaid : ℤ
-  productLaid = entryLaid o m n l p q *ℤ common
-
-  abbrev pub byLaid : ℤ
-  byLaid = signedBy productLaid (divisorBelow (live m n) (mixLaid o m n common l p q) productLaid)
-
-  -- .. and the numbers after it
-  abbrev pub commonLaid : ℤ
-  commonLaid = quotZ productLaid byLaid
-
-  abbrev pub entriesLaid : List ℤ
-  entriesLaid = filled mostEntries (pos 0) (live m n) (quotients (mixLaid o m n common l p q) byLaid)
-
-  -- whether they are in range
-  abbrev pub fitsLaid : Bool
-  fitsLaid = smallBelow (live m n) entriesLaid commonLaid
-
--- .. in the order in use
-module _ (m n : ℕ) (l : List ℤ) (common : ℤ) (p q : ℕ) where
-  abbrev pub product : ℤ
-  product = productLaid inUse m n l common p q
-
-  abbrev pub mix : List ℤ
-  mix = mixLaid inUse m n common l p q
-
-  abbrev pub by : ℤ
-  by = byLaid inUse m n l common p q
-
-  abbrev pub commonAfter : ℤ
-  commonAfter = commonLaid inUse m n l common p q
-
-  abbrev pub entriesAfter : List ℤ
-  entriesAfter = entriesLaid inUse m n l common p q
-
-  abbrev pub fitsAfter : Bool
-  fitsAfter = fitsLaid inUse m n l common p q
-
--- what the code answers, and the entries that it leaves
-abbrev pub pivotedBy : Bool → ℤ → Pivoted
-pivotedBy true c = pivots.Common c
-pivotedBy false c = pivots.Beyond
-
-abbrev pub entriesBy : Bool → List ℤ → List ℤ → List ℤ
-entriesBy true old new = new
-entriesBy false old new = old
-
--- a row place and a column place with an entry other than 0
-pub record Pivotable (m n : ℕ) (l : List ℤ) (common : ℤ) (p q : ℕ) : Type 0 where
-  pub few-rows : m ≤ mostRows
-  pub few-columns : n ≤ mostColumns
-  pub in-rows : p < m
-  pub in-columns : q < n
-  pub common-within : Within common largestNumber
-  pub all-within : AllWithin l largestNumber
-  pub common-nonzero : common ≢ pos 0
-  pub pivot-nonzero : entryIn m n l p q ≢ pos 0
 
 -- the tableau with another common number and other entries
 abbrev pub withNumbers : Tableau → ℤ → List ℤ → Tableau

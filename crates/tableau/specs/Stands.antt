@@ -1,4 +1,5 @@
--- What the tableau by place stands for: a state of the run of docs/RULES.md. Sizes, places, numbers and limits, one record each.
+-- What the tableau by place stands for: a state of the run of docs/RULES.md. Sizes, places, numbers and limits, one
+-- record each.
 use Prim.Native.Nat.{ℕ, _≤_, _<_}
 use mathlib.Core.Path.{_≡_}
 use mathlib.Core.Bool.{true, false}
@@ -10,10 +11,11 @@ use Rattle.rules.specs.Sizes.{mostColumns, mostRows, mostVariables, largestLimi
 use Rattle.rules.specs.Problem.{Problem, vars}
 use Rattle.rules.specs.Tableau.{entry}
 use Rattle.rules.specs.Step.{State, seat, common}
+use Rattle.pivot.specs.Layout.{live}
 use Rattle.tableau.specs.declared.Limits.{Limits}
 use Rattle.tableau.specs.declared.Tableau.{Tableau}
-use Rattle.tableau.specs.Layout.{live}
-use Rattle.tableau.specs.Parts.{cell, cellAt, basicAt, nonbasicAt, valueAt, seatAt, rowOf, columnOf, lowerOf, upperOf}
+use Rattle.tableau.specs.Parts.{cell, cellAt, basicAt, nonbasicAt, valueAt, seatAt, rowOf, columnOf}
+use Rattle.tableau.specs.Parts.{lowerOf, upperOf}
 use Rattle.tableau.specs.Pivot.{Cells}
 
 -- row place i holds a basic variable, whose seat is that place

@@ -11,12 +11,12 @@ use Rattle.whole.specs.Values.{whole}
 use Rattle.rules.specs.Sizes.{mostColumns, mostRows, mostVariables}
 use Rattle.rules.specs.Problem.{Problem, vars}
 use Rattle.rules.specs.Step.{seated, startValue}
+use Rattle.pivot.specs.Layout.{Order, inUse, mostEntries, rowLaid, columnLaid, rowAt, columnAt, live, row, column}
 use Rattle.tableau.specs.declared.Variable.{Variable}
 use Rattle.tableau.specs.declared.Seat.{Seat}
 use Rattle.tableau.specs.declared.Limits.{Limits}
 use Rattle.tableau.specs.declared.Tableau.{Tableau}
-use Rattle.tableau.specs.Layout.{Order, inUse, mostEntries, rowLaid, columnLaid, rowAt, columnAt, live}
-use Rattle.tableau.specs.Parts.{variable, row, column, lowerOf, upperOf}
+use Rattle.tableau.specs.Parts.{variable, nowhere, lowerOf, upperOf}
 
 abbrev pub startEntriesLaid : Order → Problem ℤ → List ℤ
 startEntriesLaid o P = filled mostEntries (pos 0) (live (P .m) (P .n))
@@ -40,8 +40,9 @@ startNonbasic = table mostColumns variable
 abbrev pub seatFor : ℕ → ℕ → Seat
 seatFor n v = record { basic = not (ltb v n); row = row (v - n); column = column v }
 
-abbrev pub startSeats : ℕ → List Seat
-startSeats n = table mostVariables (seatFor n)
+-- .. of the first k variables; the others sit nowhere
+abbrev pub startSeats : ℕ → ℕ → List Seat
+startSeats n k = filled mostVariables nowhere k (seatFor n)
 
 -- ---- limits and values
 
@@ -75,7 +76,7 @@ startLaid o P = record {
   basic = startBasic (P .n);
   nonbasic = startNonbasic;
   values = startValues P;
-  seats = startSeats (P .n);
+  seats = startSeats (P .n) (vars P);
   limits = limitsFor P;
 }
 

@@ -1,15 +1,10 @@
 // The tableau by place. A row is an equation: `common`, the rules' D, times the row's basic variable is the sum of the
 // row's entries, each times its column's nonbasic variable. All of these numbers are whole.
-pub mod layout;
-pub mod pivot;
-pub mod range;
+use pivot::ColumnPlace;
+use pivot::RowPlace;
 
-// A variable's number, and the two kinds of place: none stands for another.
-pub struct Variable(pub usize);
-
-pub struct RowPlace(pub usize);
-
-pub struct ColumnPlace(pub usize);
+// A variable's number. No place stands for it.
+pub struct Variable(pub u8);
 
 // Where a variable sits: in a row where it is basic, in a column where it is not.
 pub struct Seat {
@@ -18,23 +13,24 @@ pub struct Seat {
     pub column: ColumnPlace,
 }
 
-// The limits of every variable: whether there is one, and which. The number of a missing limit is 0; nothing reads it.
+// The limits of every variable: whether there is one, and which. The number of a missing limit is 0; no answer depends
+// on it.
 pub struct Limits {
     pub lowers: [bool; Tableau::MOST_VARIABLES],
-    pub lower: [i64; Tableau::MOST_VARIABLES],
+    pub lower: [i32; Tableau::MOST_VARIABLES],
     pub uppers: [bool; Tableau::MOST_VARIABLES],
-    pub upper: [i64; Tableau::MOST_VARIABLES],
+    pub upper: [i32; Tableau::MOST_VARIABLES],
 }
 
-// The entries lie flat, as specs/Layout.antt says; a cell that is not in use is 0.
+// The entries lie flat, as the layout of the crate pivot says; a cell that is not in use is 0.
 pub struct Tableau {
     pub rows: usize,
     pub columns: usize,
-    pub common: i64,
-    pub entries: [i64; Tableau::MOST_ENTRIES],
+    pub common: i32,
+    pub entries: [i32; Tableau::MOST_ENTRIES],
     pub basic: [Variable; Tableau::MOST_ROWS],
     pub nonbasic: [Variable; Tableau::MOST_COLUMNS],
-    pub values: [i64; Tableau::MOST_COLUMNS],
+    pub values: [i32; Tableau::MOST_COLUMNS],
     pub seats: [Seat; Tableau::MOST_VARIABLES],
     pub limits: Limits,
 }
@@ -46,7 +42,7 @@ impl Tableau {
 
     pub const MOST_VARIABLES: usize = rules::MOST_VARIABLES;
 
-    pub const MOST_ENTRIES: usize = divisor::MOST_CELLS;
+    pub const MOST_ENTRIES: usize = pivot::MOST_ENTRIES;
 
     pub const LARGEST_COEFFICIENT: i32 = rules::LARGEST_COEFFICIENT;
 

@@ -1,33 +1,23 @@
 // The tableau at the start of a run, from accepted words: entries, places, limits and values.
 ghost use mathlib.Core.Path.{_≡_};
-ghost use mathlib.Core.Option.{none};
 ghost use Prim.Native.Nat.{_+_, _≤_, _<_};
-ghost use lib.ListN.{length};
 ghost use Rattle.whole.specs.Values.{whole};
-ghost use Rattle.rules.specs.Sizes.{mostColumns, mostRows};
+ghost use Rattle.rules.specs.Sizes.{mostColumns, mostRows, mostVariables};
 ghost use Rattle.rules.specs.Limit.{present};
-ghost use Rattle.rules.specs.Problem.{problem, word};
+ghost use Rattle.rules.specs.Problem.{problem};
 ghost use Rattle.rules.specs.Refusal.{Accepted, problemRefusal};
 ghost use Rattle.rules.specs.Step.{startValue};
 ghost use Rattle.judge.specs.Words.{Framed};
-ghost use Rattle.tableau.specs.Layout.{lines, lineAt};
+ghost use Rattle.pivot.specs.Layout.{lines, lineAt};
 ghost use Rattle.tableau.specs.Start.{startUpTo, startEntries, startBasic, startNonbasic, seatFor, startSeats};
 ghost use Rattle.tableau.specs.Start.{limitsFor, valuesFor, startTableau};
-use crate::ColumnPlace;
 use crate::Limits;
-use crate::RowPlace;
 use crate::Seat;
 use crate::Tableau;
 use crate::Variable;
-use crate::layout;
-
-// A word as a tableau's number.
-fn number_at(words: &[i32], at: usize) -> i64
-    requires { ⌜ at < length (now words) ⌝ }
-    ensures { λ r. ⌜ r ≡ word (now (words .entry)) at ⌝ }
-{
-    words[at] as i64
-}
+use pivot::ColumnPlace;
+use pivot::RowPlace;
+use pivot::layout;
 
 // One coefficient. They are handed in row by row.
 fn coefficient_at(
@@ -36,17 +26,18 @@ fn coefficient_at(
     rows: usize,
     row: RowPlace,
     column: ColumnPlace,
-) -> i64
+) -> i32
     requires { ⌜ Framed (now words) columns rows ⌝ }
     requires { ⌜ (row .0 < rows) × (column .0 < columns) ⌝ }
     ensures { λ r. ⌜ r ≡ problem (now (words .entry)) .coefficient (row .0) (column .0) ⌝ }
 {
-    number_at(words, 2 + (row.0 * columns + column.0))
+    let at = 2 + (row.0 as usize * columns + column.0 as usize);
+    words[at]
 }
 
 // The entries of one line, where those of the lines before it are there.
 fn start_line(
-    entries: &mut [i64; Tableau::MOST_ENTRIES],
+    entries: &mut [i32; Tableau::MOST_ENTRIES],
     words: &[i32],
     columns: usize,
     rows: usize,
@@ -66,19 +57,6 @@ fn start_line(
     }
 }
 
-// All entries.
-fn start_entries(words: &[i32], columns: usize, rows: usize) -> [i64; Tableau::MOST_ENTRIES]
-    requires { ⌜ Framed (now words) columns rows ⌝ }
-    ensures { λ r. ⌜ r ≡ startEntries (problem (now (words .entry))) ⌝ }
-{
-    let lines = layout::lines(rows, columns);
-    let mut entries = [0i64; Tableau::MOST_ENTRIES];
-    for line in 0..lines {
-        start_line(&mut entries, words, columns, rows, line);
-    }
-    entries
-}
-
 // The basic variables: that of row i in row place i.
 fn start_basic(columns: usize) -> [Variable; Tableau::MOST_ROWS]
     requires { ⌜ columns ≤ mostColumns ⌝ }
@@ -86,7 +64,7 @@ fn start_basic(columns: usize) -> [Variable; Tableau::MOST_ROWS]
 {
     let mut basic = [Variable(0); Tableau::MOST_ROWS];
     for i in 0..Tableau::MOST_ROWS {
-        basic[i] = Variable(columns + i);
+        basic[i] = Variable((columns + i) as u8);
     }
     basic
 }
@@ -97,32 +75,34 @@ fn start_nonbasic() -> [Variable; Tableau::MOST_COLUMNS]
 {
     let mut nonbasic = [Variable(0); Tableau::MOST_COLUMNS];
     for j in 0..Tableau::MOST_COLUMNS {
-        nonbasic[j] = Variable(j);
+        nonbasic[j] = Variable(j as u8);
     }
     nonbasic
 }
 
 // Where a variable sits.
-fn seat_for(columns: usize, v: usize) -> Seat
-    ensures { λ r. ⌜ r ≡ seatFor columns v ⌝ }
+fn seat_for(columns: usize, variable: Variable) -> Seat
+    ensures { λ r. ⌜ r ≡ seatFor columns (variable .0) ⌝ }
 {
+    let v = variable.0 as usize;
     if v < columns {
         return Seat {
             basic: false,
             row: RowPlace(0),
-            column: ColumnPlace(v),
+            column: ColumnPlace(variable.0),
         };
     }
     Seat {
         basic: true,
-        row: RowPlace(v - columns),
-        column: ColumnPlace(v),
+        row: RowPlace((v - columns) as u8),
+        column: ColumnPlace(variable.0),
     }
 }
 
-// All seats.
-fn start_seats(columns: usize) -> [Seat; Tableau::MOST_VARIABLES]
-    ensures { λ r. ⌜ r ≡ startSeats columns ⌝ }
+// The seats of so many variables.
+fn start_seats(columns: usize, variables: usize) -> [Seat; Tableau::MOST_VARIABLES]
+    requires { ⌜ variables ≤ mostVariables ⌝ }
+    ensures { λ r. ⌜ r ≡ startSeats columns variables ⌝ }
 {
     let nowhere = Seat {
         basic: false,
@@ -130,72 +110,31 @@ fn start_seats(columns: usize) -> [Seat; Tableau::MOST_VARIABLES]
         column: ColumnPlace(0),
     };
     let mut seats = [nowhere; Tableau::MOST_VARIABLES];
-    for v in 0..Tableau::MOST_VARIABLES {
-        seats[v] = seat_for(columns, v);
+    for v in 0..variables {
+        seats[v] = seat_for(columns, Variable(v as u8));
     }
     seats
 }
 
-// The limits of every variable. The word of a missing limit is 0.
-fn limits_of(words: &[i32], columns: usize, rows: usize) -> Limits
-    requires { ⌜ Framed (now words) columns rows ⌝ }
-    requires { ⌜ Accepted mostRows (now words) ⌝ }
-    ensures { λ r. ⌜ r ≡ limitsFor (problem (now (words .entry))) ⌝ }
+// 0 if the limits allow 0, else the lower limit if that is above 0, else the upper limit.
+fn start_value(lowers: bool, lower: i32, uppers: bool, upper: i32) -> i32
+    ensures { λ r. ⌜ r ≡ startValue whole (present lowers lower) (present uppers upper) ⌝ }
 {
-    let from = 2 + rows * columns;
-    let end = columns + rows;
-    let mut lowers = [false; Tableau::MOST_VARIABLES];
-    let mut lower = [0i64; Tableau::MOST_VARIABLES];
-    let mut uppers = [false; Tableau::MOST_VARIABLES];
-    let mut upper = [0i64; Tableau::MOST_VARIABLES];
-    for v in 0..end {
-        let at = from + 3 * v;
-        let kind = words[at];
-        lowers[v] = judge::has_lower(kind);
-        lower[v] = number_at(words, at + 1);
-        uppers[v] = judge::has_upper(kind);
-        upper[v] = number_at(words, at + 2);
+    if lowers & (0 < lower) {
+        return lower;
     }
-    Limits {
-        lowers,
-        lower,
-        uppers,
-        upper,
-    }
-}
-
-// 0, or an upper limit that is below it.
-fn capped(has: bool, upper: i64) -> i64
-    ensures { λ r. ⌜ r ≡ startValue whole none (present has upper) ⌝ }
-{
-    if has {
-        if upper < 0 {
-            return upper;
-        }
-        return 0;
+    if uppers & (upper < 0) {
+        return upper;
     }
     0
 }
 
-// 0 if the limits allow 0, else the lower limit if that is above 0, else the upper limit.
-fn start_value(lowers: bool, lower: i64, uppers: bool, upper: i64) -> i64
-    ensures { λ r. ⌜ r ≡ startValue whole (present lowers lower) (present uppers upper) ⌝ }
-{
-    if lowers {
-        if 0 < lower {
-            return lower;
-        }
-        return capped(uppers, upper);
-    }
-    capped(uppers, upper)
-}
-
 // The values of the problem variables.
-fn start_values(limits: Limits, columns: usize) -> [i64; Tableau::MOST_COLUMNS]
+fn start_values(limits: Limits, columns: usize) -> [i32; Tableau::MOST_COLUMNS]
     requires { ⌜ columns ≤ mostColumns ⌝ }
     ensures { λ r. ⌜ r ≡ valuesFor limits columns ⌝ }
 {
-    let mut values = [0i64; Tableau::MOST_COLUMNS];
+    let mut values = [0i32; Tableau::MOST_COLUMNS];
     for j in 0..columns {
         values[j] = start_value(
             limits.lowers[j],
@@ -208,6 +147,49 @@ fn start_values(limits: Limits, columns: usize) -> [i64; Tableau::MOST_COLUMNS]
 }
 
 impl Tableau {
+    // The entries of accepted words.
+    pub fn start_entries(words: &[i32], columns: usize, rows: usize) -> [i32; Tableau::MOST_ENTRIES]
+        requires { ⌜ Framed (now words) columns rows ⌝ }
+        ensures { λ r. ⌜ r ≡ startEntries (problem (now (words .entry))) ⌝ }
+    {
+        let lines = layout::lines(rows, columns);
+        let mut entries = [0i32; Tableau::MOST_ENTRIES];
+        for line in 0..lines {
+            start_line(&mut entries, words, columns, rows, line);
+        }
+        entries
+    }
+
+    // The limits of accepted words. The word of a missing limit is 0.
+    pub fn limits_of(words: &[i32], columns: usize, rows: usize) -> Limits
+        requires { ⌜ Framed (now words) columns rows ⌝ }
+        requires { ⌜ Accepted mostRows (now words) ⌝ }
+        ensures { λ r. ⌜ r ≡ limitsFor (problem (now (words .entry))) ⌝ }
+    {
+        let from = 2 + rows * columns;
+        let end = columns + rows;
+        let mut lowers = [false; Tableau::MOST_VARIABLES];
+        let mut lower = [0i32; Tableau::MOST_VARIABLES];
+        let mut uppers = [false; Tableau::MOST_VARIABLES];
+        let mut upper = [0i32; Tableau::MOST_VARIABLES];
+        for v in 0..end {
+            let at = from + 3 * v;
+            let low = at + 1;
+            let high = at + 2;
+            let kind = words[at];
+            lowers[v] = judge::has_lower(kind);
+            lower[v] = words[low];
+            uppers[v] = judge::has_upper(kind);
+            upper[v] = words[high];
+        }
+        Limits {
+            lowers,
+            lower,
+            uppers,
+            upper,
+        }
+    }
+
     // The tableau of accepted words, at the start of a run.
     pub fn new(words: &[i32]) -> Tableau
         requires { ⌜ problemRefusal (now words) ≡ 0 ⌝ }
@@ -215,16 +197,16 @@ impl Tableau {
     {
         let columns = judge::count_at(words, 0);
         let rows = judge::count_at(words, 1);
-        let limits = limits_of(words, columns, rows);
+        let limits = Tableau::limits_of(words, columns, rows);
         Tableau {
             rows,
             columns,
             common: 1,
-            entries: start_entries(words, columns, rows),
+            entries: Tableau::start_entries(words, columns, rows),
             basic: start_basic(columns),
             nonbasic: start_nonbasic(),
             values: start_values(limits, columns),
-            seats: start_seats(columns),
+            seats: start_seats(columns, columns + rows),
             limits,
         }
     }

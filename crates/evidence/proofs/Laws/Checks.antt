@@ -1,27 +1,23 @@
 -- The checker's number for words that are accepted, by the answer's length and verdict.
---   long-is                                     how long an answer must be, from the tableau that was read
+--   long-is                                     how long an answer must be, from the sizes that were read
 --   too-short, can-judged, cannot-judged, other-judged
-use mathlib.Core.Path.{_≡_, refl, ap, _∙_}
+use mathlib.Core.Path.{_≡_, refl, ap, ap₂, _∙_}
 use mathlib.Core.Bool.{Bool, true, false, cond}
 use mathlib.Core.List.{List}
 use mathlib.Core.Logic.{_≢_}
-use Prim.Native.Nat.{_+_, _*_, _<_, _≤_}
+use Prim.Native.Nat.{ℕ, _+_, _*_, _<_, _≤_}
 use lib.IntN.{ℤ, pos}
 use lib.ListN.{length}
 use Rattle.whole.specs.Numbers.{eqZ}
 use Rattle.whole.proofs.Tells.{tells-eqZ, tells-false, tells-true}
-use Rattle.rules.specs.Problem.{answerLength, problem}
+use Rattle.rules.specs.Problem.{answerLength, mOf, nOf, problem}
 use Rattle.rules.specs.Refusal.{problemRefusal}
 use Rattle.rules.specs.Evidence.{verdictOf, showsCan, showsCannot, accepted, checked}
 use Rattle.rules.proofs.Refused.{room-tells}
 use Rattle.rules.proofs.Evidence.Checked.{checked-by-answer}
-use Rattle.tableau.specs.declared.Tableau.{Tableau}
-use Rattle.tableau.specs.Start.{startTableau, startLaid}
 
-pub long-is : (ws : List ℤ) (t : Tableau) → t ≡ startTableau (problem ws) →
-    3 + 2 * (t .columns + t .rows) ≡ answerLength ws
-unfolding startLaid problem
-long-is ws t e = ap (λ (t : Tableau). 3 + 2 * (t .columns + t .rows)) e
+pub long-is : (ws : List ℤ) {n m : ℕ} → n ≡ nOf ws → m ≡ mOf ws → 3 + 2 * (n + m) ≡ answerLength ws
+long-is ws e q = ap₂ (λ n m. 3 + 2 * (n + m)) e q
 
 module _ (ws a : List ℤ) (fine : problemRefusal ws ≡ 0) where
   pub too-short : length a < answerLength ws → checked ws a ≡ 7

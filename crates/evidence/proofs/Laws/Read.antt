@@ -1,8 +1,8 @@
--- A tableau that was read from a problem holds that problem: the checker's rules say the same of both.
---   readable                 of accepted words, with an answer that is long enough
---   held                     the problem that a tableau holds
---   can-same, cannot-same    the rules of verdict 1 and 2 over the problem that was read
-use mathlib.Core.Path.{_≡_, ap, ap₂, sym, subst, _∙_}
+-- Entries and limits that were read from a problem hold that problem: the checker's rules say the same of both.
+--   ReadFrom                 entries, limits and sizes that were read from a problem
+--   readable                 they can be checked, with an answer that is long enough
+--   can-same, cannot-same    the rules of verdict 1 and 2 over what was read
+use mathlib.Core.Path.{_≡_, ap, ap₂, _∙_}
 use mathlib.Core.Bool.{Bool, not, _&&_}
 use mathlib.Core.List.{List}
 use Prim.Native.Nat.{ℕ, _+_, _*_, _≤_}
@@ -18,18 +18,21 @@ use Rattle.rules.specs.Problem.{Problem, vars}
 use Rattle.rules.specs.Step.{seated}
 use Rattle.rules.specs.Evidence.{denominatorOf, lowerPart, upperPart, rowSum, fair, column, surplus}
 use Rattle.rules.specs.Evidence.{showsCan, showsCannot}
-use Rattle.tableau.specs.declared.Tableau.{Tableau}
-use Rattle.tableau.specs.Start.{startTableau, startLaid}
+use Rattle.tableau.specs.declared.Limits.{Limits}
+use Rattle.tableau.specs.Start.{limitsFor, startEntries, startLaid}
 use Rattle.tableau.proofs.Laws.Fitting.{Fitting, coefficient-start, coefficients-start, serves-start}
 use Rattle.tableau.proofs.Laws.Reading.{lower-of, upper-of}
 use Rattle.evidence.specs.Reads.{problemOf, Readable, meetsBoth}
 
-abbrev pub held : Tableau → Problem ℤ
-held t = problemOf (t .entries) (t .limits) (t .rows) (t .columns)
+pub record ReadFrom (P : Problem ℤ) (entries : List ℤ) (limits : Limits) (rows columns : ℕ) : Type 0 where
+  pub entries-are : entries ≡ startEntries P
+  pub limits-are : limits ≡ limitsFor P
+  pub rows-are : rows ≡ P .m
+  pub columns-are : columns ≡ P .n
 
 module _ (P : Problem ℤ) (F : Fitting P) (a : List ℤ) where
   abbrev read : Problem ℤ
-  read = held (startTableau P)
+  read = problemOf (startEntries P) (limitsFor P) (P .m) (P .n)
 
   -- ---- verdict 1
 
@@ -90,24 +93,30 @@ module _ (P : Problem ℤ) (F : Fitting P) (a : List ℤ) where
       fairs-same columns-same
       ∙ ap (λ z. eqZ (denominatorOf a) (pos 0) && fairs P && cancels P && isPos z) surplus-same
 
-  -- ---- a tableau that was read
+  -- ---- what was read
 
-  module _ (t : Tableau) (e : t ≡ startTableau P) where
-    pub readable : 3 + 2 * vars P ≤ length a → Readable (t .entries) (t .limits) (t .rows) (t .columns) a
+  module _ {entries : List ℤ} {limits : Limits} {rows columns : ℕ} (R : ReadFrom P entries limits rows columns) where
+    held-is : problemOf entries limits rows columns ≡ read
+    held-is = let e = R .entries-are in let l = R .limits-are in let m = R .rows-are in let n = R .columns-are in cc
+
+    pub readable : 3 + 2 * vars P ≤ length a → Readable entries limits rows columns a
     unfolding startLaid
-    readable h = subst (λ (t : Tableau). Readable (t .entries) (t .limits) (t .rows) (t .columns) a) (sym e) (record {
-      few-rows = F .few-rows;
-      few-columns = F .few-columns;
-      long = h;
-      entries-within = record { each = coefficients-start P F };
-      limited = record {
-        lowers-within = serves-start P F .lowers-within;
-        uppers-within = serves-start P F .uppers-within;
-      };
-    })
+    readable h = rw (R .entries-are, R .limits-are, R .rows-are, R .columns-are) start
+      where
+        start : Readable (startEntries P) (limitsFor P) (P .m) (P .n) a
+        start = record {
+          few-rows = F .few-rows;
+          few-columns = F .few-columns;
+          long = h;
+          entries-within = record { each = coefficients-start P F };
+          limited = record {
+            lowers-within = serves-start P F .lowers-within;
+            uppers-within = serves-start P F .uppers-within;
+          };
+        }
 
-    pub can-same : showsCan (held t) a ≡ showsCan P a
-    can-same = ap (λ (t : Tableau). showsCan (held t) a) e ∙ can-start
+    pub can-same : showsCan (problemOf entries limits rows columns) a ≡ showsCan P a
+    can-same = ap (λ (Q : Problem ℤ). showsCan Q a) held-is ∙ can-start
 
-    pub cannot-same : showsCannot (held t) a ≡ showsCannot P a
-    cannot-same = ap (λ (t : Tableau). showsCannot (held t) a) e ∙ cannot-start
+    pub cannot-same : showsCannot (problemOf entries limits rows columns) a ≡ showsCannot P a
+    cannot-same = ap (λ (Q : Problem ℤ). showsCannot Q a) held-is ∙ cannot-start

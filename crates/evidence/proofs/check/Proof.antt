@@ -9,20 +9,24 @@ use native.Mathlib.Omega.{arith}
 use borrow.Author.Needs.{sfits-of}
 use lib.IntN.{ℤ, pos}
 use lib.ListN.{length}
+use lib.Signed.{leZ-yes}
 use mir.Facts.{toZ-ofZ}
 use mir.Syntax.{w64}
 use mir.Val.{SFits, ofZ, toZ}
-use Rattle.rules.specs.Sizes.{mostColumns, mostRows}
+use Rattle.whole.proofs.Order.{≤ℤ-trans}
+use Rattle.rules.specs.Sizes.{mostRows}
 use Rattle.rules.specs.Problem.{Problem, answerLength, problem}
-use Rattle.rules.specs.Refusal.{problemRefusal}
+use Rattle.rules.specs.Refusal.{Accepted, problemRefusal}
 use Rattle.rules.specs.Evidence.{verdictOf, showsCan, showsCannot, checked}
+use Rattle.rules.proofs.Ranges.{problem-m, problem-n}
 use Rattle.rules.proofs.Refused.{accepted-exactly}
 use Rattle.rules.proofs.Evidence.Checked.{checked-by-problem}
-use Rattle.tableau.specs.declared.Tableau.{Tableau}
-use Rattle.tableau.specs.Start.{startLaid}
+use Rattle.tableau.specs.declared.Limits.{Limits}
+use Rattle.judge.specs.Words.{Framed}
 use Rattle.tableau.proofs.Laws.Fitting.{Fitting, fitting-accepted}
-use Rattle.evidence.specs.Reads.{Readable}
-use Rattle.evidence.proofs.Laws.Read.{held, readable, can-same, cannot-same}
+use Rattle.judge.proofs.Laws.Judged.{accepted-framed}
+use Rattle.evidence.specs.Reads.{Readable, problemOf}
+use Rattle.evidence.proofs.Laws.Read.{ReadFrom, readable, can-same, cannot-same}
 use Rattle.evidence.proofs.Laws.Checks.{long-is, too-short, can-judged, cannot-judged, other-judged}
 use Rattle.evidence.proofs.check.Statement.{statement}
 use Rattle.evidence.proofs.check.Tie as tie
@@ -44,92 +48,127 @@ returns c = let s = c .before .before in let j = c .before .judge in
     kept ws a zero e n = absurd (n refl)
     kept ws a (suc k) e n = sym (checked-by-problem ws a k (sym e))
 
--- ---- the problem is accepted, and the tableau is the one at its start
+-- ---- the problem is accepted, and n and m are at hand
 
 module _ (c : tie.Else1) where
   fine : problemRefusal (words (c .before .before)) ≡ 0
   fine = sym (c .before .judge .ensures) ∙ c .if1 .left
 
-  fitting : Fitting (problem (words (c .before .before)))
+  taken : Accepted mostRows (words (c .before .before))
   unfolding problemRefusal
-  fitting = fitting-accepted (words (c .before .before)) (accepted-exactly mostRows (words (c .before .before)) .0 fine)
+  taken = accepted-exactly mostRows (words (c .before .before)) .0 fine
 
-new-requires : tie.Need-new-requires
-new-requires c κs = fine c
+count-at-requires : tie.Need-count-at-requires
+count-at-requires c κs =
+    let A = taken c in (omega (arith, A .enough), ≤ℤ-trans {b = pos 1} (leZ-yes tt) (A .n-least))
 
-module _ (c : tie.After-new) where
+count-at-requires-2 : tie.Need-count-at-requires-2
+count-at-requires-2 c κs = let A = taken (c .before) in (omega (arith, A .enough), A .m-least)
+
+module _ (c : tie.After-count-at2) where
   abbrev start : tie.Start
-  start = c .before .before .before
+  start = c .before .before .before .before
 
-  abbrev t : Tableau
-  t = c .new .result
+  abbrev n : ℕ
+  n = c .before .count-at .result
 
-  few : (t .columns ≤ mostColumns) × (t .rows ≤ mostRows)
-  unfolding startLaid
-  few = rw (c .new .ensures) (fitting (c .before) .few-columns, fitting (c .before) .few-rows)
+  abbrev m : ℕ
+  m = c .count-at2 .result
 
-  long-here : 3 + 2 * (t .columns + t .rows) ≡ answerLength (words start)
-  long-here = long-is (words start) t (c .new .ensures)
+  framed : Framed (words start) n m
+  framed = accepted-framed (taken (c .before .before)) (c .before .count-at .ensures) (c .count-at2 .ensures)
+
+  long-here : 3 + 2 * (n + m) ≡ answerLength (words start)
+  long-here = long-is (words start) (framed .columns-are) (framed .rows-are)
 
 add-if2 : tie.Need-add-if2
-add-if2 c = let h = few c in omega arith
+add-if2 c = let F = framed c in omega (arith, F .few-columns, F .few-rows)
 
 mul-if2 : tie.Need-mul-if2
-mul-if2 c = let h = few c in omega arith
+mul-if2 c = let F = framed c in omega (arith, F .few-columns, F .few-rows)
 
 add-if2-2 : tie.Need-add-if2-2
-add-if2-2 c = let h = few c in omega arith
+add-if2-2 c = let F = framed c in omega (arith, F .few-columns, F .few-rows)
 
 returns-2 : tie.Need-returns-2
-returns-2 c = let n = c .before in
-    sym (too-short (words (start n)) (answer (start n)) (fine (n .before)) (rw (← long-here n) (c .if2 .taken)))
+returns-2 c = let b = c .before in
+    sym (too-short (words (start b)) (answer (start b)) (fine (b .before .before)) (rw (← long-here b) (c .if2 .taken)))
 
--- ---- the answer is long enough
+-- ---- the answer is long enough, and entries and limits are read
 
-module _ (c : tie.Else2) where
-  abbrev new : tie.After-new
-  new = c .before
+start-entries-requires : tie.Need-start-entries-requires
+start-entries-requires c κs = framed (c .before)
+
+limits-of-requires : tie.Need-limits-of-requires
+limits-of-requires c κs = (framed (c .before .before), taken (c .before .before .before .before))
+
+module _ (c : tie.After-limits-of) where
+  abbrev sizes : tie.After-count-at2
+  sizes = c .before .before .before
+
+  abbrev begun : tie.Start
+  begun = start sizes
 
   abbrev P : Problem ℤ
-  P = problem (words (start new))
+  P = problem (words begun)
 
-  long : answerLength (words (start new)) ≤ length (answer (start new))
-  long = rw (← long-here new) (c .if2 .left)
+  abbrev entries : List ℤ
+  entries = c .before .start-entries .result
 
-  ready : Readable (t new .entries) (t new .limits) (t new .rows) (t new .columns) (answer (start new))
+  abbrev limits : Limits
+  limits = c .limits-of .result
+
+  not-refused : problemRefusal (words begun) ≡ 0
+  not-refused = fine (sizes .before .before)
+
+  long : answerLength (words begun) ≤ length (answer begun)
+  long = rw (← long-here sizes) (c .before .before .if2 .left)
+
+  fitting : Fitting P
+  fitting = fitting-accepted (words begun) (taken (sizes .before .before))
+
+  read : ReadFrom P entries limits (m sizes) (n sizes)
+  read = record {
+    entries-are = c .before .start-entries .ensures;
+    limits-are = c .limits-of .ensures;
+    rows-are = sizes .count-at2 .ensures ∙ sym (problem-m (words begun));
+    columns-are = sizes .before .count-at .ensures ∙ sym (problem-n (words begun));
+  }
+
+  ready : Readable entries limits (m sizes) (n sizes) (answer begun)
   unfolding problem
-  ready = readable P (fitting (new .before)) (answer (start new)) (t new) (new .new .ensures) long
+  ready = readable P fitting (answer begun) read long
 
-  can-is : showsCan (held (t new)) (answer (start new)) ≡ showsCan P (answer (start new))
-  can-is = can-same P (fitting (new .before)) (answer (start new)) (t new) (new .new .ensures)
+  can-is : showsCan (problemOf entries limits (m sizes) (n sizes)) (answer begun) ≡ showsCan P (answer begun)
+  can-is = can-same P fitting (answer begun) read
 
-  cannot-is : showsCannot (held (t new)) (answer (start new)) ≡ showsCannot P (answer (start new))
-  cannot-is = cannot-same P (fitting (new .before)) (answer (start new)) (t new) (new .new .ensures)
+  cannot-is : showsCannot (problemOf entries limits (m sizes) (n sizes)) (answer begun) ≡ showsCannot P (answer begun)
+  cannot-is = cannot-same P fitting (answer begun) read
 
 shared-slice-copy-out-verdict : tie.Need-shared-slice-copy-out-verdict
-shared-slice-copy-out-verdict c = let h = long (c .before) in omega arith
+shared-slice-copy-out-verdict c = let h = long c in omega arith
 
 -- ---- the verdict
 
-fit : (c : tie.After-verdict) → SFits w64 (verdictOf (answer (start (new (c .before .before)))))
+fit : (c : tie.After-verdict) → SFits w64 (verdictOf (answer (begun (c .before))))
 fit c = sfits-of (c .verdict .given)
 
-one : (c : tie.Then3) → verdictOf (answer (start (new (c .before .before .before)))) ≡ pos 1
+one : (c : tie.Then3) → verdictOf (answer (begun (c .before .before))) ≡ pos 1
 one c = sym (toZ-ofZ (fit (c .before))) ∙ ap (toZ w64) (c .if3 .taken)
 
-not-one : (c : tie.Else3) → verdictOf (answer (start (new (c .before .before .before)))) ≢ pos 1
+not-one : (c : tie.Else3) → verdictOf (answer (begun (c .before .before))) ≢ pos 1
 not-one c e = c .if3 .left (ap (ofZ w64) e)
 
-two : (c : tie.Then5) → verdictOf (answer (start (new (c .before .before .before .before)))) ≡ pos 2
+two : (c : tie.Then5) → verdictOf (answer (begun (c .before .before .before))) ≡ pos 2
 two c = sym (toZ-ofZ (fit (c .before .before))) ∙ ap (toZ w64) (c .if5 .taken)
 
 shows-can-requires : tie.Need-shows-can-requires
-shows-can-requires c κs = ready (c .before .before .before .before .before)
+shows-can-requires c κs = ready (c .before .before .before)
 
-can-answers : (c : tie.After-shows-can) → let n = new (c .before .before .before .before .before .before) in
-    checked (words (start n)) (answer (start n)) ≡ cond (c .shows-can .result) 8 9
-can-answers c = let v = c .before .before .before in let l = v .before .before .before in let n = new l in
-    can-judged (words (start n)) (answer (start n)) (fine (n .before)) (long l) (one v)
+can-answers : (c : tie.After-shows-can) → let b = begun (c .before .before .before .before) in
+    checked (words b) (answer b) ≡ cond (c .shows-can .result) 8 9
+can-answers c = let v = c .before .before in let l = v .before .before in
+    can-judged (words (begun l)) (answer (begun l)) (not-refused l) (long l) (one v)
     ∙ ap (λ (b : Bool). cond b 8 9) (sym (c .shows-can .ensures ∙ can-is l))
 
 returns-3 : tie.Need-returns-3
@@ -139,13 +178,12 @@ returns-4 : tie.Need-returns-4
 returns-4 c = sym (can-answers (c .before) ∙ ap (λ (b : Bool). cond b 8 9) (c .if4 .left))
 
 shows-cannot-requires : tie.Need-shows-cannot-requires
-shows-cannot-requires c κs = ready (c .before .before .before .before .before .before)
+shows-cannot-requires c κs = ready (c .before .before .before .before)
 
-cannot-answers : (c : tie.After-shows-cannot) →
-    let n = new (c .before .before .before .before .before .before .before) in
-    checked (words (start n)) (answer (start n)) ≡ cond (c .shows-cannot .result) 8 9
-cannot-answers c = let v = c .before .before .before in let l = v .before .before .before .before in let n = new l in
-    cannot-judged (words (start n)) (answer (start n)) (fine (n .before)) (long l) (not-one (v .before)) (two v)
+cannot-answers : (c : tie.After-shows-cannot) → let b = begun (c .before .before .before .before .before) in
+    checked (words b) (answer b) ≡ cond (c .shows-cannot .result) 8 9
+cannot-answers c = let v = c .before .before in let l = v .before .before .before in
+    cannot-judged (words (begun l)) (answer (begun l)) (not-refused l) (long l) (not-one (v .before)) (two v)
     ∙ ap (λ (b : Bool). cond b 8 9) (sym (c .shows-cannot .ensures ∙ cannot-is l))
 
 returns-5 : tie.Need-returns-5
@@ -155,8 +193,8 @@ returns-6 : tie.Need-returns-6
 returns-6 c = sym (cannot-answers (c .before) ∙ ap (λ (b : Bool). cond b 8 9) (c .if6 .left))
 
 returns-7 : tie.Need-returns-7
-returns-7 c = let l = c .before .before .before .before in let n = new l in
-    sym (other-judged (words (start n)) (answer (start n)) (fine (n .before)) (long l) (not-one (c .before))
+returns-7 c = let l = c .before .before .before in
+    sym (other-judged (words (begun l)) (answer (begun l)) (not-refused l) (long l) (not-one (c .before))
     (λ e. c .if5 .left (ap (ofZ w64) e)))
 
 pub check-spec : {M : Type 1} → statement M
@@ -165,11 +203,14 @@ check-spec =
     (tie.spec
     judge-requires
     returns
-    new-requires
+    count-at-requires
+    count-at-requires-2
     add-if2
     mul-if2
     add-if2-2
     returns-2
+    start-entries-requires
+    limits-of-requires
     shared-slice-copy-out-verdict
     shows-can-requires
     returns-3

@@ -7,6 +7,7 @@ use Rattle.search.proofs.row_value.Reads as row-value
 use Rattle.search.proofs.next_step.Reads as next-step
 use Rattle.search.proofs.sides.limits_of.Reads as limits-of
 use Rattle.search.proofs.sides.breach_of.Reads as breach-of
+use Rattle.search.proofs.sides.product.Reads as product
 use Rattle.search.proofs.sides.suits.Reads as suits
 
 pub after-only : (κs : _) (x : _) (a b : _) (e : _) → after.Post κs x a e → after.Post κs x b e → a ≡ b
@@ -29,3 +30,6 @@ breach-of-only κs x a b e h k = h ∙ sym k
 
 pub suits-only : (κs : _) (x : _) (a b : _) (e : _) → suits.Post κs x a e → suits.Post κs x b e → a ≡ b
 suits-only κs x a b e h k = h ∙ sym k
+
+pub product-only : (κs : _) (x : _) (a b : _) (e : _) → product.Post κs x a e → product.Post κs x b e → a ≡ b
+product-only κs x a b e h k = h ∙ sym k

@@ -1,16 +1,18 @@
 -- By which limit a value is outside, and when a variable suits, over plain numbers.
 --   gap-is                           a gap of whole numbers is their difference
 --   breach-under, -over, -none       the breach by the two tests
---   suits-zero, -falls, -rises       whether a variable suits by the sign of its entry
+--   under-, over-, rise-, fall-, suits-joined       the tests, joined without a branch
 use Prim.Native.Nat.{ℕ, zero, suc}
 use mathlib.Core.Path.{_≡_, refl, sym, ap, ap₂, _∙_}
-use mathlib.Core.Logic.{_≢_}
-use mathlib.Core.Bool.{Bool, true, false, Bool·beq}
+use mathlib.Core.Bool.{Bool, true, false, not, _&&_, _||_, Bool·beq}
 use mathlib.Core.List.{[], _∷_}
 use mathlib.Core.Option.{Option, none}
+use native.Mathlib.Omega.{arith}
+use borrow.Author.Tests.{ne-eqb}
 use lib.Dec.{leb·suc-zero}
 use lib.IntN.{ℤ, pos, negsuc, _*ℤ_, _-ℤ_}
 use lib.Signed.{ltZ}
+use Rattle.whole.specs.Numbers.{eqZ}
 use Rattle.whole.specs.Values.{whole}
 use Rattle.whole.proofs.Bools.{true-false}
 use Rattle.whole.proofs.Reify.{reify}
@@ -61,29 +63,51 @@ module _ (d x : ℤ) (p : LimitPair) where
   unfolding breachOf sideOf
   breach-none e f = sym (ap₂ (λ t o. asBreach (sideFrom t o) short) e f)
 
+-- ---- the tests without a branch
+
+pub under-joined : (b : Bool) (l d x : ℤ) → (b && ltZ x (d *ℤ l)) ≡ under whole d x (present b l)
+unfolding under present
+under-joined true l d x = refl
+under-joined false l d x = refl
+
+pub over-joined : (b : Bool) (u d x : ℤ) → (b && ltZ (d *ℤ u) x) ≡ over whole d x (present b u)
+unfolding over present
+over-joined true u d x = refl
+over-joined false u d x = refl
+
+pub rise-joined : (b : Bool) (u x : ℤ) → (not b || ltZ x u) ≡ mayRise whole x (present b u)
+unfolding mayRise present
+rise-joined true u x = refl
+rise-joined false u x = refl
+
+pub fall-joined : (b : Bool) (l x : ℤ) → (not b || ltZ l x) ≡ mayFall whole x (present b l)
+unfolding mayFall present
+fall-joined true l x = refl
+fall-joined false l x = refl
+
 not-below : (k : ℕ) → ltZ (pos (suc k)) (pos 0) ≡ false
 not-below k = leb·suc-zero (suc k)
 
+first-alone : (b : Bool) → (b || false) ≡ b
+first-alone true = refl
+first-alone false = refl
+
+-- the sign of the entry says which of the two tests counts
 module _ (x : ℤ) (p : LimitPair) where
-  pub suits-zero : (rises : Bool) → suitsOf rises (pos 0) x p ≡ false
-  unfolding suitsOf suits pull
-  suits-zero true = refl
-  suits-zero false = refl
+  abbrev pub joined : Bool → Bool → Bool
+  joined idle falls = not idle && ((falls && mayFall whole x (lowerIn p)) || (not falls && mayRise whole x (upperIn p)))
 
-  pub suits-falls : (rises : Bool) (e : ℤ) → e ≢ pos 0 → Bool·beq (ltZ e (pos 0)) rises ≡ true →
-      mayFall whole x (lowerIn p) ≡ suitsOf rises e x p
-  unfolding suitsOf suits pull
-  suits-falls rises (pos zero) n h = absurd (n refl)
-  suits-falls true (pos (suc k)) n h = true-false (rw (not-below k) at h) refl
-  suits-falls false (pos (suc k)) n h = refl
-  suits-falls true (negsuc k) n h = refl
-  suits-falls false (negsuc k) n h = true-false h refl
+  abbrev pub falls : Bool → ℤ → Bool
+  falls rises e = Bool·beq (ltZ e (pos 0)) rises
 
-  pub suits-rises : (rises : Bool) (e : ℤ) → e ≢ pos 0 → Bool·beq (ltZ e (pos 0)) rises ≡ false →
-      mayRise whole x (upperIn p) ≡ suitsOf rises e x p
+  pub suits-joined : (rises : Bool) (e : ℤ) → joined (eqZ e (pos 0)) (falls rises e) ≡ suitsOf rises e x p
   unfolding suitsOf suits pull
-  suits-rises rises (pos zero) n h = absurd (n refl)
-  suits-rises true (pos (suc k)) n h = refl
-  suits-rises false (pos (suc k)) n h = true-false refl (rw (not-below k) at h)
-  suits-rises true (negsuc k) n h = true-false refl h
-  suits-rises false (negsuc k) n h = refl
+  suits-joined true (pos zero) = refl
+  suits-joined false (pos zero) = refl
+  suits-joined true (pos (suc k)) =
+      ap₂ (λ z b. joined z (Bool·beq b true)) (ne-eqb (suc k) 0 (λ e. omega arith)) (not-below k)
+  suits-joined false (pos (suc k)) =
+      ap₂ (λ z b. joined z (Bool·beq b false)) (ne-eqb (suc k) 0 (λ e. omega arith)) (not-below k)
+      ∙ first-alone (mayFall whole x (lowerIn p))
+  suits-joined true (negsuc k) = first-alone (mayFall whole x (lowerIn p))
+  suits-joined false (negsuc k) = refl

@@ -12,8 +12,7 @@ use Rattle.whole.specs.Numbers.{Within}
 use Rattle.whole.specs.Sums.{sumBy, sum}
 use Rattle.whole.proofs.Sizes.{within-+, within-*, within-le}
 use Rattle.rules.specs.Sizes.{largestNumber, largestLimit}
-use Rattle.tableau.specs.Layout.{flat}
-use Rattle.tableau.specs.Parts.{entryIn}
+use Rattle.pivot.specs.Layout.{flat, entryIn}
 use Rattle.search.specs.Search.{partSum, sumLaid}
 
 module _ (m n : ℕ) (l x : List ℤ) (i : ℕ) where

@@ -15,8 +15,8 @@ use Rattle.whole.proofs.Sums.{sum-same}
 use Rattle.whole.proofs.Turns.{lowest-same}
 use Rattle.rules.specs.Step.{Side, Leaving, shortfallBy, pull, suits}
 use Rattle.tableau.specs.declared.Tableau.{Tableau}
-use Rattle.tableau.specs.Layout.{Order}
-use Rattle.tableau.specs.TwoOrders.{SameCells}
+use Rattle.pivot.specs.Layout.{Order}
+use Rattle.pivot.specs.TwoOrders.{SameCells}
 use Rattle.tableau.specs.Parts.{valueAt, seatAt, rowOf, columnOf, lowerOf, upperOf}
 use Rattle.tableau.specs.Pivot.{withNumbers}
 use Rattle.search.specs.declared.Choice.{Choice}

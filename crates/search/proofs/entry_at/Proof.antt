@@ -6,10 +6,10 @@ use borrow.Author.Needs.{needs, sfits-of}
 use lib.IntN.{ℤ, pos}
 use lib.ListN.{getD}
 use mir.Facts.{toZ-ofZ}
-use mir.Syntax.{w64}
+use mir.Syntax.{w32}
 use mir.Val.{SFits}
-use Rattle.tableau.specs.Layout.{mostEntries}
-use Rattle.tableau.proofs.Laws.Layout.{flat-in}
+use Rattle.pivot.specs.Layout.{mostEntries}
+use Rattle.pivot.proofs.Laws.Layout.{flat-in}
 use Rattle.search.proofs.entry_at.Statement.{statement}
 use Rattle.search.proofs.entry_at.Tie as tie
 
@@ -30,7 +30,7 @@ element-copy-out-result c = let z = place-in c in omega arith
 abbrev cell : tie.After-result → ℕ → ℤ
 cell c k = getD (c .before .before .args .entries .now) k (pos 0)
 
-fit : (c : tie.After-result) → SFits w64 (cell c (c .before .place .result))
+fit : (c : tie.After-result) → SFits w32 (cell c (c .before .place .result))
 fit c = sfits-of (c .result .given)
 
 returns : tie.Need-returns

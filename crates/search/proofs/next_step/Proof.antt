@@ -9,7 +9,7 @@ use borrow.Author.Needs.{needs, sfits-of}
 use borrow.Author.Tests.{not-false, not-true}
 use lib.IntN.{ℤ}
 use mir.Facts.{toZ-ofZ}
-use mir.Syntax.{w64}
+use mir.Syntax.{w32, w64}
 use mir.Val.{SFits}
 use Rattle.whole.specs.Below.{lowest}
 use Rattle.whole.proofs.Turns.{lowest-start, lowest-more, lowest-here}
@@ -64,17 +64,20 @@ add-end c = omega arith
 search-holds : tie.Need-search-holds Inv-loop μ-loop Inv-search μ-search
 search-holds c = (lowest-start (brokenAt (read (c .before))), omega arith)
 
+cast-at : tie.Need-cast-at Inv-loop μ-loop Inv-search μ-search
+cast-at c = search needs
+
 -- ---- a variable of the outer loop
 
 module _ (c : tie.Else1 Inv-loop μ-loop Inv-search μ-search) where
   abbrev start : tie.Start Inv-loop μ-loop Inv-search μ-search
-  start = c .before .before .before
+  start = c .before .before .before .before
 
   abbrev old : Tableau
   old = read start
 
   abbrev number : ℕ
-  number = c .before .search .v .0
+  number = c .before .before .search .v .0
 
   in-range : number < old .rows + old .columns
   in-range = omega arith
@@ -83,7 +86,7 @@ module _ (c : tie.Else1 Inv-loop μ-loop Inv-search μ-search) where
   few = omega (arith, start .pre .few-rows, start .pre .few-columns)
 
   none-before : lowest number (brokenAt old) ≡ none
-  none-before = c .before .search .inv .0
+  none-before = c .before .before .search .inv .0
 
 mul-seat : tie.Need-mul-seat Inv-loop μ-loop Inv-search μ-search
 mul-seat c = let z = few c in omega arith
@@ -137,7 +140,7 @@ module _ (c : tie.After-limits-of Inv-loop μ-loop Inv-search μ-search) where
   within-value = let o = outer basic-one in
       rw (valued .row-value .ensures) (scaled-within _ (start o .pre) (number o))
 
-fit-common : (s : tie.Start Inv-loop μ-loop Inv-search μ-search) → SFits w64 (read s .common)
+fit-common : (s : tie.Start Inv-loop μ-loop Inv-search μ-search) → SFits w32 (read s .common)
 fit-common s = search needs
 
 breach-of-requires : tie.Need-breach-of-requires Inv-loop μ-loop Inv-search μ-search
@@ -204,10 +207,11 @@ search-less-2 : tie.Need-search-less-2 Inv-loop μ-loop Inv-search μ-search
 search-less-2 c = let z = in-range (here (c .before .before .before)) in rw (c .after2 .ensures) (omega arith)
 
 search-again-2 : tie.Need-search-again-2 Inv-loop μ-loop Inv-search μ-search
-search-again-2 c = let a = c .before .before .before in let o = here a in let z = in-range o in rw (c .after2 .ensures) (
-  lowest-more (brokenAt (old o)) (number o) (none-before o) (within-here a (not-true _ (c .before .if3 .taken))),
-  omega arith,
-)
+search-again-2 c = let a = c .before .before .before in let o = here a in let z = in-range o in
+    rw (c .after2 .ensures) (
+      lowest-more (brokenAt (old o)) (number o) (none-before o) (within-here a (not-true _ (c .before .if3 .taken))),
+      omega arith,
+    )
 
 -- ---- a variable of the inner loop
 
@@ -240,20 +244,26 @@ module _ (c : tie.Then4 Inv-loop μ-loop Inv-search μ-search) where
   other-few : other < mostVariables
   other-few = omega (arith, start (here outside) .pre .few-rows, start (here outside) .pre .few-columns)
 
+cast-if4 : tie.Need-cast-if4 Inv-loop μ-loop Inv-search μ-search
+cast-if4 c = search needs
+
+cast-place : tie.Need-cast-place Inv-loop μ-loop Inv-search μ-search
+cast-place c = search needs
+
 mul-other : tie.Need-mul-other Inv-loop μ-loop Inv-search μ-search
-mul-other c = let z = other-few c in omega arith
+mul-other c = let z = other-few (c .before) in omega arith
 
 element-copy-out-other : tie.Need-element-copy-out-other Inv-loop μ-loop Inv-search μ-search
-element-copy-out-other c = other-few c
+element-copy-out-other c = other-few (c .before)
 
 after-requires-3 : tie.Need-after-requires-3 Inv-loop μ-loop Inv-search μ-search
-after-requires-3 c κs = other-few (c .before .before)
+after-requires-3 c κs = other-few (c .before .before .before)
 
 loop-less : tie.Need-loop-less Inv-loop μ-loop Inv-search μ-search
-loop-less c = let z = other-range (c .before .before .before) in rw (c .after3 .ensures) (omega arith)
+loop-less c = let z = other-range (c .before .before .before .before) in rw (c .after3 .ensures) (omega arith)
 
 loop-again : tie.Need-loop-again Inv-loop μ-loop Inv-search μ-search
-loop-again c = let a = c .before .before .before in let o = here (outside a) in let z = other-range a in
+loop-again c = let a = c .before .before .before .before in let o = here (outside a) in let z = other-range a in
     rw (c .after3 .ensures) (
       omega arith,
       lowest-more (enters a) (other a) (none-yet a)
@@ -263,7 +273,7 @@ loop-again c = let a = c .before .before .before in let o = here (outside a) in 
 -- a nonbasic one
 module _ (c : tie.Else5 Inv-loop μ-loop Inv-search μ-search) where
   abbrev inner : tie.Then4 Inv-loop μ-loop Inv-search μ-search
-  inner = c .before .before
+  inner = c .before .before .before
 
   abbrev it : tie.Else1 Inv-loop μ-loop Inv-search μ-search
   it = here (outside inner)
@@ -277,18 +287,30 @@ module _ (c : tie.Else5 Inv-loop μ-loop Inv-search μ-search) where
   column-few : columnOf (old it) (other inner) < mostColumns
   column-few = omega (arith, column-small, start it .pre .few-columns)
 
+cast-j : tie.Need-cast-j Inv-loop μ-loop Inv-search μ-search
+cast-j c = search needs
+
 entry-at-requires : tie.Need-entry-at-requires Inv-loop μ-loop Inv-search μ-search
-entry-at-requires c κs = let o = c .before in let p = start (it o) .pre in
+entry-at-requires c κs = let o = c .before .before in let p = start (it o) .pre in
     (row-small (basic-one (bounded (outside (inner o)))), column-small o, p .few-rows, p .few-columns)
 
 limits-of-requires-2 : tie.Need-limits-of-requires-2 Inv-loop μ-loop Inv-search μ-search
-limits-of-requires-2 c κs = other-few (inner (c .before .before .before .before .before .before .before))
+limits-of-requires-2 c κs = other-few (inner (c .before .before .before .before .before .before .before .before))
+
+-- its entry, and its limits
+abbrev entered-by : tie.After-limits-of2 Inv-loop μ-loop Inv-search μ-search →
+    tie.After-entry-at Inv-loop μ-loop Inv-search μ-search
+entered-by c = c .before .before .before .before .before .before
+
+abbrev free-by : tie.After-limits-of2 Inv-loop μ-loop Inv-search μ-search →
+    tie.Else5 Inv-loop μ-loop Inv-search μ-search
+free-by c = entered-by c .before .before .before
 
 mul-suits : tie.Need-mul-suits Inv-loop μ-loop Inv-search μ-search
-mul-suits c = let z = column-few (c .before .before .before .before .before .before .before .before) in omega arith
+mul-suits c = let z = column-few (free-by c) in omega arith
 
 element-copy-out-suits : tie.Need-element-copy-out-suits Inv-loop μ-loop Inv-search μ-search
-element-copy-out-suits c = column-few (c .before .before .before .before .before .before .before .before)
+element-copy-out-suits c = column-few (free-by c)
 
 suits-requires : tie.Need-suits-requires Inv-loop μ-loop Inv-search μ-search
 suits-requires c κs = tt
@@ -299,15 +321,15 @@ module _ (c : tie.After-suits Inv-loop μ-loop Inv-search μ-search) where
   looked = c .before .before
 
   abbrev entered : tie.After-entry-at Inv-loop μ-loop Inv-search μ-search
-  entered = looked .before .before .before .before .before .before
+  entered = entered-by looked
 
   abbrev free-one : tie.Else5 Inv-loop μ-loop Inv-search μ-search
-  free-one = entered .before .before
+  free-one = free-by looked
 
-  fit-entry : SFits w64 (entered .entry-at .result)
+  fit-entry : SFits w32 (entered .entry-at .result)
   fit-entry = search needs
 
-  fit-seated : let o = old (it free-one) in SFits w64 (valueAt o (columnOf o (other (inner free-one))))
+  fit-seated : let o = old (it free-one) in SFits w32 (valueAt o (columnOf o (other (inner free-one))))
   fit-seated = sfits-of (c .before .suits-arg .given)
 
   moves-is : let o = it free-one in let n = inner free-one in
@@ -337,9 +359,9 @@ loop-again-2 c = let a = free-one (c .before .before) in let o = it a in let n =
 
 returns : tie.Need-returns Inv-loop μ-loop Inv-search μ-search
 unfolding leavingLaid
-returns c = let t = read (c .before .before .before) in
-    let e : t .rows + t .columns ≡ c .before .search .v .0 = omega arith in
-    next-within t (ap (λ k. lowest k (brokenAt t)) e ∙ c .before .search .inv .0)
+returns c = let h = c .before .before in let t = read (h .before .before) in
+    let e : t .rows + t .columns ≡ h .search .v .0 = omega arith in
+    next-within t (ap (λ k. lowest k (brokenAt t)) e ∙ h .search .inv .0)
 
 returns-2 : tie.Need-returns-2 Inv-loop μ-loop Inv-search μ-search
 unfolding enteringLaid
@@ -364,8 +386,8 @@ returns-3 c = let l = c .before .before .before .before in let a = l .before .be
 pub next-step-spec : {M : Type 1} → statement M
 next-step-spec =
     tie.close
-    (tie.spec Inv-loop μ-loop Inv-search μ-search add-end search-holds mul-seat element-copy-out-seat after-requires
-    search-less search-again row-value-requires limits-of-requires breach-of-requires after-requires-2 search-less-2
-    search-again-2 loop-holds mul-other element-copy-out-other after-requires-3 loop-less loop-again entry-at-requires
-    limits-of-requires-2 mul-suits element-copy-out-suits suits-requires after-requires-4 loop-less-2 loop-again-2
-    returns returns-2 returns-3)
+    (tie.spec Inv-loop μ-loop Inv-search μ-search add-end search-holds cast-at mul-seat element-copy-out-seat
+    after-requires search-less search-again row-value-requires limits-of-requires breach-of-requires after-requires-2
+    search-less-2 search-again-2 loop-holds cast-if4 cast-place mul-other element-copy-out-other after-requires-3
+    loop-less loop-again cast-j entry-at-requires limits-of-requires-2 mul-suits element-copy-out-suits suits-requires
+    after-requires-4 loop-less-2 loop-again-2 returns returns-2 returns-3)

@@ -1,19 +1,22 @@
 -- Crossed limits by place are those of the problem, and the answer that they give.
+--   crossed-joined                the test of one variable, joined without a branch
 --   crossing-at, crossing-none    what the search for crossed limits says of the problem
 --   crossing-told                 the words of the answer
-use mathlib.Core.Bool.{cond}
+use mathlib.Core.Bool.{Bool, cond, true, false, _&&_}
 use mathlib.Core.List.{_∷_, _++_}
 use mathlib.Core.Option.{Option, none, some}
 use mathlib.Core.Path.{_≡_, ap, ap₂, refl, sym, _∙_}
 use Prim.Native.Nat.{ℕ, _+_, _<_}
 use native.Mathlib.Omega.{arith}
 use lib.IntN.{ℤ, pos}
+use lib.Signed.{ltZ}
 use Rattle.whole.specs.Below.{lowest}
 use Rattle.whole.specs.Tables.{table}
 use Rattle.whole.specs.Values.{whole}
 use Rattle.whole.proofs.Bools.{zero-one}
 use Rattle.whole.proofs.Turns.{lowest-same}
 use Rattle.rules.specs.Answer.{answerFrom}
+use Rattle.rules.specs.Limit.{present}
 use Rattle.rules.specs.Problem.{Problem, vars}
 use Rattle.rules.specs.Run.{conflict, crossed}
 use Rattle.rules.specs.Sizes.{mostVariables}
@@ -31,6 +34,12 @@ use Rattle.solver.specs.Answer.{numberOf, wordsAt}
 use Rattle.solver.specs.Conflict.{conflictAt, crossedFrom, crossesAt}
 use Rattle.solver.specs.Multipliers.{unitAt}
 use Rattle.solver.proofs.Laws.Halves.{units-are}
+
+pub crossed-joined : (a b : Bool) (l u : ℤ) → ((a && b) && ltZ u l) ≡ crossed whole (present a l) (present b u)
+unfolding crossed present
+crossed-joined true true l u = refl
+crossed-joined true false l u = refl
+crossed-joined false b l u = refl
 
 module _ {P : Problem ℤ} {t : Tableau} {s : State ℤ} (St : Stands P t s) (R : Rowed whole P s) where
   conflict-is : conflictAt (t .limits) (t .rows + t .columns) ≡ crossedFrom (conflict whole P)

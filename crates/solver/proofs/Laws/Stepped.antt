@@ -10,12 +10,13 @@ use Prim.Native.Nat.{ℕ}
 use lib.IntN.{ℤ}
 use lib.ListN.{getD, set}
 use Rattle.whole.proofs.Bools.{zero-one}
-use Rattle.tableau.specs.declared.ColumnPlace.{ColumnPlace}
-use Rattle.tableau.specs.declared.RowPlace.{RowPlace}
+use Rattle.pivot.specs.declared.ColumnPlace.{ColumnPlace}
+use Rattle.pivot.specs.declared.RowPlace.{RowPlace}
 use Rattle.tableau.specs.declared.Seat.{Seat}
 use Rattle.tableau.specs.declared.Tableau.{Tableau}
 use Rattle.tableau.specs.Parts.{variable}
-use Rattle.tableau.specs.Pivot.{commonAfter, entriesAfter, entriesBy, pivotedLaid, swappedAt, withNumbers}
+use Rattle.pivot.specs.Pivot.{commonAfter, entriesAfter, entriesBy}
+use Rattle.tableau.specs.Pivot.{pivotedLaid, swappedAt, withNumbers}
 use Rattle.search.specs.declared.Blocked.{Blocked}
 use Rattle.search.specs.declared.Choice.{Choice}
 use Rattle.search.specs.declared.Next.{Next}
@@ -102,6 +103,7 @@ module _ (t : Tableau) where
       pub next-is : n ≡ nexts.Pivot choice
       pub row-is : choice .row ≡ row
       pub column-is : choice .column ≡ column
+      pub in-range : fitsBy t choice ≡ true
       pub value-is : valueAfter t choice ≡ value
       pub common-is : commonAfter (t .rows) (t .columns) (t .entries) (t .common) (choice .row .0) (choice .column .0) ≡ common
       pub step-is : stepBy t n
@@ -120,7 +122,16 @@ module _ (t : Tableau) where
             let b : c .column ≡ column = cc in
             let v : valueAfter t c ≡ value = cc in
             let d : commonAfter (t .rows) (t .columns) (t .entries) (t .common) (c .row .0) (c .column .0) ≡ common = cc in
-            record { choice = c; next-is = refl; row-is = a; column-is = b; value-is = v; common-is = d; step-is = made f a b v d }
+            record {
+              choice = c;
+              next-is = refl;
+              row-is = a;
+              column-is = b;
+              in-range = f;
+              value-is = v;
+              common-is = d;
+              step-is = made f a b v d;
+            }
           where
             made : fitsBy t c ≡ true → c .row ≡ row → c .column ≡ column → valueAfter t c ≡ value →
                 commonAfter (t .rows) (t .columns) (t .entries) (t .common) (c .row .0) (c .column .0) ≡ common →

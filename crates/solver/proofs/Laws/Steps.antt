@@ -8,7 +8,7 @@ use mathlib.Core.Option.{some}
 use mathlib.Core.Path.{_≡_, ap, subst, sym, _∙_}
 use Prim.Native.Nat.{ℕ}
 use lib.IntN.{ℤ}
-use mir.Syntax.{w64}
+use mir.Syntax.{w32}
 use mir.Val.{SFits}
 use Rattle.whole.specs.Numbers.{Within}
 use Rattle.whole.specs.Values.{whole}
@@ -20,13 +20,13 @@ use Rattle.rules.specs.Step.{Leaving, State, can, entering, evidence, goes, lea
 use Rattle.rules.specs.Tableau.{relation}
 use Rattle.rules.proofs.Moves.{Stepped, is-can, is-cannot, is-goes, is-range, stepped}
 use Rattle.rules.proofs.Sound.{Rowed}
-use Rattle.tableau.specs.declared.ColumnPlace.{ColumnPlace}
-use Rattle.tableau.specs.declared.RowPlace.{RowPlace}
+use Rattle.pivot.specs.declared.ColumnPlace.{ColumnPlace}
+use Rattle.pivot.specs.declared.RowPlace.{RowPlace}
 use Rattle.tableau.specs.declared.Tableau.{Tableau}
 use Rattle.tableau.specs.Parts.{basicAt}
 use Rattle.tableau.specs.Pivot.{Swappable}
 use Rattle.tableau.specs.Stands.{Ranged, Stands}
-use Rattle.tableau.proofs.Laws.Reductions.{quotient-fits}
+use Rattle.pivot.proofs.Laws.Reductions.{fits-common}
 use Rattle.search.specs.declared.Choice.{Choice}
 use Rattle.search.specs.declared.Next.the-variants as nexts
 use Rattle.search.specs.Search.{Searchable, blockedAt, choiceAt, nextAt}
@@ -84,7 +84,7 @@ module _ {P : Problem ℤ} {t : Tableau} {s : State ℤ} (St : Stands P t s) (R 
 
 -- ---- what the calls of a step need, and the exchange after it
 
-limit-fits : (b : Bool) {l u : ℤ} → Within l largestLimit → Within u largestLimit → SFits w64 (limitOf b l u)
+limit-fits : (b : Bool) {l u : ℤ} → Within l largestLimit → Within u largestLimit → SFits w32 (limitOf b l u)
 limit-fits true h k = fits-by h tt
 limit-fits false h k = fits-by k tt
 
@@ -106,9 +106,10 @@ module _ {t : Tableau} (H : Held t) where
     pub places-held : Swappable t (row .0) (column .0)
     places-held = rw (← K .row-is, ← K .column-is) (ready (K .choice) (K .next-is) .1)
 
-    pub common-held : SFits w64 common
-    common-held = subst (SFits w64) (K .common-is) (quotient-fits (ready (K .choice) (K .next-is) .0 .pivotable))
+    pub common-held : SFits w32 common
+    common-held = subst (SFits w32) (K .common-is)
+        (fits-by (fits-common (ready (K .choice) (K .next-is) .0 .pivotable) (K .in-range)) tt)
 
-    pub value-held : SFits w64 value
-    value-held = let v = basicAt t (K .choice .row .0) in subst (SFits w64) (K .value-is)
+    pub value-held : SFits w32 value
+    value-held = let v = basicAt t (K .choice .row .0) in subst (SFits w32) (K .value-is)
         (limit-fits (K .choice .rises) (search-held .lowers-within v) (search-held .uppers-within v))

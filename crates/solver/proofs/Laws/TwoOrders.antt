@@ -24,12 +24,15 @@ use Rattle.rules.specs.Run.{conflict}
 use Rattle.rules.specs.Sizes.{mostVariables}
 use Rattle.rules.specs.Step.{positive, pull, start}
 use Rattle.tableau.specs.declared.Tableau.{Tableau}
-use Rattle.tableau.specs.Layout.{Order, byColumns, byRows, inUse}
-use Rattle.tableau.specs.TwoOrders.{SameCells, SameTableau}
-use Rattle.tableau.specs.Parts.{columnOf, entryLaid, rowOf, seatAt, valueAt}
-use Rattle.tableau.specs.Pivot.{entriesLaid, pivotedLaid, swappedAt, withNumbers}
+use Rattle.pivot.specs.Layout.{Order, byColumns, byRows, inUse, entryLaid}
+use Rattle.pivot.specs.TwoOrders.{SameCells}
+use Rattle.tableau.specs.TwoOrders.{SameTableau}
+use Rattle.tableau.specs.Parts.{columnOf, rowOf, seatAt, valueAt}
+use Rattle.pivot.specs.Pivot.{entriesLaid}
+use Rattle.tableau.specs.Pivot.{pivotedLaid, swappedAt, withNumbers}
 use Rattle.tableau.specs.Start.{startLaid, startTableau}
-use Rattle.tableau.proofs.Laws.TwoOrders.{same-pivot, same-start}
+use Rattle.pivot.proofs.Laws.TwoOrders.{same-pivot}
+use Rattle.tableau.proofs.Laws.TwoOrders.{same-start}
 use Rattle.search.specs.declared.Blocked.{Blocked}
 use Rattle.search.specs.declared.Choice.{Choice}
 use Rattle.search.specs.declared.Next.{Next}

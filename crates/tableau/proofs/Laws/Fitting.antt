@@ -18,11 +18,11 @@ use Rattle.whole.specs.Values.{whole}
 use Rattle.rules.proofs.Ranges.{coefficient-within, lower-within, m-few, n-few, upper-within}
 use Rattle.rules.specs.Problem.{Problem, problem, vars}
 use Rattle.rules.specs.Refusal.{Accepted}
-use Rattle.rules.specs.Sizes.{largestCoefficient, largestLimit, largestNumber, mostColumns, mostRows, mostVariables}
+use Rattle.rules.specs.Sizes.{largestCoefficient, largestLimit, mostColumns, mostRows, mostVariables}
 use Rattle.rules.specs.Step.{seated, startValue}
-use Rattle.tableau.proofs.Laws.Layout.{column-flat, column-live, flat-live, row-flat, row-live}
+use Rattle.pivot.proofs.Laws.Layout.{column-flat, column-live, flat-live, row-flat, row-live}
+use Rattle.pivot.specs.Layout.{columnAt, flat, live, mostEntries, rowAt}
 use Rattle.tableau.proofs.Laws.Reading.{lower-of, upper-of}
-use Rattle.tableau.specs.Layout.{columnAt, flat, live, mostEntries, rowAt}
 use Rattle.tableau.specs.Parts.{cell, cellAt}
 use Rattle.tableau.specs.Stands.{Ranged, Serves}
 use Rattle.tableau.specs.Start.{limitsFor, startTableau, startLaid}

@@ -6,7 +6,6 @@
 --   rowed-next, stands-next               the rows of the next state hold, and the next tableau stands for it
 use Prim.Native.Nat.{ℕ, _≤_, _<_, _∣_}
 use native.Mathlib.Nat.{dvd-antisymm, dvd-zero}
-use native.Mathlib.Omega.{arith}
 use mathlib.Core.Path.{_≡_, ap, ap₂, refl, sym, _∙_}
 use mathlib.Core.Logic.{_≢_}
 use mathlib.Core.List.{List}
@@ -25,18 +24,18 @@ use Rattle.rules.specs.Tableau as rules
 use Rattle.rules.proofs.Lowest.{Factored, factored, divisor-divides, divisor-greatest, reduced-entry}
 use Rattle.rules.proofs.Pivoted.{rowed-moved}
 use Rattle.rules.proofs.Sound.{Rowed}
+use Rattle.pivot.specs.Layout.{mostEntries, flat, rowAt, columnAt, live}
+use Rattle.pivot.specs.Pivot.{mixedCell, mixedAt, signedBy, product, mix, by}
+use Rattle.pivot.proofs.Laws.Layout.{row-live, column-live}
 use Rattle.tableau.specs.declared.Tableau.{Tableau}
-use Rattle.tableau.specs.Layout.{mostEntries, flat, rowAt, columnAt, live}
 use Rattle.tableau.specs.Parts.{cell, cellAt, basicAt, nonbasicAt}
-use Rattle.tableau.specs.Pivot.{mixedCell, mixedAt, signedBy, product, mix, by, pivotedLaid, swappedAt}
+use Rattle.tableau.specs.Pivot.{pivotedLaid, swappedAt}
 use Rattle.tableau.specs.Stands.{Serves, Stands}
 use Rattle.tableau.proofs.Laws.Kinds.{Kind, none-there, own, cell-there, kind}
-use Rattle.tableau.proofs.Laws.Layout.{row-live, column-live}
-use Rattle.tableau.proofs.Laws.Reductions.{end, live-place, place-back}
+use Rattle.tableau.proofs.Laws.Live.{end, live-place, place-back}
 use Rattle.tableau.proofs.Laws.Solved.{mixed-is}
 use Rattle.tableau.proofs.Laws.Turns.{Turn, rowPlace, columnPlace, nextAt, pivot-is, pivot-nonzero}
-use Rattle.tableau.proofs.Laws.Turns.{common-nonzero}
-use Rattle.tableau.proofs.Laws.Turns.{placed-next, sized-next}
+use Rattle.tableau.proofs.Laws.Turns.{common-nonzero, placed-next, sized-next}
 
 module _ {P : Problem ℤ} {t : Tableau} {s : State ℤ} {r : Leaving ℤ} {w : ℕ} (M : Turn P t s r w) where
   abbrev N : ℕ

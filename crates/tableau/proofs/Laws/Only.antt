@@ -1,36 +1,16 @@
 -- Two results that a promise of this crate's public functions allows are equal: NAME-only for each.
 -- The contracts themselves are compared: κs are lifetimes, x the arguments, e what lent words hold at the exit.
 use mathlib.Core.Path.{_≡_, sym, _∙_}
-use Rattle.tableau.proofs.layout.place.Reads as place
-use Rattle.tableau.proofs.layout.lines.Reads as lines
-use Rattle.tableau.proofs.layout.steps.Reads as steps
-use Rattle.tableau.proofs.layout.spot_at.Reads as spot-at
-use Rattle.tableau.proofs.layout.live.Reads as live
-use Rattle.tableau.proofs.pivot.pivot.Reads as pivot
-use Rattle.tableau.proofs.range.all_in_range.Reads as all-in-range
+use Rattle.tableau.proofs.Tableau.start_entries.Reads as start-entries
+use Rattle.tableau.proofs.Tableau.limits_of.Reads as limits-of
 use Rattle.tableau.proofs.Tableau.new.Reads as new
 
-pub place-only : (κs : _) (x : _) (a b : _) (e : _) → place.Post κs x a e → place.Post κs x b e → a ≡ b
-place-only κs x a b e h k = h ∙ sym k
+pub start-entries-only : (κs : _) (x : _) (a b : _) (e : _) → start-entries.Post κs x a e →
+    start-entries.Post κs x b e → a ≡ b
+start-entries-only κs x a b e h k = h ∙ sym k
 
-pub lines-only : (κs : _) (x : _) (a b : _) (e : _) → lines.Post κs x a e → lines.Post κs x b e → a ≡ b
-lines-only κs x a b e h k = h ∙ sym k
-
-pub steps-only : (κs : _) (x : _) (a b : _) (e : _) → steps.Post κs x a e → steps.Post κs x b e → a ≡ b
-steps-only κs x a b e h k = h ∙ sym k
-
-pub spot-at-only : (κs : _) (x : _) (a b : _) (e : _) → spot-at.Post κs x a e → spot-at.Post κs x b e → a ≡ b
-spot-at-only κs x a b e h k = h ∙ sym k
-
-pub live-only : (κs : _) (x : _) (a b : _) (e : _) → live.Post κs x a e → live.Post κs x b e → a ≡ b
-live-only κs x a b e h k = h ∙ sym k
-
-pub pivot-only : (κs : _) (x : _) (a b : _) (e f : _) → pivot.Post κs x a e → pivot.Post κs x b f → (a ≡ b) × (e .0 .now ≡ f .0 .now)
-pivot-only κs x a b e f h k = (h .0 ∙ sym (k .0), h .1 ∙ sym (k .1))
-
-pub all-in-range-only : (κs : _) (x : _) (a b : _) (e : _) → all-in-range.Post κs x a e → all-in-range.Post κs x b e →
-    a ≡ b
-all-in-range-only κs x a b e h k = h ∙ sym k
+pub limits-of-only : (κs : _) (x : _) (a b : _) (e : _) → limits-of.Post κs x a e → limits-of.Post κs x b e → a ≡ b
+limits-of-only κs x a b e h k = h ∙ sym k
 
 pub new-only : (κs : _) (x : _) (a b : _) (e : _) → new.Post κs x a e → new.Post κs x b e → a ≡ b
 new-only κs x a b e h k = h ∙ sym k

@@ -16,10 +16,11 @@ use lib.Seq.{getD-set-same, getD-set-other}
 use Rattle.rules.specs.Problem.{Problem, vars}
 use Rattle.rules.specs.Step.{State, seat}
 use Rattle.rules.proofs.Swaps.{Swap, none-some}
+use Rattle.pivot.specs.Layout.{row, column}
 use Rattle.tableau.specs.declared.Variable.{Variable}
 use Rattle.tableau.specs.declared.Seat.{Seat}
 use Rattle.tableau.specs.declared.Tableau.{Tableau}
-use Rattle.tableau.specs.Parts.{row, column, nowhere, basicAt, nonbasicAt, valueAt, seatAt, rowOf, columnOf}
+use Rattle.tableau.specs.Parts.{nowhere, basicAt, nonbasicAt, valueAt, seatAt, rowOf, columnOf}
 use Rattle.tableau.specs.Pivot.{swappedAt, withNumbers}
 use Rattle.tableau.specs.Stands.{InRow, InColumn, HasRow, HasColumn, Sized, Placed}
 

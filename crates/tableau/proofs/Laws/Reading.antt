@@ -1,20 +1,17 @@
 -- What the words of a problem are read as.
 --   coefficient-in, coefficient-is   where the words have it
---   present-there, present-missing   a limit by its flag
---   present-flag, present-number     .. and back, as a flag and a number
+--   present-flag, present-number     a limit, as a flag and a number
 --   lower-flag, lower-number, ..     the same of the words' limits
 --   lower-of, upper-of               a problem's limits, back from the arrays
---   value-lower, value-upper, ..     the start value, case by case
+--   value-is                         the start value by the tests that the code makes
 --   values-same                      the start values from the arrays are the problem's
 use mathlib.Core.Path.{_≡_, refl, sym, _∙_, ap, ap₂}
-use mathlib.Core.Bool.{Bool, true, false, cond}
+use mathlib.Core.Bool.{Bool, true, false, cond, _&&_}
 use mathlib.Core.List.{List}
 use mathlib.Core.Option.{Option, none, some}
-use Prim.Native.Nat.{ℕ, _+_, _*_, _≤_, _<_}
+use Prim.Native.Nat.{ℕ, _+_, _*_, _<_}
 use native.Mathlib.Omega.{arith}
-use borrow.Author.Tests.{lt-ltb, le-ltb}
 use lib.Arith.{digits-lt}
-use lib.Dec.{ltb}
 use lib.IntN.{ℤ, pos}
 use lib.ListN.{length}
 use lib.Signed.{ltZ}
@@ -42,14 +39,6 @@ module _ {ws : List ℤ} {n m : ℕ} (F : Framed ws n m) where
   coefficient-is i j = ap (λ k. word ws (2 + (i * k + j))) (F .columns-are)
 
 -- ---- limits
-
-pub present-there : {b : Bool} (z : ℤ) → b ≡ true → present b z ≡ some z
-unfolding present
-present-there z e = ap (λ b. present b z) e
-
-pub present-missing : {b : Bool} (z : ℤ) → b ≡ false → present b z ≡ none
-unfolding present
-present-missing z e = ap (λ b. present b z) e
 
 pub present-flag : (b : Bool) (z : ℤ) → isPresent (present b z) ≡ b
 unfolding present
@@ -104,30 +93,14 @@ module _ (P : Problem ℤ) (v : ℕ) (h : v < vars P) where
 
 -- ---- the start value
 
-pub value-free : startValue whole none none ≡ pos 0
-unfolding startValue
-value-free = refl
-
-module _ (l : ℤ) (u : Option ℤ) where
-  pub value-lower : ltZ (pos 0) l ≡ true → startValue whole (some l) u ≡ l
-  unfolding startValue
-  value-lower e = go u
-    where
-      go : (u : Option ℤ) → startValue whole (some l) u ≡ l
-      go none = ap (λ b. cond b l (pos 0)) e
-      go (some z) = ap (λ b. cond b l (cond (ltZ z (pos 0)) z (pos 0))) e
-
-  pub value-past : ltZ (pos 0) l ≡ false → startValue whole (some l) u ≡ startValue whole none u
-  unfolding startValue
-  value-past e = go u
-    where
-      go : (u : Option ℤ) → startValue whole (some l) u ≡ startValue whole none u
-      go none = ap (λ b. cond b l (pos 0)) e
-      go (some z) = ap (λ b. cond b l (cond (ltZ z (pos 0)) z (pos 0))) e
-
-pub value-upper : (u : ℤ) → startValue whole none (some u) ≡ cond (ltZ u (pos 0)) u (pos 0)
-unfolding startValue
-value-upper u = refl
+-- both limits by their flags, each asked for without a branch
+pub value-is : (a b : Bool) (l u : ℤ) → startValue whole (present a l) (present b u)
+    ≡ cond (a && ltZ (pos 0) l) l (cond (b && ltZ u (pos 0)) u (pos 0))
+unfolding startValue present
+value-is true true l u = refl
+value-is true false l u = refl
+value-is false true l u = refl
+value-is false false l u = refl
 
 pub values-same : (P : Problem ℤ) → valuesFor (limitsFor P) (P .n) ≡ startValues P
 values-same P =

@@ -18,14 +18,15 @@ use Rattle.rules.specs.Sizes.{largestNumber}
 use Rattle.rules.specs.Step.{State}
 use Rattle.rules.specs.Tableau.{entry, small}
 use Rattle.rules.proofs.Sound.{Rowed}
+use Rattle.pivot.specs.Layout.{flat, rowAt, columnAt}
+use Rattle.pivot.specs.Pivot.{inRange, smallBelow}
+use Rattle.pivot.proofs.Laws.Layout.{flat-back, row-live, column-live}
 use Rattle.tableau.specs.declared.Tableau.{Tableau}
-use Rattle.tableau.specs.Layout.{flat, rowAt, columnAt}
 use Rattle.tableau.specs.Parts.{cell, basicAt, nonbasicAt}
-use Rattle.tableau.specs.Pivot.{inRange, smallBelow, Cells}
+use Rattle.tableau.specs.Pivot.{Cells}
 use Rattle.tableau.specs.Stands.{Stands}
 use Rattle.tableau.proofs.Laws.Kinds.{Kind, none-there, own, cell-there, kind}
-use Rattle.tableau.proofs.Laws.Layout.{flat-back, row-live, column-live}
-use Rattle.tableau.proofs.Laws.Reductions.{end, live-place}
+use Rattle.tableau.proofs.Laws.Live.{end, live-place}
 
 zero-in : inRange (pos 0) ≡ true
 unfolding within

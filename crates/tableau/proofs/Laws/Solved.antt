@@ -1,33 +1,27 @@
 -- A mixed entry is the solved tableau's: by variable one formula covers what by place are four kinds of cell.
 --   mixed-is        at a row and a column in use
 --   mixed-unused    0 elsewhere
-use Prim.Native.Nat.{ℕ, _≤_, _<_}
-use native.Mathlib.Omega.{arith}
+use Prim.Native.Nat.{ℕ, _<_}
 use native.Mathlib.Decide.{ℕ-discrete}
 use mathlib.Core.Path.{_≡_, refl, ap, ap₂, sym, _∙_}
-use mathlib.Core.Logic.{_≢_, _⊎_, inl, inr}
-use mathlib.Core.Bool.{Bool, true, false}
+use mathlib.Core.Logic.{_≢_}
 use mathlib.Core.List.{[], _∷_}
 use mathlib.Core.Option.{Option·none-ne-some}
 use borrow.Author.Tests.{eq-eqb, ne-eqb}
 use lib.Dec.{eqb}
-use lib.IntN.{ℤ, pos, negℤ, _*ℤ_, _-ℤ_, zero-*ℤ}
+use lib.IntN.{ℤ, pos, negℤ, _*ℤ_, _-ℤ_}
 use Rattle.whole.proofs.Reify.{reify}
 use Rattle.whole.proofs.Tables.{matrix-at}
 use Rattle.whole.proofs.Tools.{ring-at}
 use Rattle.rules.specs.Problem.{Problem, vars}
-use Rattle.rules.specs.Sizes.{mostRows, mostColumns}
 use Rattle.rules.specs.Step.{State, Leaving}
 use Rattle.rules.specs.Tableau.{entry, relation, solved}
 use Rattle.rules.specs.Tableau as rules
 use Rattle.rules.proofs.Relation.{relation-own, relation-off}
+use Rattle.pivot.specs.Pivot.{mixedOf, mixedCell, mixedLaid}
 use Rattle.tableau.specs.declared.Tableau.{Tableau}
-use Rattle.tableau.specs.Layout.{flat}
 use Rattle.tableau.specs.Parts.{cellAt, basicAt, nonbasicAt, columnOf}
-use Rattle.tableau.specs.Pivot.{mixedOf, mixedCell, mixedLaid}
-use Rattle.tableau.proofs.Laws.Layout.{row-flat, column-flat}
 use Rattle.tableau.proofs.Laws.Turns.{Turn, rowPlace, columnPlace, nextAt, leaving-row, entering-column}
-use Rattle.tableau.proofs.Laws.Turns.{row-in-range, column-in-range}
 use Rattle.tableau.proofs.Laws.Turns.{pivot-is, basic-left, basic-stays, nonbasic-entered, nonbasic-stays}
 
 -- ---- over plain numbers: D is common, p the pivot

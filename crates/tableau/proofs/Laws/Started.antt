@@ -14,8 +14,8 @@ use Rattle.rules.specs.Problem.{Problem, vars}
 use Rattle.rules.specs.Sizes.{mostColumns, mostRows, mostVariables}
 use Rattle.rules.specs.Step.{same, seat, start, startEntry, startSeat, startValue}
 use Rattle.rules.specs.Tableau.{entry}
+use Rattle.pivot.specs.Layout.{live, mostEntries}
 use Rattle.tableau.proofs.Laws.Fitting.{Fitting, coefficient-start, serves-start}
-use Rattle.tableau.specs.Layout.{live, mostEntries}
 use Rattle.tableau.specs.Parts.{basicAt, cell, cellAt, columnOf, nonbasicAt, nowhere}
 use Rattle.tableau.specs.Parts.{rowOf, seatAt, valueAt, variable}
 use Rattle.tableau.specs.Stands.{HasColumn, HasRow, InColumn, InRow, Stands}
@@ -42,9 +42,9 @@ module _ (P : Problem ℤ) (F : Fitting P) where
   unfolding startLaid
   value-is j h = filled-in mostColumns (pos 0) (P .n) (λ j. startValue whole (P .lower j) (P .upper j)) j h
 
-  seat-is : (v : ℕ) → v < mostVariables → seatAt t v ≡ seatFor (P .n) v
+  seat-is : (v : ℕ) → v < vars P → seatAt t v ≡ seatFor (P .n) v
   unfolding startLaid
-  seat-is v h = table-at mostVariables (seatFor (P .n)) nowhere v h
+  seat-is v h = filled-in mostVariables nowhere (vars P) (seatFor (P .n)) v h
 
   seat-basic : (v : ℕ) → P .n ≤ v → startSeat whole P v ≡ none
   unfolding startSeat
@@ -131,7 +131,7 @@ module _ (P : Problem ℤ) (F : Fitting P) where
       basic-long = table-length mostRows (λ i. variable (P .n + i));
       nonbasic-long = table-length mostColumns variable;
       values-long = filled-length mostColumns (pos 0) (P .n) _ (F .few-columns);
-      seats-long = table-length mostVariables (seatFor (P .n));
+      seats-long = filled-length mostVariables nowhere (vars P) (seatFor (P .n)) (omega arith);
     };
     placed = record {
       in-row = rows-start;

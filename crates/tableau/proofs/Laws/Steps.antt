@@ -5,7 +5,7 @@
 use Prim.Native.Nat.{ℕ, _<_}
 use native.Mathlib.Omega.{arith}
 use native.Mathlib.Decide.{ℕ-discrete}
-use mathlib.Core.Path.{_≡_, refl, sym, _∙_}
+use mathlib.Core.Path.{_≡_, sym, _∙_}
 use mathlib.Core.Bool.{Bool, true, false}
 use mathlib.Core.Option.{some}
 use lib.IntN.{ℤ, pos}
@@ -18,14 +18,15 @@ use Rattle.rules.specs.Problem.{Problem, vars}
 use Rattle.rules.specs.Sizes.{mostVariables, largestLimit}
 use Rattle.rules.specs.Step.{State, Side, below, above, Leaving, limitAt}
 use Rattle.rules.proofs.Leaves.{Outside, too-low, too-high}
+use Rattle.pivot.specs.Pivot.{Pivotable, smallBelow}
 use Rattle.tableau.specs.declared.Limits.{Limits}
 use Rattle.tableau.specs.declared.Tableau.{Tableau}
 use Rattle.tableau.specs.Parts.{valueAt, basicAt, nonbasicAt}
-use Rattle.tableau.specs.Pivot.{Cells, Pivotable, Swappable, pivotedLaid, swappedAt, smallBelow}
+use Rattle.tableau.specs.Pivot.{Cells, Swappable, pivotedLaid}
 use Rattle.tableau.specs.Stands.{Ranged}
 use Rattle.tableau.proofs.Laws.Moves.{stands-next}
 use Rattle.tableau.proofs.Laws.Places.{value-here, value-other}
-use Rattle.tableau.proofs.Laws.Reductions.{end}
+use Rattle.tableau.proofs.Laws.Live.{end}
 use Rattle.tableau.proofs.Laws.Smalls.{cells-small}
 use Rattle.tableau.proofs.Laws.Turns.{Turn, rowPlace, columnPlace, turnedAt, nextAt, leaving-row}
 use Rattle.tableau.proofs.Laws.Turns.{entering-column, row-in-range, column-in-range}

@@ -1,33 +1,37 @@
 -- `evidence::can::at_most` meets its contract: the product fits, as it is within the largest number times the largest
 -- limit. Assumes nothing.
-use mathlib.Core.Path.{ap, sym}
-use mathlib.Core.Bool.{Bool}
 use lib.IntN.{_*ℤ_}
-use mir.Facts.{toZ-ofZ}
-use mir.Syntax.{w64}
+use mir.Facts.{toZ-ofZ, sfits-widen}
+use mir.Syntax.{w32, w64}
 use mir.Val.{SFits}
 use Rattle.whole.proofs.Sizes.{within-*, fits-by}
-use Rattle.rules.specs.Limit.{present}
-use Rattle.rules.specs.Evidence.{atMost}
+use Rattle.evidence.proofs.Laws.Tests.{at-most-joined}
 use Rattle.evidence.proofs.can.at_most.Statement.{statement}
 use Rattle.evidence.proofs.can.at_most.Tie as tie
 
-product : (c : tie.Then1) → SFits w64 (c .before .args .denominator *ℤ c .before .args .upper)
-product c = fits-by (within-* (c .before .pre .0) (c .before .pre .1)) tt
+module _ (s : tie.Start) where
+  wide : SFits w64 (s .args .upper)
+  wide = sfits-widen {w = w32} tt (s .fits .upper)
+
+  product : SFits w64 (s .args .denominator *ℤ s .args .upper)
+  product = fits-by (within-* (s .pre .0) (s .pre .1)) tt
+
+cast-result : tie.Need-cast-result
+cast-result c = simp (toZ-ofZ (c .fits .upper)) (wide c)
 
 mul-result : tie.Need-mul-result
-mul-result c = simp (toZ-ofZ (c .before .fits .denominator), toZ-ofZ (c .before .fits .upper)) (product c)
+mul-result c = simp (toZ-ofZ (c .fits .denominator), toZ-ofZ (c .fits .upper), toZ-ofZ (wide c)) (product c)
 
 returns : tie.Need-returns
-unfolding atMost present
-returns c = let o = c .before in
-    simp (toZ-ofZ (o .fits .denominator), toZ-ofZ (o .fits .upper), toZ-ofZ (product c), toZ-ofZ (o .fits .x))
-    (ap (λ (b : Bool). atMost (present b (o .args .upper)) (o .args .denominator) (o .args .x)) (sym (c .if1 .taken)))
-
-returns-2 : tie.Need-returns-2
-unfolding atMost present
-returns-2 c = let o = c .before in
-    ap (λ (b : Bool). atMost (present b (o .args .upper)) (o .args .denominator) (o .args .x)) (sym (c .if1 .left))
+returns c =
+    simp (
+      toZ-ofZ (c .fits .denominator),
+      toZ-ofZ (c .fits .upper),
+      toZ-ofZ (wide c),
+      toZ-ofZ (product c),
+      toZ-ofZ (c .fits .x),
+    )
+    (at-most-joined (c .args .uppers) (c .args .upper) (c .args .denominator) (c .args .x))
 
 pub at-most-spec : {M : Type 1} → statement M
-at-most-spec = tie.close (tie.spec mul-result returns returns-2)
+at-most-spec = tie.close (tie.spec cast-result mul-result returns)

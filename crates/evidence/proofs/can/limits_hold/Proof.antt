@@ -1,33 +1,34 @@
--- `evidence::can::limits_hold` meets its contract. The invariant: the limits of the variables passed hold. The measure
--- is how many are left. Assumes nothing.
-use mathlib.Core.Path.{_≡_, sym, _∙_}
-use mathlib.Core.Bool.{Bool, true}
+-- `evidence::can::limits_hold` meets its contract. The invariant: whether the limits of the variables passed hold. The
+-- measure is how many are left. Assumes nothing.
+use mathlib.Core.Path.{_≡_, ap₂, sym}
+use mathlib.Core.Bool.{Bool, _&&_}
 use Prim.Native.Nat.{ℕ, _-_, _≤_}
 use native.Mathlib.Omega.{arith}
 use borrow.Author.Needs.{sfits-of}
 use lib.IntN.{pos}
 use lib.ListN.{getD}
 use mir.Facts.{toZ-ofZ}
-use mir.Syntax.{w64}
+use mir.Syntax.{w32, w64}
 use mir.Val.{SFits, toZ}
-use Rattle.whole.proofs.Below.{all-start, all-more, all-not}
-use Rattle.whole.proofs.Bools.{not-true, not-false}
-use Rattle.rules.specs.Evidence.{lowerPart}
+use Rattle.whole.proofs.Below.{all-start}
+use Rattle.rules.specs.Evidence.{atLeast, atMost, lowerPart}
 use Rattle.tableau.specs.Parts.{lowerOf, upperOf}
+use Rattle.tableau.specs.declared.Limits.{Limits}
 use Rattle.evidence.specs.Reads.{meetsBoth, limitsHold}
+use Rattle.evidence.proofs.Laws.Tests.{tests-more}
 use Rattle.evidence.proofs.can.limits_hold.Statement.{statement}
 use Rattle.evidence.proofs.can.limits_hold.Tie as tie
 
 abbrev Inv-loop : tie.InvT-loop
-Inv-loop answer variables denominator limits v₀ v =
-    (v ≤ variables) × (limitsHold limits answer v (toZ w64 denominator) ≡ true)
+Inv-loop answer variables denominator limits fine₀ v₀ fine v =
+    (v ≤ variables) × (fine ≡ limitsHold limits answer v (toZ w64 denominator))
 
 abbrev μ-loop : tie.MeasureT-loop
-μ-loop answer variables denominator limits v₀ v = variables - v
+μ-loop answer variables denominator limits fine₀ v₀ fine v = variables - v
 
 loop-holds : tie.Need-loop-holds Inv-loop μ-loop
 unfolding limitsHold
-loop-holds c = (omega arith, all-start _)
+loop-holds c = (omega arith, sym (all-start _))
 
 add-at : tie.Need-add-at Inv-loop μ-loop
 add-at c = omega arith
@@ -38,60 +39,82 @@ mul-x c = omega arith
 shared-slice-copy-out-x : tie.Need-shared-slice-copy-out-x Inv-loop μ-loop
 shared-slice-copy-out-x c = omega arith
 
-element-copy-out-between : tie.Need-element-copy-out-between Inv-loop μ-loop
-element-copy-out-between c = omega arith
+element-copy-out-at-least : tie.Need-element-copy-out-at-least Inv-loop μ-loop
+element-copy-out-at-least c = omega arith
 
-mul-between : tie.Need-mul-between Inv-loop μ-loop
-mul-between c = omega arith
+mul-at-least : tie.Need-mul-at-least Inv-loop μ-loop
+mul-at-least c = omega arith
 
-element-copy-out-between-2 : tie.Need-element-copy-out-between-2 Inv-loop μ-loop
-element-copy-out-between-2 c = omega arith
+element-copy-out-at-least-2 : tie.Need-element-copy-out-at-least-2 Inv-loop μ-loop
+element-copy-out-at-least-2 c = omega arith
 
-element-copy-out-between-3 : tie.Need-element-copy-out-between-3 Inv-loop μ-loop
-element-copy-out-between-3 c = omega arith
-
-mul-between-2 : tie.Need-mul-between-2 Inv-loop μ-loop
-mul-between-2 c = omega arith
-
-element-copy-out-between-4 : tie.Need-element-copy-out-between-4 Inv-loop μ-loop
-element-copy-out-between-4 c = omega arith
-
-module _ (c : tie.After-between-arg4 Inv-loop μ-loop) where
+-- the variable, its numerator and its lower limit
+module _ (c : tie.After-at-least-arg2 Inv-loop μ-loop) where
   abbrev start : tie.Start Inv-loop μ-loop
-  start = c .before .before .before .before .before .before .before
+  start = c .before .before .before .before .before
 
   abbrev place : ℕ
-  place = c .before .before .before .before .before .before .loop .v
+  place = c .before .before .before .before .loop .v
+
+  abbrev limits : Limits
+  limits = start .args .t1
 
   fit-x : SFits w64 (lowerPart (start .args .answer .now) place)
-  fit-x = sfits-of (c .before .before .before .before .x .given)
+  fit-x = sfits-of (c .before .before .x .given)
 
-  fit-lower : SFits w64 (getD (start .args .t1 .lower) place (pos 0))
-  fit-lower = sfits-of (c .before .before .between-arg2 .given)
+  fit-lower : SFits w32 (getD (limits .lower) place (pos 0))
+  fit-lower = sfits-of (c .at-least-arg2 .given)
 
-  fit-upper : SFits w64 (getD (start .args .t1 .upper) place (pos 0))
-  fit-upper = sfits-of (c .between-arg4 .given)
+at-least-requires : tie.Need-at-least-requires Inv-loop μ-loop
+at-least-requires c κs = let s = start c in
+    simp (toZ-ofZ (s .fits .denominator), toZ-ofZ (fit-lower c)) (s .pre .0 .2, s .pre .1 .lowers-within (place c))
 
-  -- the limits of one variable
+element-copy-out-at-most : tie.Need-element-copy-out-at-most Inv-loop μ-loop
+element-copy-out-at-most c = omega arith
+
+mul-at-most : tie.Need-mul-at-most Inv-loop μ-loop
+mul-at-most c = omega arith
+
+element-copy-out-at-most-2 : tie.Need-element-copy-out-at-most-2 Inv-loop μ-loop
+element-copy-out-at-most-2 c = omega arith
+
+-- its upper limit
+module _ (c : tie.After-at-most-arg2 Inv-loop μ-loop) where
+  abbrev first : tie.After-at-least-arg2 Inv-loop μ-loop
+  first = c .before .before .before
+
+  fit-upper : SFits w32 (getD (limits first .upper) (place first) (pos 0))
+  fit-upper = sfits-of (c .at-most-arg2 .given)
+
+at-most-requires : tie.Need-at-most-requires Inv-loop μ-loop
+at-most-requires c κs = let s = start (first c) in
+    simp (toZ-ofZ (s .fits .denominator), toZ-ofZ (fit-upper c))
+    (s .pre .0 .2, s .pre .1 .uppers-within (place (first c)))
+
+-- what the two calls say
+module _ (c : tie.After-at-most Inv-loop μ-loop) where
+  abbrev read : tie.After-at-least-arg2 Inv-loop μ-loop
+  read = first (c .before)
+
+  abbrev begun : tie.Start Inv-loop μ-loop
+  begun = start read
+
+  abbrev v : ℕ
+  v = place read
+
   abbrev test : ℕ → Bool
-  test v = meetsBoth (lowerOf (start .args .t1) v) (upperOf (start .args .t1) v)
-      (start .args .denominator) (lowerPart (start .args .answer .now) v)
+  test v = meetsBoth (lowerOf (limits read) v) (upperOf (limits read) v)
+      (begun .args .denominator) (lowerPart (begun .args .answer .now) v)
 
-between-requires : tie.Need-between-requires Inv-loop μ-loop
-between-requires c κs = let s = start c in
-    simp (toZ-ofZ (s .fits .denominator), toZ-ofZ (fit-lower c), toZ-ofZ (fit-upper c))
-    (s .pre .0 .2, s .pre .1 .lowers-within (place c), s .pre .1 .uppers-within (place c))
+  over : c .before .before .before .at-least .result
+      ≡ atLeast (lowerOf (limits read) v) (begun .args .denominator) (lowerPart (begun .args .answer .now) v)
+  over = simp (toZ-ofZ (begun .fits .denominator), toZ-ofZ (fit-x read), toZ-ofZ (fit-lower read))
+      at (c .before .before .before .at-least .ensures)
 
-told : (c : tie.After-between Inv-loop μ-loop) → c .between .result ≡ test (c .before) (place (c .before))
-told c = let b = c .before in
-    simp (toZ-ofZ (start b .fits .denominator), toZ-ofZ (fit-x b), toZ-ofZ (fit-lower b), toZ-ofZ (fit-upper b))
-    at (c .between .ensures)
-
-returns : tie.Need-returns Inv-loop μ-loop
-unfolding limitsHold
-returns c = let b = c .before .before in
-    sym (all-not (start b .args .variables) (place b) (test b) (omega arith)
-    (sym (told (c .before)) ∙ not-true _ (c .if1 .taken)))
+  under : c .at-most .result
+      ≡ atMost (upperOf (limits read) v) (begun .args .denominator) (lowerPart (begun .args .answer .now) v)
+  under = simp (toZ-ofZ (begun .fits .denominator), toZ-ofZ (fit-x read), toZ-ofZ (fit-upper (c .before)))
+      at (c .at-most .ensures)
 
 add-v : tie.Need-add-v Inv-loop μ-loop
 add-v c = omega arith
@@ -101,18 +124,18 @@ loop-less c = omega arith
 
 loop-again : tie.Need-loop-again Inv-loop μ-loop
 unfolding limitsHold
-loop-again c = let b = c .before .before in let l = b .before .before .before .before .before .before .loop in (
+loop-again c = let l = read c .before .before .before .before .loop in (
   omega arith,
-  simp (toZ-ofZ (start b .fits .denominator))
-      (all-more (place b) (test b) (simp (toZ-ofZ (start b .fits .denominator)) at (l .inv .1))
-      (sym (told (c .before)) ∙ not-false _ (c .if1 .left))),
+  simp (toZ-ofZ (begun c .fits .denominator))
+      (tests-more (v c) (test c) (simp (toZ-ofZ (begun c .fits .denominator)) at (l .inv .1))
+      (ap₂ (λ (a b : Bool). a && b) (over c) (under c))),
 )
 
 all : (c : tie.After-loop Inv-loop μ-loop) → c .before .loop .v ≡ c .before .before .args .variables
 all c = omega arith
 
-returns-2 : tie.Need-returns-2 Inv-loop μ-loop
-returns-2 c = sym (simp (toZ-ofZ (c .before .before .fits .denominator)) at (rw (all c) at (c .before .loop .inv .1)))
+returns : tie.Need-returns Inv-loop μ-loop
+returns c = simp (toZ-ofZ (c .before .before .fits .denominator)) at (rw (all c) at (c .before .loop .inv .1))
 
 pub limits-hold-spec : {M : Type 1} → statement M
 limits-hold-spec =
@@ -124,15 +147,15 @@ limits-hold-spec =
     add-at
     mul-x
     shared-slice-copy-out-x
-    element-copy-out-between
-    mul-between
-    element-copy-out-between-2
-    element-copy-out-between-3
-    mul-between-2
-    element-copy-out-between-4
-    between-requires
-    returns
+    element-copy-out-at-least
+    mul-at-least
+    element-copy-out-at-least-2
+    at-least-requires
+    element-copy-out-at-most
+    mul-at-most
+    element-copy-out-at-most-2
+    at-most-requires
     add-v
     loop-less
     loop-again
-    returns-2)
+    returns)

@@ -1,7 +1,7 @@
--- `evidence::can::numerators_fit` meets its contract. The invariant: the numerators passed are in range. The measure is
--- how many are left. Assumes nothing.
-use mathlib.Core.Path.{_≡_, sym, _∙_}
-use mathlib.Core.Bool.{true, not}
+-- `evidence::can::numerators_fit` meets its contract. The invariant: whether the numerators passed are in range. The
+-- measure is how many are left. Assumes nothing.
+use mathlib.Core.Path.{_≡_, ap, sym, _∙_}
+use mathlib.Core.Bool.{not}
 use Prim.Native.Nat.{ℕ, _-_, _≤_}
 use native.Mathlib.Omega.{arith}
 use borrow.Author.Needs.{needs, sfits-of}
@@ -10,23 +10,23 @@ use mir.Facts.{toZ-ofZ}
 use mir.Syntax.{w64}
 use mir.Val.{SFits}
 use Rattle.whole.specs.Numbers.{within}
-use Rattle.whole.proofs.Below.{all-start, all-more, all-not}
-use Rattle.whole.proofs.Bools.{not-true, not-false}
+use Rattle.whole.proofs.Below.{all-start}
 use Rattle.whole.proofs.Tells.{outside-within}
 use Rattle.rules.specs.Sizes.{largestNumerator}
 use Rattle.rules.specs.Evidence.{lowerPart}
 use Rattle.evidence.specs.Reads.{numeratorsFit}
+use Rattle.evidence.proofs.Laws.Tests.{not-not, tests-more}
 use Rattle.evidence.proofs.can.numerators_fit.Statement.{statement}
 use Rattle.evidence.proofs.can.numerators_fit.Tie as tie
 
 abbrev Inv-loop : tie.InvT-loop
-Inv-loop answer variables v₀ v = (v ≤ variables) × (numeratorsFit answer v ≡ true)
+Inv-loop answer variables fine₀ v₀ fine v = (v ≤ variables) × (fine ≡ numeratorsFit answer v)
 
 abbrev μ-loop : tie.MeasureT-loop
-μ-loop answer variables v₀ v = variables - v
+μ-loop answer variables fine₀ v₀ fine v = variables - v
 
 loop-holds : tie.Need-loop-holds Inv-loop μ-loop
-loop-holds c = (omega arith, all-start _)
+loop-holds c = (omega arith, sym (all-start _))
 
 add-at : tie.Need-add-at Inv-loop μ-loop
 add-at c = omega arith
@@ -57,12 +57,9 @@ module _ (c : tie.After-is-outside Inv-loop μ-loop) where
   fit : SFits w64 number
   fit = sfits-of (c .before .is-outside-arg .given)
 
-  told : c .is-outside .result ≡ not (within largestNumerator number)
-  told = (simp (toZ-ofZ fit) at (c .is-outside .ensures)) ∙ outside-within largestNumerator number
-
-returns : tie.Need-returns Inv-loop μ-loop
-returns c = let b = c .before in
-    sym (all-not (start b .args .variables) (place b) _ (omega arith) (not-true _ (sym (told b) ∙ c .if1 .taken)))
+  told : not (c .is-outside .result) ≡ within largestNumerator number
+  told = ap not ((simp (toZ-ofZ fit) at (c .is-outside .ensures)) ∙ outside-within largestNumerator number)
+      ∙ not-not (within largestNumerator number)
 
 add-v : tie.Need-add-v Inv-loop μ-loop
 add-v c = omega arith
@@ -71,16 +68,13 @@ loop-less : tie.Need-loop-less Inv-loop μ-loop
 loop-less c = omega arith
 
 loop-again : tie.Need-loop-again Inv-loop μ-loop
-loop-again c = let b = c .before in (
-  omega arith,
-  all-more (place b) _ (b .before .before .before .loop .inv .1) (not-false _ (sym (told b) ∙ c .if1 .left)),
-)
+loop-again c = (omega arith, tests-more (place c) _ (c .before .before .before .loop .inv .1) (told c))
 
 all : (c : tie.After-loop Inv-loop μ-loop) → c .before .loop .v ≡ c .before .before .args .variables
 all c = omega arith
 
-returns-2 : tie.Need-returns-2 Inv-loop μ-loop
-returns-2 c = sym (rw (all c) at (c .before .loop .inv .1))
+returns : tie.Need-returns Inv-loop μ-loop
+returns c = rw (all c) at (c .before .loop .inv .1)
 
 pub numerators-fit-spec : {M : Type 1} → statement M
 numerators-fit-spec =
@@ -94,8 +88,7 @@ numerators-fit-spec =
     shared-slice-copy-out-is-outside
     sub-is-outside
     is-outside-requires
-    returns
     add-v
     loop-less
     loop-again
-    returns-2)
+    returns)

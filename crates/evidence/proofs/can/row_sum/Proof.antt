@@ -6,8 +6,8 @@ use native.Mathlib.Omega.{arith}
 use borrow.Author.Needs.{sfits-of}
 use lib.IntN.{ℤ, pos, _+ℤ_, _*ℤ_}
 use lib.ListN.{getD}
-use mir.Facts.{toZ-ofZ}
-use mir.Syntax.{w64}
+use mir.Facts.{toZ-ofZ, sfits-widen}
+use mir.Syntax.{w32, w64}
 use mir.Val.{SFits, toZ}
 use Rattle.whole.specs.Numbers.{Within}
 use Rattle.whole.specs.Sums.{sum, sumBy}
@@ -15,10 +15,9 @@ use Rattle.whole.proofs.Sizes.{within-*, within-le, fits-by}
 use Rattle.whole.proofs.Sums.{sum-step, sum-within}
 use Rattle.rules.specs.Sizes.{largestCoefficient, largestNumerator, mostColumns}
 use Rattle.rules.specs.Evidence.{lowerPart}
-use Rattle.tableau.specs.Layout.{mostEntries}
+use Rattle.pivot.specs.Layout.{mostEntries, entryIn}
+use Rattle.pivot.proofs.Laws.Layout.{flat-in}
 use Rattle.evidence.specs.Reads.{rowUpTo}
-use Rattle.tableau.specs.Parts.{entryIn}
-use Rattle.tableau.proofs.Laws.Layout.{flat-in}
 use Rattle.evidence.proofs.can.row_sum.Statement.{statement}
 use Rattle.evidence.proofs.can.row_sum.Tie as tie
 
@@ -32,6 +31,9 @@ abbrev μ-loop : tie.MeasureT-loop
 loop-holds : tie.Need-loop-holds Inv-loop μ-loop
 unfolding rowUpTo sumBy
 loop-holds c = (omega arith, refl)
+
+cast-t13 : tie.Need-cast-t13 Inv-loop μ-loop
+cast-t13 c = omega arith
 
 place-requires : tie.Need-place-requires Inv-loop μ-loop
 place-requires c κs = (omega arith, omega arith, omega arith, omega arith)
@@ -79,8 +81,11 @@ module _ (c : tie.After-x Inv-loop μ-loop) where
   abbrev value : ℤ
   value = lowerPart (start .args .answer .now) j
 
-  fit-entry : SFits w64 read
+  fit-entry : SFits w32 read
   fit-entry = sfits-of (c .before .e .given)
+
+  wide-entry : SFits w64 read
+  wide-entry = sfits-widen {w = w32} tt fit-entry
 
   fit-value : SFits w64 value
   fit-value = sfits-of (c .x .given)
@@ -105,13 +110,17 @@ module _ (c : tie.After-x Inv-loop μ-loop) where
       bound : (j + 1) * (largestCoefficient * largestNumerator) ≤ mostColumns * (largestCoefficient * largestNumerator)
       bound = omega arith
 
+cast-sum : tie.Need-cast-sum Inv-loop μ-loop
+cast-sum c = simp (toZ-ofZ (fit-entry c)) (wide-entry c)
+
 mul-sum : tie.Need-mul-sum Inv-loop μ-loop
-mul-sum c = simp (toZ-ofZ (fit-entry c), toZ-ofZ (fit-value c)) (fit-term c)
+mul-sum c = simp (toZ-ofZ (fit-entry c), toZ-ofZ (wide-entry c), toZ-ofZ (fit-value c)) (fit-term c)
 
 add-sum : tie.Need-add-sum Inv-loop μ-loop
 add-sum c =
     simp (
       toZ-ofZ (fit-entry c),
+      toZ-ofZ (wide-entry c),
       toZ-ofZ (fit-value c),
       toZ-ofZ (fit-term c),
       c .before .before .before .before .loop .inv .1,
@@ -129,6 +138,7 @@ loop-again c = (
   omega arith,
   simp (
     toZ-ofZ (fit-entry c),
+    toZ-ofZ (wide-entry c),
     toZ-ofZ (fit-value c),
     toZ-ofZ (fit-term c),
     c .before .before .before .before .loop .inv .1,
@@ -152,12 +162,14 @@ row-sum-spec =
     Inv-loop
     μ-loop
     loop-holds
+    cast-t13
     place-requires
     add-at
     mul-e
     element-copy-out-e
     mul-x
     shared-slice-copy-out-x
+    cast-sum
     mul-sum
     add-sum
     add-j

@@ -1,33 +1,33 @@
--- `evidence::can::rows_hold` meets its contract. The invariant: the rows passed hold. The measure is how many are left.
--- Assumes nothing.
+-- `evidence::can::rows_hold` meets its contract. The invariant: whether the rows passed hold. The measure is how many
+-- are left. Assumes nothing.
 use mathlib.Core.Path.{_≡_, ap, sym, _∙_}
-use mathlib.Core.Bool.{Bool, true}
 use Prim.Native.Nat.{ℕ, _+_, _-_, _≤_}
 use native.Mathlib.Omega.{arith}
 use borrow.Author.Needs.{needs, sfits-of}
+use lib.Dec.{eqb}
 use lib.IntN.{ℤ}
 use mir.Syntax.{w64}
 use mir.Val.{SFits, ofZ}
 use Rattle.whole.specs.Below.{allBelow}
 use Rattle.whole.specs.Numbers.{eqZ}
-use Rattle.whole.proofs.Below.{all-start, all-more, all-not}
-use Rattle.whole.proofs.Tells.{tells-true, tells-false, tells-eqZ}
-use Rattle.whole.proofs.Tests.{test-eq}
+use Rattle.whole.proofs.Below.{all-start}
+use Rattle.whole.proofs.Tells.{bits-eq}
 use Rattle.rules.specs.Evidence.{lowerPart}
 use Rattle.evidence.specs.Reads.{rowSumAt}
+use Rattle.evidence.proofs.Laws.Tests.{tests-more}
 use Rattle.evidence.proofs.can.rows_hold.Statement.{statement}
 use Rattle.evidence.proofs.can.rows_hold.Tie as tie
 
 abbrev Inv-loop : tie.InvT-loop
-Inv-loop entries answer rows columns i₀ i =
+Inv-loop entries answer rows columns fine₀ i₀ fine i =
     (i ≤ rows)
-    × (allBelow i (λ i. eqZ (lowerPart answer (columns + i)) (rowSumAt entries answer rows columns i)) ≡ true)
+    × (fine ≡ allBelow i (λ i. eqZ (lowerPart answer (columns + i)) (rowSumAt entries answer rows columns i)))
 
 abbrev μ-loop : tie.MeasureT-loop
-μ-loop entries answer rows columns i₀ i = rows - i
+μ-loop entries answer rows columns fine₀ i₀ fine i = rows - i
 
 loop-holds : tie.Need-loop-holds Inv-loop μ-loop
-loop-holds c = (omega arith, all-start _)
+loop-holds c = (omega arith, sym (all-start _))
 
 add-at : tie.Need-add-at Inv-loop μ-loop
 add-at c = omega arith
@@ -40,6 +40,9 @@ mul-x c = omega arith
 
 shared-slice-copy-out-x : tie.Need-shared-slice-copy-out-x Inv-loop μ-loop
 shared-slice-copy-out-x c = omega arith
+
+cast-t13 : tie.Need-cast-t13 Inv-loop μ-loop
+cast-t13 c = omega arith
 
 row-sum-requires : tie.Need-row-sum-requires Inv-loop μ-loop
 row-sum-requires c κs = let s = c .before .before .before in
@@ -55,20 +58,16 @@ module _ (c : tie.After-row-sum Inv-loop μ-loop) where
   abbrev number : ℤ
   number = lowerPart (start .args .answer .now) (start .args .columns + place)
 
-  abbrev test : ℕ → Bool
-  test i = eqZ (lowerPart (start .args .answer .now) (start .args .columns + i))
-      (rowSumAt (start .args .entries .now) (start .args .answer .now) (start .args .rows) (start .args .columns) i)
-
   fit-number : SFits w64 number
   fit-number = sfits-of (c .before .x .given)
 
   fit-sum : SFits w64 (c .row-sum .result)
   fit-sum = search needs
 
-returns : tie.Need-returns Inv-loop μ-loop
-returns c = let b = c .before in
-    sym (all-not (start b .args .rows) (place b) (test b) (omega arith)
-    (tells-false (tells-eqZ (number b) _) (λ e. c .if1 .taken (ap (ofZ w64) (e ∙ sym (b .row-sum .ensures))))))
+told : (c : tie.After-row-sum Inv-loop μ-loop) → eqb (ofZ w64 (number c)) (ofZ w64 (c .row-sum .result))
+    ≡ eqZ (number c) (rowSumAt (start c .args .entries .now) (start c .args .answer .now) (start c .args .rows)
+    (start c .args .columns) (place c))
+told c = bits-eq w64 (fit-number c) (fit-sum c) ∙ ap (eqZ (number c)) (c .row-sum .ensures)
 
 add-i : tie.Need-add-i Inv-loop μ-loop
 add-i c = omega arith
@@ -77,18 +76,13 @@ loop-less : tie.Need-loop-less Inv-loop μ-loop
 loop-less c = omega arith
 
 loop-again : tie.Need-loop-again Inv-loop μ-loop
-loop-again c = let b = c .before in (
-  omega arith,
-  all-more (place b) (test b) (b .before .before .before .loop .inv .1)
-      (tells-true (tells-eqZ (number b) _) (test-eq w64 (fit-number b) (fit-sum b) (c .if1 .left)
-      ∙ b .row-sum .ensures)),
-)
+loop-again c = (omega arith, tests-more (place c) _ (c .before .before .before .loop .inv .1) (told c))
 
 all : (c : tie.After-loop Inv-loop μ-loop) → c .before .loop .i ≡ c .before .before .args .rows
 all c = omega arith
 
-returns-2 : tie.Need-returns-2 Inv-loop μ-loop
-returns-2 c = sym (rw (all c) at (c .before .loop .inv .1))
+returns : tie.Need-returns Inv-loop μ-loop
+returns c = rw (all c) at (c .before .loop .inv .1)
 
 pub rows-hold-spec : {M : Type 1} → statement M
 rows-hold-spec =
@@ -101,9 +95,9 @@ rows-hold-spec =
     add-at-2
     mul-x
     shared-slice-copy-out-x
+    cast-t13
     row-sum-requires
-    returns
     add-i
     loop-less
     loop-again
-    returns-2)
+    returns)

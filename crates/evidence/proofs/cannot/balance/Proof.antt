@@ -1,6 +1,7 @@
 -- `evidence::cannot::balance` meets its contract: the difference is within twice the largest number. Assumes nothing.
+use Prim.Native.Nat.{ℕ}
 use native.Mathlib.Omega.{arith}
-use borrow.Author.Needs.{sfits-of}
+use borrow.Author.Needs.{needs, sfits-of}
 use lib.IntN.{ℤ, _-ℤ_}
 use mir.Facts.{toZ-ofZ}
 use mir.Syntax.{w64}
@@ -9,6 +10,9 @@ use Rattle.whole.proofs.Sizes.{within--, fits-by}
 use Rattle.rules.specs.Evidence.{lowerPart, upperPart}
 use Rattle.evidence.proofs.cannot.balance.Statement.{statement}
 use Rattle.evidence.proofs.cannot.balance.Tie as tie
+
+cast-v : tie.Need-cast-v
+cast-v c = search needs
 
 add-low : tie.Need-add-low
 add-low c = omega arith
@@ -33,13 +37,16 @@ shared-slice-copy-out-result-2 c = omega arith
 
 module _ (c : tie.After-result2) where
   abbrev start : tie.Start
-  start = c .before .before
+  start = c .before .before .before
+
+  abbrev v : ℕ
+  v = start .args .variable .0
 
   abbrev low : ℤ
-  low = lowerPart (start .args .answer .now) (start .args .v)
+  low = lowerPart (start .args .answer .now) v
 
   abbrev high : ℤ
-  high = upperPart (start .args .variables) (start .args .answer .now) (start .args .v)
+  high = upperPart (start .args .variables) (start .args .answer .now) v
 
   fit-low : SFits w64 low
   fit-low = sfits-of (c .before .result .given)
@@ -48,8 +55,8 @@ module _ (c : tie.After-result2) where
   fit-high = sfits-of (c .result2 .given)
 
   fit : SFits w64 (low -ℤ high)
-  fit = fits-by (within-- (start .pre .1 .lower-within (start .args .v) (omega arith))
-      (start .pre .1 .upper-within (start .args .v) (omega arith))) tt
+  fit = fits-by (within-- (start .pre .1 .lower-within v (omega arith))
+      (start .pre .1 .upper-within v (omega arith))) tt
 
 sub-result : tie.Need-sub-result
 sub-result c = simp (toZ-ofZ (fit-low c), toZ-ofZ (fit-high c)) (fit c)
@@ -61,6 +68,7 @@ pub balance-spec : {M : Type 1} → statement M
 balance-spec =
     tie.close
     (tie.spec
+    cast-v
     add-low
     add-high
     add-high-2

@@ -7,27 +7,26 @@ use native.Mathlib.Omega.{arith}
 use borrow.Author.Needs.{needs, sfits-of}
 use lib.IntN.{ℤ, pos, _+ℤ_, _*ℤ_, +ℤ-idr, +ℤ-assoc}
 use lib.ListN.{getD}
-use mir.Facts.{toZ-ofZ}
-use mir.Syntax.{w64}
+use mir.Facts.{toZ-ofZ, sfits-widen}
+use mir.Syntax.{w32, w64}
 use mir.Val.{SFits, toZ}
 use Rattle.whole.specs.Numbers.{Within}
 use Rattle.whole.specs.Sums.{sumBy}
 use Rattle.whole.proofs.Sizes.{within-*, within-+, within--, within-le, fits-by}
 use Rattle.whole.proofs.Sums.{sum-step, sum-within}
 use Rattle.rules.specs.Sizes.{largestCoefficient, largestNumber, mostRows}
-use Rattle.tableau.specs.Layout.{mostEntries}
+use Rattle.pivot.specs.Layout.{mostEntries, entryIn}
+use Rattle.pivot.proofs.Laws.Layout.{flat-in}
 use Rattle.evidence.specs.Reads.{balanceAt, columnUpTo}
-use Rattle.tableau.specs.Parts.{entryIn}
-use Rattle.tableau.proofs.Laws.Layout.{flat-in}
 use Rattle.evidence.proofs.cannot.column_sum.Statement.{statement}
 use Rattle.evidence.proofs.cannot.column_sum.Tie as tie
 
 abbrev Inv-loop : tie.InvT-loop
-Inv-loop entries answer rows columns column variables j sum₀ i₀ sum i =
+Inv-loop entries answer rows columns column variables sum₀ i₀ sum i =
     (i ≤ rows) × (toZ w64 sum ≡ columnUpTo entries answer rows columns variables i (column .0))
 
 abbrev μ-loop : tie.MeasureT-loop
-μ-loop entries answer rows columns column variables j sum₀ i₀ sum i = rows - i
+μ-loop entries answer rows columns column variables sum₀ i₀ sum i = rows - i
 
 add-variables : tie.Need-add-variables Inv-loop μ-loop
 add-variables c = omega arith
@@ -41,6 +40,9 @@ fit-first c = search needs
 loop-holds : tie.Need-loop-holds Inv-loop μ-loop
 unfolding columnUpTo sumBy
 loop-holds c = (omega arith, toZ-ofZ (fit-first c) ∙ c .balance .ensures ∙ sym (+ℤ-idr _))
+
+cast-t13 : tie.Need-cast-t13 Inv-loop μ-loop
+cast-t13 c = omega arith
 
 place-requires : tie.Need-place-requires Inv-loop μ-loop
 place-requires c κs = (omega arith, omega arith, omega arith, omega arith)
@@ -59,8 +61,25 @@ mul-e c = let h = in-entries c in omega arith
 element-copy-out-e : tie.Need-element-copy-out-e Inv-loop μ-loop
 element-copy-out-e c = let h = in-entries c in omega arith
 
-add-balance : tie.Need-add-balance Inv-loop μ-loop
-add-balance c = omega arith
+-- the entry
+module _ (c : tie.After-e Inv-loop μ-loop) where
+  abbrev entry : ℤ
+  entry = getD (c .before .before .before .before .before .args .entries .now) (c .before .place .result) (pos 0)
+
+  fit-entry : SFits w32 entry
+  fit-entry = sfits-of (c .e .given)
+
+  wide-entry : SFits w64 entry
+  wide-entry = sfits-widen {w = w32} tt fit-entry
+
+cast-sum : tie.Need-cast-sum Inv-loop μ-loop
+cast-sum c = simp (toZ-ofZ (fit-entry c)) (wide-entry c)
+
+add-t15 : tie.Need-add-t15 Inv-loop μ-loop
+add-t15 c = omega arith
+
+cast-t13-2 : tie.Need-cast-t13-2 Inv-loop μ-loop
+cast-t13-2 c = omega arith
 
 balance-requires-2 : tie.Need-balance-requires-2 Inv-loop μ-loop
 balance-requires-2 c κs = (
@@ -87,10 +106,7 @@ module _ (c : tie.After-balance2 Inv-loop μ-loop) where
       *ℤ balanceAt (start .args .answer .now) variables (start .args .columns + k)
 
   abbrev read : ℤ
-  read = getD (start .args .entries .now) (c .before .before .place .result) (pos 0)
-
-  fit-entry : SFits w64 read
-  fit-entry = sfits-of (c .before .e .given)
+  read = entry (c .before)
 
   fit-balance : SFits w64 (c .balance2 .result)
   fit-balance = search needs
@@ -126,11 +142,13 @@ module _ (c : tie.After-balance2 Inv-loop μ-loop) where
       bound = omega arith
 
 mul-sum : tie.Need-mul-sum Inv-loop μ-loop
-mul-sum c = simp (toZ-ofZ (fit-entry c), toZ-ofZ (fit-balance c)) (fit-term c)
+mul-sum c =
+    simp (toZ-ofZ (fit-entry (c .before)), toZ-ofZ (wide-entry (c .before)), toZ-ofZ (fit-balance c)) (fit-term c)
 
 add-sum : tie.Need-add-sum Inv-loop μ-loop
 add-sum c = simp (
-  toZ-ofZ (fit-entry c),
+  toZ-ofZ (fit-entry (c .before)),
+  toZ-ofZ (wide-entry (c .before)),
   toZ-ofZ (fit-balance c),
   toZ-ofZ (fit-term c),
   c .before .before .before .before .loop .inv .1,
@@ -146,7 +164,8 @@ loop-again : tie.Need-loop-again Inv-loop μ-loop
 loop-again c = (
   omega arith,
   simp (
-    toZ-ofZ (fit-entry c),
+    toZ-ofZ (fit-entry (c .before)),
+    toZ-ofZ (wide-entry (c .before)),
     toZ-ofZ (fit-balance c),
     toZ-ofZ (fit-term c),
     c .before .before .before .before .loop .inv .1,
@@ -173,10 +192,13 @@ column-sum-spec =
     add-variables
     balance-requires
     loop-holds
+    cast-t13
     place-requires
     mul-e
     element-copy-out-e
-    add-balance
+    cast-sum
+    add-t15
+    cast-t13-2
     balance-requires-2
     mul-sum
     add-sum

@@ -1,29 +1,31 @@
--- `evidence::cannot::multipliers_fair` meets its contract. The invariant: the multipliers of the variables passed are
--- fair. The measure is how many are left. Assumes nothing.
-use mathlib.Core.Path.{_≡_, sym, _∙_}
-use mathlib.Core.Bool.{Bool, true}
+-- `evidence::cannot::multipliers_fair` meets its contract. The invariant: whether the multipliers of the variables
+-- passed are fair. The measure is how many are left. Assumes nothing.
+use mathlib.Core.Path.{_≡_, ap₂, sym}
+use mathlib.Core.Bool.{Bool, false, _&&_}
 use Prim.Native.Nat.{ℕ, _-_, _≤_}
 use native.Mathlib.Omega.{arith}
 use borrow.Author.Needs.{sfits-of}
+use lib.ListN.{getD}
 use mir.Facts.{toZ-ofZ}
 use mir.Syntax.{w64}
 use mir.Val.{SFits}
 use Rattle.whole.specs.Below.{allBelow}
-use Rattle.whole.proofs.Below.{all-start, all-more, all-not}
-use Rattle.whole.proofs.Bools.{not-true, not-false}
+use Rattle.whole.proofs.Below.{all-start}
 use Rattle.rules.specs.Evidence.{lowerPart, upperPart}
-use Rattle.evidence.specs.Reads.{fairAt, multipliersFair}
+use Rattle.evidence.specs.Reads.{fairAt, fairOf, multipliersFair}
+use Rattle.evidence.proofs.Laws.Tests.{tests-more}
 use Rattle.evidence.proofs.cannot.multipliers_fair.Statement.{statement}
 use Rattle.evidence.proofs.cannot.multipliers_fair.Tie as tie
 
 abbrev Inv-loop : tie.InvT-loop
-Inv-loop answer variables limits v₀ v = (v ≤ variables) × (allBelow v (fairAt limits answer variables) ≡ true)
+Inv-loop answer variables limits fine₀ v₀ fine v =
+    (v ≤ variables) × (fine ≡ allBelow v (fairAt limits answer variables))
 
 abbrev μ-loop : tie.MeasureT-loop
-μ-loop answer variables limits v₀ v = variables - v
+μ-loop answer variables limits fine₀ v₀ fine v = variables - v
 
 loop-holds : tie.Need-loop-holds Inv-loop μ-loop
-loop-holds c = (omega arith, all-start _)
+loop-holds c = (omega arith, sym (all-start _))
 
 add-low : tie.Need-add-low Inv-loop μ-loop
 add-low c = omega arith
@@ -34,52 +36,54 @@ add-high c = omega arith
 add-high-2 : tie.Need-add-high-2 Inv-loop μ-loop
 add-high-2 c = omega arith
 
-element-copy-out-both-fair : tie.Need-element-copy-out-both-fair Inv-loop μ-loop
-element-copy-out-both-fair c = omega arith
+element-copy-out-fair : tie.Need-element-copy-out-fair Inv-loop μ-loop
+element-copy-out-fair c = omega arith
 
-mul-both-fair : tie.Need-mul-both-fair Inv-loop μ-loop
-mul-both-fair c = omega arith
+mul-fair : tie.Need-mul-fair Inv-loop μ-loop
+mul-fair c = omega arith
 
-shared-slice-copy-out-both-fair : tie.Need-shared-slice-copy-out-both-fair Inv-loop μ-loop
-shared-slice-copy-out-both-fair c = omega arith
+shared-slice-copy-out-fair : tie.Need-shared-slice-copy-out-fair Inv-loop μ-loop
+shared-slice-copy-out-fair c = omega arith
 
-element-copy-out-both-fair-2 : tie.Need-element-copy-out-both-fair-2 Inv-loop μ-loop
-element-copy-out-both-fair-2 c = omega arith
+fair-requires : tie.Need-fair-requires Inv-loop μ-loop
+fair-requires c κs = tt
 
-mul-both-fair-2 : tie.Need-mul-both-fair-2 Inv-loop μ-loop
-mul-both-fair-2 c = omega arith
+element-copy-out-fair-2 : tie.Need-element-copy-out-fair-2 Inv-loop μ-loop
+element-copy-out-fair-2 c = omega arith
 
-shared-slice-copy-out-both-fair-2 : tie.Need-shared-slice-copy-out-both-fair-2 Inv-loop μ-loop
-shared-slice-copy-out-both-fair-2 c = omega arith
+mul-fair-2 : tie.Need-mul-fair-2 Inv-loop μ-loop
+mul-fair-2 c = omega arith
 
-both-fair-requires : tie.Need-both-fair-requires Inv-loop μ-loop
-both-fair-requires c κs = tt
+shared-slice-copy-out-fair-2 : tie.Need-shared-slice-copy-out-fair-2 Inv-loop μ-loop
+shared-slice-copy-out-fair-2 c = omega arith
 
--- the two multipliers, and what the call says of them
-module _ (c : tie.After-both-fair Inv-loop μ-loop) where
+fair-requires-2 : tie.Need-fair-requires-2 Inv-loop μ-loop
+fair-requires-2 c κs = tt
+
+-- the two multipliers, and what the calls say of them
+module _ (c : tie.After-fair2 Inv-loop μ-loop) where
+  abbrev turn : tie.At-loop Inv-loop μ-loop
+  turn = c .before .before .before .before .before .before .before
+
   abbrev start : tie.Start Inv-loop μ-loop
-  start = c .before .before .before .before .before .before .before
+  start = turn .before
 
   abbrev place : ℕ
-  place = c .before .before .before .before .before .before .loop .v
-
-  abbrev test : ℕ → Bool
-  test = fairAt (start .args .t1) (start .args .answer .now) (start .args .variables)
+  place = turn .loop .v
 
   fit-low : SFits w64 (lowerPart (start .args .answer .now) place)
-  fit-low = sfits-of (c .before .before .before .both-fair-arg2 .given)
+  fit-low = sfits-of (c .before .before .before .before .fair-arg2 .given)
 
   fit-high : SFits w64 (upperPart (start .args .variables) (start .args .answer .now) place)
-  fit-high = sfits-of (c .before .both-fair-arg4 .given)
+  fit-high = sfits-of (c .before .fair-arg4 .given)
 
-  told : c .both-fair .result ≡ test place
-  told = simp (toZ-ofZ fit-low, toZ-ofZ fit-high) at (c .both-fair .ensures)
+  first : c .before .before .before .fair .result
+      ≡ fairOf (getD (start .args .t1 .lowers) place false) (lowerPart (start .args .answer .now) place)
+  first = simp (toZ-ofZ fit-low) at (c .before .before .before .fair .ensures)
 
-returns : tie.Need-returns Inv-loop μ-loop
-unfolding multipliersFair
-returns c = let b = c .before in
-    sym (all-not (start b .args .variables) (place b) (test b) (omega arith)
-    (sym (told b) ∙ not-true _ (c .if1 .taken)))
+  second : c .fair2 .result ≡ fairOf (getD (start .args .t1 .uppers) place false)
+      (upperPart (start .args .variables) (start .args .answer .now) place)
+  second = simp (toZ-ofZ fit-high) at (c .fair2 .ensures)
 
 add-v : tie.Need-add-v Inv-loop μ-loop
 add-v c = omega arith
@@ -88,18 +92,17 @@ loop-less : tie.Need-loop-less Inv-loop μ-loop
 loop-less c = omega arith
 
 loop-again : tie.Need-loop-again Inv-loop μ-loop
-loop-again c = let b = c .before in (
+loop-again c = (
   omega arith,
-  all-more (place b) (test b) (b .before .before .before .before .before .before .loop .inv .1)
-      (sym (told b) ∙ not-false _ (c .if1 .left)),
+  tests-more (place c) _ (turn c .loop .inv .1) (ap₂ (λ (a b : Bool). a && b) (first c) (second c)),
 )
 
 all : (c : tie.After-loop Inv-loop μ-loop) → c .before .loop .v ≡ c .before .before .args .variables
 all c = omega arith
 
-returns-2 : tie.Need-returns-2 Inv-loop μ-loop
+returns : tie.Need-returns Inv-loop μ-loop
 unfolding multipliersFair
-returns-2 c = sym (rw (all c) at (c .before .loop .inv .1))
+returns c = rw (all c) at (c .before .loop .inv .1)
 
 pub multipliers-fair-spec : {M : Type 1} → statement M
 multipliers-fair-spec =
@@ -111,15 +114,15 @@ multipliers-fair-spec =
     add-low
     add-high
     add-high-2
-    element-copy-out-both-fair
-    mul-both-fair
-    shared-slice-copy-out-both-fair
-    element-copy-out-both-fair-2
-    mul-both-fair-2
-    shared-slice-copy-out-both-fair-2
-    both-fair-requires
-    returns
+    element-copy-out-fair
+    mul-fair
+    shared-slice-copy-out-fair
+    fair-requires
+    element-copy-out-fair-2
+    mul-fair-2
+    shared-slice-copy-out-fair-2
+    fair-requires-2
     add-v
     loop-less
     loop-again
-    returns-2)
+    returns)

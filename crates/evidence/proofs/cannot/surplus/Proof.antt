@@ -1,6 +1,6 @@
 -- `evidence::cannot::surplus` meets its contract. The invariant: the sum is that of the variables passed, each term
 -- within twice the largest limit times the largest number. The measure is how many are left. Assumes nothing.
-use mathlib.Core.Path.{_≡_, refl, ap, sym, _∙_}
+use mathlib.Core.Path.{_≡_, refl, ap, ap₂, sym, _∙_}
 use mathlib.Core.Bool.{false}
 use Prim.Native.Nat.{ℕ, _+_, _*_, _-_, _≤_, _<_}
 use native.Mathlib.Omega.{arith}
@@ -8,7 +8,7 @@ use borrow.Author.Needs.{needs, sfits-of}
 use lib.IntN.{ℤ, pos, _+ℤ_, _-ℤ_, _*ℤ_}
 use lib.ListN.{getD}
 use mir.Facts.{toZ-ofZ}
-use mir.Syntax.{w64}
+use mir.Syntax.{w32, w64}
 use mir.Val.{SFits, toZ}
 use Rattle.whole.specs.Numbers.{Within}
 use Rattle.whole.specs.Sums.{sumBy}
@@ -44,114 +44,139 @@ add-high c = omega arith
 add-high-2 : tie.Need-add-high-2 Inv-loop μ-loop
 add-high-2 c = omega arith
 
-element-copy-out-net : tie.Need-element-copy-out-net Inv-loop μ-loop
-element-copy-out-net c = omega arith
+element-copy-out-weighed : tie.Need-element-copy-out-weighed Inv-loop μ-loop
+element-copy-out-weighed c = omega arith
 
-mul-net : tie.Need-mul-net Inv-loop μ-loop
-mul-net c = omega arith
+mul-weighed : tie.Need-mul-weighed Inv-loop μ-loop
+mul-weighed c = omega arith
 
-element-copy-out-net-2 : tie.Need-element-copy-out-net-2 Inv-loop μ-loop
-element-copy-out-net-2 c = omega arith
+element-copy-out-weighed-2 : tie.Need-element-copy-out-weighed-2 Inv-loop μ-loop
+element-copy-out-weighed-2 c = omega arith
 
-mul-net-2 : tie.Need-mul-net-2 Inv-loop μ-loop
-mul-net-2 c = omega arith
+mul-weighed-2 : tie.Need-mul-weighed-2 Inv-loop μ-loop
+mul-weighed-2 c = omega arith
 
-shared-slice-copy-out-net : tie.Need-shared-slice-copy-out-net Inv-loop μ-loop
-shared-slice-copy-out-net c = omega arith
+shared-slice-copy-out-weighed : tie.Need-shared-slice-copy-out-weighed Inv-loop μ-loop
+shared-slice-copy-out-weighed c = omega arith
 
-element-copy-out-net-3 : tie.Need-element-copy-out-net-3 Inv-loop μ-loop
-element-copy-out-net-3 c = omega arith
+-- the variable, its lower limit and the limit's multiplier
+module _ (c : tie.After-weighed-arg3 Inv-loop μ-loop) where
+  abbrev turn : tie.At-loop Inv-loop μ-loop
+  turn = c .before .before .before .before
 
-mul-net-3 : tie.Need-mul-net-3 Inv-loop μ-loop
-mul-net-3 c = omega arith
-
-element-copy-out-net-4 : tie.Need-element-copy-out-net-4 Inv-loop μ-loop
-element-copy-out-net-4 c = omega arith
-
-mul-net-4 : tie.Need-mul-net-4 Inv-loop μ-loop
-mul-net-4 c = omega arith
-
-shared-slice-copy-out-net-2 : tie.Need-shared-slice-copy-out-net-2 Inv-loop μ-loop
-shared-slice-copy-out-net-2 c = omega arith
-
--- the numbers of one variable
-module _ (c : tie.After-net-arg6 Inv-loop μ-loop) where
   abbrev start : tie.Start Inv-loop μ-loop
-  start = c .before .before .before .before .before .before .before .before
+  start = turn .before
 
   abbrev v : ℕ
-  v = c .before .before .before .before .before .before .before .loop .v
+  v = turn .loop .v
 
   abbrev limits : Limits
   limits = start .args .t1
 
-  fit-lower : SFits w64 (getD (limits .lower) v (pos 0))
-  fit-lower = sfits-of (c .before .before .before .before .net-arg2 .given)
+  fit-lower : SFits w32 (getD (limits .lower) v (pos 0))
+  fit-lower = sfits-of (c .before .weighed-arg2 .given)
 
   fit-low : SFits w64 (lowerPart (start .args .answer .now) v)
-  fit-low = sfits-of (c .before .before .before .net-arg3 .given)
+  fit-low = sfits-of (c .weighed-arg3 .given)
 
-  fit-upper : SFits w64 (getD (limits .upper) v (pos 0))
-  fit-upper = sfits-of (c .before .net-arg5 .given)
+weighed-requires : tie.Need-weighed-requires Inv-loop μ-loop
+weighed-requires c κs =
+    simp (toZ-ofZ (fit-lower c), toZ-ofZ (fit-low c))
+    (start c .pre .1 .1 .lowers-within (v c), start c .pre .1 .0 .lower-within (v c) (omega arith))
 
-  fit-high : SFits w64 (upperPart (start .args .variables) (start .args .answer .now) v)
-  fit-high = sfits-of (c .net-arg6 .given)
+element-copy-out-weighed-3 : tie.Need-element-copy-out-weighed-3 Inv-loop μ-loop
+element-copy-out-weighed-3 c = omega arith
 
-  abbrev term : ℕ → ℤ
-  term k = seated whole (lowerOf limits k) *ℤ lowerPart (start .args .answer .now) k
-      -ℤ seated whole (upperOf limits k) *ℤ upperPart (start .args .variables) (start .args .answer .now) k
+mul-weighed-3 : tie.Need-mul-weighed-3 Inv-loop μ-loop
+mul-weighed-3 c = omega arith
+
+element-copy-out-weighed-4 : tie.Need-element-copy-out-weighed-4 Inv-loop μ-loop
+element-copy-out-weighed-4 c = omega arith
+
+mul-weighed-4 : tie.Need-mul-weighed-4 Inv-loop μ-loop
+mul-weighed-4 c = omega arith
+
+shared-slice-copy-out-weighed-2 : tie.Need-shared-slice-copy-out-weighed-2 Inv-loop μ-loop
+shared-slice-copy-out-weighed-2 c = omega arith
+
+-- its upper limit and that one's multiplier
+module _ (c : tie.After-weighed-arg6 Inv-loop μ-loop) where
+  abbrev first : tie.After-weighed-arg3 Inv-loop μ-loop
+  first = c .before .before .before .before
+
+  fit-upper : SFits w32 (getD (limits first .upper) (v first) (pos 0))
+  fit-upper = sfits-of (c .before .weighed-arg5 .given)
+
+  fit-high : SFits w64 (upperPart (start first .args .variables) (start first .args .answer .now) (v first))
+  fit-high = sfits-of (c .weighed-arg6 .given)
+
+weighed-requires-2 : tie.Need-weighed-requires-2 Inv-loop μ-loop
+weighed-requires-2 c κs = let s = start (first c) in
+    simp (toZ-ofZ (fit-upper c), toZ-ofZ (fit-high c))
+    (s .pre .1 .1 .uppers-within (v (first c)), s .pre .1 .0 .upper-within (v (first c)) (omega arith))
+
+-- what the two calls give, and the sum with it
+module _ (c : tie.After-weighed2 Inv-loop μ-loop) where
+  abbrev read : tie.After-weighed-arg3 Inv-loop μ-loop
+  read = first (c .before)
+
+  abbrev begun : tie.Start Inv-loop μ-loop
+  begun = start read
+
+  abbrev k : ℕ
+  k = v read
+
+  abbrev gain : ℕ → ℤ
+  gain u = seated whole (lowerOf (limits read) u) *ℤ lowerPart (begun .args .answer .now) u
+
+  abbrev loss : ℕ → ℤ
+  loss u = seated whole (upperOf (limits read) u) *ℤ upperPart (begun .args .variables) (begun .args .answer .now) u
 
   abbrev upTo : ℕ → ℤ
-  upTo k = surplusUpTo limits (start .args .answer .now) (start .args .variables) k
+  upTo u = surplusUpTo (limits read) (begun .args .answer .now) (begun .args .variables) u
 
-  within-term : (k : ℕ) → k < start .args .variables →
-      Within (term k) (largestLimit * largestNumber + largestLimit * largestNumber)
-  within-term k h = let many = start .pre .1 .0 in let l = start .pre .1 .1 in
-      net-within (getD (limits .lowers) k false) (getD (limits .uppers) k false)
-      (getD (limits .lower) k (pos 0)) (getD (limits .upper) k (pos 0)) _ _
-      (l .lowers-within k) (many .lower-within k h) (l .uppers-within k) (many .upper-within k h)
+  abbrev given : ℤ
+  given = c .before .before .before .before .weighed .result -ℤ c .weighed2 .result
 
-  fit-more : SFits w64 (upTo (v + 1))
+  fit-gain : SFits w64 (c .before .before .before .before .weighed .result)
+  fit-gain = search needs
+
+  fit-loss : SFits w64 (c .weighed2 .result)
+  fit-loss = search needs
+
+  told : given ≡ gain k -ℤ loss k
+  told = ap₂ (λ (a b : ℤ). a -ℤ b)
+      (simp (toZ-ofZ (fit-lower read), toZ-ofZ (fit-low read)) at (c .before .before .before .before .weighed .ensures))
+      (simp (toZ-ofZ (fit-upper (c .before)), toZ-ofZ (fit-high (c .before))) at (c .weighed2 .ensures))
+
+  within-net : (u : ℕ) → u < begun .args .variables →
+      Within (gain u -ℤ loss u) (largestLimit * largestNumber + largestLimit * largestNumber)
+  within-net u h = let many = begun .pre .1 .0 in let l = begun .pre .1 .1 in
+      net-within (getD (limits read .lowers) u false) (getD (limits read .uppers) u false)
+      (getD (limits read .lower) u (pos 0)) (getD (limits read .upper) u (pos 0)) _ _
+      (l .lowers-within u) (many .lower-within u h) (l .uppers-within u) (many .upper-within u h)
+
+  fit-net : SFits w64 given
+  fit-net = rw told (fits-by (within-net k (omega arith)) tt)
+
+  more : upTo k +ℤ given ≡ upTo (k + 1)
   unfolding surplusUpTo
-  fit-more = fits-by (within-le (sum-within (v + 1) (λ k h. within-term k (omega arith))) bound) tt
+  more = ap (λ (z : ℤ). upTo k +ℤ z) told ∙ sym (sum-step k (λ u. gain u -ℤ loss u))
+
+  fit-sum : SFits w64 (upTo k +ℤ given)
+  unfolding surplusUpTo
+  fit-sum = rw more (fits-by (within-le (sum-within (k + 1) (λ u h. within-net u (omega arith))) bound) tt)
     where
-      bound : (v + 1) * (largestLimit * largestNumber + largestLimit * largestNumber)
+      bound : (k + 1) * (largestLimit * largestNumber + largestLimit * largestNumber)
           ≤ mostVariables * (largestLimit * largestNumber + largestLimit * largestNumber)
       bound = omega arith
 
-  step : upTo v +ℤ term v ≡ upTo (v + 1)
-  unfolding surplusUpTo
-  step = sym (sum-step v term)
-
-net-requires : tie.Need-net-requires Inv-loop μ-loop
-net-requires c κs = let many = start c .pre .1 .0 in let l = start c .pre .1 .1 in
-    simp (toZ-ofZ (fit-lower c), toZ-ofZ (fit-low c), toZ-ofZ (fit-upper c), toZ-ofZ (fit-high c)) (
-      l .lowers-within (v c),
-      many .lower-within (v c) (omega arith),
-      l .uppers-within (v c),
-      many .upper-within (v c) (omega arith),
-    )
-
-module _ (c : tie.After-net Inv-loop μ-loop) where
-  told : c .net .result ≡ term (c .before) (v (c .before))
-  told = let b = c .before in
-      simp (toZ-ofZ (fit-lower b), toZ-ofZ (fit-low b), toZ-ofZ (fit-upper b), toZ-ofZ (fit-high b))
-      at (c .net .ensures)
-
-  fit-net : SFits w64 (c .net .result)
-  fit-net = search needs
-
-  more : upTo (c .before) (v (c .before)) +ℤ c .net .result ≡ upTo (c .before) (v (c .before) + 1)
-  more = ap (λ (z : ℤ). upTo (c .before) (v (c .before)) +ℤ z) told ∙ step (c .before)
-
-  abbrev turn : tie.At-loop Inv-loop μ-loop
-  turn = c .before .before .before .before .before .before .before .before
-
-  fit-sum : SFits w64 (upTo (c .before) (v (c .before)) +ℤ c .net .result)
-  fit-sum = rw more (fit-more (c .before))
+sub-sum : tie.Need-sub-sum Inv-loop μ-loop
+sub-sum c = simp (toZ-ofZ (fit-gain c), toZ-ofZ (fit-loss c)) (fit-net c)
 
 add-sum : tie.Need-add-sum Inv-loop μ-loop
-add-sum c = simp (toZ-ofZ (fit-net c), turn c .loop .inv .1) (fit-sum c)
+add-sum c =
+    simp (toZ-ofZ (fit-gain c), toZ-ofZ (fit-loss c), toZ-ofZ (fit-net c), turn (read c) .loop .inv .1) (fit-sum c)
 
 add-v : tie.Need-add-v Inv-loop μ-loop
 add-v c = omega arith
@@ -162,7 +187,13 @@ loop-less c = omega arith
 loop-again : tie.Need-loop-again Inv-loop μ-loop
 loop-again c = (
   omega arith,
-  simp (toZ-ofZ (fit-net c), turn c .loop .inv .1, toZ-ofZ (fit-sum c)) (more c),
+  simp (
+    toZ-ofZ (fit-gain c),
+    toZ-ofZ (fit-loss c),
+    toZ-ofZ (fit-net c),
+    turn (read c) .loop .inv .1,
+    toZ-ofZ (fit-sum c),
+  ) (more c),
 )
 
 all : (c : tie.After-loop Inv-loop μ-loop) → c .before .loop .v ≡ c .before .before .args .variables
@@ -182,17 +213,19 @@ surplus-spec =
     add-low
     add-high
     add-high-2
-    element-copy-out-net
-    mul-net
-    element-copy-out-net-2
-    mul-net-2
-    shared-slice-copy-out-net
-    element-copy-out-net-3
-    mul-net-3
-    element-copy-out-net-4
-    mul-net-4
-    shared-slice-copy-out-net-2
-    net-requires
+    element-copy-out-weighed
+    mul-weighed
+    element-copy-out-weighed-2
+    mul-weighed-2
+    shared-slice-copy-out-weighed
+    weighed-requires
+    element-copy-out-weighed-3
+    mul-weighed-3
+    element-copy-out-weighed-4
+    mul-weighed-4
+    shared-slice-copy-out-weighed-2
+    weighed-requires-2
+    sub-sum
     add-sum
     add-v
     loop-less

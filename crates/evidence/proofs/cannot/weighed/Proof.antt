@@ -3,8 +3,8 @@
 use mathlib.Core.Path.{ap, sym, _∙_}
 use mathlib.Core.Bool.{Bool}
 use lib.IntN.{_*ℤ_, zero-*ℤ}
-use mir.Facts.{toZ-ofZ}
-use mir.Syntax.{w64}
+use mir.Facts.{toZ-ofZ, sfits-widen}
+use mir.Syntax.{w32, w64}
 use mir.Val.{SFits}
 use Rattle.whole.specs.Values.{whole}
 use Rattle.whole.proofs.Sizes.{within-*, fits-by}
@@ -16,13 +16,20 @@ use Rattle.evidence.proofs.cannot.weighed.Tie as tie
 product : (c : tie.Then1) → SFits w64 (c .before .args .limit *ℤ c .before .args .k)
 product c = fits-by (within-* (c .before .pre .0) (c .before .pre .1)) tt
 
+wide : (c : tie.Then1) → SFits w64 (c .before .args .limit)
+wide c = sfits-widen {w = w32} tt (c .before .fits .limit)
+
+cast-result : tie.Need-cast-result
+cast-result c = simp (toZ-ofZ (c .before .fits .limit)) (wide c)
+
 mul-result : tie.Need-mul-result
-mul-result c = simp (toZ-ofZ (c .before .fits .limit), toZ-ofZ (c .before .fits .k)) (product c)
+mul-result c =
+    simp (toZ-ofZ (c .before .fits .limit), toZ-ofZ (wide c), toZ-ofZ (c .before .fits .k)) (product c)
 
 returns : tie.Need-returns
 unfolding seated present
 returns c = let o = c .before in
-    simp (toZ-ofZ (o .fits .limit), toZ-ofZ (o .fits .k), toZ-ofZ (product c))
+    simp (toZ-ofZ (o .fits .limit), toZ-ofZ (wide c), toZ-ofZ (o .fits .k), toZ-ofZ (product c))
     (ap (λ (b : Bool). seated whole (present b (o .args .limit)) *ℤ o .args .k) (sym (c .if1 .taken)))
 
 returns-2 : tie.Need-returns-2
@@ -32,4 +39,4 @@ returns-2 c = let o = c .before in
     (sym (c .if1 .left))
 
 pub weighed-spec : {M : Type 1} → statement M
-weighed-spec = tie.close (tie.spec mul-result returns returns-2)
+weighed-spec = tie.close (tie.spec cast-result mul-result returns returns-2)

@@ -1,34 +1,34 @@
 -- `search::sides::over` meets its contract. Assumes nothing.
-use lib.IntN.{ℤ, _*ℤ_}
+use mathlib.Core.Bool.{_&&_}
+use mathlib.Core.Path.{_≡_, ap, _∙_}
+use borrow.Author.Needs.{needs}
+use lib.IntN.{_*ℤ_}
+use lib.Signed.{ltZ}
 use mir.Facts.{toZ-ofZ}
 use mir.Syntax.{w64}
 use mir.Val.{SFits}
-use Rattle.rules.specs.Limit.{present}
-use Rattle.rules.specs.Step as step
-use Rattle.whole.proofs.Sizes.{within-*, fits-by}
+use Rattle.search.proofs.Laws.Sides.{over-joined}
 use Rattle.search.proofs.sides.over.Statement.{statement}
 use Rattle.search.proofs.sides.over.Tie as tie
 
-product : (c : tie.Start) → SFits w64 (c .args .common *ℤ c .args .upper)
-product c = fits-by (within-* (c .pre .0) (c .pre .1)) tt
+product-requires : tie.Need-product-requires
+product-requires c κs = tt
 
-mul-result : tie.Need-mul-result
-mul-result c = simp (toZ-ofZ (c .before .fits .common), toZ-ofZ (c .before .fits .upper)) (product (c .before))
+module _ (c : tie.After-product) where
+  abbrev s : tie.Start
+  s = c .before
+
+  fit : SFits w64 (c .product .result)
+  fit = search needs
+
+  product-is : c .product .result ≡ s .args .common *ℤ s .args .upper
+  product-is = simp (toZ-ofZ (s .fits .common), toZ-ofZ (s .fits .upper)) at (c .product .ensures)
 
 returns : tie.Need-returns
-unfolding step.over present
-returns c =
-    simp (
-      toZ-ofZ (c .before .fits .common),
-      toZ-ofZ (c .before .fits .upper),
-      toZ-ofZ (c .before .fits .value),
-      toZ-ofZ (product (c .before)),
-      c .if1 .taken,
-    )
-
-returns-2 : tie.Need-returns-2
-unfolding step.over present
-returns-2 c = simp (c .if1 .left)
+returns c = let a = s c .args in
+    simp (toZ-ofZ (s c .fits .value), toZ-ofZ (fit c))
+    (ap (λ p. a .uppers && ltZ p (a .value)) (product-is c)
+    ∙ over-joined (a .uppers) (a .upper) (a .common) (a .value))
 
 pub over-spec : {M : Type 1} → statement M
-over-spec = tie.close (tie.spec mul-result returns returns-2)
+over-spec = tie.close (tie.spec product-requires returns)

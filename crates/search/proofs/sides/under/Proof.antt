@@ -1,34 +1,34 @@
 -- `search::sides::under` meets its contract. Assumes nothing.
-use lib.IntN.{ℤ, _*ℤ_}
+use mathlib.Core.Bool.{_&&_}
+use mathlib.Core.Path.{_≡_, ap, _∙_}
+use borrow.Author.Needs.{needs}
+use lib.IntN.{_*ℤ_}
+use lib.Signed.{ltZ}
 use mir.Facts.{toZ-ofZ}
 use mir.Syntax.{w64}
 use mir.Val.{SFits}
-use Rattle.rules.specs.Limit.{present}
-use Rattle.rules.specs.Step as step
-use Rattle.whole.proofs.Sizes.{within-*, fits-by}
+use Rattle.search.proofs.Laws.Sides.{under-joined}
 use Rattle.search.proofs.sides.under.Statement.{statement}
 use Rattle.search.proofs.sides.under.Tie as tie
 
-product : (c : tie.Start) → SFits w64 (c .args .common *ℤ c .args .lower)
-product c = fits-by (within-* (c .pre .0) (c .pre .1)) tt
+product-requires : tie.Need-product-requires
+product-requires c κs = tt
 
-mul-result : tie.Need-mul-result
-mul-result c = simp (toZ-ofZ (c .before .fits .common), toZ-ofZ (c .before .fits .lower)) (product (c .before))
+module _ (c : tie.After-product) where
+  abbrev s : tie.Start
+  s = c .before
+
+  fit : SFits w64 (c .product .result)
+  fit = search needs
+
+  product-is : c .product .result ≡ s .args .common *ℤ s .args .lower
+  product-is = simp (toZ-ofZ (s .fits .common), toZ-ofZ (s .fits .lower)) at (c .product .ensures)
 
 returns : tie.Need-returns
-unfolding step.under present
-returns c =
-    simp (
-      toZ-ofZ (c .before .fits .common),
-      toZ-ofZ (c .before .fits .lower),
-      toZ-ofZ (c .before .fits .value),
-      toZ-ofZ (product (c .before)),
-      c .if1 .taken,
-    )
-
-returns-2 : tie.Need-returns-2
-unfolding step.under present
-returns-2 c = simp (c .if1 .left)
+returns c = let a = s c .args in
+    simp (toZ-ofZ (s c .fits .value), toZ-ofZ (fit c))
+    (ap (λ p. a .lowers && ltZ (a .value) p) (product-is c)
+    ∙ under-joined (a .lowers) (a .lower) (a .common) (a .value))
 
 pub under-spec : {M : Type 1} → statement M
-under-spec = tie.close (tie.spec mul-result returns returns-2)
+under-spec = tie.close (tie.spec product-requires returns)

@@ -1,16 +1,14 @@
--- `solver::answer::numerator_of` meets its contract: D times a value that is a limit or 0 stays in 64 bits. Assumes
--- nothing.
+-- `solver::answer::numerator_of` meets its contract. Assumes nothing.
 use mathlib.Core.Bool.{Bool}
-use mathlib.Core.Path.{ap, sym, _∙_}
+use mathlib.Core.Path.{_≡_, ap, sym, _∙_}
 use Prim.Native.Nat.{_<_}
 use native.Mathlib.Omega.{arith}
 use borrow.Author.Needs.{needs, sfits-of}
 use lib.IntN.{ℤ, pos, _*ℤ_}
 use lib.ListN.{getD}
 use mir.Facts.{toZ-ofZ}
-use mir.Syntax.{w64}
+use mir.Syntax.{w32, w64}
 use mir.Val.{SFits}
-use Rattle.whole.proofs.Sizes.{fits-by, within-*}
 use Rattle.rules.specs.Sizes.{mostColumns}
 use Rattle.search.specs.Search.{rowSum}
 use Rattle.solver.specs.Answer.{numeratorFrom, numeratorLaid}
@@ -40,30 +38,38 @@ returns c = toZ-ofZ (fit-row c) ∙ c .row-value .ensures
 in-columns : (c : tie.Else1) → c .before .args .seat .column .0 < mostColumns
 in-columns c = let p = c .before .pre in let z = p .in-columns (c .if1 .left) in let k = p .few-columns in omega arith
 
+cast-j : tie.Need-cast-j
+cast-j c = search needs
+
 mul-x : tie.Need-mul-x
-mul-x c = let z = in-columns (c .before) in omega arith
+mul-x c = let z = in-columns (c .before .before) in omega arith
 
 element-copy-out-x : tie.Need-element-copy-out-x
-element-copy-out-x c = in-columns (c .before)
+element-copy-out-x c = in-columns (c .before .before)
 
-module _ (c : tie.After-x) where
+product-requires : tie.Need-product-requires
+product-requires c κs = tt
+
+module _ (c : tie.After-product) where
+  abbrev free-one : tie.Else1
+  free-one = c .before .before .before .before
+
   abbrev start : tie.Start
-  start = c .before .before .before
+  start = free-one .before
 
-  fit-value : SFits w64 (getD (start .args .values .now) (start .args .seat .column .0) (pos 0))
-  fit-value = sfits-of (c .x .given)
+  fit-value : SFits w32 (getD (start .args .values .now) (start .args .seat .column .0) (pos 0))
+  fit-value = sfits-of (c .before .x .given)
 
-  fit-product : let a = start .args in SFits w64 (a .common *ℤ getD (a .values .now) (a .seat .column .0) (pos 0))
-  fit-product = let p = start .pre in
-      fits-by (within-* (p .common-within) (p .values-within (start .args .seat .column .0))) tt
+  fit-product : SFits w64 (c .product .result)
+  fit-product = search needs
 
-mul-result : tie.Need-mul-result
-mul-result c = simp (toZ-ofZ (start c .fits .common), toZ-ofZ (fit-value c)) (fit-product c)
+  product-is : let a = start .args in
+      c .product .result ≡ a .common *ℤ getD (a .values .now) (a .seat .column .0) (pos 0)
+  product-is = simp (toZ-ofZ (start .fits .common), toZ-ofZ fit-value) at (c .product .ensures)
 
 returns-2 : tie.Need-returns-2
 unfolding numeratorLaid
-returns-2 c = simp (toZ-ofZ (start c .fits .common), toZ-ofZ (fit-value c), toZ-ofZ (fit-product c))
-    (sym (ap (numerator (start c)) (c .before .before .if1 .left)))
+returns-2 c = toZ-ofZ (fit-product c) ∙ product-is c ∙ sym (ap (numerator (start c)) (free-one c .if1 .left))
 
 pub numerator-of-spec : {M : Type 1} → statement M
 numerator-of-spec =
@@ -71,7 +77,8 @@ numerator-of-spec =
     (tie.spec
     row-value-requires
     returns
+    cast-j
     mul-x
     element-copy-out-x
-    mul-result
+    product-requires
     returns-2)

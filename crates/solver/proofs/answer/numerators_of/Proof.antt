@@ -6,7 +6,7 @@ use native.Mathlib.Omega.{arith}
 use borrow.Author.Needs.{needs}
 use lib.IntN.{ℤ, pos}
 use mir.Facts.{toZ-ofZ}
-use mir.Syntax.{w64}
+use mir.Syntax.{w32, w64}
 use mir.Val.{SFits, ofZ, toZ}
 use Rattle.whole.specs.Tables.{filled}
 use Rattle.rules.specs.Sizes.{mostVariables}
@@ -18,7 +18,7 @@ use Rattle.solver.proofs.answer.numerators_of.Tie as tie
 abbrev Inv-loop : tie.InvT-loop
 Inv-loop entries values common size seats variables numerators₀ v₀ numerators v = (v .0 ≤ variables)
     × (numerators ≡ filled mostVariables (pos 0) (v .0)
-    (numeratorIn entries values seats (toZ w64 common) (size .rows) (size .columns)))
+    (numeratorIn entries values seats (toZ w32 common) (size .rows) (size .columns)))
 
 abbrev μ-loop : tie.MeasureT-loop
 μ-loop entries values common size seats variables numerators₀ v₀ numerators v = variables - v .0
@@ -26,7 +26,7 @@ abbrev μ-loop : tie.MeasureT-loop
 -- the numerator of a variable, the common number by its bits
 abbrev read : tie.Start Inv-loop μ-loop → ℕ → ℤ
 read s = let a = s .args in
-    numeratorIn (a .entries .now) (a .values .now) (a .t3) (toZ w64 (ofZ w64 (a .common)))
+    numeratorIn (a .entries .now) (a .values .now) (a .t3) (toZ w32 (ofZ w32 (a .common)))
     (a .size .rows) (a .size .columns)
 
 add-variables : tie.Need-add-variables Inv-loop μ-loop
@@ -34,6 +34,12 @@ add-variables c = omega arith
 
 loop-holds : tie.Need-loop-holds Inv-loop μ-loop
 loop-holds c = (omega arith, filled-start mostVariables (pos 0) (read (c .before)))
+
+cast-if1 : tie.Need-cast-if1 Inv-loop μ-loop
+cast-if1 c = search needs
+
+cast-at : tie.Need-cast-at Inv-loop μ-loop
+cast-at c = search needs
 
 -- at a variable
 module _ (c : tie.Then1 Inv-loop μ-loop) where
@@ -53,18 +59,18 @@ module _ (c : tie.Then1 Inv-loop μ-loop) where
   few = omega arith
 
 mul-seat : tie.Need-mul-seat Inv-loop μ-loop
-mul-seat c = let z = few c in omega arith
+mul-seat c = let z = few (c .before) in omega arith
 
 array-copy-out-seat : tie.Need-array-copy-out-seat Inv-loop μ-loop
-array-copy-out-seat c = let z = few c in omega arith
+array-copy-out-seat c = let z = few (c .before) in omega arith
 
 numerator-of-requires : tie.Need-numerator-of-requires Inv-loop μ-loop
-numerator-of-requires c κs = let o = c .before in let s = start o in
+numerator-of-requires c κs = let o = c .before .before in let s = start o in
     simp (toZ-ofZ (s .fits .common)) (s .pre .1 (number o) (in-range o))
 
 module _ (c : tie.After-numerator-of Inv-loop μ-loop) where
   abbrev here : tie.Then1 Inv-loop μ-loop
-  here = c .before .before
+  here = c .before .before .before
 
   fit-result : SFits w64 (c .numerator-of .result)
   fit-result = search needs
@@ -107,6 +113,8 @@ numerators-of-spec =
     μ-loop
     add-variables
     loop-holds
+    cast-if1
+    cast-at
     mul-seat
     array-copy-out-seat
     numerator-of-requires

@@ -5,6 +5,7 @@ use mathlib.Core.Option.{none, some}
 use mathlib.Core.Path.{_≡_, ap, sym, _∙_}
 use Prim.Native.Nat.{ℕ, _-_, _≤_}
 use native.Mathlib.Omega.{arith}
+use borrow.Author.Needs.{needs}
 use Rattle.whole.specs.Below.{lowest}
 use Rattle.whole.proofs.Turns.{lowest-start, lowest-more, lowest-here}
 use Rattle.tableau.specs.declared.Limits.{Limits}
@@ -20,6 +21,9 @@ abbrev μ-loop : tie.MeasureT-loop
 
 loop-holds : tie.Need-loop-holds Inv-loop μ-loop
 loop-holds c = (omega arith, lowest-start (crossesAt (c .args .t1)))
+
+cast-if1 : tie.Need-cast-if1 Inv-loop μ-loop
+cast-if1 c = search needs
 
 limits-of-requires : tie.Need-limits-of-requires Inv-loop μ-loop
 limits-of-requires c κs = omega arith
@@ -77,6 +81,7 @@ conflict-of-spec =
     Inv-loop
     μ-loop
     loop-holds
+    cast-if1
     limits-of-requires
     is-crossed-requires
     returns

@@ -7,7 +7,7 @@ use borrow.Author.Needs.{needs}
 use lib.IntN.{ℤ, negℤ, pos, +ℤ-idl}
 use lib.ListN.{getD}
 use mir.Facts.{toZ-ofZ}
-use mir.Syntax.{w64}
+use mir.Syntax.{w32, w64}
 use mir.Val.{SFits, ofZ, toZ}
 use Rattle.whole.specs.Numbers.{Within}
 use Rattle.whole.specs.Tables.{filled}
@@ -24,9 +24,9 @@ use Rattle.solver.proofs.multipliers.multipliers_of.Tie as tie
 abbrev Inv-loop : tie.InvT-loop
 Inv-loop entries common size blocked seats variables lower₀ upper₀ v₀ lower upper v = (v .0 ≤ variables)
     × (lower ≡ filled mostVariables (pos 0) (v .0)
-    (λ v. positive (negℤ (pullIn entries seats (size .rows) (size .columns) (toZ w64 common) blocked v))))
+    (λ v. positive (negℤ (pullIn entries seats (size .rows) (size .columns) (toZ w32 common) blocked v))))
     × (upper ≡ filled mostVariables (pos 0) (v .0)
-    (λ v. positive (pullIn entries seats (size .rows) (size .columns) (toZ w64 common) blocked v)))
+    (λ v. positive (pullIn entries seats (size .rows) (size .columns) (toZ w32 common) blocked v)))
 
 abbrev μ-loop : tie.MeasureT-loop
 μ-loop entries common size blocked seats variables lower₀ upper₀ v₀ lower upper v = variables - v .0
@@ -34,13 +34,19 @@ abbrev μ-loop : tie.MeasureT-loop
 -- the pull at a variable, the common number by its bits
 abbrev read : tie.Start Inv-loop μ-loop → ℕ → ℤ
 read s = let a = s .args in
-    pullIn (a .entries .now) (a .t2) (a .size .rows) (a .size .columns) (toZ w64 (ofZ w64 (a .common))) (a .blocked)
+    pullIn (a .entries .now) (a .t2) (a .size .rows) (a .size .columns) (toZ w32 (ofZ w32 (a .common))) (a .blocked)
 
 add-variables : tie.Need-add-variables Inv-loop μ-loop
 add-variables c = omega arith
 
 loop-holds : tie.Need-loop-holds Inv-loop μ-loop
 loop-holds c = (omega arith, filled-start mostVariables (pos 0) _, filled-start mostVariables (pos 0) _)
+
+cast-if1 : tie.Need-cast-if1 Inv-loop μ-loop
+cast-if1 c = search needs
+
+cast-at : tie.Need-cast-at Inv-loop μ-loop
+cast-at c = search needs
 
 -- at a variable
 module _ (c : tie.Then1 Inv-loop μ-loop) where
@@ -63,23 +69,23 @@ module _ (c : tie.Then1 Inv-loop μ-loop) where
   few = omega arith
 
   blockable : let a = start .args in
-      Blockable (a .entries .now) (a .size .rows) (a .size .columns) (toZ w64 (ofZ w64 (a .common))) (a .blocked .row .0)
+      Blockable (a .entries .now) (a .size .rows) (a .size .columns) (toZ w32 (ofZ w32 (a .common))) (a .blocked .row .0)
       (getD (a .t2) number nowhere)
   blockable = simp (toZ-ofZ (start .fits .common)) (start .pre .1 number in-range)
 
 mul-seat : tie.Need-mul-seat Inv-loop μ-loop
-mul-seat c = let z = few c in omega arith
+mul-seat c = let z = few (c .before) in omega arith
 
 array-copy-out-seat : tie.Need-array-copy-out-seat Inv-loop μ-loop
-array-copy-out-seat c = let z = few c in omega arith
+array-copy-out-seat c = let z = few (c .before) in omega arith
 
 pull-of-requires : tie.Need-pull-of-requires Inv-loop μ-loop
-pull-of-requires c κs = blockable (c .before)
+pull-of-requires c κs = blockable (c .before .before)
 
 -- the pull of its entry
 module _ (c : tie.After-pull-of Inv-loop μ-loop) where
   abbrev here : tie.Then1 Inv-loop μ-loop
-  here = c .before .before
+  here = c .before .before .before
 
   fit-pull : SFits w64 (c .pull-of .result)
   fit-pull = search needs
@@ -169,6 +175,8 @@ multipliers-of-spec =
     μ-loop
     add-variables
     loop-holds
+    cast-if1
+    cast-at
     mul-seat
     array-copy-out-seat
     pull-of-requires

@@ -1,20 +1,20 @@
 -- `solver::multipliers::pull_of` meets its contract. Assumes nothing.
 use mathlib.Core.Bool.{Bool, true, false}
-use mathlib.Core.Path.{_≡_, ap, ap₂, refl, sym, _∙_}
+use mathlib.Core.Path.{_≡_, ap, ap₂, refl, subst, sym, _∙_}
 use Prim.Native.Nat.{_<_}
 use borrow.Author.Needs.{needs}
 use borrow.Author.Tests.{eq-eqb, ne-eqb, not-false, not-true}
 use lib.Dec.{eqb}
 use lib.IntN.{ℤ, negℤ, pos, +ℤ-idl}
 use mir.Facts.{toZ-ofZ}
-use mir.Syntax.{w64}
+use mir.Syntax.{w32, w64}
 use mir.Val.{SFits}
 use Rattle.whole.specs.Numbers.{Within}
 use Rattle.whole.proofs.Sizes.{fits-by, within-neg}
 use Rattle.rules.specs.Sizes.{largestNumber}
 use Rattle.rules.specs.Step.{pull}
-use Rattle.tableau.specs.Layout.{flat}
-use Rattle.tableau.specs.Parts.{entryIn}
+use Rattle.pivot.specs.Layout.{flat, entryIn}
+use Rattle.pivot.proofs.Laws.Halves.{wide}
 use Rattle.search.specs.Sides.{sideBy}
 use Rattle.solver.specs.Multipliers.{pullLaid, relationFrom}
 use Rattle.solver.proofs.multipliers.pull_of.Statement.{statement}
@@ -55,11 +55,18 @@ module _ (c : tie.After-entry-at) where
   within-entry = let a = first .args in
       first .pre .entries-within (flat (a .size .rows) (a .size .columns) (a .blocked .row .0) (a .seat .column .0))
 
-  fit-entry : SFits w64 entry
-  fit-entry = fits-by within-entry tt
+  fit-entry : SFits w32 (c .entry-at .result)
+  fit-entry = search needs
+
+  fit-wide : SFits w64 (c .entry-at .result)
+  fit-wide = wide fit-entry
+
+cast-turned : tie.Need-cast-turned
+cast-turned c = simp (toZ-ofZ (fit-entry c)) (fit-wide c)
 
 turned-requires : tie.Need-turned-requires
-turned-requires c κs = simp (entry-is c, toZ-ofZ (fit-entry c)) (within-entry c)
+turned-requires c κs = simp (toZ-ofZ (fit-entry c), toZ-ofZ (fit-wide c))
+    (subst (λ z. Within z largestNumber) (sym (entry-is c)) (within-entry c))
 
 -- the seat's variable is not basic
 free-is : (c : tie.Then1) → c .before .before .before .args .seat .basic ≡ false
@@ -71,19 +78,28 @@ fit-turned c = search needs
 returns : tie.Need-returns
 unfolding pullLaid
 returns c = let o = c .before in let s = first o in
-    toZ-ofZ (fit-turned c) ∙ (simp (entry-is o, toZ-ofZ (fit-entry o)) at (c .turned .ensures))
+    toZ-ofZ (fit-turned c) ∙ (simp (toZ-ofZ (fit-entry o), toZ-ofZ (fit-wide o)) at (c .turned .ensures))
+    ∙ ap (pull (sideBy (s .args .blocked .rises))) (entry-is o)
     ∙ sym (ap (λ b. relation s b (eqb (s .args .seat .row .0) (s .args .blocked .row .0))) (free-is (o .before)))
+
+wide-common : (c : tie.Start) → SFits w64 (c .args .common)
+wide-common c = wide (c .fits .common)
 
 fit-common : (c : tie.Start) → SFits w64 (negℤ (c .args .common))
 fit-common c = fits-by (within-neg (c .pre .common-within)) tt
 
+cast-turned-2 : tie.Need-cast-turned-2
+cast-turned-2 c = let s = c .before .before .before .before .before .before .before in
+    simp (toZ-ofZ (s .fits .common)) (wide-common s)
+
 sub-turned : tie.Need-sub-turned
 sub-turned c = let s = c .before .before .before .before .before .before .before in
-    simp (toZ-ofZ (s .fits .common), +ℤ-idl) (fit-common s)
+    simp (toZ-ofZ (s .fits .common), toZ-ofZ (wide-common s), +ℤ-idl) (fit-common s)
 
 turned-requires-2 : tie.Need-turned-requires-2
 turned-requires-2 c κs = let s = c .before .before .before .before .before .before .before in
-    simp (toZ-ofZ (s .fits .common), +ℤ-idl, toZ-ofZ (fit-common s)) (within-neg (s .pre .common-within))
+    simp (toZ-ofZ (s .fits .common), toZ-ofZ (wide-common s), +ℤ-idl, toZ-ofZ (fit-common s))
+    (within-neg (s .pre .common-within))
 
 fit-own : (c : tie.After-turned2) → SFits w64 (c .turned2 .result)
 fit-own c = search needs
@@ -95,7 +111,9 @@ basic-is c = not-false _ (c .if1 .left)
 returns-2 : tie.Need-returns-2
 unfolding pullLaid
 returns-2 c = let s = c .before .before .before .before .before .before .before .before in
-    toZ-ofZ (fit-own c) ∙ (simp (toZ-ofZ (s .fits .common), +ℤ-idl, toZ-ofZ (fit-common s)) at (c .turned2 .ensures))
+    toZ-ofZ (fit-own c)
+    ∙ (simp (toZ-ofZ (s .fits .common), toZ-ofZ (wide-common s), +ℤ-idl, toZ-ofZ (fit-common s))
+    at (c .turned2 .ensures))
     ∙ sym (ap₂ (relation s) (basic-is (c .before .before .before .before .before))
     (eq-eqb (s .args .seat .row .0) (s .args .blocked .row .0) (c .before .if2 .taken)))
 
@@ -111,8 +129,10 @@ pull-of-spec =
     tie.close
     (tie.spec
     entry-at-requires
+    cast-turned
     turned-requires
     returns
+    cast-turned-2
     sub-turned
     turned-requires-2
     returns-2

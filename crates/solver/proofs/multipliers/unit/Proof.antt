@@ -5,6 +5,9 @@ use Rattle.solver.specs.Multipliers.{unitAt}
 use Rattle.solver.proofs.multipliers.unit.Statement.{statement}
 use Rattle.solver.proofs.multipliers.unit.Tie as tie
 
+cast-v : tie.Need-cast-v
+cast-v c = search needs
+
 mul-ones : tie.Need-mul-ones
 mul-ones c = search needs
 
@@ -16,4 +19,4 @@ unfolding unitAt
 returns c = refl
 
 pub unit-spec : {M : Type 1} → statement M
-unit-spec = tie.close (tie.spec mul-ones array-set-of-ones returns)
+unit-spec = tie.close (tie.spec cast-v mul-ones array-set-of-ones returns)

@@ -8,11 +8,11 @@ use native.Mathlib.Omega.{arith}
 use borrow.Author.Needs.{needs}
 use lib.IntN.{ℤ}
 use mir.Facts.{toZ-ofZ}
-use mir.Syntax.{w64}
+use mir.Syntax.{w32}
 use mir.Val.{SFits}
 use Rattle.whole.proofs.Sizes.{fits-by}
-use Rattle.tableau.specs.declared.ColumnPlace.{ColumnPlace}
-use Rattle.tableau.specs.declared.RowPlace.{RowPlace}
+use Rattle.pivot.specs.declared.ColumnPlace.{ColumnPlace}
+use Rattle.pivot.specs.declared.RowPlace.{RowPlace}
 use Rattle.tableau.specs.declared.Tableau.{Tableau}
 use Rattle.tableau.specs.Pivot.{Swappable, withNumbers}
 use Rattle.search.specs.Search.{nextAt}
@@ -57,11 +57,12 @@ module _ (c : tie.At-run Inv-run μ-run) where
   held : Held here
   held = rw (c .run .inv .0) (held-after (c .before .pre .0 .begun) count (c .run .inv .1))
 
-fit-common : (c : tie.At-run Inv-run μ-run) → SFits w64 (here c .common)
+fit-common : (c : tie.At-run Inv-run μ-run) → SFits w32 (here c .common)
 fit-common c = fits-by (held c .ranged .cells .common-within) tt
 
 step-requires : tie.Need-step-requires Inv-run μ-run
-step-requires c κs = let a = c .before .before .before .before .before .before in simp (toZ-ofZ (fit-common a)) (steppable-held (held a))
+step-requires c κs = let a = c .before .before .before .before .before .before in
+    simp (toZ-ofZ (fit-common a)) (steppable-held (held a))
 
 -- the step from there
 module _ (c : tie.After-step Inv-run μ-run) where
@@ -106,73 +107,79 @@ module _ (c : tie.After-next2 Inv-run μ-run) where
   places : Swappable (here turn) (row .0) (column .0)
   places = places-held (held turn) chosen
 
-  fit-new : SFits w64 common
+  fit-new : SFits w32 common
   fit-new = common-held (held turn) chosen
 
-  fit-value : SFits w64 value
+  fit-value : SFits w32 value
   fit-value = value-held (held turn) chosen
 
-mul-leaving : tie.Need-mul-leaving Inv-run μ-run
-mul-leaving c = omega (arith, places (c .before) .in-rows)
+cast-i : tie.Need-cast-i Inv-run μ-run
+cast-i c = search needs
+
+cast-j : tie.Need-cast-j Inv-run μ-run
+cast-j c = search needs
 
 element-copy-out-leaving : tie.Need-element-copy-out-leaving Inv-run μ-run
-element-copy-out-leaving c = places (c .before) .in-rows
-
-mul-entering : tie.Need-mul-entering Inv-run μ-run
-mul-entering c = omega (arith, places (c .before .before) .in-columns)
+element-copy-out-leaving c = places (c .before .before .before) .in-rows
 
 element-copy-out-entering : tie.Need-element-copy-out-entering Inv-run μ-run
-element-copy-out-entering c = places (c .before .before) .in-columns
+element-copy-out-entering c = places (c .before .before .before .before) .in-columns
 
-mul-entering-2 : tie.Need-mul-entering-2 Inv-run μ-run
-mul-entering-2 c = omega (arith, places (c .before .before .before) .in-rows)
+cast-v : tie.Need-cast-v Inv-run μ-run
+cast-v c = search needs
+
+cast-w : tie.Need-cast-w Inv-run μ-run
+cast-w c = search needs
+
+-- the choice, where both variables are read
+abbrev made : tie.After-struct-known4 Inv-run μ-run → tie.After-next2 Inv-run μ-run
+made c = c .before .before .before .before .before .before .before
 
 element-set-from-entering : tie.Need-element-set-from-entering Inv-run μ-run
-element-set-from-entering c = places (c .before .before .before) .in-rows
-
-mul-leaving-2 : tie.Need-mul-leaving-2 Inv-run μ-run
-mul-leaving-2 c = omega (arith, places (c .before .before .before) .in-columns)
+element-set-from-entering c = places (made c) .in-rows
 
 element-set-from-leaving : tie.Need-element-set-from-leaving Inv-run μ-run
-element-set-from-leaving c = places (c .before .before .before) .in-columns
+element-set-from-leaving c = places (made c) .in-columns
 
 mul-value : tie.Need-mul-value Inv-run μ-run
-mul-value c = omega (arith, places (c .before .before .before) .in-columns)
+mul-value c = omega (arith, places (made c) .in-columns)
 
 element-set-from-value : tie.Need-element-set-from-value Inv-run μ-run
-element-set-from-value c = places (c .before .before .before) .in-columns
+element-set-from-value c = places (made c) .in-columns
 
 seated-requires : tie.Need-seated-requires Inv-run μ-run
 seated-requires c κs = search needs
 
-mul-t : tie.Need-mul-t Inv-run μ-run
-mul-t c = omega (arith, places (c .before .before .before .before) .entering-seat)
+mul-entered : tie.Need-mul-entered Inv-run μ-run
+mul-entered c = omega (arith, places (made (c .before)) .entering-seat)
 
-element-set-from-t : tie.Need-element-set-from-t Inv-run μ-run
-element-set-from-t c = places (c .before .before .before .before) .entering-seat
+element-set-from-entered : tie.Need-element-set-from-entered Inv-run μ-run
+element-set-from-entered c = places (made (c .before)) .entering-seat
 
 seated-requires-2 : tie.Need-seated-requires-2 Inv-run μ-run
 seated-requires-2 c κs = search needs
 
-mul-t28 : tie.Need-mul-t28 Inv-run μ-run
-mul-t28 c = omega (arith, places (c .before .before .before .before .before) .leaving-seat)
+mul-left : tie.Need-mul-left Inv-run μ-run
+mul-left c = omega (arith, places (made (c .before .before)) .leaving-seat)
 
-element-set-from-t-2 : tie.Need-element-set-from-t-2 Inv-run μ-run
-element-set-from-t-2 c = places (c .before .before .before .before .before) .leaving-seat
+element-set-from-left : tie.Need-element-set-from-left Inv-run μ-run
+element-set-from-left c = places (made (c .before .before)) .leaving-seat
 
 add-count : tie.Need-add-count Inv-run μ-run
-add-count c = let z = small (turn (c .before .before .before .before .before)) in omega arith
+add-count c = let z = small (turn (made (c .before .before))) in omega arith
 
 run-less : tie.Need-run-less Inv-run μ-run
-run-less c = let z = under-bound (turn (c .before .before .before .before .before)) in omega arith
+run-less c = let z = under-bound (turn (made (c .before .before))) in omega arith
 
 run-again : tie.Need-run-again Inv-run μ-run
-run-again c = let o = c .before .before .before .before .before in let a = turn o in (
+run-again c = let o = made (c .before .before) in let a = turn o in (
   simp (toZ-ofZ (fit-new o), toZ-ofZ (fit-value o))
-      (exchanged (here a) (row o) (column o) (value o) (common o) (chosen o) (step-is (step-made o) .1) (c .before .seated .ensures)
-      (c .seated2 .ensures) ∙ ap (λ u. steppedAt u .tableau) (a .run .inv .0) ∙ after-more (first a) (count a)),
+      (exchanged (here a) (row o) (column o) (value o) (common o) (chosen o)
+      (step-is (step-made o) .1) (c .before .seated .ensures) (c .seated2 .ensures)
+      ∙ ap (λ u. steppedAt u .tableau) (a .run .inv .0) ∙ after-more (first a) (count a)),
   goes-more (first a) (count a) (a .run .inv .1)
-      (ap (λ u. steppedAt u .course) (sym (a .run .inv .0)) ∙ going (here a) (row o) (column o) (value o) (common o) (chosen o)),
+      (ap (λ u. steppedAt u .course) (sym (a .run .inv .0))
+      ∙ going (here a) (row o) (column o) (value o) (common o) (chosen o)),
 )
 
 -- the step that ends it
@@ -225,22 +232,22 @@ run-spec =
     step-requires
     enum-known-next
     enum-known-next-2
-    mul-leaving
+    cast-i
+    cast-j
     element-copy-out-leaving
-    mul-entering
     element-copy-out-entering
-    mul-entering-2
+    cast-v
+    cast-w
     element-set-from-entering
-    mul-leaving-2
     element-set-from-leaving
     mul-value
     element-set-from-value
     seated-requires
-    mul-t
-    element-set-from-t
+    mul-entered
+    element-set-from-entered
     seated-requires-2
-    mul-t28
-    element-set-from-t-2
+    mul-left
+    element-set-from-left
     add-count
     run-less
     run-again

@@ -6,10 +6,11 @@ use native.Mathlib.Omega.{arith}
 use borrow.Author.Needs.{needs}
 use lib.IntN.{ℤ, pos}
 use mir.Facts.{toZ-ofZ}
-use mir.Syntax.{w64}
+use mir.Syntax.{w32, w64}
 use mir.Val.{SFits}
 use Rattle.rules.specs.Sizes.{mostVariables}
 use Rattle.tableau.specs.declared.Tableau.{Tableau}
+use Rattle.pivot.proofs.Laws.Halves.{wide}
 use Rattle.search.specs.Search.{Searchable}
 use Rattle.search.specs.declared.Blocked.{Blocked}
 use Rattle.solver.specs.declared.answer.Verdict.the-variants as verdicts
@@ -40,8 +41,11 @@ module _ (s : tie.Start) where
   few : many ≤ mostVariables
   few = let a = readable .few-rows in let b = readable .few-columns in omega arith
 
-  fit-common : SFits w64 (last .common)
+  fit-common : SFits w32 (last .common)
   fit-common = search needs
+
+  wide-common : SFits w64 (last .common)
+  wide-common = wide fit-common
 
 add-variables : tie.Need-add-variables
 add-variables c = let z = few (c .before) in omega arith
@@ -59,6 +63,9 @@ numerators-of-requires : tie.Need-numerators-of-requires
 numerators-of-requires c κs = let s = start (c .before .before .before) in
     simp (toZ-ofZ (fit-common s)) ((readable s .few-rows, readable s .few-columns), numerable (readable s))
 
+cast-denominator : tie.Need-cast-denominator
+cast-denominator c = let s = start (c .before .before .before .before) in simp (toZ-ofZ (fit-common s)) (wide-common s)
+
 write-requires : tie.Need-write-requires
 write-requires c κs = let s = start (c .before .before .before .before .before .before .before) in
     (s .pre .1, few s, s .pre .0 .counted)
@@ -69,7 +76,7 @@ same-length c = search needs
 returns : tie.Need-returns
 unfolding wordsLaid
 returns c = let o = c .before .before .before .before .before .before .before .before .before in let s = start o in
-    (simp (toZ-ofZ (fit-common s)) at (c .before .write .ensures))
+    (simp (toZ-ofZ (fit-common s), toZ-ofZ (wide-common s)) at (c .before .write .ensures))
     ∙ ap (λ l. over s (wordsAt verdicts.Can (s .args .count) (last s .common) (many s) l noughts))
     (simp (toZ-ofZ (fit-common s)) at (c .before .before .before .before .before .numerators-of .ensures))
     ∙ sym (ap (told s) (o .enum-told .given .1))
@@ -132,6 +139,7 @@ tell-spec =
     add-variables
     enum-told
     numerators-of-requires
+    cast-denominator
     write-requires
     enum-known-end
     multipliers-of-requires

@@ -2,18 +2,18 @@
 -- definition's case. Assumes nothing.
 use mathlib.Core.Bool.{Bool, true, false}
 use mathlib.Core.Path.{_≡_, ap, ap₂, refl, subst, sym, _∙_}
-use native.Mathlib.Omega.{arith}
 use Prim.Native.Nat.{ℕ}
 use borrow.Author.Needs.{needs}
 use lib.IntN.{ℤ}
 use mir.Facts.{toZ-ofZ}
-use mir.Syntax.{w64}
+use mir.Syntax.{w32}
 use mir.Val.{SFits}
 use Rattle.whole.proofs.Bools.{zero-one}
-use Rattle.tableau.specs.declared.pivot.Pivoted.the-variants as pivots
+use Rattle.whole.proofs.Sizes.{fits-by}
+use Rattle.pivot.specs.declared.Pivoted.the-variants as pivots
 use Rattle.tableau.specs.declared.Tableau.{Tableau}
-use Rattle.tableau.specs.Pivot.{commonAfter, entriesAfter, entriesBy, pivotedBy}
-use Rattle.tableau.proofs.Laws.Reductions.{quotient-fits}
+use Rattle.pivot.specs.Pivot.{commonAfter, entriesAfter, entriesBy, pivotedBy}
+use Rattle.pivot.proofs.Laws.Reductions.{fits-common}
 use Rattle.search.specs.declared.Choice.{Choice}
 use Rattle.search.specs.declared.Next.the-variants as nexts
 use Rattle.search.specs.Search.{nextAt, seen}
@@ -26,7 +26,7 @@ use Rattle.solver.proofs.step.step.Tie as tie
 abbrev old : tie.Start → Tableau
 old s = seen (s .args .entries .now) (s .args .t1)
 
-fit-common : (s : tie.Start) → SFits w64 (old s .common)
+fit-common : (s : tie.Start) → SFits w32 (old s .common)
 fit-common s = search needs
 
 next-step-requires : tie.Need-next-step-requires
@@ -59,22 +59,22 @@ module _ (c : tie.After-next2) where
   movable : Movable (old start) choice
   movable = start .pre .movable choice chosen-is
 
-mul-leaving : tie.Need-mul-leaving
-mul-leaving c = omega (arith, movable (c .before .before .before) .row-place)
+cast-i : tie.Need-cast-i
+cast-i c = search needs
 
 element-copy-out-leaving : tie.Need-element-copy-out-leaving
-element-copy-out-leaving c = movable (c .before .before .before) .row-place
+element-copy-out-leaving c = movable (c .before .before .before .before) .row-place
 
 limits-of-requires : tie.Need-limits-of-requires
 limits-of-requires c κs = let o = c .before .before .before .before .before in
-    movable (o .before .before .before .before) .leaving-seat
+    movable (o .before .before .before .before .before) .leaving-seat
 
 violated-limit-requires : tie.Need-violated-limit-requires
 violated-limit-requires c κs = search needs
 
 -- the choice that the value belongs to
 abbrev choosing : tie.After-violated-limit → tie.After-next2
-choosing c = let o = c .before .before .before .before .before .before in o .before .before .before .before .before
+choosing c = let o = c .before .before .before .before .before .before in o .before .before .before .before .before .before
 
 pivot-requires : tie.Need-pivot-requires
 pivot-requires c κs = let o = choosing (c .before .before) in
@@ -122,7 +122,7 @@ module _ (c : tie.After-pivot) where
   abbrev valued : tie.After-violated-limit
   valued = c .before .before .before
 
-  fit-value : SFits w64 (valued .violated-limit .result)
+  fit-value : SFits w32 (valued .violated-limit .result)
   fit-value = search needs
 
   value-is : valued .violated-limit .result ≡ valueAfter t (choice chosen)
@@ -146,7 +146,8 @@ returns-3 c =
     let w = choice (chosen d) in
     let x = c .before .turned .given in
     let f = common-told (fitsBy (t d) w) (common d) (x .0 .0) (sym (turned-is d .0) ∙ x .1) in
-    let fit : SFits w64 (x .0 .0) = subst (SFits w64) (f .1) (quotient-fits (movable (chosen d) .pivotable)) in (
+    let fit : SFits w32 (x .0 .0) =
+    subst (SFits w32) (f .1) (fits-by (fits-common (movable (chosen d) .pivotable) (f .0)) tt) in (
       ap₂ (λ v z. outcomes.Goes (w .row) (w .column) v z) (toZ-ofZ (fit-value d) ∙ value-is d) (toZ-ofZ fit ∙ sym (f .1))
           ∙ answer-is d true (f .0),
       left-is d,
@@ -166,7 +167,7 @@ step-spec =
     enum-told
     enum-known-next
     enum-known-next-2
-    mul-leaving
+    cast-i
     element-copy-out-leaving
     limits-of-requires
     violated-limit-requires

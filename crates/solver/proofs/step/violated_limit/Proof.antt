@@ -1,15 +1,15 @@
 -- `solver::step::violated_limit` meets its contract. Assumes nothing.
 use borrow.Author.Needs.{needs}
 use mir.Facts.{toZ-ofZ}
-use mir.Syntax.{w64}
+use mir.Syntax.{w32}
 use mir.Val.{SFits}
 use Rattle.solver.proofs.step.violated_limit.Statement.{statement}
 use Rattle.solver.proofs.step.violated_limit.Tie as tie
 
-fit-lower : (s : tie.Start) → SFits w64 (s .args .limits .lower)
+fit-lower : (s : tie.Start) → SFits w32 (s .args .limits .lower)
 fit-lower s = search needs
 
-fit-upper : (s : tie.Start) → SFits w64 (s .args .limits .upper)
+fit-upper : (s : tie.Start) → SFits w32 (s .args .limits .upper)
 fit-upper s = search needs
 
 returns : tie.Need-returns

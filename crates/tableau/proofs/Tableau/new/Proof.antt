@@ -1,14 +1,14 @@
 -- `tableau::Tableau::new` meets its contract: each part is the definition's. Assumes nothing.
 use mathlib.Core.Path.{_≡_, sym, _∙_, ap, ap₂}
 use mathlib.Core.List.{List}
-use Prim.Native.Nat.{ℕ}
+use Prim.Native.Nat.{ℕ, _+_}
 use native.Mathlib.Omega.{arith}
 use borrow.Author.Needs.{needs}
 use lib.IntN.{ℤ, pos}
 use lib.Signed.{leZ-yes}
 use Rattle.whole.proofs.Order.{≤ℤ-trans}
 use Rattle.rules.specs.Sizes.{mostRows}
-use Rattle.rules.specs.Problem.{Problem, problem}
+use Rattle.rules.specs.Problem.{Problem, problem, vars}
 use Rattle.rules.specs.Refusal.{Accepted, problemRefusal}
 use Rattle.rules.proofs.Ranges.{problem-m, problem-n}
 use Rattle.rules.proofs.Refused.{accepted-exactly}
@@ -67,14 +67,19 @@ start-nonbasic-requires c κs = search needs
 start-values-requires : tie.Need-start-values-requires
 start-values-requires c κs = framed (c .before .before .before .before) .few-columns
 
+add-start-seats : tie.Need-add-start-seats
+add-start-seats c =
+    let F = framed (c .before .before .before .before .before) in omega (arith, F .few-columns, F .few-rows)
+
 start-seats-requires : tie.Need-start-seats-requires
-start-seats-requires c κs = search needs
+start-seats-requires c κs =
+    let F = framed (c .before .before .before .before .before) in omega (arith, F .few-columns, F .few-rows)
 
 -- a tableau is the start's if its parts are
 joined : (P : Problem ℤ) {rows columns : ℕ} {entries values : List ℤ} {basic nonbasic : List Variable}
     {seats : List Seat} {limits : Limits} →
     rows ≡ P .m → columns ≡ P .n → entries ≡ startEntries P → basic ≡ startBasic (P .n) → nonbasic ≡ startNonbasic →
-    values ≡ startValues P → seats ≡ startSeats (P .n) → limits ≡ limitsFor P →
+    values ≡ startValues P → seats ≡ startSeats (P .n) (vars P) → limits ≡ limitsFor P →
     _≡_ {A = Tableau}
     (record {
       rows = rows;
@@ -100,7 +105,7 @@ returns c =
     (c .before .before .before .start-basic .ensures ∙ ap startBasic (columns-are d))
     (c .before .before .start-nonbasic .ensures)
     (c .before .start-values .ensures ∙ ap₂ valuesFor limits (columns-are d) ∙ values-same P)
-    (c .start-seats .ensures ∙ ap startSeats (columns-are d))
+    (c .start-seats .ensures ∙ ap₂ (λ n m. startSeats n (n + m)) (columns-are d) (rows-are d))
     limits
 
 pub new-spec : {M : Type 1} → statement M
@@ -114,5 +119,6 @@ new-spec =
     start-basic-requires
     start-nonbasic-requires
     start-values-requires
+    add-start-seats
     start-seats-requires
     returns)

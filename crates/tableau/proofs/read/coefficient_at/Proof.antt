@@ -2,13 +2,13 @@
 use Prim.Native.Nat.{ℕ, _+_, _*_, _≤_, _<_}
 use native.Mathlib.Omega.{arith}
 use mathlib.Core.List.{List}
-use mathlib.Core.Path.{_∙_}
-use borrow.Author.Needs.{needs}
+use borrow.Author.Needs.{needs, sfits-of}
 use lib.IntN.{ℤ}
 use lib.ListN.{length}
 use mir.Facts.{toZ-ofZ}
-use mir.Syntax.{w64}
+use mir.Syntax.{w32}
 use mir.Val.{SFits}
+use Rattle.rules.specs.Problem.{word}
 use Rattle.judge.proofs.Laws.Judged.{few-words}
 use Rattle.tableau.proofs.Laws.Reading.{coefficient-in, coefficient-is}
 use Rattle.tableau.proofs.read.coefficient_at.Statement.{statement}
@@ -28,24 +28,36 @@ module _ (s : tie.Start) where
   few : length ws ≤ 202
   few = omega (arith, few-words (s .pre .0), s .pre .0 .exact)
 
-mul-number-at : tie.Need-mul-number-at
-mul-number-at c = omega (arith, in-words (c .before), few (c .before))
+cast-at : tie.Need-cast-at
+cast-at c = search needs
 
-add-number-at : tie.Need-add-number-at
-add-number-at c = omega (arith, in-words (c .before .before), few (c .before .before))
+mul-at : tie.Need-mul-at
+mul-at c = omega (arith, in-words (c .before), few (c .before))
 
-add-number-at-2 : tie.Need-add-number-at-2
-add-number-at-2 c = omega (arith, in-words (c .before .before), few (c .before .before))
+cast-at-2 : tie.Need-cast-at-2
+cast-at-2 c = search needs
 
-number-at-requires : tie.Need-number-at-requires
-number-at-requires c κs = in-words (c .before .before)
+add-at : tie.Need-add-at
+add-at c = omega (arith, in-words (c .before .before), few (c .before .before))
 
-fit : (c : tie.After-number-at) → SFits w64 (c .number-at .result)
-fit c = search needs
+add-at-2 : tie.Need-add-at-2
+add-at-2 c = omega (arith, in-words (c .before .before), few (c .before .before))
+
+mul-result : tie.Need-mul-result
+mul-result c = omega (arith, in-words (c .before .before), few (c .before .before))
+
+shared-slice-copy-out-result : tie.Need-shared-slice-copy-out-result
+shared-slice-copy-out-result c = in-words (c .before .before)
+
+read : (c : tie.After-result) → let s = c .before .before .before in SFits w32 (word (ws s) (2 + place s))
+read c = sfits-of (c .result .given)
 
 returns : tie.Need-returns
 returns c = let s = c .before .before .before in
-    simp (toZ-ofZ (fit c)) (c .number-at .ensures ∙ coefficient-is (s .pre .0) (s .args .row .0) (s .args .column .0))
+    simp (toZ-ofZ (read c))
+    (coefficient-is (s .pre .0) (s .args .row .0) (s .args .column .0))
 
 pub coefficient-at-spec : {M : Type 1} → statement M
-coefficient-at-spec = tie.close (tie.spec mul-number-at add-number-at add-number-at-2 number-at-requires returns)
+coefficient-at-spec =
+    tie.close
+    (tie.spec cast-at mul-at cast-at-2 add-at add-at-2 mul-result shared-slice-copy-out-result returns)

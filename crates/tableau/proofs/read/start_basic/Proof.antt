@@ -26,8 +26,8 @@ loop-holds c = (omega arith, filled-start mostRows (variable 0) (row-variable (c
 add-t6 : tie.Need-add-t6 Inv-loop μ-loop
 add-t6 c = omega arith
 
-mul-basic : tie.Need-mul-basic Inv-loop μ-loop
-mul-basic c = omega arith
+cast-t7 : tie.Need-cast-t7 Inv-loop μ-loop
+cast-t7 c = omega arith
 
 array-set-from-basic : tie.Need-array-set-from-basic Inv-loop μ-loop
 array-set-from-basic c = omega arith
@@ -57,7 +57,7 @@ start-basic-spec =
     μ-loop
     loop-holds
     add-t6
-    mul-basic
+    cast-t7
     array-set-from-basic
     add-i
     loop-less

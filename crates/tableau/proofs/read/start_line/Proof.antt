@@ -7,14 +7,14 @@ use native.Mathlib.Omega.{arith}
 use borrow.Author.Needs.{needs}
 use lib.IntN.{ℤ}
 use mir.Facts.{toZ-ofZ}
-use mir.Syntax.{w64}
+use mir.Syntax.{w32}
 use mir.Val.{SFits}
 use Rattle.rules.specs.Problem.{problem}
-use Rattle.tableau.specs.declared.layout.Spot.{Spot}
-use Rattle.tableau.specs.Layout.{mostEntries, rowAt, columnAt, steps, lineAt, live}
+use Rattle.pivot.specs.declared.layout.Spot.{Spot}
+use Rattle.pivot.specs.Layout.{mostEntries, rowAt, columnAt, steps, lineAt, live}
+use Rattle.pivot.proofs.Laws.Layout.{flat-spot, live-most, spot-used, step-live}
+use Rattle.pivot.proofs.Laws.Lines.{line-all, line-more, line-start}
 use Rattle.tableau.specs.Start.{startUpTo}
-use Rattle.tableau.proofs.Laws.Layout.{flat-spot, live-most, spot-used, step-live}
-use Rattle.tableau.proofs.Laws.Lines.{line-all, line-more, line-start}
 use Rattle.tableau.proofs.read.start_line.Statement.{statement}
 use Rattle.tableau.proofs.read.start_line.Tie as tie
 
@@ -67,7 +67,8 @@ module _ (c : tie.In-loop Inv-loop μ-loop) where
       (live-most (m start) (n start) (start .pre .0 .few-rows) (start .pre .0 .few-columns))
 
 spot-at-requires : tie.Need-spot-at-requires Inv-loop μ-loop
-spot-at-requires c κs = in-line c
+spot-at-requires c κs =
+    let s = start c in ((s .pre .0 .few-rows, s .pre .0 .few-columns), (s .pre .1 .0, in-line c))
 
 -- its spot
 module _ (c : tie.After-spot-at Inv-loop μ-loop) where
@@ -98,7 +99,7 @@ module _ (c : tie.After-coefficient-at Inv-loop μ-loop) where
   in-cells : c .before .place .result < mostEntries
   in-cells = rw place-is (in-array (found .before))
 
-  fit : SFits w64 (c .coefficient-at .result)
+  fit : SFits w32 (c .coefficient-at .result)
   fit = search needs
 
   right : c .coefficient-at .result ≡ cell (begun found) (k (found .before))

@@ -19,8 +19,8 @@ abbrev μ-loop : tie.MeasureT-loop
 loop-holds : tie.Need-loop-holds Inv-loop μ-loop
 loop-holds c = (omega arith, filled-start mostColumns (variable 0) variable)
 
-mul-nonbasic : tie.Need-mul-nonbasic Inv-loop μ-loop
-mul-nonbasic c = omega arith
+cast-t5 : tie.Need-cast-t5 Inv-loop μ-loop
+cast-t5 c = omega arith
 
 array-set-from-nonbasic : tie.Need-array-set-from-nonbasic Inv-loop μ-loop
 array-set-from-nonbasic c = omega arith
@@ -45,4 +45,4 @@ returns c =
 pub start-nonbasic-spec : {M : Type 1} → statement M
 start-nonbasic-spec =
     tie.close
-    (tie.spec Inv-loop μ-loop loop-holds mul-nonbasic array-set-from-nonbasic add-j loop-less loop-again returns)
+    (tie.spec Inv-loop μ-loop loop-holds cast-t5 array-set-from-nonbasic add-j loop-less loop-again returns)

@@ -4,22 +4,24 @@ use mathlib.Core.Path.{_≡_, _∙_, ap}
 use Prim.Native.Nat.{_-_, _≤_}
 use native.Mathlib.Omega.{arith}
 use borrow.Author.Needs.{needs}
-use Rattle.whole.specs.Tables.{filled}
-use Rattle.whole.proofs.Prefix.{filled-start, filled-more, filled-all}
+use Rattle.whole.proofs.Prefix.{filled-start, filled-more}
 use Rattle.rules.specs.Sizes.{mostVariables}
 use Rattle.tableau.specs.Parts.{nowhere}
-use Rattle.tableau.specs.Start.{seatFor}
+use Rattle.tableau.specs.Start.{seatFor, startSeats}
 use Rattle.tableau.proofs.read.start_seats.Statement.{statement}
 use Rattle.tableau.proofs.read.start_seats.Tie as tie
 
 abbrev Inv-loop : tie.InvT-loop
-Inv-loop columns seats₀ v₀ seats v = (v ≤ mostVariables) × (seats ≡ filled mostVariables nowhere v (seatFor columns))
+Inv-loop columns variables seats₀ v₀ seats v = (v ≤ variables) × (seats ≡ startSeats columns v)
 
 abbrev μ-loop : tie.MeasureT-loop
-μ-loop columns seats₀ v₀ seats v = mostVariables - v
+μ-loop columns variables seats₀ v₀ seats v = variables - v
 
 loop-holds : tie.Need-loop-holds Inv-loop μ-loop
 loop-holds c = (omega arith, filled-start mostVariables nowhere (seatFor (c .args .columns)))
+
+cast-t10 : tie.Need-cast-t10 Inv-loop μ-loop
+cast-t10 c = omega arith
 
 seat-for-requires : tie.Need-seat-for-requires Inv-loop μ-loop
 seat-for-requires c κs = search needs
@@ -45,9 +47,9 @@ loop-again c =
 
 returns : tie.Need-returns Inv-loop μ-loop
 returns c =
-    let f = seatFor (c .before .before .args .columns) in
-    let e : c .before .loop .v ≡ mostVariables = omega arith in
-    c .before .loop .inv .1 ∙ ap (λ k. filled mostVariables nowhere k f) e ∙ filled-all mostVariables nowhere f
+    let s = c .before .before in
+    let e : c .before .loop .v ≡ s .args .variables = omega arith in
+    c .before .loop .inv .1 ∙ ap (startSeats (s .args .columns)) e
 
 pub start-seats-spec : {M : Type 1} → statement M
 start-seats-spec =
@@ -56,6 +58,7 @@ start-seats-spec =
     Inv-loop
     μ-loop
     loop-holds
+    cast-t10
     seat-for-requires
     mul-seats
     array-set-from-seats

@@ -7,7 +7,7 @@ use borrow.Author.Needs.{needs, sfits-of}
 use lib.IntN.{ℤ, pos}
 use lib.ListN.{getD}
 use mir.Facts.{toZ-ofZ}
-use mir.Syntax.{w64}
+use mir.Syntax.{w32}
 use mir.Val.{SFits}
 use Rattle.whole.specs.Tables.{filled}
 use Rattle.whole.specs.Values.{whole}
@@ -74,13 +74,13 @@ module _ (c : tie.After-start-value Inv-loop μ-loop) where
   abbrev j : ℕ
   j = at .loop .j
 
-  fit-lower : SFits w64 (getD (limits .lower) j (pos 0))
+  fit-lower : SFits w32 (getD (limits .lower) j (pos 0))
   fit-lower = sfits-of (c .before .before .before .start-value-arg2 .given)
 
-  fit-upper : SFits w64 (getD (limits .upper) j (pos 0))
+  fit-upper : SFits w32 (getD (limits .upper) j (pos 0))
   fit-upper = sfits-of (c .before .start-value-arg4 .given)
 
-  fit-result : SFits w64 (c .start-value .result)
+  fit-result : SFits w32 (c .start-value .result)
   fit-result = search needs
 
   right : c .start-value .result ≡ value-of limits j

@@ -1,14 +1,14 @@
--- `tableau::read::limits_of` meets its contract. The invariant: the limits of the variables passed are read, the others
--- are missing. The measure is the variables left. Assumes nothing.
+-- `tableau::Tableau::limits_of` meets its contract. The invariant: the limits of the variables passed are read, the
+-- others are missing. The measure is the variables left. Assumes nothing.
 use mathlib.Core.Path.{_≡_, _∙_}
 use mathlib.Core.Bool.{Bool, false}
 use mathlib.Core.List.{List}
 use Prim.Native.Nat.{ℕ, _+_, _*_, _-_, _≤_, _<_}
 use native.Mathlib.Omega.{arith}
-use borrow.Author.Needs.{needs, sfits-of}
+use borrow.Author.Needs.{sfits-of}
 use lib.IntN.{ℤ, pos}
 use mir.Facts.{toZ-ofZ}
-use mir.Syntax.{w32, w64}
+use mir.Syntax.{w32}
 use mir.Val.{SFits}
 use Rattle.whole.specs.Tables.{filled}
 use Rattle.whole.specs.Values.{whole}
@@ -21,8 +21,8 @@ use Rattle.judge.proofs.Laws.Judged.{few-words, vars-are}
 use Rattle.tableau.specs.declared.Limits.{Limits}
 use Rattle.tableau.specs.Start.{isPresent, limitsFor}
 use Rattle.tableau.proofs.Laws.Reading.{lower-flag, lower-number, upper-flag, upper-number}
-use Rattle.tableau.proofs.read.limits_of.Statement.{statement}
-use Rattle.tableau.proofs.read.limits_of.Tie as tie
+use Rattle.tableau.proofs.Tableau.limits_of.Statement.{statement}
+use Rattle.tableau.proofs.Tableau.limits_of.Tie as tie
 
 -- the limits of the variables below v are read
 record Passed (P : Problem ℤ) (v : ℕ) (lowers : List Bool) (lower : List ℤ) (uppers : List Bool) (upper : List ℤ) :
@@ -94,6 +94,12 @@ mul-at c = omega (arith, v-few c)
 add-at : tie.Need-add-at Inv-loop μ-loop
 add-at c = omega (arith, few c)
 
+add-low : tie.Need-add-low Inv-loop μ-loop
+add-low c = omega (arith, few c)
+
+add-high : tie.Need-add-high Inv-loop μ-loop
+add-high c = omega (arith, few c)
+
 mul-kind : tie.Need-mul-kind Inv-loop μ-loop
 mul-kind c = omega (arith, few c)
 
@@ -106,14 +112,14 @@ has-lower-requires c κs = tt
 array-write-lowers : tie.Need-array-write-lowers Inv-loop μ-loop
 array-write-lowers c = v-few (c .before .before)
 
-add-number-at : tie.Need-add-number-at Inv-loop μ-loop
-add-number-at c = omega (arith, few (c .before .before))
-
-number-at-requires : tie.Need-number-at-requires Inv-loop μ-loop
-number-at-requires c κs = omega arith
-
 mul-lower : tie.Need-mul-lower Inv-loop μ-loop
-mul-lower c = omega (arith, v-few (c .before .before .before))
+mul-lower c = omega (arith, few (c .before .before))
+
+shared-slice-copy-out-lower : tie.Need-shared-slice-copy-out-lower Inv-loop μ-loop
+shared-slice-copy-out-lower c = omega arith
+
+mul-lower-2 : tie.Need-mul-lower-2 Inv-loop μ-loop
+mul-lower-2 c = omega (arith, v-few (c .before .before .before))
 
 array-set-from-lower : tie.Need-array-set-from-lower Inv-loop μ-loop
 array-set-from-lower c = v-few (c .before .before .before)
@@ -124,32 +130,31 @@ has-upper-requires c κs = tt
 array-write-uppers : tie.Need-array-write-uppers Inv-loop μ-loop
 array-write-uppers c = v-few (c .before .before .before .before)
 
-add-number-at-2 : tie.Need-add-number-at-2 Inv-loop μ-loop
-add-number-at-2 c = omega (arith, few (c .before .before .before .before))
+mul-upper : tie.Need-mul-upper Inv-loop μ-loop
+mul-upper c = omega (arith, few (c .before .before .before .before))
 
-number-at-requires-2 : tie.Need-number-at-requires-2 Inv-loop μ-loop
-number-at-requires-2 c κs = omega arith
+shared-slice-copy-out-upper : tie.Need-shared-slice-copy-out-upper Inv-loop μ-loop
+shared-slice-copy-out-upper c = omega arith
 
 -- what the calls give
-module _ (c : tie.After-number-at2 Inv-loop μ-loop) where
+module _ (c : tie.After-upper Inv-loop μ-loop) where
   abbrev turn : tie.In-loop Inv-loop μ-loop
   turn = c .before .before .before .before .before
 
   read-kind : SFits w32 (word (ws turn) (place turn))
   read-kind = sfits-of (c .before .before .before .before .kind .given)
 
-  fit-lower : SFits w64 (c .before .before .number-at .result)
-  fit-lower = search needs
+  read-lower : SFits w32 (word (ws turn) (place turn + 1))
+  read-lower = sfits-of (c .before .before .lower .given)
 
-  fit-upper : SFits w64 (c .number-at2 .result)
-  fit-upper = search needs
+  read-upper : SFits w32 (word (ws turn) (place turn + 2))
+  read-upper = sfits-of (c .upper .given)
 
-  lower-told : c .before .before .number-at .result ≡ seated whole (problem (ws turn) .lower (v turn))
-  lower-told = c .before .before .number-at .ensures
-      ∙ lower-number (start turn .pre .0) (v turn) (start turn .pre .1) (v-in turn)
+  lower-told : word (ws turn) (place turn + 1) ≡ seated whole (problem (ws turn) .lower (v turn))
+  lower-told = lower-number (start turn .pre .0) (v turn) (start turn .pre .1) (v-in turn)
 
-  upper-told : c .number-at2 .result ≡ seated whole (problem (ws turn) .upper (v turn))
-  upper-told = c .number-at2 .ensures ∙ upper-number (start turn .pre .0) (v turn) (start turn .pre .1) (v-in turn)
+  upper-told : word (ws turn) (place turn + 2) ≡ seated whole (problem (ws turn) .upper (v turn))
+  upper-told = upper-number (start turn .pre .0) (v turn) (start turn .pre .1) (v-in turn)
 
   lower-there : c .before .before .before .has-lower .result ≡ isPresent (problem (ws turn) .lower (v turn))
   lower-there = (simp (toZ-ofZ read-kind) at (c .before .before .before .has-lower .ensures))
@@ -158,8 +163,8 @@ module _ (c : tie.After-number-at2 Inv-loop μ-loop) where
   upper-there : c .before .has-upper .result ≡ isPresent (problem (ws turn) .upper (v turn))
   upper-there = (simp (toZ-ofZ read-kind) at (c .before .has-upper .ensures)) ∙ upper-flag (start turn .pre .0) (v turn)
 
-mul-upper : tie.Need-mul-upper Inv-loop μ-loop
-mul-upper c = omega (arith, v-few (turn c))
+mul-upper-2 : tie.Need-mul-upper-2 Inv-loop μ-loop
+mul-upper-2 c = omega (arith, v-few (turn c))
 
 array-set-from-upper : tie.Need-array-set-from-upper Inv-loop μ-loop
 array-set-from-upper c = v-few (turn c)
@@ -175,7 +180,7 @@ loop-again c =
     let passed = turn c .before .loop .inv .1 in
     let u = v (turn c) in
     let h = v-few (turn c) in
-    simp (toZ-ofZ (fit-lower c), toZ-ofZ (fit-upper c)) (
+    simp (toZ-ofZ (read-lower c), toZ-ofZ (read-upper c)) (
       omega (arith, v-in (turn c)),
       record {
         lowers-are = filled-more mostVariables false _ u h (passed .lowers-are) (lower-there c);
@@ -203,19 +208,21 @@ limits-of-spec =
     loop-holds
     mul-at
     add-at
+    add-low
+    add-high
     mul-kind
     shared-slice-copy-out-kind
     has-lower-requires
     array-write-lowers
-    add-number-at
-    number-at-requires
     mul-lower
+    shared-slice-copy-out-lower
+    mul-lower-2
     array-set-from-lower
     has-upper-requires
     array-write-uppers
-    add-number-at-2
-    number-at-requires-2
     mul-upper
+    shared-slice-copy-out-upper
+    mul-upper-2
     array-set-from-upper
     add-v
     loop-less

@@ -1,4 +1,4 @@
--- `tableau::read::start_entries` meets its contract. The invariant: the lines passed are the definition's, the other
+-- `tableau::Tableau::start_entries` meets its contract. The invariant: the lines passed are the definition's, the other
 -- cells 0. The measure is the lines left. Assumes nothing.
 use mathlib.Core.Path.{_≡_, _∙_, ap₂}
 use Prim.Native.Nat.{ℕ, _-_, _≤_, _<_}
@@ -6,11 +6,11 @@ use native.Mathlib.Omega.{arith}
 use borrow.Author.Needs.{needs}
 use lib.IntN.{ℤ}
 use Rattle.rules.specs.Problem.{problem}
-use Rattle.tableau.specs.Layout.{rowAt, columnAt, lines, lineAt, live}
+use Rattle.pivot.specs.Layout.{rowAt, columnAt, lines, lineAt, live}
+use Rattle.pivot.proofs.Laws.Lines.{lines-all, lines-start}
 use Rattle.tableau.specs.Start.{startUpTo}
-use Rattle.tableau.proofs.Laws.Lines.{lines-all, lines-start}
-use Rattle.tableau.proofs.read.start_entries.Statement.{statement}
-use Rattle.tableau.proofs.read.start_entries.Tie as tie
+use Rattle.tableau.proofs.Tableau.start_entries.Statement.{statement}
+use Rattle.tableau.proofs.Tableau.start_entries.Tie as tie
 
 abbrev Inv-loop : tie.InvT-loop
 Inv-loop words columns rows end entries₀ line₀ entries line =
