@@ -5,12 +5,14 @@
 //! - `published`: problems of special interest, with their answers
 //! - `random`: the random numbers that everything below is made of
 //! - `limits`: random limit problems, by family
+//! - `division`: which pivots are settled by division
 //! - `oven`: sparse ones that look like the zones of an oven
 //! - `damage`: words that are nearly right, and words that are not
 //! - `evidence`: answers that are nearly right
 //! - `times`: random time rows, by family
 
 pub mod damage;
+pub mod division;
 pub mod draft;
 pub mod evidence;
 pub mod limits;

@@ -29,6 +29,9 @@ pub enum Family {
     Degenerate,
     /// Large dense coefficients, many of which lead out of range.
     Range,
+    /// Three variables and coefficients of hundreds: numbers that come up to the
+    /// end of the range, fall again, or pass it.
+    Edge,
     /// A variable whose limits may be crossed.
     Crossed,
     /// Words of another family with the coefficients of some rows all 0, and
@@ -42,7 +45,7 @@ pub enum Family {
 
 impl Family {
     /// Every family.
-    pub const ALL: [Family; 12] = [
+    pub const ALL: [Family; 13] = [
         Family::Tiny,
         Family::Medium,
         Family::Full,
@@ -51,6 +54,7 @@ impl Family {
         Family::Equalities,
         Family::Degenerate,
         Family::Range,
+        Family::Edge,
         Family::Crossed,
         Family::BlankRows,
         Family::Damaged,
@@ -58,7 +62,7 @@ impl Family {
     ];
 
     /// The families whose words are never refused.
-    pub const ACCEPTED: [Family; 9] = [
+    pub const ACCEPTED: [Family; 10] = [
         Family::Tiny,
         Family::Medium,
         Family::Full,
@@ -67,6 +71,7 @@ impl Family {
         Family::Equalities,
         Family::Degenerate,
         Family::Range,
+        Family::Edge,
         Family::Crossed,
     ];
 
@@ -81,6 +86,7 @@ impl Family {
             Family::Equalities => "equalities",
             Family::Degenerate => "degenerate",
             Family::Range => "range",
+            Family::Edge => "edge",
             Family::Crossed => "crossed",
             Family::BlankRows => "blank rows",
             Family::Damaged => "damaged",
@@ -115,6 +121,7 @@ impl Family {
             Family::Equalities => equalities(random),
             Family::Degenerate => degenerate(random),
             Family::Range => range(random),
+            Family::Edge => edge(random),
             _ => crossed(random),
         }
     }
@@ -263,6 +270,38 @@ fn range(random: &mut Random) -> Draft {
         }
     }
     draft
+}
+
+fn edge(random: &mut Random) -> Draft {
+    let m = random.size(4, 8);
+    let zeros = random.pick(&[0, 20]);
+    let least = random.pick(&[300, 600]);
+    let rows = (0..m).map(|_| edge_row(random, zeros, least)).collect();
+    let mut limits = vec![FREE; 3];
+    for _ in 0..m {
+        let number = random.within(0, 30_000);
+        limits.push(random.pick(&[at_least(number), at_most(-number)]));
+    }
+    Draft { n: 3, rows, limits }
+}
+
+/// Three coefficients of at least that size, or 0, but not all 0.
+fn edge_row(random: &mut Random, zeros: usize, least: i32) -> Vec<i32> {
+    let mut row: Vec<i32> = (0..3)
+        .map(|_| {
+            let size = random.within(least, 1_000);
+            let signed = random.pick(&[size, -size]);
+            if random.percent(zeros) {
+                0
+            } else {
+                signed
+            }
+        })
+        .collect();
+    if row.iter().all(|&coefficient| coefficient == 0) {
+        row[random.below(3)] = least;
+    }
+    row
 }
 
 fn crossed(random: &mut Random) -> Draft {

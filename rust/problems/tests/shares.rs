@@ -50,6 +50,7 @@ fn limit_shares(family: limits::Family, seed: u64) -> (Shares, Shares) {
 fn least_limit_shares(family: limits::Family) -> &'static [(&'static str, usize)] {
     match family {
         limits::Family::Range => &[("can", 8), ("cannot", 8), ("range", 12)],
+        limits::Family::Edge => &[("can", 20), ("cannot", 20), ("range", 8)],
         limits::Family::AnySize => &[("can", 20), ("cannot", 8), ("range", 1)],
         limits::Family::BlankRows => {
             &[("can", 4), ("cannot", 4), ("refused 6", 1), ("refused 10", 30)]

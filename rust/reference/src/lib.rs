@@ -25,5 +25,6 @@ mod times;
 
 pub use evidence::check;
 pub use program::respond;
-pub use run::{solve, violations, Violation};
+pub use run::{pivots, solve, violations, Violation};
+pub use tableau::Pivot;
 pub use times::{times, times_is_right};

@@ -5,7 +5,7 @@
 use crate::answer::{Answer, Multipliers, Verdict};
 use crate::fraction::Fraction;
 use crate::problem::{Limits, Problem, Variable};
-use crate::tableau::Tableau;
+use crate::tableau::{Pivot, Tableau};
 use std::collections::BTreeMap;
 
 /// Writes the answer to the problem and returns 0, or returns the number of
@@ -38,6 +38,30 @@ pub fn violations(words: &[i32]) -> Vec<Violation> {
     let mut found = Vec::new();
     while let Some(violated) = state.lowest_violated() {
         found.push(state.told(violated));
+        match state.step() {
+            Step::Moved(next) => state = next,
+            Step::Ended(_) => break,
+        }
+    }
+    found
+}
+
+/// Each pivot that a problem's run makes or tries, in order: the one that leads
+/// out of range too. Refused words and crossed limits have none.
+pub fn pivots(words: &[i32]) -> Vec<Pivot> {
+    let Ok(problem) = Problem::read(words) else {
+        return Vec::new();
+    };
+    if problem.limits.iter().any(Limits::crossed) {
+        return Vec::new();
+    }
+    let mut state = State::start(&problem);
+    let mut found = Vec::new();
+    while let Some(violated) = state.lowest_violated() {
+        let Some(entering) = state.lowest_suitable(violated) else {
+            break;
+        };
+        found.push(state.tableau.pivot(violated.variable, entering));
         match state.step() {
             Step::Moved(next) => state = next,
             Step::Ended(_) => break,

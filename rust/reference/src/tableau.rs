@@ -20,6 +20,19 @@ pub struct Tableau {
     pub rows: BTreeMap<Variable, Sum>,
 }
 
+/// One pivot, and the tableau before it in lowest common form.
+#[derive(Debug, Clone, PartialEq, Eq)]
+pub struct Pivot {
+    /// D.
+    pub common: i128,
+    /// D times each entry: rows by basic variable, columns by nonbasic one.
+    pub entries: Vec<Vec<i128>>,
+    /// The leaving variable's row.
+    pub row: usize,
+    /// The entering variable's column.
+    pub column: usize,
+}
+
 impl Tableau {
     /// The rows as the problem states them.
     pub fn start(problem: &Problem) -> Tableau {
@@ -37,6 +50,18 @@ impl Tableau {
         let common = self.common();
         common > LARGEST_NUMBER
             || self.entries().any(|entry| entry.times_multiple(common).abs() > LARGEST_NUMBER)
+    }
+
+    /// The pivot that makes `entering` basic in place of `leaving`.
+    pub fn pivot(&self, leaving: Variable, entering: Variable) -> Pivot {
+        let common = self.common();
+        let numbers = |sum: &Sum| sum.values().map(|e| e.times_multiple(common)).collect();
+        Pivot {
+            common,
+            entries: self.rows.values().map(numbers).collect(),
+            row: self.rows.keys().take_while(|&&basic| basic != leaving).count(),
+            column: self.rows[&leaving].keys().take_while(|&&other| other != entering).count(),
+        }
     }
 
     fn entries(&self) -> impl Iterator<Item = Fraction> + '_ {

@@ -1,7 +1,9 @@
 //! Calls of `solve`: the worked cases, the published problems, every refusal
-//! with its neighbour that passes, and runs that end out of range.
+//! with its neighbour that passes, runs that end out of range, and pivots that
+//! are settled by division.
 
 use super::{Entry, Vector, KEPT};
+use problems::division::Way;
 use problems::draft::{at_least, at_most, between, Draft, FREE};
 use problems::limits::Family;
 use problems::published::published;
@@ -19,6 +21,7 @@ pub fn all() -> Vec<Vector> {
     vectors.extend(no_rows());
     vectors.extend(crossed());
     vectors.extend(ranges());
+    vectors.extend(divided());
     vectors
 }
 
@@ -238,4 +241,31 @@ fn ranges() -> Vec<Vector> {
             out[0] == 2 && out.iter().any(|&word| word > 1_000_000_000)
         }),
     ]
+}
+
+/// The first random problems whose run makes a pivot that is settled by
+/// division, and goes on to evidence: for each ground and each verdict.
+fn divided() -> Vec<Vector> {
+    let problem = |number| Family::Edge.words(&mut Random::of_problem(1, number));
+    let found = |way: Way, verdict: i64| {
+        let wanted = |words: &Vec<i32>| {
+            let mut out = [0; 52];
+            reference::solve(words, &mut out);
+            let mut pivots = reference::pivots(words).into_iter();
+            out[0] == verdict
+                && pivots.any(|p| Way::of(p.common, &p.entries, p.row, p.column) == way)
+        };
+        (0..).map(problem).find(wanted).expect("there is one")
+    };
+    let grounds = [
+        (Way::Together, "a pivot and a common number that are large together"),
+        (Way::Border, "a border with a large divisor"),
+    ];
+    grounds
+        .into_iter()
+        .flat_map(|(way, name)| {
+            [(1, "can"), (2, "cannot"), (3, "out of range")]
+                .map(|(verdict, told)| roomy(format!("{name}, {told}"), found(way, verdict)))
+        })
+        .collect()
 }
