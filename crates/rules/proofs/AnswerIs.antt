@@ -1,7 +1,8 @@
 -- The answer is the run: from a state that is ready, where no limits cross, it ends once, after fewer pivots than the bound, and the
 -- words are those of the state that it ends at; where some cross, the lowest such variable is the evidence, with no pivot.
 --   Crosses, crosses-exactly, none-crosses    the lowest variable whose lower limit exceeds its upper; none
---   ending-run, ending-crossed                what a check comes to, of any values
+--   spending-run, spending-crossed            what a run with pivots to spend comes to, of any values
+--   ending-run, ending-crossed                .. and a check
 --   answer-run : TheRun P s                   the one count, and the answer's words
 --   answer-crossed                            the words where limits cross
 use mathlib.Core.Bool.{false}
@@ -27,7 +28,7 @@ use Rattle.rules.proofs.Sound.{Apart, Ready, Sound, howManySeated, read
 use Rattle.rules.proofs.Started.{no-conflict}
 use Rattle.rules.specs.Answer.{answerFrom, wordsOf}
 use Rattle.rules.specs.Problem.{Problem, vars, word}
-use Rattle.rules.specs.Run.{Ending, Ends, after, bound, conflict, crossed, ending}
+use Rattle.rules.specs.Run.{Ending, Ends, after, bound, conflict, crossed, ending, run, spending}
 use Rattle.rules.specs.Step.{Outcome, State, can, cannot, goes, range, same, step}
 
 module _ {X : Type 0} (𝓥 : Values X) where
@@ -81,16 +82,27 @@ module _ {X : Type 0} (𝓥 : Values X) where
   abbrev pub ended : Problem X → State X → ℕ → Ending X
   ended P s k = record { how = step 𝓥 P (after 𝓥 P s k); pivots = k; last = after 𝓥 P s k }
 
+  pub spending-crossed : (P : Problem X) (v : ℕ) → conflict 𝓥 P ≡ some v → (b : ℕ) (s : State X) (k : ℕ) →
+      spending 𝓥 b P s k
+      ≡ record { how = cannot (table (vars P) (same v)) (table (vars P) (same v)); pivots = k; last = s }
+  unfolding spending
+  spending-crossed P v e b s k = rw (e, spending)
+
+  pub spending-run : (P : Problem X) → conflict 𝓥 P ≡ none → (b : ℕ) (s : State X) (k : ℕ) →
+      spending 𝓥 b P s k ≡ run 𝓥 b P s k
+  unfolding spending
+  spending-run P e b s k = rw (e, spending)
+
   pub ending-crossed : (P : Problem X) (s : State X) (v : ℕ) → conflict 𝓥 P ≡ some v →
       ending 𝓥 P s ≡ record { how = cannot (table (vars P) (same v)) (table (vars P) (same v)); pivots = 0; last = s }
   unfolding ending
-  ending-crossed P s v e = rw (e, ending)
+  ending-crossed P s v e = spending-crossed P v e (bound P) s 0
 
   pub ending-run : Laws 𝓥 → (P : Problem X) (s : State X) → conflict 𝓥 P ≡ none → Sound 𝓥 P s →
       howManySeated (s .seats) ≡ P .n →
       (k : ℕ) → Ends 𝓥 P s k → ending 𝓥 P s ≡ ended P s k
   unfolding ending
-  ending-run law P s e S n k E = rw (e, ending) (run-is 𝓥 P s (bound P) k
+  ending-run law P s e S n k E = spending-run P e (bound P) s 0 ∙ (run-is 𝓥 P s (bound P) k
       (let h = below-bound 𝓥 law P s (no-conflict 𝓥 P e) S n k (E .runs) in omega arith) E)
 
 -- ---- the answer

@@ -29,6 +29,8 @@ pub mod Blame
 pub mod Answers
 pub mod Shape
 pub mod Demands
+pub mod Slices
+pub mod Holds
 pub mod Rule
 pub mod Only
 pub mod Range
@@ -36,3 +38,4 @@ pub mod Entries
 pub mod Times
 pub mod Text
 pub mod Worked
+pub mod SlicesWorked

@@ -40,7 +40,7 @@ module _ {X : Type 0} (𝓥 : Values X) where
   goes-next s range m = absurd m
   goes-next s (goes t) m = refl
 
-  run-end : (f : ℕ) (P : Problem X) (s : State X) (k : ℕ) (o : Outcome X) → step 𝓥 P s ≡ o → Ended o →
+  pub run-end : (f : ℕ) (P : Problem X) (s : State X) (k : ℕ) (o : Outcome X) → step 𝓥 P s ≡ o → Ended o →
       run 𝓥 f P s k ≡ record { how = o; pivots = k; last = s }
   unfolding run
   run-end zero P s k o e h = rw e
@@ -49,7 +49,7 @@ module _ {X : Type 0} (𝓥 : Values X) where
   run-end (suc f) P s k range e h = rw (e, run)
   run-end (suc f) P s k (goes t) e h = absurd h
 
-  run-on : (f : ℕ) (P : Problem X) (s t : State X) (k : ℕ) → step 𝓥 P s ≡ goes t →
+  pub run-on : (f : ℕ) (P : Problem X) (s t : State X) (k : ℕ) → step 𝓥 P s ≡ goes t →
       run 𝓥 (suc f) P s k ≡ run 𝓥 f P t (suc k)
   unfolding run
   run-on f P s t k e = rw (e, run)
@@ -59,7 +59,7 @@ module _ {X : Type 0} (𝓥 : Values X) where
   unfolding after
   next-after P s i m = goes-next (after 𝓥 P s i) (step 𝓥 P (after 𝓥 P s i)) m
 
-  run-from : (d f i k : ℕ) (P : Problem X) (s : State X) → i + d ≡ k → d ≤ f → Ends 𝓥 P s k →
+  pub run-from : (d f i k : ℕ) (P : Problem X) (s : State X) → i + d ≡ k → d ≤ f → Ends 𝓥 P s k →
       run 𝓥 f P (after 𝓥 P s i) i ≡ record { how = step 𝓥 P (after 𝓥 P s k); pivots = k; last = after 𝓥 P s k }
   run-from zero f i k P s q h e = let z : i ≡ k = omega arith in rw z (run-end f P (after 𝓥 P s k) k _ refl (e .ended))
   run-from (suc d) zero i k P s q h e = let z : ⊥ = omega arith in absurd z

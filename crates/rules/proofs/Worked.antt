@@ -15,7 +15,7 @@ use Rattle.rules.specs.LimitCases.{limitCases}
 use Rattle.rules.specs.Passes.{canMeet, distances, look, passes, settled}
 use Rattle.rules.specs.Problem.{problem}
 use Rattle.rules.specs.Refusal.{badCoefficient, badKind, badLength, badLimit, badSize, blankRow, first, problemTests, refusal, someBlank, tooFew, tooShort}
-use Rattle.rules.specs.Run.{bound, choose, conflict, crossed, ending, run}
+use Rattle.rules.specs.Run.{bound, choose, conflict, crossed, ending, run, spending}
 use Rattle.rules.specs.Step.{admit, broken, entering, evidence, leaving, limitAt, mayFall, mayRise, moved, over, pull, scaled, seated, shortfallBy, start, startEntry, startSeat, startValue, step, suits, under}
 use Rattle.rules.specs.Tableau.{divisor, divisorSize, pivot, reduced, relation, small, solved}
 use Rattle.rules.specs.TimeCases.{timeCases}
@@ -23,7 +23,7 @@ use Rattle.rules.specs.Times.{cycleWords, timesAnswer, timesOf}
 use Rattle.rules.specs.TimeWords.{badEnd, badRowLength, badStrict, badTimeSize, badWordCount, noRoom, timeRefusal, timeTests}
 
 pub all-right : AllRight cases
-unfolding cases limitCases timeCases comesOut wanted answer answerFrom wordsOf ending conflict crossed run bound choose step
+unfolding cases limitCases timeCases comesOut wanted answer answerFrom wordsOf ending spending conflict crossed run bound choose step
     leaving broken under over entering suits mayRise mayFall pull moved limitAt admit evidence scaled seated shortfallBy
     start startEntry startSeat startValue pivot solved reduced relation divisor divisorSize small problem present bit
     refusal first problemTests tooFew badSize badLength badCoefficient badKind badLimit blankRow someBlank badLimitWord tooShort

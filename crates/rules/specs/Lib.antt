@@ -7,6 +7,7 @@ pub mod Tableau
 pub mod Step
 pub mod Run
 pub mod Answer
+pub mod Slices
 pub mod Evidence
 pub mod Walks
 pub mod Passes
@@ -15,6 +16,7 @@ pub mod TimeWords
 pub mod Times
 pub mod Expected
 pub mod LimitCases
+pub mod SliceCases
 pub mod TimeCases
 pub mod Cases
 pub mod Bytes

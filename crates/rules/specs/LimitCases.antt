@@ -36,7 +36,7 @@ turnedAway ws k = record { words = ws; expected = refused k }
 -- ---- the cases
 
 -- x+y>=2, 2x-y>=0, -x+2y>=1: can, 2 pivots, over 3: 3 3 6 3 3
-abbrev caseA : Case
+abbrev pub caseA : Case
 caseA = gives
     (two (pos 2) (pos 3) ++ two (pos 1) (pos 1) ++ two (pos 2) (minus 1) ++ two (minus 1) (pos 2)
     ++ free ++ free ++ atLeast (pos 2) ++ atLeast (pos 0) ++ atLeast (pos 1))
@@ -77,11 +77,11 @@ caseF = gives
     (pos 2 ∷ pos 0 ∷ pos 0 ∷ pos 1 ∷ pos 1 ∷ pos 0 ∷ pos 0 ∷ pos 0 ∷ pos 1 ∷ [])
 
 -- n 1, m 0, lower 1, upper 0: cannot, 0, lower 1, upper 1
-abbrev caseG : Case
+abbrev pub caseG : Case
 caseG = gives (two (pos 1) (pos 0) ++ between (pos 1) (pos 0)) (pos 2 ∷ pos 0 ∷ pos 0 ∷ pos 1 ∷ pos 1 ∷ [])
 
 -- n 1, m 0, kind 0: can, 0, over 1: 0
-abbrev caseH : Case
+abbrev pub caseH : Case
 caseH = gives (two (pos 1) (pos 0) ++ free) (pos 1 ∷ pos 0 ∷ pos 1 ∷ pos 0 ∷ pos 0 ∷ [])
 
 -- one row 0x >= 1: refused, as a blank row

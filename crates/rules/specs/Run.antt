@@ -57,7 +57,7 @@ bound P = 3 ^ P .n * choose (vars P) (P .n)
 
 -- ---- the run that computes
 
--- how it ended, the pivots completed, and the last state. How it ended is `goes` only where the fuel ran out
+-- how it ended, the pivots completed, and the last state. How it ended is `goes` only where the run goes on past its fuel
 pub record Ending (X : Type 0) : Type 0 where
   pub how : Outcome X
   pub pivots : ℕ
@@ -83,9 +83,14 @@ module _ {X : Type 0} (𝓥 : Values X) where
   unfoldable pub conflict : Problem X → Option ℕ
   conflict P = lowest (vars P) (λ v. cond (crossed (P .lower v) (P .upper v)) (some v) none)
 
-  -- a check of P from the state s: where limits cross, both multipliers of that variable are 1, and there is no run
-  unfoldable pub ending : Problem X → State X → Ending X
-  ending P s = elim (conflict P) [
-    | some v ↦ record { how = cannot (table (vars P) (same v)) (table (vars P) (same v)); pivots = 0; last = s }
-    | none ↦ run (bound P) P s 0
+  -- the run with b pivots to spend, at the state s, k pivots on: where limits cross, both multipliers of that variable
+  -- are 1, and no pivot is made
+  unfoldable pub spending : ℕ → Problem X → State X → ℕ → Ending X
+  spending b P s k = elim (conflict P) [
+    | some v ↦ record { how = cannot (table (vars P) (same v)) (table (vars P) (same v)); pivots = k; last = s }
+    | none ↦ run b P s k
   ]
+
+  -- a check of P from the state s: the whole run, since none reaches the bound
+  unfoldable pub ending : Problem X → State X → Ending X
+  ending P s = spending (bound P) P s 0

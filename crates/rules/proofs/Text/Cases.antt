@@ -84,7 +84,7 @@ unfolding inputs outputs limitCases
     Step.pull Step.startEntry Step.evidence Step.admit Step.seated Step.scaled Step.startValue Step.startSeat
     Step.start Step.under Step.over Step.broken Step.leaving Step.mayRise Step.mayFall Step.suits Step.entering
     Step.limitAt Step.moved Step.step
-    Run.next Run.choose Run.bound Run.run Run.crossed Run.conflict Run.ending
+    Run.next Run.choose Run.bound Run.run Run.crossed Run.conflict Run.spending Run.ending
     Answer.wordsOf Answer.answerFrom Answer.answer
     Bytes.signed Bytes.wordAt Bytes.wordsFrom Bytes.unsigned Bytes.bytesFrom Bytes.countRefusal
     Text.ascii Text.digitsTurns Text.digits Text.decimal Text.line Text.variableLine Text.multiplierLine

@@ -1,0 +1,200 @@
+-- A run cut anywhere is the run.
+--   spent-to, cut-at         i pivots on with b to spend: at i + b pivots, or at the end of the run
+--   answer-whole, answer-short     the answer comes with the last pivot, and is that of the uncut run; none comes before
+--   conflict-slice           crossed limits: finished at 0
+--   Sliced, sliced           all of it, of any problem and state from which a check may start, crossed limits or not
+--   cut-by, answer-by, none-by     continues one after the other, however the numbers are chosen
+--   finished-again           a finished state stays, and answers the same
+--   slices-only              once the numbers reach the end, the state is the same
+--   sliced-words, cut-answer       of words
+use mathlib.Core.List.{List, [], _∷_}
+use mathlib.Core.Option.{Option, none, some}
+use mathlib.Core.Path.{ap, refl, sym, _∙_, _≡_}
+use Prim.Native.Nat.{min, suc, zero, ℕ, _+_, _-_, _<_, _≤_}
+use native.Mathlib.Decide.{decLt}
+use native.Mathlib.Nat.{add-zero}
+use native.Mathlib.Omega.{arith}
+use lib.IntN.{pos, ℤ}
+use Rattle.whole.proofs.Instances.{whole-laws}
+use Rattle.whole.specs.Values.{Values, whole}
+use Rattle.rules.proofs.AnswerIs.{TheRun, answer-crossed, answer-run, ended, ending-crossed, spending-crossed}
+use Rattle.rules.proofs.AnswerIs.{spending-run}
+use Rattle.rules.proofs.Ends.{ready-start}
+use Rattle.rules.proofs.Runs.{next-after, run-from, run-on}
+use Rattle.rules.proofs.Sound.{Ready}
+use Rattle.rules.specs.Answer.{answer, answerFrom, wordsOf}
+use Rattle.rules.specs.Problem.{Problem, problem, word}
+use Rattle.rules.specs.Run.{Ended, Ending, Ends, Moves, after, conflict, run, spending}
+use Rattle.rules.specs.Slices.{Slice, begun, continued, continuedBy, sliceAnswer, told}
+use Rattle.rules.specs.Step.{Outcome, State, can, cannot, goes, range, start}
+
+-- all pivots of the numbers together
+abbrev pub sum : List ℕ → ℕ
+sum [] = 0
+sum (b ∷ bs) = b + sum bs
+
+module _ {X : Type 0} (𝓥 : Values X) (P : Problem X) (s : State X) where
+  -- the run from s, i pivots on
+  abbrev pub cutAt : ℕ → Slice X
+  cutAt i = record { problem = P; state = after 𝓥 P s i; count = i }
+
+  module _ (k : ℕ) (E : Ends 𝓥 P s k) where
+    run-cut : (f i : ℕ) → i + f ≤ k → run 𝓥 f P (after 𝓥 P s i) i ≡ ended 𝓥 P s (i + f)
+    unfolding run
+    run-cut zero i h = ap (ended 𝓥 P s) (sym (add-zero i))
+    run-cut (suc f) i h =
+        run-on 𝓥 f P (after 𝓥 P s i) (after 𝓥 P s (suc i)) i (next-after 𝓥 P s i (E .runs i (omega arith)))
+        ∙ run-cut f (suc i) (omega arith) ∙ ap (ended 𝓥 P s) (let z : suc i + f ≡ i + suc f = omega arith in z)
+
+    module _ (c : conflict 𝓥 P ≡ none) where
+      -- with b to spend at i pivots, the run comes to i + b, or to its end
+      pub spent-to : (b i : ℕ) → i ≤ k → spending 𝓥 b P (after 𝓥 P s i) i ≡ ended 𝓥 P s (min k (i + b))
+      spent-to b i g = spending-run 𝓥 P c b (after 𝓥 P s i) i ∙ go (decLt k (i + b))
+        where
+          go : Dec (k < i + b) → run 𝓥 b P (after 𝓥 P s i) i ≡ ended 𝓥 P s (min k (i + b))
+          go (yes h) = run-from 𝓥 (k - i) b i k P s (omega arith) (omega arith) E
+              ∙ ap (ended 𝓥 P s) (let z : k ≡ min k (i + b) = omega arith in z)
+          go (no h) = run-cut b i (omega arith) ∙ ap (ended 𝓥 P s) (let z : i + b ≡ min k (i + b) = omega arith in z)
+
+      pub cut-at : (b i : ℕ) → i ≤ k → continued 𝓥 (cutAt i) b ≡ cutAt (min k (i + b))
+      unfolding continued
+      cut-at b i g = ap (λ (e : Ending X). record { problem = P; state = e .last; count = e .pivots }) (spent-to b i g)
+
+  -- where limits cross no pivot is made
+  module _ (v : ℕ) (e : conflict 𝓥 P ≡ some v) (k : ℕ) where
+    abbrev here : Slice X
+    here = record { problem = P; state = s; count = k }
+
+    crossed-stays : (b : ℕ) → continued 𝓥 here b ≡ here
+    unfolding continued
+    crossed-stays b = ap (λ (d : Ending X). record { problem = P; state = d .last; count = d .pivots })
+        (spending-crossed 𝓥 P v e b s k)
+
+-- ---- the answer
+
+told-ended : (P : Problem ℤ) (o : Outcome ℤ) (k : ℕ) (s : State ℤ) → Ended o →
+    told P (record { how = o; pivots = k; last = s }) ≡ some (wordsOf P (record { how = o; pivots = k; last = s }))
+unfolding told
+told-ended P can k s e = refl
+told-ended P (cannot ls us) k s e = refl
+told-ended P range k s e = refl
+told-ended P (goes t) k s e = absurd e
+
+told-moves : (P : Problem ℤ) (o : Outcome ℤ) (k : ℕ) (s : State ℤ) → Moves o →
+    told P (record { how = o; pivots = k; last = s }) ≡ none
+unfolding told
+told-moves P can k s e = absurd e
+told-moves P (cannot ls us) k s e = absurd e
+told-moves P range k s e = absurd e
+told-moves P (goes t) k s e = refl
+
+module _ (P : Problem ℤ) (s : State ℤ) (T : TheRun P s) (b i : ℕ) (g : i ≤ T .count) where
+  spent : spending whole b P (after whole P s i) i ≡ ended whole P s (min (T .count) (i + b))
+  spent = spent-to whole P s (T .count) (T .ends) (T .uncrossed) b i g
+
+  pub answer-whole : T .count ≤ i + b → sliceAnswer (cutAt whole P s i) b ≡ some (answerFrom P s)
+  unfolding sliceAnswer
+  answer-whole h = let z : min (T .count) (i + b) ≡ T .count = omega arith in ap (told P) (spent ∙ ap (ended whole P s) z)
+      ∙ told-ended P _ (T .count) _ (T .ends .ended) ∙ ap some (sym (T .words))
+
+  pub answer-short : i + b < T .count → sliceAnswer (cutAt whole P s i) b ≡ none
+  unfolding sliceAnswer
+  answer-short h = let z : min (T .count) (i + b) ≡ i + b = omega arith in ap (told P) (spent ∙ ap (ended whole P s) z)
+      ∙ told-moves P _ (i + b) _ (T .ends .runs (i + b) h)
+
+-- ---- of any problem and state
+
+module _ (P : Problem ℤ) (s : State ℤ) where
+  abbrev cut : ℕ → Slice ℤ
+  cut = cutAt whole P s
+
+  abbrev pub first : Slice ℤ
+  first = record { problem = P; state = s; count = 0 }
+
+  -- what a continue comes to, i pivots on with b to spend: the pivots up to the count of the uncut run, and the answer exactly then
+  pub record Sliced : Type 0 where
+    pub count : ℕ
+    pub word-1 : word (answerFrom P s) 1 ≡ pos count
+    pub moves : (b i : ℕ) → i ≤ count → continued whole (cut i) b ≡ cut (min count (i + b))
+    pub answers : (b i : ℕ) → i ≤ count → count ≤ i + b → sliceAnswer (cut i) b ≡ some (answerFrom P s)
+    pub goes-on : (b i : ℕ) → i + b < count → sliceAnswer (cut i) b ≡ none
+
+  of-run : TheRun P s → Sliced
+  of-run T = record {
+    count = T .count;
+    word-1 = T .word-1;
+    moves = cut-at whole P s (T .count) (T .ends) (T .uncrossed);
+    answers = answer-whole P s T;
+    goes-on = λ b i h. answer-short P s T b i (omega arith) h;
+  }
+
+  module _ (v : ℕ) (e : conflict whole P ≡ some v) where
+    -- finished at 0
+    pub conflict-slice : (b : ℕ) → (continued whole first b ≡ first) × (sliceAnswer first b ≡ some (answerFrom P s))
+    unfolding sliceAnswer answerFrom
+    conflict-slice b = (
+      crossed-stays whole P s v e 0 b,
+      ap (told P) (spending-crossed whole P v e b s 0) ∙ told-ended P _ 0 s tt
+          ∙ ap (λ d. some (wordsOf P d)) (sym (ending-crossed whole P s v e)),
+    )
+
+    of-crossed : Sliced
+    unfolding after
+    of-crossed = record {
+      count = 0;
+      word-1 = ap (λ a. word a 1) (answer-crossed P s v e);
+      moves = λ b i h. let z : i ≡ 0 = omega arith in ap (λ j. continued whole (cut j) b) z ∙ conflict-slice b .0
+          ∙ ap cut (let y : 0 ≡ min 0 (i + b) = omega arith in y);
+      answers = λ b i h k. let z : i ≡ 0 = omega arith in ap (λ j. sliceAnswer (cut j) b) z ∙ conflict-slice b .1;
+      goes-on = λ b i h. let z : ⊥ = omega arith in absurd z;
+    }
+
+  pub sliced : Ready whole P s → Sliced
+  sliced R = go (conflict whole P) refl
+    where
+      go : (o : Option ℕ) → conflict whole P ≡ o → Sliced
+      go none e = of-run (answer-run P s e R)
+      go (some v) e = of-crossed v e
+
+  module _ (S : Sliced) where
+    -- however the numbers are chosen
+    from-by : (bs : List ℕ) (i : ℕ) → i ≤ S .count → continuedBy whole (cut i) bs ≡ cut (min (S .count) (i + sum bs))
+    unfolding continuedBy
+    from-by [] i h = ap cut (let z : i ≡ min (S .count) (i + 0) = omega arith in z)
+    from-by (b ∷ bs) i h = ap (λ A. continuedBy whole A bs) (S .moves b i h)
+        ∙ from-by bs (min (S .count) (i + b)) (omega arith)
+        ∙ ap cut (let z : min (S .count) (min (S .count) (i + b) + sum bs) ≡ min (S .count) (i + (b + sum bs)) = omega arith in z)
+
+    pub cut-by : (bs : List ℕ) → continuedBy whole first bs ≡ cut (min (S .count) (sum bs))
+    unfolding after
+    cut-by bs = from-by bs 0 (omega arith) ∙ ap (λ j. cut (min (S .count) j)) (let z : 0 + sum bs ≡ sum bs = omega arith in z)
+
+    pub answer-by : (bs : List ℕ) (b : ℕ) → S .count ≤ sum bs + b →
+        sliceAnswer (continuedBy whole first bs) b ≡ some (answerFrom P s)
+    answer-by bs b h = ap (λ A. sliceAnswer A b) (cut-by bs)
+        ∙ S .answers b (min (S .count) (sum bs)) (omega arith) (omega arith)
+
+    pub none-by : (bs : List ℕ) (b : ℕ) → sum bs + b < S .count → sliceAnswer (continuedBy whole first bs) b ≡ none
+    none-by bs b h = ap (λ A. sliceAnswer A b) (cut-by bs) ∙ S .goes-on b (min (S .count) (sum bs)) (omega arith)
+
+    pub finished-again : (b : ℕ) →
+        (continued whole (cut (S .count)) b ≡ cut (S .count)) × (sliceAnswer (cut (S .count)) b ≡ some (answerFrom P s))
+    finished-again b = let z : min (S .count) (S .count + b) ≡ S .count = omega arith in
+        (S .moves b (S .count) (omega arith) ∙ ap cut z, S .answers b (S .count) (omega arith) (omega arith))
+
+    pub slices-only : (bs cs : List ℕ) → S .count ≤ sum bs → S .count ≤ sum cs →
+        continuedBy whole first bs ≡ continuedBy whole first cs
+    slices-only bs cs h k = let z : min (S .count) (sum bs) ≡ min (S .count) (sum cs) = omega arith in
+        cut-by bs ∙ ap cut z ∙ sym (cut-by cs)
+
+-- ---- of words
+
+module _ (ws : List ℤ) where
+  pub sliced-words : Sliced (problem ws) (start whole (problem ws))
+  sliced-words = sliced (problem ws) (start whole (problem ws)) (ready-start whole whole-laws (problem ws))
+
+  -- the words of the uncut run, and its count
+  pub cut-answer : (bs : List ℕ) (b : ℕ) → sliced-words .count ≤ sum bs + b →
+      sliceAnswer (continuedBy whole (begun whole (problem ws)) bs) b ≡ some (answer ws)
+  unfolding begun answer
+  cut-answer = answer-by (problem ws) (start whole (problem ws)) sliced-words
