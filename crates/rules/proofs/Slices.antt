@@ -6,10 +6,12 @@
 --   cut-by, answer-by, none-by     continues one after the other, however the numbers are chosen
 --   finished-again           a finished state stays, and answers the same
 --   slices-only              once the numbers reach the end, the state is the same
+--   OnWay                    what every state has that is handed back: `on-way-start`, `on-way-more`
+--   on-way-rowed, on-way-below, on-way-answer, on-way-none     .. and what follows
 --   sliced-words, cut-answer       of words
 use mathlib.Core.List.{List, [], _∷_}
 use mathlib.Core.Option.{Option, none, some}
-use mathlib.Core.Path.{ap, refl, sym, _∙_, _≡_}
+use mathlib.Core.Path.{ap, refl, subst, sym, _∙_, _≡_}
 use Prim.Native.Nat.{min, suc, zero, ℕ, _+_, _-_, _<_, _≤_}
 use native.Mathlib.Decide.{decLt}
 use native.Mathlib.Nat.{add-zero}
@@ -19,12 +21,14 @@ use Rattle.whole.proofs.Instances.{whole-laws}
 use Rattle.whole.specs.Values.{Values, whole}
 use Rattle.rules.proofs.AnswerIs.{TheRun, answer-crossed, answer-run, ended, ending-crossed, spending-crossed}
 use Rattle.rules.proofs.AnswerIs.{spending-run}
+use Rattle.rules.proofs.Bounded.{bound-some}
 use Rattle.rules.proofs.Ends.{ready-start}
+use Rattle.rules.proofs.Moved.{rowed-after}
 use Rattle.rules.proofs.Runs.{next-after, run-from, run-on}
-use Rattle.rules.proofs.Sound.{Ready}
+use Rattle.rules.proofs.Sound.{Ready, Rowed}
 use Rattle.rules.specs.Answer.{answer, answerFrom, wordsOf}
 use Rattle.rules.specs.Problem.{Problem, problem, word}
-use Rattle.rules.specs.Run.{Ended, Ending, Ends, Moves, after, conflict, run, spending}
+use Rattle.rules.specs.Run.{Ended, Ending, Ends, Moves, after, bound, conflict, run, spending}
 use Rattle.rules.specs.Slices.{Slice, begun, continued, continuedBy, sliceAnswer, told}
 use Rattle.rules.specs.Step.{Outcome, State, can, cannot, goes, range, start}
 
@@ -115,6 +119,7 @@ module _ (P : Problem ℤ) (s : State ℤ) where
   pub record Sliced : Type 0 where
     pub count : ℕ
     pub word-1 : word (answerFrom P s) 1 ≡ pos count
+    pub below : count < bound P
     pub moves : (b i : ℕ) → i ≤ count → continued whole (cut i) b ≡ cut (min count (i + b))
     pub answers : (b i : ℕ) → i ≤ count → count ≤ i + b → sliceAnswer (cut i) b ≡ some (answerFrom P s)
     pub goes-on : (b i : ℕ) → i + b < count → sliceAnswer (cut i) b ≡ none
@@ -123,6 +128,7 @@ module _ (P : Problem ℤ) (s : State ℤ) where
   of-run T = record {
     count = T .count;
     word-1 = T .word-1;
+    below = T .below;
     moves = cut-at whole P s (T .count) (T .ends) (T .uncrossed);
     answers = answer-whole P s T;
     goes-on = λ b i h. answer-short P s T b i (omega arith) h;
@@ -143,6 +149,7 @@ module _ (P : Problem ℤ) (s : State ℤ) where
     of-crossed = record {
       count = 0;
       word-1 = ap (λ a. word a 1) (answer-crossed P s v e);
+      below = bound-some P;
       moves = λ b i h. let z : i ≡ 0 = omega arith in ap (λ j. continued whole (cut j) b) z ∙ conflict-slice b .0
           ∙ ap cut (let y : 0 ≡ min 0 (i + b) = omega arith in y);
       answers = λ b i h k. let z : i ≡ 0 = omega arith in ap (λ j. sliceAnswer (cut j) b) z ∙ conflict-slice b .1;
@@ -186,6 +193,51 @@ module _ (P : Problem ℤ) (s : State ℤ) where
         continuedBy whole first bs ≡ continuedBy whole first cs
     slices-only bs cs h k = let z : min (S .count) (sum bs) ≡ min (S .count) (sum cs) = omega arith in
         cut-by bs ∙ ap cut z ∙ sym (cut-by cs)
+
+-- ---- a state on the way of its run: what every state has that a start or a continue hands back
+
+pub record OnWay (S : Slice ℤ) : Type 0 where
+  -- where the run began
+  pub from : State ℤ
+  pub ready : Ready whole (S .problem) from
+  pub run : Sliced (S .problem) from
+  -- the state is that of the run after as many pivots as are counted, which are not more than it has
+  pub state-is : S .state ≡ after whole (S .problem) from (S .count)
+  pub reached : S .count ≤ run .count
+
+pub on-way-start : (P : Problem ℤ) (s : State ℤ) → Ready whole P s → OnWay (first P s)
+unfolding after
+on-way-start P s R = record { from = s; ready = R; run = sliced P s R; state-is = refl; reached = omega arith }
+
+module _ (S : Slice ℤ) (W : OnWay S) where
+  abbrev P : Problem ℤ
+  P = S .problem
+
+  abbrev way : ℕ → Slice ℤ
+  way = cutAt whole P (W .from)
+
+  slice-is : S ≡ way (S .count)
+  slice-is = ap (λ x. record { problem = P; state = x; count = S .count }) (W .state-is)
+
+  pub on-way-rowed : Rowed whole P (S .state)
+  on-way-rowed = rw (W .state-is) (rowed-after whole P (W .from) (W .ready .rowed) (S .count))
+
+  pub on-way-below : S .count < bound P
+  on-way-below = let a = W .reached in let b = W .run .below in omega arith
+
+  pub continued-is : (b : ℕ) → continued whole S b ≡ way (min (W .run .count) (S .count + b))
+  continued-is b = ap (λ A. continued whole A b) slice-is ∙ W .run .moves b (S .count) (W .reached)
+
+  pub on-way-more : (b : ℕ) → OnWay (continued whole S b)
+  on-way-more b = subst OnWay (sym (continued-is b))
+      (record { from = W .from; ready = W .ready; run = W .run; state-is = refl; reached = omega arith })
+
+  -- the answer exactly where the pivots reach the count, and that of the uncut run
+  pub on-way-answer : (b : ℕ) → W .run .count ≤ S .count + b → sliceAnswer S b ≡ some (answerFrom P (W .from))
+  on-way-answer b h = ap (λ A. sliceAnswer A b) slice-is ∙ W .run .answers b (S .count) (W .reached) h
+
+  pub on-way-none : (b : ℕ) → S .count + b < W .run .count → sliceAnswer S b ≡ none
+  on-way-none b h = ap (λ A. sliceAnswer A b) slice-is ∙ W .run .goes-on b (S .count) h
 
 -- ---- of words
 
