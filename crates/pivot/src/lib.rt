@@ -27,8 +27,10 @@ mod wide;
 pub const MOST_ENTRIES: usize = divisor::MOST_CELLS;
 
 // The two kinds of place: neither stands for the other.
+#[repr(C)]
 pub struct RowPlace(pub u8);
 
+#[repr(C)]
 pub struct ColumnPlace(pub u8);
 
 // What a pivot comes to: the new common number, or a number beyond the largest.

@@ -1,4 +1,4 @@
--- A state holds its problem: two problems of one size whose rows the same tableau keeps have the same coefficients.
+-- A state holds its problem: two problems of one size whose rows the same entries keep have the same coefficients.
 --   rows-only
 use mathlib.Core.Logic.{inl}
 use mathlib.Core.Option.{Option}
@@ -26,7 +26,9 @@ module _ {X : Type 0} (𝓥 : Values X) (n m : ℕ) (a b : ℕ → ℕ → ℤ) 
   abbrev Q : Problem X
   Q = record { n = n; m = m; coefficient = b; lower = l′; upper = u′ }
 
-  module _ (s : State X) (R : Rowed 𝓥 P s) (S : Rowed 𝓥 Q s) (i j : ℕ) (h : i < m) (k : j < n) where
+  -- the same entries, in two states or in one
+  module _ (s t : State X) (same-entries : (v w : ℕ) → v < n + m → w < n + m → entry (s .tableau) v w ≡ entry (t .tableau) v w)
+      (R : Rowed 𝓥 P s) (S : Rowed 𝓥 Q t) (i j : ℕ) (h : i < m) (k : j < n) where
     N : ℕ
     N = n + m
 
@@ -35,6 +37,12 @@ module _ {X : Type 0} (𝓥 : Values X) (n m : ℕ) (a b : ℕ → ℕ → ℤ) 
 
     e : ℕ → ℕ → ℤ
     e v w = entry (s .tableau) v w
+
+    -- the columns of the one solve the rows of the other
+    column-too : (w : ℕ) → w < N → e (n + i) w ≡ sum n (λ j. b i j *ℤ e j w)
+    unfolding N e
+    column-too w q = same-entries (n + i) w (omega arith) q ∙ S .columns w q i h
+        ∙ total-same whole-laws n _ _ (λ j g. ap (λ z. b i j *ℤ z) (sym (same-entries j w (omega arith) q)))
 
     -- D times the unit solution of the one solves the rows of the other
     solved-too : common s *ℤ x (n + i) ≡ sum n (λ j. b i j *ℤ (common s *ℤ x j))
@@ -46,7 +54,7 @@ module _ {X : Type 0} (𝓥 : Values X) (n m : ℕ) (a b : ℕ → ℕ → ℤ) 
         ∙ ap (λ z. b i j *ℤ z) (sym (R .holds x (unit-solves P _ k) j (omega arith))))
       where
         each : (w : ℕ) → w < N → e (n + i) w *ℤ x w ≡ sum n (λ j. b i j *ℤ (e j w *ℤ x w))
-        each w q = ap (λ z. z *ℤ x w) (S .columns w q i h) ∙ sum-scale whole-laws n (λ j. b i j *ℤ e j w) (x w)
+        each w q = ap (λ z. z *ℤ x w) (column-too w q) ∙ sum-scale whole-laws n (λ j. b i j *ℤ e j w) (x w)
             ∙ total-same whole-laws n _ _ (λ j g. whole-laws .scale-times (b i j) (e j w) (x w))
 
     pub rows-only : a i j ≡ b i j

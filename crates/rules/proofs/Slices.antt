@@ -1,5 +1,6 @@
 -- A run cut anywhere is the run.
 --   spent-to, cut-at         i pivots on with b to spend: at i + b pivots, or at the end of the run
+--   told-ended, told-moves   where a step ends the run the words are told, and else nothing
 --   answer-whole, answer-short     the answer comes with the last pivot, and is that of the uncut run; none comes before
 --   conflict-slice           crossed limits: finished at 0
 --   Sliced, sliced           all of it, of any problem and state from which a check may start, crossed limits or not
@@ -76,7 +77,7 @@ module _ {X : Type 0} (𝓥 : Values X) (P : Problem X) (s : State X) where
 
 -- ---- the answer
 
-told-ended : (P : Problem ℤ) (o : Outcome ℤ) (k : ℕ) (s : State ℤ) → Ended o →
+pub told-ended : (P : Problem ℤ) (o : Outcome ℤ) (k : ℕ) (s : State ℤ) → Ended o →
     told P (record { how = o; pivots = k; last = s }) ≡ some (wordsOf P (record { how = o; pivots = k; last = s }))
 unfolding told
 told-ended P can k s e = refl
@@ -84,7 +85,7 @@ told-ended P (cannot ls us) k s e = refl
 told-ended P range k s e = refl
 told-ended P (goes t) k s e = absurd e
 
-told-moves : (P : Problem ℤ) (o : Outcome ℤ) (k : ℕ) (s : State ℤ) → Moves o →
+pub told-moves : (P : Problem ℤ) (o : Outcome ℤ) (k : ℕ) (s : State ℤ) → Moves o →
     told P (record { how = o; pivots = k; last = s }) ≡ none
 unfolding told
 told-moves P can k s e = absurd e

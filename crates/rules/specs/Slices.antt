@@ -1,6 +1,7 @@
 -- docs/RULES.md, "The run in slices": a start, and continues with so many pivots to spend each. A continue makes them,
 -- or all that are left, and answers where the run's next step ends it; a state that is finished stays as it is, and
 -- answers again.
+use mathlib.Core.Bool.{Bool, true, false}
 use mathlib.Core.List.{List, [], _∷_, _++_}
 use mathlib.Core.Option.{Option, none, some}
 use Prim.Native.Nat.{ℕ, _*_, _+_}
@@ -46,6 +47,11 @@ told P e = elim (e .how) [
 unfoldable pub sliceAnswer : Slice ℤ → ℕ → Option (List ℤ)
 sliceAnswer S b = told (S .problem) (spending whole b (S .problem) (S .state) (S .count))
 
+-- is there one
+abbrev pub isAnswer : Option (List ℤ) → Bool
+isAnswer none = false
+isAnswer (some a) = true
+
 -- how many words its answer has
 abbrev pub sliceLength : Slice ℤ → ℕ
 sliceLength S = 3 + 2 * vars (S .problem)
@@ -55,6 +61,6 @@ unfoldable pub sliceRefusal : Slice ℤ → ℕ → ℕ
 sliceRefusal S room = first ((ltb room (sliceLength S), 7) ∷ [])
 
 -- what stands in the output afterwards: without an answer what stood there
-unfoldable pub over : Option (List ℤ) → ℕ → List ℤ → List ℤ
-over none n before = before
-over (some a) n before = a ++ drop n before
+unfoldable pub sliceOutput : Option (List ℤ) → ℕ → List ℤ → List ℤ
+sliceOutput none n before = before
+sliceOutput (some a) n before = a ++ drop n before

@@ -8,7 +8,10 @@ pub mod Steps
 pub mod Runs
 pub mod Halves
 pub mod Crossings
+pub mod Spends
+pub mod Came
 pub mod Told
+pub mod Slices
 pub mod Refusals
 pub mod TwoOrders
 pub mod Only

@@ -4,4 +4,5 @@ pub mod Multipliers
 pub mod Answer
 pub mod Step
 pub mod Run
+pub mod Spend
 pub mod TwoOrders

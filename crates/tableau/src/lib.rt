@@ -4,9 +4,11 @@ use pivot::ColumnPlace;
 use pivot::RowPlace;
 
 // A variable's number. No place stands for it.
+#[repr(C)]
 pub struct Variable(pub u8);
 
 // Where a variable sits: in a row where it is basic, in a column where it is not.
+#[repr(C)]
 pub struct Seat {
     pub basic: bool,
     pub row: RowPlace,
@@ -15,6 +17,7 @@ pub struct Seat {
 
 // The limits of every variable: whether there is one, and which. The number of a missing limit is 0; no answer depends
 // on it.
+#[repr(C)]
 pub struct Limits {
     pub lowers: [bool; Tableau::MOST_VARIABLES],
     pub lower: [i32; Tableau::MOST_VARIABLES],
@@ -23,6 +26,7 @@ pub struct Limits {
 }
 
 // The entries lie flat, as the layout of the crate pivot says; a cell that is not in use is 0.
+#[repr(C)]
 pub struct Tableau {
     pub rows: usize,
     pub columns: usize,

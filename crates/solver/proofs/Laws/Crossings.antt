@@ -11,24 +11,22 @@ use native.Mathlib.Omega.{arith}
 use lib.IntN.{ℤ, pos}
 use lib.Signed.{ltZ}
 use Rattle.whole.specs.Below.{lowest}
-use Rattle.whole.specs.Tables.{table}
 use Rattle.whole.specs.Values.{whole}
 use Rattle.whole.proofs.Bools.{zero-one}
 use Rattle.whole.proofs.Turns.{lowest-same}
-use Rattle.rules.specs.Answer.{answerFrom}
+use Rattle.rules.specs.Answer.{wordsOf}
 use Rattle.rules.specs.Limit.{present}
 use Rattle.rules.specs.Problem.{Problem, vars}
-use Rattle.rules.specs.Run.{conflict, crossed}
+use Rattle.rules.specs.Run.{conflict, crossed, spending}
 use Rattle.rules.specs.Sizes.{mostVariables}
-use Rattle.rules.specs.Step.{State, same}
-use Rattle.rules.proofs.AnswerIs.{answer-crossed, crosses-exactly}
+use Rattle.rules.specs.Step.{State}
+use Rattle.rules.proofs.AnswerIs.{crosses-exactly, spending-crossed}
 use Rattle.rules.proofs.Sound.{Rowed}
 use Rattle.tableau.specs.declared.Tableau.{Tableau}
 use Rattle.tableau.specs.declared.Variable.{Variable}
 use Rattle.tableau.specs.Stands.{Stands}
 use Rattle.search.proofs.Laws.Searches.{all-vars}
 use Rattle.solver.specs.declared.answer.Verdict.the-variants as verdicts
-use Rattle.solver.specs.declared.conflict.Crossed.{Crossed}
 use Rattle.solver.specs.declared.conflict.Crossed.the-variants as crossings
 use Rattle.solver.specs.Answer.{numberOf, wordsAt}
 use Rattle.solver.specs.Conflict.{conflictAt, crossedFrom, crossesAt}
@@ -67,9 +65,11 @@ module _ {P : Problem ℤ} {t : Tableau} {s : State ℤ} (St : Stands P t s) (R 
   pub crossing-in : (v : ℕ) → conflict whole P ≡ some v → v < mostVariables
   crossing-in v e = let h = crosses-exactly whole P v .0 e .0 in let a = St .sized .few-rows in let b = St .sized .few-columns in omega arith
 
-  pub crossing-told : (v : ℕ) → conflict whole P ≡ some v →
-      wordsAt verdicts.Cannot 0 (pos 0) (t .rows + t .columns) (unitAt v) (unitAt v) ≡ answerFrom P s
-  unfolding wordsAt numberOf
-  crossing-told v e =
-      ap (λ N. wordsAt verdicts.Cannot 0 (pos 0) N (unitAt v) (unitAt v)) (all-vars P t s St R)
-      ∙ ap (λ l. pos 2 ∷ pos 0 ∷ pos 0 ∷ l ++ l) (units-are (vars P) v (crossing-in v e)) ∙ sym (answer-crossed P s v e)
+  -- whatever there is to spend, k pivots on
+  pub crossing-told : (v : ℕ) → conflict whole P ≡ some v → (b k : ℕ) →
+      wordsAt verdicts.Cannot k (pos 0) (t .rows + t .columns) (unitAt v) (unitAt v) ≡ wordsOf P (spending whole b P s k)
+  unfolding wordsAt numberOf wordsOf
+  crossing-told v e b k =
+      ap (λ N. wordsAt verdicts.Cannot k (pos 0) N (unitAt v) (unitAt v)) (all-vars P t s St R)
+      ∙ ap (λ l. pos 2 ∷ pos k ∷ pos 0 ∷ l ++ l) (units-are (vars P) v (crossing-in v e))
+      ∙ sym (ap (wordsOf P) (spending-crossed whole P v e b s k))

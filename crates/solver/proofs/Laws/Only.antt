@@ -1,7 +1,7 @@
 -- Two results that a promise of this crate's public functions allows are equal: NAME-only for each.
 -- The contracts themselves are compared: κs are lifetimes, x the arguments, e what lent words hold at the exit.
 --   solve-only, write-only    the number, and every word of the output
---   run-only                  every word of the output, of a tableau from which a run may start
+--   spend-only                what is handed back, and every word of the output
 use mathlib.Core.Path.{_≡_, ap, sym, _∙_}
 use Rattle.rules.specs.Answer.{written}
 use Rattle.solver.proofs.answer.numerators_of.Reads as numerators-of
@@ -9,7 +9,7 @@ use Rattle.solver.proofs.answer.write.Reads as write
 use Rattle.solver.proofs.conflict.conflict_of.Reads as conflict-of
 use Rattle.solver.proofs.multipliers.multipliers_of.Reads as multipliers-of
 use Rattle.solver.proofs.multipliers.unit.Reads as unit
-use Rattle.solver.proofs.run.run.Reads as run
+use Rattle.solver.proofs.spend.spend.Reads as spend
 use Rattle.solver.proofs.solve.Reads as solve
 use Rattle.solver.proofs.step.step.Reads as step
 
@@ -31,8 +31,9 @@ step-only κs x a b e f h k = (h .0 ∙ sym (k .0), h .1 ∙ sym (k .1))
 
 -- ---- the output
 
-pub run-only : (κs : _) (x : _) (a b : _) (e f : _) → run.Pre κs x → run.Post κs x a e → run.Post κs x b f → e .1 .0 .now ≡ f .1 .0 .now
-run-only κs x a b e f S h k = h (S .0) ∙ sym (k (S .0))
+pub spend-only : (κs : _) (x : _) (a b : _) (e f : _) → spend.Post κs x a e → spend.Post κs x b f →
+    (a ≡ b) × (e .1 .1 .1 .0 .now ≡ f .1 .1 .1 .0 .now)
+spend-only κs x a b e f h k = (h .0 ∙ sym (k .0), h .1 ∙ sym (k .1))
 
 pub write-only : (κs : _) (x : _) (a b : _) (e f : _) → write.Post κs x a e → write.Post κs x b f → e .0 .now ≡ f .0 .now
 write-only κs x a b e f h k = h ∙ sym k

@@ -1,10 +1,9 @@
 -- The solver's refusal: that of the problem where there is one, else 7 where the output is too short, else none.
 --   refusal-problem, refusal-short, refusal-none
 --   written-refused    a refusal keeps the output
---   begun-start        accepted words are a tableau from which a check may start
+--   begun-start, holds-start   accepted words are a tableau from which a check may start, a state with no pivots yet
 --   start-many, answered-is    as many variables as the words say, and the output that the rules ask for
-use mathlib.Core.Bool.{Bool, false, true}
-use mathlib.Core.List.{List, [], _∷_, _++_}
+use mathlib.Core.List.{List, [], _∷_}
 use mathlib.Core.Logic.{_≢_}
 use mathlib.Core.Path.{_≡_, ap, refl, subst, sym, _∙_}
 use Prim.Native.Nat.{ℕ, zero, suc, _+_, _<_, _≤_}
@@ -14,21 +13,26 @@ use borrow.Author.Tests.{le-ltb, lt-ltb}
 use lib.IntN.{ℤ}
 use Rattle.whole.specs.Values.{whole}
 use Rattle.whole.proofs.Instances.{whole-laws}
-use Rattle.rules.specs.Answer.{answer, answerFrom, written}
+use Rattle.rules.specs.Answer.{written}
 use Rattle.rules.specs.Problem.{answerLength, mOf, nOf, problem, varsOf}
 use Rattle.rules.specs.Refusal.{Accepted, first, problemRefusal, problemTests, refusal, tooShort}
 use Rattle.rules.specs.Sizes.{mostRows}
+use Rattle.rules.specs.Slices.{begun, continuedBy, sliceOutput}
 use Rattle.rules.specs.Step.{start}
 use Rattle.rules.proofs.Ends.{ready-start}
 use Rattle.rules.proofs.First.{first-hit, first-kept, first-passed, first-skip}
 use Rattle.rules.proofs.Refused.{accepted-exactly, numbered}
+use Rattle.rules.proofs.Slices.{cut-answer, on-way-start, sliced-words}
 use Rattle.tableau.specs.declared.Tableau.{Tableau}
 use Rattle.tableau.specs.Stands.{Ranged, Stands}
 use Rattle.tableau.specs.Start.{startTableau, startLaid}
 use Rattle.tableau.proofs.Laws.Fitting.{fitting-accepted, ranged-start}
 use Rattle.tableau.proofs.Laws.Started.{stands-start}
-use Rattle.solver.specs.Answer.{laidOver}
+use Rattle.solver.specs.Answer.{mostCount}
 use Rattle.solver.specs.Run.{Begun}
+use Rattle.solver.specs.Spend.{Holds, outAt}
+use Rattle.solver.proofs.Laws.Runs.{bound-small}
+use Rattle.solver.proofs.Laws.Slices.{out-is}
 
 module _ (ws : List ℤ) (room : ℕ) where
   pub refusal-problem : problemRefusal ws ≢ 0 → problemRefusal ws ≡ refusal ws room
@@ -76,8 +80,19 @@ module _ (ws : List ℤ) (t : Tableau) (e : t ≡ startTableau (problem ws)) (f 
   unfolding startLaid problem
   start-many = ap (λ u. u .rows + u .columns) e ∙ add-comm (mOf ws) (nOf ws)
 
-  -- the answer over the output is what the rules say is written
-  pub answered-is : (before : List ℤ) →
-      laidOver (t .rows + t .columns) before (answerFrom (problem ws) (start whole (problem ws))) ≡ written 0 ws before
-  unfolding written answer
-  answered-is before = ap (λ N. laidOver N before (answerFrom (problem ws) (start whole (problem ws)))) start-many
+  pub holds-start : Holds (begun whole (problem ws)) t 0
+  unfolding begun
+  holds-start = record {
+    stands = begun-start .stands;
+    ranged = begun-start .ranged;
+    count-is = refl;
+    on-way = on-way-start (problem ws) (start whole (problem ws)) (begun-start .ready);
+  }
+
+  -- the output with as much to spend as any run has pivots is what the rules say is written
+  pub answered-is : (b : ℕ) → mostCount ≤ b → (before : List ℤ) → outAt t 0 b before ≡ written 0 ws before
+  unfolding written begun sliceOutput problem continuedBy
+  answered-is b h before = out-is holds-start b before .1
+      ∙ ap (λ a. sliceOutput a (answerLength ws) before) (cut-answer ws [] b
+      (let a = sliced-words ws .below in let c = bound-small (problem ws) (begun-start .stands .sized .few-rows)
+      (begun-start .stands .sized .few-columns) in omega arith))

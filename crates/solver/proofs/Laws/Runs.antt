@@ -1,30 +1,27 @@
--- The run by place goes as the run of the state: each turn is its step, and the count is below its bound.
+-- The run by place goes as the run of the state: each turn is its step.
 --   Going, going         after k steps that go on the tableau stands for the state after k steps, and the run has k pivots
---   held-after           so a step may be asked of it
+--   held-begun, held-after    so a step may be asked of it
 --   after-none, after-more, goes-more    no step yet, and one more
---   count-below, count-small    the count is below a bound that fits
-use mathlib.Core.Path.{_≡_, ap, ap₂, refl, sym}
-use Prim.Native.Nat.{ℕ, zero, suc, _+_, _*_, _^_, _<_, _≤_}
+--   bound-small          the bound on its pivots fits
+use mathlib.Core.Path.{_≡_, ap, refl}
+use Prim.Native.Nat.{ℕ, zero, suc, _+_, _^_, _<_, _≤_}
 use native.Mathlib.Decide.{ℕ-discrete}
-use native.Mathlib.Nat.{le-trans, lt-of-lt-of-le, mul-le-mul, one-le-pow, pow-le-pow-right, two-pow-succ}
+use native.Mathlib.Nat.{le-trans, mul-le-mul, one-le-pow, pow-le-pow-right, two-pow-succ}
 use native.Mathlib.Numerals.{add-one}
 use native.Mathlib.Omega.{arith}
 use lib.IntN.{ℤ}
 use Rattle.whole.specs.Values.{whole}
 use Rattle.whole.proofs.Bools.{zero-one}
-use Rattle.whole.proofs.Instances.{whole-laws}
 use Rattle.rules.specs.Problem.{Problem}
 use Rattle.rules.specs.Sizes.{mostColumns, mostRows, mostVariables}
 use Rattle.rules.specs.Run.{Moves, Runs, after, bound, choose, next}
 use Rattle.rules.specs.Step.{State, goes, step}
-use Rattle.rules.proofs.Bounded.{below-bound}
 use Rattle.rules.proofs.Moved.{rowed-after}
-use Rattle.rules.proofs.Sound.{Apart, Rowed, Sound, sound-of}
-use Rattle.rules.proofs.Started.{no-conflict}
+use Rattle.rules.proofs.Sound.{Rowed}
 use Rattle.tableau.specs.declared.Tableau.{Tableau}
 use Rattle.tableau.specs.Stands.{Ranged, Stands}
 use Rattle.solver.specs.Answer.{mostCount}
-use Rattle.solver.specs.Run.{Begun, GoesOn, Startable, afterAt, afterLaid}
+use Rattle.solver.specs.Run.{Begun, GoesOn, afterAt, afterLaid}
 use Rattle.solver.specs.Step.{Held, on, steppedAt}
 use Rattle.solver.proofs.Laws.Steps.{StepIs, ends-can, ends-cannot, ends-range, goes-to, step-is}
 
@@ -37,15 +34,24 @@ after-goes : (P : Problem ℤ) (s : State ℤ) (k : ℕ) (u : State ℤ) → ste
 unfolding after next
 after-goes P s k u e = ap (next (after whole P s k)) e
 
-module _ {t : Tableau} (B : Begun t) where
+abbrev pub held-begun : {t : Tableau} → Begun t → Held t
+held-begun B = record {
+  problem = B .problem;
+  state = B .state;
+  stands = B .stands;
+  rowed = B .ready .rowed;
+  ranged = B .ranged;
+}
+
+module _ {t : Tableau} (H : Held t) where
   abbrev P : Problem ℤ
-  P = B .problem
+  P = H .problem
 
   abbrev s : State ℤ
-  s = B .state
+  s = H .state
 
   rowed-at : (k : ℕ) → Rowed whole P (after whole P s k)
-  rowed-at k = rowed-after whole P s (B .ready .rowed) k
+  rowed-at k = rowed-after whole P s (H .rowed) k
 
   -- one step more, of any tableau that stands there
   turn : (k : ℕ) (u : Tableau) → Going P s u k → steppedAt u .course ≡ on → Going P s (steppedAt u .tableau) (suc k)
@@ -67,7 +73,7 @@ module _ {t : Tableau} (B : Begun t) where
 
   pub going : (k : ℕ) → GoesOn t k → Going P s (afterAt t k) k
   unfolding afterLaid after
-  going zero g = record { stands = B .stands; runs = λ i h. let z : ⊥ = omega arith in absurd z; ranged = B .ranged }
+  going zero g = record { stands = H .stands; runs = λ i h. let z : ⊥ = omega arith in absurd z; ranged = H .ranged }
   going (suc k) g = turn k (afterAt t k) (going k (λ i h. g i (omega arith))) (g k (omega arith))
 
   pub held-after : (k : ℕ) → GoesOn t k → Held (afterAt t k)
@@ -91,38 +97,13 @@ after-more t k = rw add-one refl
 
 -- ---- the bound
 
-abbrev pub boundOf : Tableau → ℕ
-boundOf t = 3 ^ t .columns * choose (t .columns + t .rows) (t .columns)
-
-module _ {t : Tableau} (S : Startable t) where
-  abbrev begun : Begun t
-  begun = S .begun
-
-  pub apart : Apart whole (begun .problem)
-  apart = no-conflict whole (begun .problem) (S .uncrossed)
-
-  pub sound : Sound whole (begun .problem) (begun .state)
-  sound = sound-of whole (begun .problem) (begun .state) apart (begun .ready .rowed) (begun .ready .housed)
-
-  bound-is : bound (begun .problem) ≡ boundOf t
-  unfolding bound
-  bound-is = ap₂ (λ n m. 3 ^ n * choose (n + m) n) (sym (begun .stands .sized .columns-is)) (sym (begun .stands .sized .rows-is))
-
-  pub count-below : (k : ℕ) → GoesOn t k → k < boundOf t
-  count-below k g = rw (← bound-is)
-      (below-bound whole whole-laws (begun .problem) (begun .state) apart sound (begun .ready .seated-many) k (going begun k g .runs))
-
 choose-most : (k j : ℕ) → choose k j ≤ 2 ^ k
 unfolding choose
 choose-most k zero = one-le-pow k 2 (omega arith)
 choose-most zero (suc j) = omega arith
 choose-most (suc k) (suc j) = let a = choose-most k (suc j) in let b = choose-most k j in omega (arith, two-pow-succ k)
 
-bound-small : (t : Tableau) → t .rows ≤ mostRows → t .columns ≤ mostColumns → boundOf t ≤ mostCount
-bound-small t h k = mul-le-mul (pow-le-pow-right {n = 3} (omega arith) k)
-    (le-trans (choose-most (t .columns + t .rows) (t .columns)) (pow-le-pow-right {n = 2} (omega arith) {j = mostVariables} (omega arith)))
-
-pub count-small : {t : Tableau} → Startable t → (k : ℕ) → GoesOn t k → k < mostCount
-count-small {t} S k g = lt-of-lt-of-le (count-below S k g)
-    (bound-small t (rw (S .begun .stands .sized .rows-is) (S .begun .stands .sized .few-rows))
-    (rw (S .begun .stands .sized .columns-is) (S .begun .stands .sized .few-columns)))
+pub bound-small : (P : Problem ℤ) → P .m ≤ mostRows → P .n ≤ mostColumns → bound P ≤ mostCount
+unfolding bound
+bound-small P h k = mul-le-mul (pow-le-pow-right {n = 3} (omega arith) k)
+    (le-trans (choose-most (P .n + P .m) (P .n)) (pow-le-pow-right {n = 2} (omega arith) {j = mostVariables} (omega arith)))

@@ -1,10 +1,11 @@
--- The words of a finished run are the answer of the rules.
---   last-many    the last tableau has as many variables as the first
---   told         the words, from the state that the first tableau stands for
---   tellable     what writing them needs
+-- The words of a run that is over are those of the rules' run.
+--   came-many, told-came, tellable-came    by where a run with pivots to spend came: as many variables as the problem has,
+--                                          the words, and what writing them needs
+--   last-many, told, ended-tellable        the same of a run that is finished, with the answer of the rules
 use mathlib.Core.List.{_∷_, _++_}
-use mathlib.Core.Path.{_≡_, ap, ap₂, sym, _∙_}
+use mathlib.Core.Path.{_≡_, ap, ap₂, refl, subst, sym, _∙_}
 use Prim.Native.Nat.{ℕ, _+_, _*_, _<_}
+use native.Mathlib.Nat.{zero-add}
 use native.Mathlib.Omega.{arith}
 use lib.IntN.{ℤ, pos}
 use lib.ListN.{replicate, replicate-append-replicate}
@@ -13,12 +14,13 @@ use Rattle.whole.proofs.Bools.{zero-one}
 use Rattle.whole.proofs.Instances.{whole-laws}
 use Rattle.rules.specs.Answer.{answerFrom, wordsOf}
 use Rattle.rules.specs.Problem.{Problem, vars}
-use Rattle.rules.specs.Run.{Ended, after}
-use Rattle.rules.specs.Step.{Outcome, State, evidence, step}
-use Rattle.rules.proofs.AnswerIs.{ended, ending-run}
+use Rattle.rules.specs.Run.{Ending, bound, ending, run}
+use Rattle.rules.specs.Step.{Outcome, State, evidence}
+use Rattle.rules.proofs.AnswerIs.{spending-run}
+use Rattle.rules.proofs.Bounded.{below-bound}
 use Rattle.rules.proofs.Leaves.{left}
-use Rattle.rules.proofs.Moved.{rowed-after}
-use Rattle.rules.proofs.Sound.{Rowed}
+use Rattle.rules.proofs.Sound.{ready-sound}
+use Rattle.rules.proofs.Started.{no-conflict}
 use Rattle.tableau.specs.declared.Tableau.{Tableau}
 use Rattle.tableau.specs.Parts.{rowOf}
 use Rattle.search.specs.declared.Blocked.{Blocked}
@@ -27,93 +29,99 @@ use Rattle.search.proofs.Laws.Rows.{searchable}
 use Rattle.search.proofs.Laws.Searches.{all-vars}
 use Rattle.solver.specs.declared.step.End.{End}
 use Rattle.solver.specs.declared.step.End.the-variants as ends
-use Rattle.solver.specs.Answer.{numberOf, wordsAt}
-use Rattle.solver.specs.Run.{Finished, Startable, Tellable, afterAt, endWords, wordsLaid}
-use Rattle.solver.specs.Step.{endedAs, on, over, steppedAt}
+use Rattle.solver.specs.Answer.{mostCount, numberOf, wordsAt}
+use Rattle.solver.specs.Run.{Finished, Startable, Tellable, endWords, wordsLaid}
+use Rattle.solver.specs.Spend.{Ran, manyOf, ranAt}
+use Rattle.solver.specs.Step.{Course, over}
+use Rattle.solver.proofs.Laws.Came.{Came, CourseIs, came, over-can, over-cannot, over-range, still-on}
 use Rattle.solver.proofs.Laws.Halves.{lowers-are, numerators-are, uppers-are, zeros-are}
-use Rattle.solver.proofs.Laws.Runs.{Going, count-small, going, sound}
-use Rattle.solver.proofs.Laws.Steps.{StepIs, ends-can, ends-cannot, ends-range, goes-to, step-is}
+use Rattle.solver.proofs.Laws.Runs.{bound-small, going, held-begun}
+use Rattle.solver.proofs.Laws.Spends.{ran-over}
 
 twice : (N : ℕ) (a : ℤ) → replicate N a ++ replicate N a ≡ replicate (2 * N) a
 twice N a = replicate-append-replicate N N a ∙ ap (λ k. replicate k a) (let z : N + N ≡ 2 * N = omega arith in z)
 
+module _ {P : Problem ℤ} {r : Ran} {x : Ending ℤ} {k : ℕ} (C : Came P r x k) where
+  abbrev here : Tableau
+  here = r .tableau
+
+  abbrev at-end : State ℤ
+  at-end = x .last
+
+  pub came-many : manyOf here ≡ vars P
+  came-many = all-vars P here at-end (C .stands) (C .rowed)
+
+  module _ (e : End) (is-over : r .course ≡ over e) where
+    abbrev total : ℕ
+    total = k + r .count
+
+    pub told-came : endWords e total here (vars P) ≡ wordsOf P x
+    unfolding wordsLaid wordsAt numberOf wordsOf evidence
+    told-came = go (r .course) (x .how) (C .course-is) is-over
+        ∙ ap (λ j. wordsOf P (record { how = x .how; pivots = j; last = at-end })) (C .count-is)
+      where
+        go : (c : Course) (o : Outcome ℤ) → CourseIs P here at-end c o → c ≡ over e →
+            endWords e total here (vars P) ≡ wordsOf P (record { how = o; pivots = total; last = at-end })
+        go c o over-can q = let z : e ≡ ends.Can = cc in ap (λ w. endWords w total here (vars P)) z
+            ∙ ap₂ (λ d l. pos 1 ∷ pos total ∷ d ∷ l) (C .stands .numbers .common-is)
+            (ap₂ (λ y w. y ++ w) (numerators-are (C .stands) (C .rowed)) (zeros-are (vars P)))
+        go c o (over-cannot l y) q = let z : e ≡ ends.Cannot (blockedAt here l) = cc in ap (λ w. endWords w total here (vars P)) z
+            ∙ ap₂ (λ a b. pos 2 ∷ pos total ∷ pos 0 ∷ a ++ b) (lowers-are (C .stands) (C .rowed) l (left whole P at-end l y))
+            (uppers-are (C .stands) (C .rowed) l (left whole P at-end l y))
+        go c o over-range q = let z : e ≡ ends.Range = cc in ap (λ w. endWords w total here (vars P)) z
+            ∙ ap (λ l. pos 3 ∷ pos total ∷ pos 0 ∷ l)
+            (ap₂ (λ y w. y ++ w) (zeros-are (vars P)) (zeros-are (vars P)) ∙ twice (vars P) (pos 0))
+        go c o (still-on s) q = let z : _≡_ {A = ℕ} 0 1 = cc in zero-one z
+
+    pub tellable-came : total < mostCount → Tellable e total here
+    tellable-came h = record {
+      searchable = searchable P here at-end (C .stands) (C .ranged);
+      counted = h;
+      row-in = λ b g. go b g (r .course) (x .how) (C .course-is) is-over;
+    }
+      where
+        go : (b : Blocked) → e ≡ ends.Cannot b → (c : Course) (o : Outcome ℤ) → CourseIs P here at-end c o → c ≡ over e →
+            b .row .0 < here .rows
+        go b g c o over-can q = let z : _≡_ {A = ℕ} 0 1 = cc in zero-one z
+        go b g c o (over-cannot l y) q = let z : rowOf here (l .variable) ≡ b .row .0 = cc in let L = left whole P at-end l y in
+            rw (← z, C .stands .sized .rows-is) (C .stands .placed .has-row (l .variable) (L .variable) (L .was-basic) .in-rows)
+        go b g c o over-range q = let z : _≡_ {A = ℕ} 0 1 = cc in zero-one z
+        go b g c o (still-on s) q = let z : _≡_ {A = ℕ} 0 1 = cc in zero-one z
+
+-- ---- a run that is finished, from a state whose limits don't cross
+
 module _ {t : Tableau} (S : Startable t) {e : End} {k : ℕ} {u : Tableau} (F : Finished t e k u) where
-  abbrev P : Problem ℤ
-  P = S .begun .problem
+  abbrev Q : Problem ℤ
+  Q = S .begun .problem
 
   abbrev s : State ℤ
   s = S .begun .state
 
-  abbrev here : Tableau
-  here = afterAt t k
+  few : k < bound Q
+  few = let A = no-conflict whole Q (S .uncrossed) in
+      below-bound whole whole-laws Q s A (ready-sound whole Q s A (S .begun .ready)) (S .begun .ready .seated-many) k
+      (going (held-begun (S .begun)) k (F .goes-on) .runs)
 
-  abbrev at-end : State ℤ
-  at-end = after whole P s k
+  abbrev ran : Ran
+  ran = record { tableau = u; course = over e; count = k }
 
-  goes : Going P s here k
-  goes = going (S .begun) k (F .goes-on)
+  ran-is : ranAt t (bound Q) ≡ ran
+  ran-is = ran-over t k (bound Q) (F .goes-on) e (let h = few in omega arith) (F .ended)
+      ∙ ap (λ w. record { tableau = w; course = over e; count = k }) (sym (F .last))
 
-  rowed-here : Rowed whole P at-end
-  rowed-here = rowed-after whole P s (S .begun .ready .rowed) k
-
-  cases : StepIs P here at-end
-  cases = step-is (goes .stands) rowed-here (goes .ranged)
-
-  here-many : here .rows + here .columns ≡ vars P
-  here-many = all-vars P here at-end (goes .stands) rowed-here
+  came-there : Came Q ran (run whole (bound Q) Q s 0) 0
+  came-there = subst (λ r. Came Q r (run whole (bound Q) Q s 0) 0) ran-is
+      (came (bound Q) 0 t s (S .begun .stands) (S .begun .ready .rowed) (S .begun .ranged))
 
   -- as many variables as at the start
-  pub last-many : u .rows + u .columns ≡ t .rows + t .columns
-  last-many = ap (λ x. x .rows + x .columns) (F .last) ∙ here-many
-      ∙ sym (all-vars P t s (S .begun .stands) (S .begun .ready .rowed))
+  pub last-many : manyOf u ≡ manyOf t
+  last-many = came-many came-there ∙ sym (all-vars Q t s (S .begun .stands) (S .begun .ready .rowed))
 
-  -- how the run ended, by the last step
-  end-is : (x : End) → steppedAt here ≡ endedAs here x → e ≡ x
-  end-is x q = let f : over x ≡ over e = sym (ap (λ y. y .course) q) ∙ F .ended in cc
+  pub told : endWords e k u (manyOf u) ≡ answerFrom Q s
+  unfolding answerFrom ending
+  told = ap₂ (λ j N. endWords e j u N) (sym (zero-add k)) (came-many came-there) ∙ told-came came-there e refl
+      ∙ ap (wordsOf Q) (sym (spending-run whole Q (S .uncrossed) (bound Q) s 0))
 
-  no-going : {A : Type 0} (x : Tableau) → steppedAt here ≡ record { course = on; tableau = x } → A
-  no-going x q = let f : on ≡ over e = sym (ap (λ y. y .course) q) ∙ F .ended in
-      let c : _≡_ {A = ℕ} 0 1 = cc in zero-one c
-
-  -- the answer of the rules, where the step of the last state is known
-  words-at : (o : Outcome ℤ) → step whole P at-end ≡ o → Ended o →
-      answerFrom P s ≡ wordsOf P (record { how = o; pivots = k; last = at-end })
-  unfolding answerFrom
-  words-at o q h =
-      ap (wordsOf P) (ending-run whole whole-laws P s (S .uncrossed) (sound S) (S .begun .ready .seated-many) k
-      (record { runs = goes .runs; ended = rw q h }))
-      ∙ ap (λ (u : Outcome ℤ). wordsOf P (record { how = u; pivots = k; last = at-end })) q
-
-  pub told : endWords e k u (u .rows + u .columns) ≡ answerFrom P s
-  unfolding wordsLaid wordsAt numberOf wordsOf evidence
-  told = ap (λ x. endWords e k x (x .rows + x .columns)) (F .last) ∙ ap (endWords e k here) here-many ∙ go cases
-    where
-      go : StepIs P here at-end → endWords e k here (vars P) ≡ answerFrom P s
-      go (ends-can q z) = ap (λ x. endWords x k here (vars P)) (end-is ends.Can q)
-          ∙ ap₂ (λ d l. pos 1 ∷ pos k ∷ d ∷ l) (goes .stands .numbers .common-is)
-          (ap₂ (λ x y. x ++ y) (numerators-are (goes .stands) rowed-here) (zeros-are (vars P)))
-          ∙ sym (words-at _ z tt)
-      go (ends-cannot l q y z) = ap (λ x. endWords x k here (vars P)) (end-is (ends.Cannot (blockedAt here l)) q)
-          ∙ ap₂ (λ x y. pos 2 ∷ pos k ∷ pos 0 ∷ x ++ y) (lowers-are (goes .stands) rowed-here l (left whole P at-end l y))
-          (uppers-are (goes .stands) rowed-here l (left whole P at-end l y))
-          ∙ sym (words-at _ z tt)
-      go (ends-range q z) = ap (λ x. endWords x k here (vars P)) (end-is ends.Range q)
-          ∙ ap (λ x. pos 3 ∷ pos k ∷ pos 0 ∷ x) (ap₂ (λ x y. x ++ y) (zeros-are (vars P)) (zeros-are (vars P)) ∙ twice (vars P) (pos 0))
-          ∙ sym (words-at _ z tt)
-      go (goes-to y x q z st rg) = no-going y q
-
-  pub tellable : Tellable e k u
-  tellable = record {
-    searchable = rw (F .last) (searchable P here at-end (goes .stands) (goes .ranged));
-    counted = count-small S k (F .goes-on);
-    row-in = λ b g. go b g cases;
-  }
-    where
-      go : (b : Blocked) → e ≡ ends.Cannot b → StepIs P here at-end → b .row .0 < u .rows
-      go b g (ends-can q z) = let f = end-is ends.Can q in let c : _≡_ {A = ℕ} 0 1 = cc in zero-one c
-      go b g (ends-cannot l q y z) = let f = end-is (ends.Cannot (blockedAt here l)) q in let c : rowOf here (l .variable) ≡ b .row .0 = cc in
-          let L = left whole P at-end l y in
-          rw (F .last, ← c, goes .stands .sized .rows-is)
-          (goes .stands .placed .has-row (l .variable) (L .variable) (L .was-basic) .in-rows)
-      go b g (ends-range q z) = let f = end-is ends.Range q in let c : _≡_ {A = ℕ} 0 1 = cc in zero-one c
-      go b g (goes-to y x q z st rg) = no-going y q
+  pub ended-tellable : Tellable e (0 + k) u
+  ended-tellable = tellable-came came-there e refl
+      (let h = few in let b = bound-small Q (S .begun .stands .sized .few-rows) (S .begun .stands .sized .few-columns) in omega arith)

@@ -51,9 +51,9 @@ use Rattle.solver.specs.Run.{Begun, Finished, FinishedLaid, GoesOn, Goes
 use Rattle.solver.specs.Run.{afterAt, afterLaid, endWords, wordsLaid}
 use Rattle.solver.specs.Step.{admitAt, fitsByLaid, movedLaid, on, stepLaid, steppedAt, steppedLaid, valueAfter}
 use Rattle.solver.proofs.Laws.Refusals.{begun-start, start-many}
-use Rattle.solver.proofs.Laws.Runs.{held-after}
+use Rattle.solver.proofs.Laws.Runs.{held-after, held-begun}
 use Rattle.solver.proofs.Laws.Steps.{search-held}
-use Rattle.solver.proofs.Laws.Told.{last-many, tellable, told}
+use Rattle.solver.proofs.Laws.Told.{ended-tellable, last-many, told}
 
 -- ---- one step
 
@@ -156,10 +156,10 @@ module _ {o u : Order} {t s : Tableau} (Q : SameTableau o u t s) (S : Searchable
 module _ {o : Order} {t s : Tableau} (B : Begun t) (Q : SameTableau inUse o t s) where
   pub same-run : (k : ℕ) → GoesOn t k → SameAfter inUse o t s k
   unfolding afterLaid
-  same-run zero g = record { here = Q; next = step-same Q (search-held (held-after B zero g)) }
+  same-run zero g = record { here = Q; next = step-same Q (search-held (held-after (held-begun B) zero g)) }
   same-run (suc k) g =
       let h = same-run k (λ i l. g i (omega arith)) .next .same-tableau in
-      record { here = h; next = step-same h (search-held (held-after B (suc k) g)) }
+      record { here = h; next = step-same h (search-held (held-after (held-begun B) (suc k) g)) }
 
   goes-same : (k : ℕ) → GoesOn t k → GoesOnLaid o s k
   goes-same k g i h = sym (same-run i (λ j l. g j (omega arith)) .next .same-course) ∙ g i h
@@ -193,7 +193,7 @@ module _ {o : Order} {t s : Tableau} (T : Startable t) (Q : SameTableau inUse o 
 
   -- the words of the two runs: verdict, count, and all the others
   pub same-answer : (N : ℕ) → wordsLaid o e k w N ≡ endWords e k (afterAt t k) N
-  same-answer N = let h = tellable T finished in
+  same-answer N = let h = ended-tellable T finished in
       ap (λ x. wordsLaid o e k x N) (F .last)
       ∙ sym (words-same (same-run (T .begun) Q k (finished .goes-on) .here) (h .searchable) e (h .row-in) k N)
 

@@ -14,7 +14,7 @@ use Rattle.rules.proofs.Ranges.{m-few, n-few}
 use Rattle.solver.proofs.Laws.Refusals.{
   accepted-of,
   answered-is,
-  begun-start,
+  holds-start,
   refusal-none,
   refusal-problem,
   refusal-short,
@@ -97,9 +97,9 @@ module _ (c : tie.Else2) where
   room : answerLength ws ≤ length (c .before .before .before .before .before .args .out .now)
   room = omega (arith, columns-are counted, rows-are counted, c .if2 .left)
 
-check-requires : tie.Need-check-requires
-check-requires c κs = let o = c .before in let d = o .before in let f = not-refused (accepted (counted d)) in (
-  begun-start (ws d) (o .new .result) (o .new .ensures) f,
+spend-requires : tie.Need-spend-requires
+spend-requires c κs = let o = c .before in let d = o .before in let f = not-refused (accepted (counted d)) in (
+  record { slice = _; holds = holds-start (ws d) (o .new .result) (o .new .ensures) f },
   (let a = room d in let b = start-many (ws d) (o .new .result) (o .new .ensures) f in omega arith),
 )
 
@@ -110,8 +110,8 @@ returns-3 : tie.Need-returns-3
 returns-3 c = let o = c .before .before .before in let d = o .before in let f = not-refused (accepted (counted d)) in
     let l = d .before .before .before .before .before .args .out .now in (
       refusal-none (ws d) (length l) f (room d),
-      c .before .check .ensures (begun-start (ws d) (o .new .result) (o .new .ensures) f)
-          ∙ answered-is (ws d) (o .new .result) (o .new .ensures) f l,
+      c .before .spend .ensures .1
+          ∙ answered-is (ws d) (o .new .result) (o .new .ensures) f 18446744073709551615 (omega arith) l,
     )
 
 pub solve-spec : {M : Type 1} → statement M
@@ -127,6 +127,6 @@ solve-spec =
     add-if2
     returns-2
     new-requires
-    check-requires
+    spend-requires
     same-length
     returns-3)

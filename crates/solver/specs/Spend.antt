@@ -1,0 +1,93 @@
+-- A run with so many pivots to spend, by place, and what comes of it: docs/RULES.md, "The run in slices".
+use mathlib.Core.Bool.{Bool, true, false}
+use mathlib.Core.List.{List}
+use mathlib.Core.Path.{_≡_}
+use Prim.Native.Nat.{ℕ, zero, suc, _+_}
+use lib.IntN.{ℤ, pos}
+use Rattle.rules.specs.Slices.{Slice}
+use Rattle.rules.proofs.Slices.{OnWay}
+use Rattle.tableau.specs.declared.Tableau.{Tableau}
+use Rattle.tableau.specs.Stands.{Ranged, Stands}
+use Rattle.solver.specs.declared.answer.Verdict.the-variants as verdicts
+use Rattle.solver.specs.declared.conflict.Crossed.{Crossed}
+use Rattle.solver.specs.declared.conflict.Crossed.the-variants as crossings
+use Rattle.solver.specs.declared.spend.Spent.{Spent}
+use Rattle.solver.specs.Answer.{laidOver, wordsAt}
+use Rattle.solver.specs.Conflict.{conflictAt}
+use Rattle.solver.specs.Multipliers.{unitAt}
+use Rattle.solver.specs.Run.{endWords}
+use Rattle.solver.specs.Step.{Course, on, over, steppedAt}
+
+-- ---- how far the run comes
+
+-- where a run came: the last completed tableau, whether it is over there, and its pivots
+pub record Ran : Type 0 where
+  pub tableau : Tableau
+  pub course : Course
+  pub count : ℕ
+
+abbrev pub counted : Ran → Ran
+counted r = record { tableau = r .tableau; course = r .course; count = suc (r .count) }
+
+-- by the course of the first step
+abbrev pub spentBy : Course → Tableau → Ran → Ran
+spentBy (over e) t r = record { tableau = t; course = over e; count = 0 }
+spentBy on t r = counted r
+
+-- with nothing left to spend the next step is looked at, and not made
+unfoldable pub ranAt : Tableau → ℕ → Ran
+ranAt t zero = record { tableau = t; course = steppedAt t .course; count = 0 }
+ranAt t (suc b) = spentBy (steppedAt t .course) t (ranAt (steppedAt t .tableau) b)
+
+-- ---- what is handed back, and what stands in the output
+
+abbrev pub manyOf : Tableau → ℕ
+manyOf t = t .rows + t .columns
+
+abbrev pub isOver : Course → Bool
+isOver (over e) = true
+isOver on = false
+
+abbrev pub spentFrom : ℕ → Ran → Spent
+spentFrom before r = record { answered = isOver (r .course); count = before + r .count; tableau = r .tableau }
+
+-- without an end the output stays
+abbrev pub outBy : Course → ℕ → Tableau → List ℤ → List ℤ
+outBy (over e) count t out = laidOver (manyOf t) out (endWords e count t (manyOf t))
+outBy on count t out = out
+
+abbrev pub ranOut : ℕ → Ran → List ℤ → List ℤ
+ranOut before r out = outBy (r .course) (before + r .count) (r .tableau) out
+
+-- .. by the limits that cross, if some do
+abbrev pub spentWhere : Crossed → Tableau → ℕ → ℕ → Spent
+spentWhere (crossings.At v) t before most = record { answered = true; count = before; tableau = t }
+spentWhere crossings.Nowhere t before most = spentFrom before (ranAt t most)
+
+abbrev pub outWhere : Crossed → Tableau → ℕ → ℕ → List ℤ → List ℤ
+outWhere (crossings.At v) t before most out =
+    laidOver (manyOf t) out (wordsAt verdicts.Cannot before (pos 0) (manyOf t) (unitAt (v .0)) (unitAt (v .0)))
+outWhere crossings.Nowhere t before most out = ranOut before (ranAt t most) out
+
+abbrev pub Uncrossed : Tableau → Type 0
+Uncrossed t = conflictAt (t .limits) (manyOf t) ≡ crossings.Nowhere
+
+unfoldable pub spentAt : Tableau → ℕ → ℕ → Spent
+spentAt t before most = spentWhere (conflictAt (t .limits) (manyOf t)) t before most
+
+unfoldable pub outAt : Tableau → ℕ → ℕ → List ℤ → List ℤ
+outAt t before most out = outWhere (conflictAt (t .limits) (manyOf t)) t before most out
+
+-- ---- what a tableau and a count stand for
+
+-- a state of the rules' run, on its way
+pub record Holds (S : Slice ℤ) (t : Tableau) (count : ℕ) : Type 0 where
+  pub stands : Stands (S .problem) t (S .state)
+  pub ranged : Ranged t
+  pub count-is : S .count ≡ count
+  pub on-way : OnWay S
+
+-- .. some such state
+pub record Standing (t : Tableau) (count : ℕ) : Type 0 where
+  pub slice : Slice ℤ
+  pub holds : Holds slice t count

@@ -1,0 +1,131 @@
+// A run with so many pivots to spend, and the answer where that reaches its end.
+ghost use mathlib.Core.Path.{_≡_};
+ghost use Prim.Native.Nat.{_+_, _*_, _≤_};
+ghost use lib.ListN.{length};
+ghost use Rattle.solver.specs.Spend.{Standing, Uncrossed, outAt, ranAt, ranOut, spentAt, spentFrom};
+use crate::answer::Head;
+use crate::answer::Verdict;
+use crate::answer::write;
+use crate::conflict::Crossed;
+use crate::conflict::conflict_of;
+use crate::multipliers::unit;
+use crate::run::seated;
+use crate::run::tell;
+use crate::step::End;
+use crate::step::Outcome;
+use crate::step::step;
+use search::View;
+use tableau::Tableau;
+
+// The run is over, or goes on past the pivots that were spent.
+enum Course {
+    Over(End),
+    On,
+}
+
+// How far a run came: whether it is over, so that there is an answer, all its pivots up to there, and the last completed
+// tableau.
+pub struct Spent {
+    pub answered: bool,
+    pub count: usize,
+    pub tableau: Tableau,
+}
+
+// Completes `most` pivots of a run whose limits don't cross, `before` pivots on, or all that are left, and looks whether
+// it goes on. The look is a step on the run's own entries, which are saved before it; where it goes on they are put back.
+fn advance(mut t: Tableau, before: usize, most: usize, out: &mut [i64]) -> Spent
+    requires { ⌜ Standing t before ⌝ }
+    requires { ⌜ Uncrossed t ⌝ }
+    requires { ⌜ 3 + 2 * (t .rows + t .columns) ≤ length (now out) ⌝ }
+    ensures state { λ r. ⌜ r ≡ spentFrom before (ranAt t most) ⌝ }
+    ensures output { λ r. ⌜ now (out .exit) ≡ ranOut before (ranAt t most) (now (out .entry)) ⌝ }
+{
+    let mut count = 0usize;
+    let mut saved = t.entries;
+    let course = 'run: loop {
+        let view = View {
+            rows: t.rows,
+            columns: t.columns,
+            common: t.common,
+            values: t.values,
+            basic: t.basic,
+            seats: t.seats,
+            limits: t.limits,
+        };
+        let next = step(view, &mut t.entries);
+        match next {
+            Outcome::Ended(end) => break 'run Course::Over(end),
+            Outcome::Goes(row, column, value, common) => {
+                if count == most {
+                    t.entries = saved;
+                    break 'run Course::On;
+                }
+                let i = row.0 as usize;
+                let j = column.0 as usize;
+                let leaving = t.basic[i];
+                let entering = t.nonbasic[j];
+                let v = leaving.0 as usize;
+                let w = entering.0 as usize;
+                t.common = common;
+                t.basic[i] = entering;
+                t.nonbasic[j] = leaving;
+                t.values[j] = value;
+                let entered = seated(true, row, column);
+                t.seats[w] = entered;
+                let left = seated(false, row, column);
+                t.seats[v] = left;
+                count += 1;
+                if count == most {
+                    saved = t.entries;
+                    continue 'run;
+                }
+            }
+        }
+    };
+    let total = before + count;
+    match course {
+        Course::Over(end) => {
+            tell(t, end, total, out);
+            Spent {
+                answered: true,
+                count: total,
+                tableau: t,
+            }
+        }
+        Course::On => Spent {
+            answered: false,
+            count: total,
+            tableau: t,
+        },
+    }
+}
+
+// Completes `most` pivots of a run that is `before` pivots on, or all that are left: the last completed tableau and its
+// count, and in `out` the answer where that is the run's whole count. Limits that cross are answered at once.
+pub fn spend(t: Tableau, before: usize, most: usize, out: &mut [i64]) -> Spent
+    requires { ⌜ Standing t before ⌝ }
+    requires { ⌜ 3 + 2 * (t .rows + t .columns) ≤ length (now out) ⌝ }
+    ensures state { λ r. ⌜ r ≡ spentAt t before most ⌝ }
+    ensures output { λ r. ⌜ now (out .exit) ≡ outAt t before most (now (out .entry)) ⌝ }
+{
+    let variables = t.rows + t.columns;
+    let limits = t.limits;
+    let crossed = conflict_of(limits, variables);
+    match crossed {
+        Crossed::At(variable) => {
+            let ones = unit(variable);
+            let head = Head {
+                verdict: Verdict::Cannot,
+                count: before,
+                denominator: 0,
+            };
+            write(out, head, variables, &ones, &ones);
+            Spent {
+                answered: true,
+                count: before,
+                tableau: t,
+            }
+        }
+        Crossed::Nowhere => advance(t, before, most, out),
+    }
+}
