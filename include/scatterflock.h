@@ -1,8 +1,8 @@
 /*
  * Scatterflock: exact answers about limits and times, from proved code.
  *
- * libscatterflock.a has the three functions below. docs/RULES.md says what the
- * words mean; docs/formats has whole examples.
+ * libscatterflock.a has the functions below. docs/RULES.md says what the words
+ * mean; docs/formats has whole examples.
  *
  * A problem of two zones (from examples/planner.c):
  *
@@ -29,7 +29,8 @@
  *   - the words that may be written do not overlap the words that are read,
  *     and nobody else writes any of them, or reads what may be written, until
  *     the call returns;
- *   - there is room on the stack: 64 KiB is more than any of the three uses.
+ *   - there is room on the stack: 64 KiB is more than any function uses;
+ *   - the state of a run in slices is handed in as it was handed back.
  *
  * Nothing else is owed. Any words at all may be handed in, of any count: words
  * that are no problem are refused with a number. The functions use no heap,
@@ -39,6 +40,7 @@
 #ifndef SCATTERFLOCK_H
 #define SCATTERFLOCK_H
 
+#include <stdbool.h>
 #include <stddef.h>
 #include <stdint.h>
 
@@ -63,7 +65,8 @@ enum {
     SCATTERFLOCK_MOST_VERTICES = 64,
     SCATTERFLOCK_MOST_TIME_ROWS = 256,
     SCATTERFLOCK_MOST_TIME_WORDS = 1026,
-    SCATTERFLOCK_MOST_TIMES = 66    /* words of an answer to time rows */
+    SCATTERFLOCK_MOST_TIMES = 66,   /* words of an answer to time rows */
+    SCATTERFLOCK_SLICE_WORDS = 113  /* of 64 bits, beside the count, in the state of a run */
 };
 
 /* The kind of a variable's limits, in a limit problem. */
@@ -173,6 +176,58 @@ uint32_t scatterflock_check(const int32_t *words, size_t word_count,
  */
 uint32_t scatterflock_times(const int32_t *words, size_t word_count,
                             int64_t *out, size_t out_count);
+
+/*
+ * A run at some point, to go on with: how many pivots are completed, and the
+ * problem, tableau and values there. What is in tableau is the archive's own;
+ * another version may have it otherwise. It may be copied and kept, and is to
+ * be handed in as it was handed back. A state that was altered is no state:
+ * then nothing is promised.
+ */
+struct scatterflock_slice {
+    size_t count;
+    uint64_t tableau[SCATTERFLOCK_SLICE_WORDS];
+};
+
+/* What scatterflock_slice_start hands back. */
+struct scatterflock_begun {
+    uint32_t refused;
+    struct scatterflock_slice slice;
+};
+
+/* What scatterflock_slice_continue hands back. */
+struct scatterflock_continued {
+    uint32_t refused;
+    bool answered;
+    struct scatterflock_slice slice;
+};
+
+/*
+ * Starts a run that is made in slices: no pivot yet, and no answer.
+ *
+ * In refused is 0, or the number of the refusal as in scatterflock_solve, 1 to
+ * 6 or 10. Then slice is the state of one variable without rows and limits,
+ * which is safe to go on with.
+ */
+struct scatterflock_begun scatterflock_slice_start(const int32_t *words, size_t word_count);
+
+/*
+ * Goes on with the run of a state, so many pivots, or as many as are left if
+ * those are fewer.
+ *
+ * In refused is 7 if out_count is below 3 + 2 (n + m), whether or not there
+ * would be an answer; then slice is the state that was handed in, and out
+ * keeps every word. Else refused is 0, and slice is the state after those
+ * pivots, with all that were completed since the start in slice.count.
+ *
+ * If the run has no more pivots then, answered is true, and the first words
+ * of out are what scatterflock_solve writes. Else answered is false, and out
+ * keeps every word. A run that is over gives the same state and the same
+ * answer again.
+ */
+struct scatterflock_continued scatterflock_slice_continue(struct scatterflock_slice slice,
+                                                          size_t pivots,
+                                                          int64_t *out, size_t out_count);
 
 #ifdef __cplusplus
 }

@@ -1,13 +1,18 @@
 /*
- * Serves the three functions of the archive over standard input and output,
+ * Serves the functions of the archive over standard input and output,
  * for a machine that cannot link the archive and can run this program under
  * an emulator.
  *
- * A request is four numbers of 64 bits: the function (0 solve, 1 check,
- * 2 times), how many 32-bit words there are to read, how many 64-bit words
- * the output (of check: the answer) has, and 0. Then come those words. The
- * reply is one number of 64 bits, what the function returned, and all words
- * of the output. Numbers are little-endian, as the machine's own.
+ * A request is five numbers of 64 bits: the function (0 solve, 1 check,
+ * 2 times, 3 slice_start, 4 slice_continue), how many 32-bit words there are
+ * to read, how many 64-bit words the output (of check: the answer) has, and
+ * for slice_continue the number of the slice and the pivots. Then come those
+ * words. The reply is four numbers of 64 bits: what the function returned, and
+ * of the last two whether it answered, the number of the slice that came back
+ * and its count; and then all words of the output. Numbers are little-endian,
+ * as the machine's own.
+ *
+ * Slices are kept here, the last so many of them.
  *
  * Both slices lie between guard words. A function that changes a guard, or a
  * word that it was lent to read, ends the program with a message.
@@ -20,12 +25,16 @@
 
 #define GUARD 4
 #define MOST_WORDS (1 << 20)
+#define KEPT 64
 
 static const int32_t WORD_GUARD = -1431655766;
 static const int64_t OUT_GUARD = -6148914691236517206;
 
 static int32_t words[MOST_WORDS + 2 * GUARD], words_before[MOST_WORDS];
 static int64_t out[MOST_WORDS + 2 * GUARD], out_before[MOST_WORDS];
+
+static struct scatterflock_slice kept[KEPT];
+static uint64_t slices;
 
 static void stop(const char *what)
 {
@@ -63,6 +72,34 @@ static void look_at_guards(size_t word_count, size_t out_count)
     }
 }
 
+static void keep(uint64_t *reply, struct scatterflock_slice slice)
+{
+    reply[2] = slices;
+    reply[3] = slice.count;
+    kept[slices % KEPT] = slice;
+    slices++;
+}
+
+static void start(size_t word_count, uint64_t *reply)
+{
+    struct scatterflock_begun begun = scatterflock_slice_start(words + GUARD, word_count);
+
+    reply[0] = begun.refused;
+    keep(reply, begun.slice);
+}
+
+static void go_on(uint64_t number, uint64_t pivots, size_t out_count, uint64_t *reply)
+{
+    struct scatterflock_continued next;
+
+    if (number >= slices || number + KEPT < slices)
+        stop("there is no such slice any more");
+    next = scatterflock_slice_continue(kept[number % KEPT], pivots, out + GUARD, out_count);
+    reply[0] = next.refused;
+    reply[1] = next.answered;
+    keep(reply, next.slice);
+}
+
 static uint64_t answer(uint64_t function, size_t word_count, size_t out_count)
 {
     const int32_t *read = words + GUARD;
@@ -82,10 +119,10 @@ static uint64_t answer(uint64_t function, size_t word_count, size_t out_count)
 
 int main(void)
 {
-    uint64_t request[4];
+    uint64_t request[5];
 
     while (fread(request, sizeof request, 1, stdin) == 1) {
-        uint64_t number, word_count = request[1], out_count = request[2];
+        uint64_t reply[4] = { 0 }, word_count = request[1], out_count = request[2];
 
         if (word_count > MOST_WORDS || out_count > MOST_WORDS)
             stop("a request is too long");
@@ -95,14 +132,19 @@ int main(void)
         memcpy(words_before, words + GUARD, word_count * sizeof *words);
         memcpy(out_before, out + GUARD, out_count * sizeof *out);
 
-        number = answer(request[0], word_count, out_count);
+        if (request[0] == 3)
+            start(word_count, reply);
+        else if (request[0] == 4)
+            go_on(request[3], request[4], out_count, reply);
+        else
+            reply[0] = answer(request[0], word_count, out_count);
 
         look_at_guards(word_count, out_count);
         if (memcmp(words_before, words + GUARD, word_count * sizeof *words) != 0)
             stop("words that were lent to read have changed");
         if (request[0] == 1 && memcmp(out_before, out + GUARD, out_count * sizeof *out) != 0)
             stop("an answer that was lent to read has changed");
-        give(&number, sizeof number);
+        give(reply, sizeof reply);
         give(out + GUARD, out_count * sizeof *out);
         if (fflush(stdout) != 0)
             stop("a reply cannot be written");

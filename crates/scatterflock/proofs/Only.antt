@@ -2,6 +2,8 @@
 -- The contracts themselves are compared: κs are lifetimes, x the arguments, e what lent words hold at the exit.
 --   scatterflock-solve-only    the number, and every word of the output
 --   scatterflock-check-only    the number
+--   scatterflock-slice-start-only       the number and the state
+--   scatterflock-slice-continue-only    the number, whether there is an answer, the state, and every word of the output
 --   scatterflock-times-only    the number, and every word of the output; or both name a bad cycle
 use mathlib.Core.Logic.{_⊎_}
 use mathlib.Core.Path.{_≡_, ap, sym, _∙_}
@@ -10,6 +12,8 @@ use Rattle.rules.specs.Times.{BothNamed}
 use Rattle.rules.proofs.Times.Told.{told-only}
 use Rattle.scatterflock.proofs.scatterflock_solve.Reads as solve
 use Rattle.scatterflock.proofs.scatterflock_check.Reads as check
+use Rattle.scatterflock.proofs.scatterflock_slice_continue.Reads as slice-continue
+use Rattle.scatterflock.proofs.scatterflock_slice_start.Reads as slice-start
 use Rattle.scatterflock.proofs.scatterflock_times.Reads as times
 
 pub scatterflock-solve-only : (κs : _) (x : _) (a b : _) (e f : _) → solve.Post κs x a e → solve.Post κs x b f →
@@ -20,6 +24,14 @@ scatterflock-solve-only κs x a b e f h k =
 
 pub scatterflock-check-only : (κs : _) (x : _) (a b : _) (e : _) → check.Post κs x a e → check.Post κs x b e → a ≡ b
 scatterflock-check-only κs x a b e h k = h ∙ sym k
+
+pub scatterflock-slice-start-only : (κs : _) (x : _) (a b : _) (e f : _) →
+    slice-start.Post κs x a e → slice-start.Post κs x b f → a ≡ b
+scatterflock-slice-start-only κs x a b e f h k = h .0 ∙ sym (k .0)
+
+pub scatterflock-slice-continue-only : (κs : _) (x : _) (a b : _) (e f : _) →
+    slice-continue.Post κs x a e → slice-continue.Post κs x b f → (a ≡ b) × (e .1 .1 .0 .now ≡ f .1 .1 .0 .now)
+scatterflock-slice-continue-only κs x a b e f h k = (h .0 ∙ sym (k .0), h .1 .0 ∙ sym (k .1 .0))
 
 pub scatterflock-times-only : (κs : _) (x : _) (a b : _) (e f : _) → times.Post κs x a e → times.Post κs x b f →
     (a ≡ b) × ((e .1 .0 .now ≡ f .1 .0 .now) ⊎ BothNamed (x .0 .now) a (e .1 .0 .now) (f .1 .0 .now))

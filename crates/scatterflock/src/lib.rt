@@ -6,6 +6,10 @@ ghost use Rattle.rules.specs.Answer.{written};
 ghost use Rattle.rules.specs.Evidence.{checked};
 ghost use Rattle.rules.specs.Refusal.{refusal};
 ghost use Rattle.rules.specs.Times.{Timed};
+ghost use Rattle.slices.specs.Slices.{GoesOnAs, Standing, StartsAs, begunAt, outputAt, wentOnAt};
+use slices::Begun;
+use slices::Continued;
+use slices::Slice;
 
 // Answers a limit problem.
 #[no_mangle]
@@ -30,4 +34,28 @@ pub extern "C" fn scatterflock_times(words: &[i32], out: &mut [i64]) -> u32
     ensures { λ r. ⌜ Timed (now (words .entry)) (now (out .entry)) r (now (out .exit)) ⌝ }
 {
     times::times(words, out)
+}
+
+// Starts a run that is made in slices.
+#[no_mangle]
+pub extern "C" fn scatterflock_slice_start(words: &[i32]) -> Begun
+    ensures exact { λ r. ⌜ r ≡ begunAt (now (words .entry)) ⌝ }
+    ensures meaning { λ r. ⌜ StartsAs (now (words .entry)) r ⌝ }
+{
+    slices::start(words)
+}
+
+// Goes on with a run, so many pivots.
+#[no_mangle]
+pub extern "C" fn scatterflock_slice_continue(
+    slice: Slice,
+    pivots: usize,
+    out: &mut [i64],
+) -> Continued
+    requires { ⌜ Standing slice ⌝ }
+    ensures exact { λ r. ⌜ r ≡ wentOnAt slice pivots (length (now (out .entry))) ⌝ }
+    ensures output { λ r. ⌜ now (out .exit) ≡ outputAt slice pivots (now (out .entry)) ⌝ }
+    ensures meaning { λ r. ⌜ GoesOnAs slice pivots (now (out .entry)) r (now (out .exit)) ⌝ }
+{
+    slice.go_on(pivots, out)
 }

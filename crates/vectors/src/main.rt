@@ -1,8 +1,9 @@
 // The test program. It reads calls of the entry points from standard input, makes each, and prints a line for it: the
-// number that was returned, a colon, and the words of the output after the call.
+// number that was returned, a colon, and the words of the output after the call. A run in slices has a line for each.
 mod cycle;
 mod input;
 mod print;
+mod sliced;
 
 const MOST_CALLS: usize = 100000;
 
@@ -10,7 +11,7 @@ const MOST_WORDS: usize = 1040;
 
 const MOST_OUT: usize = 72;
 
-fn line(number: u32, out: &[i64]) {
+pub fn line(number: u32, out: &[i64]) {
     io::print_decimal(1, number as u64);
     io::write_all(1, b":");
     print::words(out, 0);
@@ -39,13 +40,17 @@ fn call(entry: usize, words: &[i32], out: &mut [i64]) {
         line(number, out);
         return;
     }
-    let number = times::times(words, out);
-    line_of_times(number, out);
+    if entry == 2 {
+        let number = times::times(words, out);
+        line_of_times(number, out);
+        return;
+    }
+    sliced::run(words, out);
 }
 
 // Reads one call.
 fn next() {
-    let entry = input::count(2);
+    let entry = input::count(3);
     let mut words = [0i32; MOST_WORDS];
     let word_count = input::count(MOST_WORDS);
     input::words(&mut words, word_count);

@@ -4,9 +4,6 @@ use problems::random::Random;
 
 const GUARD: usize = 4;
 
-/// A function that reads lent words and writes a lent output.
-pub type Function = fn(&[i32], &mut [i64]) -> u32;
-
 /// An output before it is lent: words that no answer has, all different.
 pub fn fresh(random: &mut Random, length: usize) -> Vec<i64> {
     let first = random.bits() as i64 | i64::MIN;
@@ -15,15 +12,15 @@ pub fn fresh(random: &mut Random, length: usize) -> Vec<i64> {
 
 /// What a function returned and what it left of the output. An error says
 /// that it wrote where nothing was lent, or changed the words that it read.
-pub fn lent(
-    function: Function,
+pub fn lent<T>(
+    function: impl FnOnce(&[i32], &mut [i64]) -> T,
     words: &[i32],
     before: &[i64],
-) -> Result<(u32, Vec<i64>), &'static str> {
+) -> Result<(T, Vec<i64>), &'static str> {
     let read = words.to_vec();
     let guard = [i64::MIN + 7; GUARD];
     let mut all = [&guard, before, &guard].concat();
-    let number = function(&read, &mut all[GUARD..GUARD + before.len()]);
+    let returned = function(&read, &mut all[GUARD..GUARD + before.len()]);
     if read != words {
         return Err("the words that were read have changed");
     }
@@ -31,7 +28,7 @@ pub fn lent(
     if all[..GUARD] != guard || all[GUARD + before.len()..] != guard {
         return Err("words beside the output have changed");
     }
-    Ok((number, out))
+    Ok((returned, out))
 }
 
 /// A length for an output that needs so many words: mostly longer, often just

@@ -1,9 +1,11 @@
-//! The archive against `reference`: solver, checker and time rows, on random
+//! The archive against `reference`: solver, checker, slices and time rows, on
+//! random
 //! problems of every family, every word compared.
 //!
 //! - [`archive`]: the archive's functions, linked or served
 //! - `lent`: lends an output with guards around it and looks at all of it
 //! - `limits`: one limit problem through the solver and the checker
+//! - `slices`: one limit problem through a start and continues
 //! - `times`: time rows through the time solver
 //! - `report`: many of them, counted
 
@@ -11,4 +13,5 @@ pub mod archive;
 mod lent;
 pub mod limits;
 pub mod report;
+pub mod slices;
 pub mod times;

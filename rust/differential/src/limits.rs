@@ -49,7 +49,7 @@ fn compare_words(random: &mut Random, words: &[i32]) -> Result<Outcome, String> 
 }
 
 /// The words that an answer needs; of words without a meaning, some number.
-fn needed(words: &[i32]) -> usize {
+pub fn needed(words: &[i32]) -> usize {
     match words {
         [n @ 1..=8, m @ 0..=16, ..] => 3 + 2 * (n + m) as usize,
         _ => 51,

@@ -1,6 +1,6 @@
 //! Many problems, counted.
 
-use crate::{limits, times};
+use crate::{limits, slices, times};
 use problems::random::Random;
 use std::collections::BTreeMap;
 use std::fmt;
@@ -12,8 +12,8 @@ pub struct Report {
     pub problems: u64,
     /// By verdict or refusal.
     pub outcomes: BTreeMap<String, u64>,
-    /// By what the checker said.
-    pub checks: BTreeMap<u32, u64>,
+    /// By what further calls returned: the checker, or continues.
+    pub calls: BTreeMap<u32, u64>,
 }
 
 /// Compares so many limit problems, the families in turn. An error says which
@@ -25,9 +25,20 @@ pub fn limits(seed: u64, problems: u64) -> Result<Report, String> {
         let outcome = limits::compare(&mut Random::of_problem(seed, problem), family)
             .map_err(|what| format!("SEED={seed}, problem {problem}, {family:?}: {what}"))?;
         report.count(outcome.number, ["", "can", "cannot", "range"], outcome.verdict);
-        for check in outcome.checks {
-            *report.checks.entry(check).or_default() += 1;
-        }
+        report.count_calls(&outcome.checks);
+    }
+    Ok(report)
+}
+
+/// Compares so many limit problems in slices, the families in turn.
+pub fn slices(seed: u64, problems: u64) -> Result<Report, String> {
+    let mut report = Report::default();
+    for problem in 0..problems {
+        let family = in_turn(&problems::limits::Family::ALL, problem);
+        let outcome = slices::compare(&mut Random::of_problem(seed, problem), family)
+            .map_err(|what| format!("SEED={seed}, problem {problem}, {family:?}: {what}"))?;
+        report.count(outcome.number, ["", "can", "cannot", "range"], outcome.verdict);
+        report.count_calls(&outcome.continues);
     }
     Ok(report)
 }
@@ -58,6 +69,12 @@ impl Report {
         *self.outcomes.entry(name).or_default() += 1;
     }
 
+    fn count_calls(&mut self, numbers: &[u32]) {
+        for &number in numbers {
+            *self.calls.entry(number).or_default() += 1;
+        }
+    }
+
     /// How many problems had this outcome.
     pub fn of(&self, outcome: &str) -> u64 {
         self.outcomes.get(outcome).copied().unwrap_or(0)
@@ -67,8 +84,8 @@ impl Report {
 impl fmt::Display for Report {
     fn fmt(&self, to: &mut fmt::Formatter) -> fmt::Result {
         write!(to, "{} problems, no difference: {:?}", self.problems, self.outcomes)?;
-        if !self.checks.is_empty() {
-            write!(to, ", checks {:?}", self.checks)?;
+        if !self.calls.is_empty() {
+            write!(to, ", calls {:?}", self.calls)?;
         }
         Ok(())
     }

@@ -1,11 +1,12 @@
-//! Random problems, with a seed that is printed and can be given again: 360,000
-//! a run where the archive is linked, 75,000 under an emulator.
+//! Random problems, with a seed that is printed and can be given again: 420,000
+//! a run where the archive is linked, 85,000 under an emulator.
 
 use differential::archive::LINKED;
 use differential::report;
 use problems::random::seed;
 
 const LIMIT_PROBLEMS: u64 = if LINKED { 300_000 } else { 60_000 };
+const SLICED_PROBLEMS: u64 = if LINKED { 60_000 } else { 10_000 };
 const TIME_PROBLEMS: u64 = if LINKED { 60_000 } else { 15_000 };
 
 #[test]
@@ -23,7 +24,26 @@ fn limit_problems() {
         assert!(refused > LIMIT_PROBLEMS / 1_000, "{number}, SEED={seed}");
     }
     for number in 1..=10 {
-        assert!(report.checks[&number] > LIMIT_PROBLEMS / 1_000, "check {number}, SEED={seed}");
+        assert!(report.calls[&number] > LIMIT_PROBLEMS / 1_000, "check {number}, SEED={seed}");
+    }
+}
+
+#[test]
+fn runs_in_slices() {
+    let seed = seed();
+    println!("SEED={seed}");
+    let report = report::slices(seed, SLICED_PROBLEMS).unwrap_or_else(|what| panic!("{what}"));
+    println!("{report}");
+    for outcome in ["can", "cannot"] {
+        assert!(report.of(outcome) > SLICED_PROBLEMS / 5, "{outcome}, SEED={seed}");
+    }
+    assert!(report.of("range") > SLICED_PROBLEMS / 100, "range, SEED={seed}");
+    for number in (1..=6).chain([10]) {
+        let refused = report.of(&format!("refused {number}"));
+        assert!(refused > SLICED_PROBLEMS / 1_000, "{number}, SEED={seed}");
+    }
+    for number in [0, 7] {
+        assert!(report.calls[&number] > SLICED_PROBLEMS / 10, "continue {number}, SEED={seed}");
     }
 }
 

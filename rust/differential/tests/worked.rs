@@ -36,6 +36,40 @@ fn cases_a_to_h_and_the_published_problems() {
 }
 
 #[test]
+fn case_a_by_0_1_0_1_5() {
+    let case = &worked::limits()[0];
+    let needed = case.answer.len();
+    let mut slice = archive::slice_start(&case.words).slice;
+    for (pivots, completed) in [(0, 0), (1, 1), (0, 1), (1, 2), (5, 2)] {
+        let short = archive::slice_continue(slice, pivots, &mut vec![KEPT; needed - 1]);
+        assert_eq!((short.refused, short.answered), (7, false));
+        let mut out = vec![KEPT; needed + 1];
+        let next = archive::slice_continue(short.slice, pivots, &mut out);
+        assert_eq!((next.refused, next.slice.count()), (0, completed));
+        let answered = completed == 2;
+        let expected =
+            if answered { [&case.answer[..], &[KEPT]].concat() } else { vec![KEPT; needed + 1] };
+        assert_eq!((next.answered, out), (answered, expected));
+        slice = next.slice;
+    }
+}
+
+#[test]
+fn every_problem_pivot_by_pivot() {
+    for case in worked::limits().into_iter().chain(published()) {
+        let mut slice = archive::slice_start(&case.words).slice;
+        let mut out = vec![KEPT; case.answer.len()];
+        for completed in 0..=case.answer[1] {
+            let next = archive::slice_continue(slice, (completed > 0).into(), &mut out);
+            assert_eq!((next.refused, next.slice.count() as i64), (0, completed), "{}", case.name);
+            assert_eq!(next.answered, completed == case.answer[1], "{}", case.name);
+            slice = next.slice;
+        }
+        assert_eq!(out, case.answer, "{}", case.name);
+    }
+}
+
+#[test]
 fn cases_j_to_l() {
     for case in worked::times() {
         let needed = 2 + case.words[0] as usize;

@@ -1,13 +1,15 @@
 //! `files` writes the made files; `files names` prints which problem each line
-//! of crates/vectors/stdout answers.
+//! of crates/vectors/stdout answers. A run in slices has more lines than one.
 
 use std::fs;
 use std::io::Result;
 
 fn main() -> Result<()> {
     if std::env::args().nth(1).as_deref() == Some("names") {
-        for (line, vector) in files::vectors::all().iter().enumerate() {
-            println!("{:4} {:?}: {}", line + 1, vector.entry, vector.name);
+        let mut line = 1;
+        for vector in files::vectors::all() {
+            println!("{line:4} {:?}: {}", vector.entry, vector.name);
+            line += vector.answer().lines().count();
         }
         return Ok(());
     }

@@ -1,7 +1,7 @@
 //! What the test program `vectors` is asked, and what is right to answer.
 //!
 //! Its standard input is a count of problems, then for each one: the entry
-//! point (0 solve, 1 check, 2 times), the count of words and the words, the
+//! point (0 solve, 1 check, 2 times, 3 a run in slices), the count of words and the words, the
 //! count of the output's words and those words as they are before the call
 //! (for check: the answer). Words are of 32 bits but for the output's, of 64;
 //! all are little-endian. It prints a line for each: the number that was
@@ -11,6 +11,7 @@
 
 mod evidence;
 mod limits;
+mod slices;
 mod taught;
 mod times;
 
@@ -23,6 +24,8 @@ pub enum Entry {
     Check = 1,
     /// `times`
     Times = 2,
+    /// A start, and continues by 0, 1, 0, 1 and 5, with a line for each
+    Slices = 3,
 }
 
 /// One call.
@@ -42,7 +45,10 @@ pub const KEPT: i64 = -77;
 
 /// All calls, in the order of the lines.
 pub fn all() -> Vec<Vector> {
-    [limits::all(), taught::all(), evidence::all(), times::all()].into_iter().flatten().collect()
+    [limits::all(), taught::all(), evidence::all(), times::all(), slices::all()]
+        .into_iter()
+        .flatten()
+        .collect()
 }
 
 /// The bytes of the program's standard input.
@@ -65,20 +71,43 @@ fn put(bytes: &mut Vec<u8>, word: i32) {
 
 /// The lines that are right, by `reference`.
 pub fn answered(vectors: &[Vector]) -> String {
-    vectors.iter().map(answer).collect()
+    vectors.iter().map(Vector::answer).collect()
 }
 
-fn answer(vector: &Vector) -> String {
-    let mut out = vector.out.clone();
-    let number = match vector.entry {
-        Entry::Solve => reference::solve(&vector.words, &mut out),
-        Entry::Check => reference::check(&vector.words, &out),
-        Entry::Times => reference::times(&vector.words, &mut out),
-    };
-    if vector.entry == Entry::Times && number == 0 && out[0] == 2 {
-        let rows = out[1] as usize;
-        out[2..2 + rows].sort_unstable();
+impl Vector {
+    /// The line that is right, or of a run in slices the lines.
+    pub fn answer(&self) -> String {
+        let mut out = self.out.clone();
+        let number = match self.entry {
+            Entry::Solve => reference::solve(&self.words, &mut out),
+            Entry::Check => reference::check(&self.words, &out),
+            Entry::Times => reference::times(&self.words, &mut out),
+            Entry::Slices => return slices(&self.words, out),
+        };
+        if self.entry == Entry::Times && number == 0 && out[0] == 2 {
+            let rows = out[1] as usize;
+            out[2..2 + rows].sort_unstable();
+        }
+        line(number, &out)
     }
+}
+
+/// A line for each continue. What one leaves of the output the next is lent.
+fn slices(words: &[i32], mut out: Vec<i64>) -> String {
+    let mut slice = match reference::Slice::start(words) {
+        Ok(slice) => slice,
+        Err(number) => return line(number, &out),
+    };
+    let mut lines = String::new();
+    for pivots in [0, 1, 0, 1, 5] {
+        let next = slice.go_on(pivots, &mut out);
+        lines += &line(next.number, &out);
+        slice = next.slice;
+    }
+    lines
+}
+
+fn line(number: u32, out: &[i64]) -> String {
     let words: String = out.iter().map(|word| format!(" {word}")).collect();
     format!("{number}:{words}\n")
 }

@@ -9,6 +9,7 @@
 //! - `fraction`: exact fractions
 //! - `tableau`: basic variables as sums over nonbasic ones, and the exchange
 //! - `run`: the limit solver
+//! - `slices`: the same run, some pivots at a time
 //! - `answer`: how a run ended, and the words that say so
 //! - `evidence`: the checker, which uses nothing of the run
 //! - `times`: time rows, and a judge of anybody's answer to them
@@ -20,11 +21,13 @@ mod fraction;
 mod problem;
 mod program;
 mod run;
+mod slices;
 mod tableau;
 mod times;
 
 pub use evidence::check;
 pub use program::respond;
 pub use run::{pivots, solve, violations, Violation};
+pub use slices::{Continued, Slice};
 pub use tableau::Pivot;
 pub use times::{times, times_is_right};

@@ -87,7 +87,7 @@ pub fn run(problem: &Problem) -> Answer {
 }
 
 /// A variable whose lower limit is above its upper one refutes both.
-fn conflict_of_one(problem: &Problem, crossed: Variable) -> Multipliers {
+pub fn conflict_of_one(problem: &Problem, crossed: Variable) -> Multipliers {
     let mut multipliers = Multipliers::none(problem.variables());
     multipliers.lower[crossed] = 1;
     multipliers.upper[crossed] = 1;
@@ -123,20 +123,20 @@ struct Violated {
 }
 
 /// What comes after a state.
-enum Step<'a> {
+pub enum Step<'a> {
     Moved(State<'a>),
     Ended(Verdict),
 }
 
 /// The equations, and what each nonbasic variable sits at.
-struct State<'a> {
-    problem: &'a Problem,
-    tableau: Tableau,
-    values: BTreeMap<Variable, i128>,
+pub struct State<'a> {
+    pub problem: &'a Problem,
+    pub tableau: Tableau,
+    pub values: BTreeMap<Variable, i128>,
 }
 
 impl<'a> State<'a> {
-    fn start(problem: &'a Problem) -> State<'a> {
+    pub fn start(problem: &'a Problem) -> State<'a> {
         let value = |variable| start_value(&problem.limits[variable]);
         State {
             problem,
@@ -145,7 +145,7 @@ impl<'a> State<'a> {
         }
     }
 
-    fn step(&self) -> Step<'a> {
+    pub fn step(&self) -> Step<'a> {
         let Some(violated) = self.lowest_violated() else {
             return Step::Ended(self.can());
         };

@@ -105,7 +105,7 @@ pub fn check(words: &[i32], answer: &[i64]) -> Result<Judgement, Refusal> {
 
 impl Answer {
     /// The answer that exactly these words give.
-    fn read(words: &[i64]) -> Answer {
+    pub(crate) fn read(words: &[i64]) -> Answer {
         let (first, second) = words[3..].split_at((words.len() - 3) / 2);
         let verdict = match words[0] {
             1 => Verdict::Can { over: words[2], numerators: first.to_vec() },

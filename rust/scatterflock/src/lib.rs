@@ -1,7 +1,7 @@
 //! Exact answers about limits and times, from proved code.
 //!
-//! The archive `libscatterflock.a` holds three functions whose results are
-//! proved; include/scatterflock.h says what they promise. This crate calls
+//! The archive `libscatterflock.a` holds functions whose results are proved;
+//! include/scatterflock.h says what they promise. This crate calls
 //! them safely and gives their numbers names. docs/RULES.md says what the
 //! words mean.
 //!
@@ -49,6 +49,7 @@
 //!
 //! - [`Problem`], [`solve()`], [`check`]: limit problems, answers and their
 //!   judgement
+//! - [`Slice`]: a run that is made some pivots at a time
 //! - [`TimeRows`], [`times()`]: time rows
 //! - [`Refusal`], [`TimesRefusal`]: why words are refused
 //! - [`sizes`]: how large everything may be
@@ -64,6 +65,7 @@ pub mod raw;
 mod refusal;
 mod rows;
 pub mod sizes;
+mod slice;
 mod times;
 
 pub use answer::{check, solve, Answer, Judgement, Verdict};
@@ -71,4 +73,5 @@ pub use build_error::BuildError;
 pub use problem::Problem;
 pub use refusal::{Refusal, TimesRefusal};
 pub use rows::TimeRows;
+pub use slice::Slice;
 pub use times::{times, Schedule};

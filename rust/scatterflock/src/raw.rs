@@ -1,7 +1,9 @@
-//! The archive's three functions over lent words, with the numbers that they
-//! return. Nothing is allocated.
+//! The archive's functions over lent words, with the numbers that they return.
+//! Nothing is allocated.
 
 mod archive {
+    use super::{Begun, Continued, Slice};
+
     extern "C" {
         pub fn scatterflock_solve(
             words: *const i32,
@@ -23,7 +25,59 @@ mod archive {
             out: *mut i64,
             out_count: usize,
         ) -> u32;
+
+        pub fn scatterflock_slice_start(words: *const i32, word_count: usize) -> Begun;
+
+        pub fn scatterflock_slice_continue(
+            slice: Slice,
+            pivots: usize,
+            out: *mut i64,
+            out_count: usize,
+        ) -> Continued;
     }
+}
+
+/// A run at some point, as the archive hands it back and takes it again. What
+/// is in it is the archive's own.
+#[derive(Debug, Clone)]
+#[repr(C)]
+pub struct Slice {
+    count: usize,
+    tableau: [u64; SLICE_WORDS],
+}
+
+/// The words of 64 bits that the archive keeps in a slice, beside the count.
+const SLICE_WORDS: usize = 113;
+
+impl Slice {
+    /// How many pivots are completed.
+    #[must_use]
+    pub fn count(&self) -> usize {
+        self.count
+    }
+}
+
+/// What [`slice_start`] hands back.
+#[derive(Debug, Clone)]
+#[repr(C)]
+pub struct Begun {
+    /// 0, or the number of a [`Refusal`](crate::Refusal).
+    pub refused: u32,
+    /// The first state of the run. Where the words are refused, that of a
+    /// problem with nothing to do.
+    pub slice: Slice,
+}
+
+/// What [`slice_continue`] hands back.
+#[derive(Debug, Clone)]
+#[repr(C)]
+pub struct Continued {
+    /// 0, or 7 where the output is too short.
+    pub refused: u32,
+    /// Whether the answer stands in the output.
+    pub answered: bool,
+    /// The state to go on with; where it is refused, the state that it was.
+    pub slice: Slice,
 }
 
 /// Answers a limit problem: 0 and the answer's words at the start of `out`,
@@ -73,4 +127,38 @@ pub fn check(words: &[i32], answer: &[i64]) -> u32 {
 pub fn times(rows: &[i32], out: &mut [i64]) -> u32 {
     // SAFETY: as in `solve`.
     unsafe { archive::scatterflock_times(rows.as_ptr(), rows.len(), out.as_mut_ptr(), out.len()) }
+}
+
+/// Starts a run that is made in slices. No pivot is made yet, and nothing is
+/// answered, even where the run has none.
+///
+/// ```
+/// let begun = scatterflock::raw::slice_start(&[1, 0, 0, 0, 0]);
+/// assert_eq!((begun.refused, begun.slice.count()), (0, 0));
+/// assert_eq!(scatterflock::raw::slice_start(&[9, 0]).refused, 2);
+/// ```
+#[must_use = "it is all that a start does"]
+pub fn slice_start(words: &[i32]) -> Begun {
+    // SAFETY: the pointer is valid for its length, and is not written through.
+    unsafe { archive::scatterflock_slice_start(words.as_ptr(), words.len()) }
+}
+
+/// Completes so many further pivots of a run, or all that are left if fewer,
+/// and writes the answer at the start of `out` if no more are left then.
+///
+/// ```
+/// use scatterflock::raw::{slice_continue, slice_start};
+///
+/// let slice = slice_start(&[1, 0, 0, 0, 0]).slice;
+/// let mut out = [-1; 6];
+/// let next = slice_continue(slice, 0, &mut out);
+/// assert!(next.refused == 0 && next.answered);
+/// assert_eq!(out, [1, 0, 1, 0, 0, -1]);
+/// assert_eq!(slice_continue(next.slice, 0, &mut []).refused, 7);
+/// ```
+#[must_use = "it has the state to go on with"]
+pub fn slice_continue(slice: Slice, pivots: usize, out: &mut [i64]) -> Continued {
+    // SAFETY: the pointer is valid for its length. A slice comes from the
+    // archive alone: its fields are private, and nothing changes them.
+    unsafe { archive::scatterflock_slice_continue(slice, pivots, out.as_mut_ptr(), out.len()) }
 }

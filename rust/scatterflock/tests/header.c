@@ -1,7 +1,7 @@
 /*
  * Calls the archive through include/scatterflock.h and compares what it gives:
- * cases A, C and J of docs/RULES.md, answers that are right and wrong, and
- * refusals. It is C and C++ at once, and header.rs compiles it as both. Each
+ * cases A, C and J of docs/RULES.md, case A in slices, answers that are right
+ * and wrong, and refusals. It is C and C++ at once, and header.rs compiles it as both. Each
  * difference is a line, and any makes the program fail.
  */
 #include "scatterflock.h"
@@ -64,6 +64,35 @@ static int64_t *fresh(void)
     return out;
 }
 
+/* Case A by 0, 1, 0, 1 and 5 pivots: the answer comes with the second. */
+static void in_slices(void)
+{
+    static const size_t PIVOTS[] = {0, 1, 0, 1, 5};
+    static const size_t COMPLETED[] = {0, 1, 1, 2, 2};
+    struct scatterflock_begun begun = scatterflock_slice_start(A, COUNT(A));
+    struct scatterflock_slice slice = begun.slice;
+
+    number("start A", begun.refused, 0);
+    for (size_t place = 0; place < COUNT(PIVOTS); place++) {
+        int64_t *out = fresh();
+        bool ends = COMPLETED[place] == 2;
+        struct scatterflock_continued next = scatterflock_slice_continue(slice, PIVOTS[place], out, ROOM);
+
+        number("continue A", next.refused, 0);
+        number("continue A, answered", next.answered, ends);
+        number("continue A, count", (uint32_t)next.slice.count, (uint32_t)COMPLETED[place]);
+        words("continue A", out, A_ANSWER, ends ? COUNT(A_ANSWER) : 0);
+        out = fresh();
+        next = scatterflock_slice_continue(slice, PIVOTS[place], out, COUNT(A_ANSWER) - 1);
+        number("continue A short", next.refused, SCATTERFLOCK_SHORT);
+        words("continue A short", out, NULL, 0);
+        slice = scatterflock_slice_continue(next.slice, PIVOTS[place], out, ROOM).slice;
+    }
+    begun = scatterflock_slice_start(NINE_VARIABLES, COUNT(NINE_VARIABLES));
+    number("start nine", begun.refused, 2);
+    number("continue nine", scatterflock_slice_continue(begun.slice, 1, fresh(), ROOM).answered, 1);
+}
+
 int main(void)
 {
     int64_t *out = fresh();
@@ -91,5 +120,6 @@ int main(void)
     number("times vertex", scatterflock_times(NO_SUCH_VERTEX, COUNT(NO_SUCH_VERTEX), out, ROOM), 14);
     words("times vertex", out, NULL, 0);
 
+    in_slices();
     return differences == 0 ? 0 : 1;
 }

@@ -21,6 +21,48 @@ enum Function {
     Solve = 0,
     Check = 1,
     Times = 2,
+    SliceStart = 3,
+    SliceContinue = 4,
+}
+
+/// A run at some point, that the program keeps.
+pub struct Slice {
+    /// By this number.
+    number: u64,
+    count: usize,
+}
+
+impl Slice {
+    /// How many pivots are completed.
+    pub fn count(&self) -> usize {
+        self.count
+    }
+}
+
+/// What [`slice_start`] hands back.
+pub struct Begun {
+    /// 0, or the number of a refusal.
+    pub refused: u32,
+    /// The first state of the run.
+    pub slice: Slice,
+}
+
+/// What [`slice_continue`] hands back.
+pub struct Continued {
+    /// 0, or 7.
+    pub refused: u32,
+    /// Whether the answer stands in the output.
+    pub answered: bool,
+    /// The state to go on with.
+    pub slice: Slice,
+}
+
+/// What the program says: what the function returned, whether it answered, and
+/// the slice that it keeps. Of the first three functions the number alone.
+struct Reply {
+    number: u32,
+    answered: bool,
+    slice: Slice,
 }
 
 thread_local! {
@@ -42,9 +84,25 @@ pub fn times(rows: &[i32], out: &mut [i64]) -> u32 {
     ask(Function::Times, rows, out)
 }
 
+/// Starts a run that is made in slices.
+pub fn slice_start(words: &[i32]) -> Begun {
+    let reply = reply(Function::SliceStart, words, &mut [], [0, 0]);
+    Begun { refused: reply.number, slice: reply.slice }
+}
+
+/// Goes on with one, so many pivots.
+pub fn slice_continue(slice: Slice, pivots: usize, out: &mut [i64]) -> Continued {
+    let reply = reply(Function::SliceContinue, &[], out, [slice.number, pivots as u64]);
+    Continued { refused: reply.number, answered: reply.answered, slice: reply.slice }
+}
+
 fn ask(function: Function, words: &[i32], out: &mut [i64]) -> u32 {
+    reply(function, words, out, [0, 0]).number
+}
+
+fn reply(function: Function, words: &[i32], out: &mut [i64], more: [u64; 2]) -> Reply {
     SERVER.with_borrow_mut(|server| {
-        server.ask(function, words, out).unwrap_or_else(|error| {
+        server.ask(function, words, out, more).unwrap_or_else(|error| {
             panic!("the archive's program has ended: {error}; its message stands above")
         })
     })
@@ -84,21 +142,29 @@ impl Server {
         Server { child, requests, replies }
     }
 
-    fn ask(&mut self, function: Function, words: &[i32], out: &mut [i64]) -> Result<u32> {
-        let head = [function as u64, words.len() as u64, out.len() as u64, 0];
-        let mut request: Vec<u8> = Vec::with_capacity(32 + 4 * words.len() + 8 * out.len());
+    fn ask(
+        &mut self,
+        function: Function,
+        words: &[i32],
+        out: &mut [i64],
+        more: [u64; 2],
+    ) -> Result<Reply> {
+        let head = [function as u64, words.len() as u64, out.len() as u64, more[0], more[1]];
+        let mut request: Vec<u8> = Vec::with_capacity(40 + 4 * words.len() + 8 * out.len());
         request.extend(head.iter().flat_map(|number| number.to_le_bytes()));
         request.extend(words.iter().flat_map(|word| word.to_le_bytes()));
         request.extend(out.iter().flat_map(|word| word.to_le_bytes()));
         self.requests.as_mut().expect("it is piped").write_all(&request)?;
 
-        let mut reply = vec![0; 8 + 8 * out.len()];
+        let mut reply = vec![0; 32 + 8 * out.len()];
         self.replies.read_exact(&mut reply)?;
         let mut numbers = reply
             .chunks_exact(8)
             .map(|bytes| i64::from_le_bytes(bytes.try_into().expect("a chunk has eight bytes")));
-        let number = numbers.next().expect("a reply has a number") as u32;
+        let mut next = || numbers.next().expect("a reply has four numbers");
+        let (number, answered) = (next() as u32, next() != 0);
+        let slice = Slice { number: next() as u64, count: next() as usize };
         out.iter_mut().zip(numbers).for_each(|(word, reply)| *word = reply);
-        Ok(number)
+        Ok(Reply { number, answered, slice })
     }
 }

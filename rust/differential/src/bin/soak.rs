@@ -1,5 +1,6 @@
-//! `soak COUNT` compares so many limit problems and a quarter as many time
-//! rows, in parts, each with a seed of its own that is printed before it.
+//! `soak COUNT` compares so many limit problems, a quarter as many in slices
+//! and as many time rows, in parts, each with a seed of its own that is printed
+//! before it.
 //! `SEED=.. soak COUNT` goes through the same parts again.
 
 use differential::report;
@@ -29,6 +30,7 @@ fn soak(first: u64, count: u64) -> Result<(), String> {
         let part = left.min(PART);
         println!("SEED={seed}");
         println!("limits: {}", report::limits(seed, part)?);
+        println!("slices: {}", report::slices(seed, part.div_ceil(4))?);
         println!("times: {}", report::times(seed, part.div_ceil(4))?);
         left -= part;
         seed += 1;

@@ -1,0 +1,2 @@
+-- The laws behind a start and a continue. Assumes nothing.
+pub mod Laws

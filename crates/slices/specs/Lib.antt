@@ -1,0 +1,2 @@
+-- What the code of this crate hands back, and what that means by the rules.
+pub mod Slices

@@ -1,0 +1,98 @@
+-- docs/RULES.md, "The run in slices", over the structs: what is handed back, by an equation, and what it means for every
+-- state of the rules' run that a struct stands for.
+use mathlib.Core.Bool.{Bool, true, false}
+use mathlib.Core.List.{List, [], _∷_}
+use mathlib.Core.Option.{Option, none}
+use mathlib.Core.Path.{_≡_}
+use Prim.Native.Nat.{ℕ, zero, suc, _*_, _+_}
+use lib.Dec.{ltb}
+use lib.IntN.{ℤ, pos}
+use lib.ListN.{length}
+use Rattle.whole.specs.Values.{whole}
+use Rattle.rules.specs.Problem.{Problem, problem}
+use Rattle.rules.specs.Refusal.{problemRefusal}
+use Rattle.rules.specs.Slices.{begun, continued, isAnswer, sliceAnswer, sliceLength, sliceOutput, sliceRefusal}
+use Rattle.rules.specs.Slices as rules
+use Rattle.tableau.specs.Start.{startTableau}
+use Rattle.solver.specs.declared.spend.Spent.{Spent}
+use Rattle.solver.specs.Spend.{manyOf, outAt, spentAt}
+use Rattle.solver.specs.Spend as solver
+use Rattle.slices.specs.declared.Begun.{Begun}
+use Rattle.slices.specs.declared.Continued.{Continued}
+use Rattle.slices.specs.declared.Slice.{Slice}
+
+-- ---- what a struct stands for
+
+abbrev pub Holds : rules.Slice ℤ → Slice → Type 0
+Holds S s = solver.Holds S (s .tableau) (s .count)
+
+abbrev pub Standing : Slice → Type 0
+Standing s = solver.Standing (s .tableau) (s .count)
+
+-- ---- a start
+
+-- the words of one variable without rows and limits, case H: a refused start hands back their state
+abbrev pub idle : List ℤ
+idle = pos 1 ∷ pos 0 ∷ pos 0 ∷ pos 0 ∷ pos 0 ∷ []
+
+abbrev pub startedWords : ℕ → List ℤ → List ℤ
+startedWords zero ws = ws
+startedWords (suc k) ws = idle
+
+abbrev pub startedProblem : List ℤ → Problem ℤ
+startedProblem ws = problem (startedWords (problemRefusal ws) ws)
+
+unfoldable pub begunAt : List ℤ → Begun
+begunAt ws = record {
+  refused = problemRefusal ws;
+  slice = record { count = 0; tableau = startTableau (startedProblem ws) };
+}
+
+pub record StartsAs (ws : List ℤ) (r : Begun) : Type 0 where
+  pub number : r .refused ≡ problemRefusal ws
+  pub state : Holds (begun whole (startedProblem ws)) (r .slice)
+  pub standing : Standing (r .slice)
+
+-- ---- a continue
+
+-- with no room for an answer nothing is done
+abbrev pub isShort : Slice → ℕ → Bool
+isShort s room = ltb room (3 + 2 * manyOf (s .tableau))
+
+abbrev pub wentOnBy : Spent → Continued
+wentOnBy p = record { refused = 0; answered = p .answered; slice = record { count = p .count; tableau = p .tableau } }
+
+abbrev pub wentOnWhere : Bool → Slice → ℕ → Continued
+wentOnWhere true s b = record { refused = 7; answered = false; slice = s }
+wentOnWhere false s b = wentOnBy (spentAt (s .tableau) (s .count) b)
+
+abbrev pub outputWhere : Bool → Slice → ℕ → List ℤ → List ℤ
+outputWhere true s b before = before
+outputWhere false s b before = outAt (s .tableau) (s .count) b before
+
+unfoldable pub wentOnAt : Slice → ℕ → ℕ → Continued
+wentOnAt s b room = wentOnWhere (isShort s room) s b
+
+unfoldable pub outputAt : Slice → ℕ → List ℤ → List ℤ
+outputAt s b before = outputWhere (isShort s (length before)) s b before
+
+-- .. by the rules: refused, the state stays and there is no answer
+abbrev pub stateBy : ℕ → rules.Slice ℤ → ℕ → rules.Slice ℤ
+stateBy zero S b = continued whole S b
+stateBy (suc k) S b = S
+
+abbrev pub answerBy : ℕ → rules.Slice ℤ → ℕ → Option (List ℤ)
+answerBy zero S b = sliceAnswer S b
+answerBy (suc k) S b = none
+
+-- what a continue means for a state that the struct stands for
+pub record Means (S : rules.Slice ℤ) (b : ℕ) (before : List ℤ) (r : Continued) (after : List ℤ) : Type 0 where
+  pub number : r .refused ≡ sliceRefusal S (length before)
+  pub answered : r .answered ≡ isAnswer (answerBy (r .refused) S b)
+  pub output : after ≡ sliceOutput (answerBy (r .refused) S b) (sliceLength S) before
+  pub state : Holds (stateBy (r .refused) S b) (r .slice)
+
+-- .. for every such state; and what comes back stands for one
+pub record GoesOnAs (s : Slice) (b : ℕ) (before : List ℤ) (r : Continued) (after : List ℤ) : Type 0 where
+  pub means : (S : rules.Slice ℤ) → Holds S s → Means S b before r after
+  pub standing : Standing (r .slice)
