@@ -10,6 +10,8 @@ pub mod Omega
 pub mod Tests
 pub mod Values
 pub mod Instances
+pub mod Beside
+pub mod Mixed
 pub mod Sums
 pub mod Tables
 pub mod Below

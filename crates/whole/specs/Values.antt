@@ -1,5 +1,7 @@
 -- What a variable's value is, what limits are compared with, and what lengths are added from: an ordered set of values
--- on which whole numbers act. `whole` is ℤ itself; `turned 𝓥` is 𝓥 with its order turned round.
+-- on which whole numbers act. `whole` is ℤ itself; `turned 𝓥` is 𝓥 with its order turned round; `beside 𝓐 𝓑` are two
+-- values side by side, the first compared first. `pairs` are two whole numbers so: a plain part, and how many small
+-- amounts there are, the small amount being as near to 0 as one likes, but above it.
 use mathlib.Core.Path.{_≡_}
 use mathlib.Core.Bool.{Bool, true, false}
 use Prim.Native.Nat.{ℕ}
@@ -19,6 +21,27 @@ whole = record { nil = pos 0; plus = _+ℤ_; scale = _*ℤ_; less = ltZ }
 
 abbrev pub turned : {X : Type 0} → Values X → Values X
 turned 𝓥 = record { nil = 𝓥 .nil; plus = 𝓥 .plus; scale = 𝓥 .scale; less = λ x y. 𝓥 .less y x }
+
+-- the first order decides; where it says neither less nor more, the second does
+abbrev pub lexicographic : (less more rest : Bool) → Bool
+lexicographic true more rest = true
+lexicographic false true rest = false
+lexicographic false false rest = rest
+
+abbrev pub beside : {A B : Type 0} → Values A → Values B → Values (A × B)
+beside 𝓐 𝓑 = record {
+  nil = (𝓐 .nil, 𝓑 .nil);
+  plus = λ x y. (𝓐 .plus (x .0) (y .0), 𝓑 .plus (x .1) (y .1));
+  scale = λ a x. (𝓐 .scale a (x .0), 𝓑 .scale a (x .1));
+  less = λ x y. lexicographic (𝓐 .less (x .0) (y .0)) (𝓐 .less (y .0) (x .0)) (𝓑 .less (x .1) (y .1));
+}
+
+abbrev pub pairs : Values (ℤ × ℤ)
+pairs = beside whole whole
+
+-- what a pair comes to, times k, where the fraction e / k is put for the small amount
+abbrev pub mixed : ℤ → ℤ → ℤ × ℤ → ℤ
+mixed e k x = k *ℤ x .0 +ℤ e *ℤ x .1
 
 -- f 0 + f 1 + .. + f (k - 1)
 abbrev pub total : {X : Type 0} → Values X → ℕ → (ℕ → X) → X
