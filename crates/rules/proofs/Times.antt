@@ -4,6 +4,7 @@ pub mod Falling
 pub mod Trail
 pub mod Closed
 pub mod Decide
+pub mod Smalls
 pub mod Refused
 pub mod Means
 pub mod Only

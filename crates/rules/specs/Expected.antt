@@ -5,7 +5,7 @@ use mathlib.Core.List.{List, [], _∷_, map}
 use Prim.Native.Nat.{ℕ}
 use lib.IntN.{ℤ, pos, negℤ}
 use lib.ListN.{length}
-use Rattle.whole.specs.Values.{whole}
+use Rattle.whole.specs.Values.{pairs}
 use Rattle.rules.specs.Problem.{answerLength}
 use Rattle.rules.specs.Refusal.{refusal}
 use Rattle.rules.specs.Answer.{answer}
@@ -19,7 +19,7 @@ pub data Expected : Type 0 where
   refused : ℕ → Expected
   answers : List ℤ → Expected
   times : List ℤ → Expected
-  cycle : (rows : List ℕ) (length-sum : ℤ) (answer : List ℤ) → Expected
+  cycle : (rows : List ℕ) (length-sum : ℤ × ℤ) (answer : List ℤ) → Expected
 
 pub record Case : Type 0 where
   pub words : List ℤ
@@ -32,15 +32,15 @@ comesOut ws (refused k) = pos (refusal ws (answerLength ws)) ∷ []
 comesOut ws (answers a) = pos (refusal ws (length a)) ∷ pos (checked ws a) ∷ answer ws
 comesOut ws (times a) = pos (timeRefusal ws (timesLength ws)) ∷ timesAnswer ws []
 comesOut ws (cycle rows total a) =
-    pos (timeRefusal ws (timesLength ws)) ∷ around whole (timeEdges ws) rows ∷ cond (isBadCycle whole (timeEdges ws) rows) (pos 1) (pos 0)
-    ∷ timesAnswer ws rows
+    pos (timeRefusal ws (timesLength ws)) ∷ around pairs (timeEdges ws) rows .0 ∷ around pairs (timeEdges ws) rows .1
+    ∷ cond (isBadCycle pairs (timeEdges ws) rows) (pos 1) (pos 0) ∷ timesAnswer ws rows
 
 -- .. and what is to come out: an answer is not refused, and the checker accepts it
 unfoldable pub wanted : Expected → List ℤ
 wanted (refused k) = pos k ∷ []
 wanted (answers a) = pos 0 ∷ pos 8 ∷ a
 wanted (times a) = pos 0 ∷ a
-wanted (cycle rows total a) = pos 0 ∷ total ∷ pos 1 ∷ a
+wanted (cycle rows total a) = pos 0 ∷ total .0 ∷ total .1 ∷ pos 1 ∷ a
 
 abbrev pub AllRight : List Case → Type 0
 AllRight cs = map (λ c. comesOut (c .words) (c .expected)) cs ≡ map (λ c. wanted (c .expected)) cs

@@ -3,7 +3,7 @@ use mathlib.Core.Bool.{Bool, _||_, not}
 use mathlib.Core.List.{List, [], _∷_, _++_}
 use Prim.Native.Nat.{ℕ, _+_, _*_, _-_, _≤_, _<_}
 use mathlib.Core.Path.{_≡_}
-use lib.IntN.{ℤ, pos, natAbs, _-ℤ_}
+use lib.IntN.{ℤ, pos, natAbs, negℤ}
 use lib.ListN.{length}
 use lib.Dec.{ltb, eqb}
 use lib.Signed.{_≤ℤ_}
@@ -27,9 +27,9 @@ strictWord ws i = word ws (4 + 4 * i)
 abbrev pub lengthWord : List ℤ → ℕ → ℤ
 lengthWord ws i = word ws (5 + 4 * i)
 
--- how many words an answer has: two, and one for each vertex
+-- how many words an answer has: two, and two for each vertex
 abbrev pub timesLength : List ℤ → ℕ
-timesLength ws = 2 + nOf ws
+timesLength ws = 2 + 2 * nOf ws
 
 -- ---- refusals 11 to 17; the first is that of Refusal.antt
 
@@ -84,12 +84,13 @@ pub record AcceptedTimes (ws : List ℤ) (room : ℕ) : Type 0 where
 
 -- ---- what they mean
 
--- each row as an edge, x its tail and y its head; a strict word of 1 takes 1 off the length
-abbrev pub timeEdges : List ℤ → Edges ℤ
+-- each row as an edge, x its tail and y its head. Its length is the pair of c and minus the strict word: one small
+-- amount less than c where the row is strict
+abbrev pub timeEdges : List ℤ → Edges (ℤ × ℤ)
 timeEdges ws = record {
   vertices = nOf ws;
   count = mOf ws;
   tail = λ i. natAbs (fromWord ws i);
   head = λ i. natAbs (toWord ws i);
-  size = λ i. lengthWord ws i -ℤ strictWord ws i;
+  size = λ i. (lengthWord ws i, negℤ (strictWord ws i));
 }

@@ -1,4 +1,5 @@
 pub mod Numbers
+pub mod Keys
 pub mod Passing
 pub mod Tracing
 pub mod Words

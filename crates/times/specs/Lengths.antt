@@ -1,12 +1,21 @@
--- What the code's lengths and arrays stand for.
+-- What the code's lengths and arrays stand for. A length is a pair, minutes and small amounts, as one number: the pair
+-- with 1 / 65,536 put for the small amount, times 65,536. Small parts of fewer than 32,768 keep the order of the pairs.
 use mathlib.Core.List.{List}
-use Prim.Native.Nat.{ℕ, _+_, _*_}
-use lib.IntN.{ℤ, pos, negℤ}
+use Prim.Native.Nat.{ℕ, _+_, _*_, _/_, _%_}
+use lib.IntN.{ℤ, pos, natAbs}
 use lib.ListN.{getD}
+use lib.Signed.{_≤ℤ_}
 use Rattle.whole.specs.Numbers.{Within}
+use Rattle.whole.specs.Values.{mixed}
 use Rattle.rules.specs.Sizes.{mostVertices, mostTimeRows, largestLength}
 use Rattle.times.specs.declared.length.Length.{Length}
-use Rattle.times.specs.declared.reached.Reached.{Reached}
+
+-- small amounts to a minute, in the code's numbers
+abbrev pub unit : ℕ
+unit = 65536
+
+abbrev pub keyOf : ℤ × ℤ → ℤ
+keyOf p = mixed (pos 1) (pos unit) p
 
 abbrev pub lengthOf : Length → ℤ
 lengthOf l = l .0
@@ -19,28 +28,43 @@ noRows = record { 0 = pos 0 }
 abbrev pub noRow : ℕ
 noRow = mostTimeRows
 
--- a vertex that no row has bettered
-abbrev pub unreached : Reached
-unreached = record { best = noRows; last = noRow }
+-- ---- sizes
 
--- the time of a vertex, by what is known of it
-abbrev pub timeOf : Reached → ℤ
-timeOf r = negℤ (lengthOf (r .best))
+-- the looks of k passes and at i rows more
+abbrev pub looks : ℕ → ℕ → ℕ
+looks k i = mostTimeRows * k + i
 
--- what k passes and i rows more may add up to
-abbrev pub reach : ℕ → ℕ → ℕ
-reach k i = (largestLength + 1) * (mostTimeRows * k + i)
+-- as far from 0 as so many rows may lead, in both parts
+pub record Near (p : ℤ × ℤ) (rows : ℕ) : Type 0 where
+  pub plain : Within (p .0) (largestLength * rows)
+  pub small : Within (p .1) rows
 
 -- at most what all passes add up to
 abbrev pub Modest : Length → Type 0
-Modest l = Within (lengthOf l) (reach mostVertices 0)
+Modest l = Within (lengthOf l) ((unit * largestLength + 1) * looks mostVertices 0)
 
--- what is known of v in an array, its distance, and the row that bettered it last; past the array's end these are 0
-abbrev pub knownAt : List Reached → ℕ → Reached
-knownAt known v = getD known v (record { best = noRows; last = 0 })
+-- ---- times
 
-abbrev pub at : List Reached → ℕ → ℤ
-at known v = lengthOf (knownAt known v .best)
+-- a distance that may be one of a time: not above 0
+pub record Passed (l : Length) : Type 0 where
+  pub modest : Modest l
+  pub low : lengthOf l ≤ℤ pos 0
 
-abbrev pub rowAt : List Reached → ℕ → ℕ
-rowAt known v = knownAt known v .last
+-- the parts of the time of a vertex at this distance
+abbrev pub plainPart : Length → ℤ
+plainPart l = pos (natAbs (lengthOf l) / unit)
+
+abbrev pub smallPart : Length → ℤ
+smallPart l = pos (natAbs (lengthOf l) % unit)
+
+-- ---- arrays
+
+-- the distance of v, as a length and as its number, and the row that bettered it last; past an array's end these are 0
+abbrev pub lengthAt : List Length → ℕ → Length
+lengthAt best v = getD best v noRows
+
+abbrev pub at : List Length → ℕ → ℤ
+at best v = lengthOf (lengthAt best v)
+
+abbrev pub rowAt : List ℕ → ℕ → ℕ
+rowAt last v = getD last v 0

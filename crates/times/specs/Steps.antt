@@ -1,23 +1,25 @@
--- What passes, the way back and the answer ask and promise. Each is stated over the edges of the words, through what the arrays stand for.
+-- What passes, the way back and the answer ask and promise. Each is stated over the edges of the words, through what
+-- the arrays stand for.
 use mathlib.Core.Path.{_≡_}
 use mathlib.Core.Logic.{_≢_}
 use mathlib.Core.Bool.{Bool, true, false}
-use mathlib.Core.List.{List}
+use mathlib.Core.List.{List, _∷_, _++_}
 use Prim.Native.Nat.{ℕ, suc, _+_, _*_, _-_, _≤_, _<_}
-use lib.IntN.{ℤ}
-use lib.ListN.{length, getD}
+use lib.IntN.{ℤ, pos, _+ℤ_}
+use lib.ListN.{length, getD, take, drop}
 use lib.Seq.{slice}
-use Rattle.whole.specs.Numbers.{Within}
-use Rattle.whole.specs.Values.{whole}
+use lib.Signed.{ltZ}
+use Rattle.whole.specs.Values.{pairs}
 use Rattle.rules.specs.Sizes.{mostVertices, mostTimeRows}
 use Rattle.rules.specs.Problem.{nOf, mOf}
-use Rattle.rules.specs.Passes.{betters, distance, distances, canMeet}
+use Rattle.rules.specs.Passes.{distance, distances, canMeet}
 use Rattle.rules.specs.Cycle.{BadCycle}
 use Rattle.rules.specs.TimeWords.{timesLength, AcceptedTimes, timeEdges}
 use Rattle.rules.proofs.Times.Traced.{Traced}
-use Rattle.times.specs.declared.reached.Reached.{Reached}
+use Rattle.times.specs.declared.answer.Halves.{Halves}
 use Rattle.times.specs.declared.cycle.Way.{Way}
-use Rattle.times.specs.Lengths.{knownAt, at, rowAt, noRow, reach, Modest}
+use Rattle.times.specs.declared.length.Length.{Length}
+use Rattle.times.specs.Lengths.{lengthAt, at, rowAt, noRow, keyOf, looks, Near, Modest, Passed}
 
 -- what refusals 11 to 16 leave
 abbrev pub Fine : List ℤ → Type 0
@@ -31,31 +33,39 @@ pub record Solvable (ws : List ℤ) (n m : ℕ) : Type 0 where
 
 -- ---- looks
 
-abbrev pub AllModest : List Reached → Type 0
-AllModest known = (v : ℕ) → Modest (knownAt known v .best)
+abbrev pub AllModest : List Length → Type 0
+AllModest best = (v : ℕ) → Modest (lengthAt best v)
 
 -- what a look at any row asks
-pub record Looking (ws : List ℤ) (known : List Reached) : Type 0 where
+pub record Looking (ws : List ℤ) (best : List Length) : Type 0 where
   pub fine : Fine ws
-  pub modest : AllModest known
+  pub modest : AllModest best
+
+-- whether row i betters its head, in the code's numbers
+abbrev pub isLess : List ℤ → List Length → ℕ → Bool
+isLess ws best i = ltZ (at best (timeEdges ws .tail i) +ℤ keyOf (timeEdges ws .size i)) (at best (timeEdges ws .head i))
 
 -- no row betters its head, or some row does
-abbrev pub Quiet : List ℤ → List Reached → Bool → Type 0
-Quiet ws known true = (i : ℕ) → i < mOf ws → betters whole (timeEdges ws) (at known) i ≡ false
-Quiet ws known false = (i : ℕ) × (i < mOf ws) × (betters whole (timeEdges ws) (at known) i ≡ true)
+abbrev pub Quiet : List ℤ → List Length → Bool → Type 0
+Quiet ws best true = (i : ℕ) → i < mOf ws → isLess ws best i ≡ false
+Quiet ws best false = (i : ℕ) × (i < mOf ws) × (isLess ws best i ≡ true)
 
 -- ---- passes
 
 -- after k passes and the looks at the rows below i
-pub record Looked (ws : List ℤ) (k i : ℕ) (known : List Reached) : Type 0 where
+pub record Looked (ws : List ℤ) (k i : ℕ) (best : List Length) (last : List ℕ) : Type 0 where
   pub fine : Fine ws
   pub early : k < mostVertices
   pub time : ℕ → ℕ
-  pub traced : Traced whole (timeEdges ws) (mOf ws * k) i time (at known) (rowAt known)
+  -- the distances as pairs
+  pub far : ℕ → ℤ × ℤ
+  pub are : (v : ℕ) → at best v ≡ keyOf (far v)
+  pub near : (v : ℕ) → Near (far v) (looks k i)
+  pub traced : Traced pairs (timeEdges ws) (mOf ws * k) i time far (rowAt last)
   -- where a row stands, it has bettered the vertex
-  pub stands : (v : ℕ) → v < mostVertices → rowAt known v ≢ noRow → 0 < time v
-  pub small : (v : ℕ) → Within (at known v) (reach k i)
-  pub long : length known ≡ mostVertices
+  pub stands : (v : ℕ) → v < mostVertices → rowAt last v ≢ noRow → 0 < time v
+  pub best-long : length best ≡ mostVertices
+  pub last-long : length last ≡ mostVertices
 
 -- what the looks of a pass have found, b looks having been made before it
 pub record Finds (ws : List ℤ) (b : ℕ) (time : ℕ → ℕ) (row : ℕ) : Type 0 where
@@ -63,24 +73,28 @@ pub record Finds (ws : List ℤ) (b : ℕ) (time : ℕ → ℕ) (row : ℕ) : Ty
   pub listed : row ≢ noRow → row < mOf ws
   pub late : row ≢ noRow → b < time (timeEdges ws .head row)
 
-pub record Pass (ws : List ℤ) (k i : ℕ) (known : List Reached) (row : ℕ) : Type 0 where
-  pub looked : Looked ws k i known
+pub record Pass (ws : List ℤ) (k i : ℕ) (best : List Length) (last : List ℕ) (row : ℕ) : Type 0 where
+  pub looked : Looked ws k i best last
   pub finds : Finds ws (mOf ws * k) (looked .time) row
 
 -- ---- how passes end
 
+abbrev pub AllPassed : List Length → Type 0
+AllPassed best = (v : ℕ) → Passed (lengthAt best v)
+
 -- no row betters its head
-pub record Settled (ws : List ℤ) (known : List Reached) : Type 0 where
-  pub can : canMeet whole (timeEdges ws) ≡ true
-  pub are : (v : ℕ) → at known v ≡ distance whole (timeEdges ws) (distances whole (timeEdges ws)) v
-  pub modest : AllModest known
-  pub long : length known ≡ mostVertices
+pub record Settled (ws : List ℤ) (best : List Length) : Type 0 where
+  pub can : canMeet pairs (timeEdges ws) ≡ true
+  pub are : (v : ℕ) → at best v ≡ keyOf (distance pairs (timeEdges ws) (distances pairs (timeEdges ws)) v)
+  pub passed : AllPassed best
+  pub long : length best ≡ mostVertices
 
 -- ---- the way back
 
 -- after `passes` passes one more has bettered v
-pub record Closing (ws : List ℤ) (known : List Reached) (passes v : ℕ) : Type 0 where
-  pub looked : Looked ws passes (mOf ws) known
+pub record Closing (ws : List ℤ) (last : List ℕ) (passes v : ℕ) : Type 0 where
+  pub best : List Length
+  pub looked : Looked ws passes (mOf ws) best last
   pub vertex : v < nOf ws
   pub late : mOf ws * passes < looked .time v
 
@@ -91,7 +105,7 @@ rowsOf w = slice (w .from) (w .to) (w .path)
 pub record Closed (ws : List ℤ) (w : Way) : Type 0 where
   pub in-order : w .from ≤ w .to
   pub in-path : w .to ≤ mostVertices
-  pub bad : BadCycle whole (timeEdges ws) (rowsOf w)
+  pub bad : BadCycle pairs (timeEdges ws) (rowsOf w)
 
 -- the way has closed a bad cycle; or it has some places left, and no more than n passes leave to be made
 pub record Went (ws : List ℤ) (passes : ℕ) (w : Way) : Type 0 where
@@ -100,18 +114,23 @@ pub record Went (ws : List ℤ) (passes : ℕ) (w : Way) : Type 0 where
   pub few : w .to ≤ w .from → w .from + suc passes ≤ nOf ws
 
 -- some number of passes was made; and whatever it is, the way back has gone so
-abbrev pub Tried : List ℤ → List Reached → ℕ → Type 0
-Tried ws known v = (passes : ℕ) × Closing ws known passes v
+abbrev pub Tried : List ℤ → List ℕ → ℕ → Type 0
+Tried ws last v = (passes : ℕ) × Closing ws last passes v
 
-abbrev pub Back : List ℤ → List Reached → ℕ → Way → Type 0
-Back ws known v w = (passes : ℕ) → Closing ws known passes v → Went ws passes w
+abbrev pub Back : List ℤ → List ℕ → ℕ → Way → Type 0
+Back ws last v w = (passes : ℕ) → Closing ws last passes v → Went ws passes w
 
 -- what the passes come to
-abbrev pub Settling : List ℤ → Bool → List Reached → Way → Type 0
-Settling ws true known way = Settled ws known
-Settling ws false known way = Closed ws way
+abbrev pub Settling : List ℤ → Bool → List Length → Way → Type 0
+Settling ws true best way = Settled ws best
+Settling ws false best way = Closed ws way
 
 -- ---- the answer
+
+-- two words, the first n words of each half, and what was past them
+abbrev pub output : ℤ → ℕ → Halves → ℕ → List ℤ → List ℤ
+output verdict count h n before =
+    verdict ∷ pos count ∷ (take n (h .plain) ++ take n (h .small)) ++ drop (2 + 2 * n) before
 
 pub record Gathering (w : Way) : Type 0 where
   pub in-order : w .from ≤ w .to

@@ -1,61 +1,83 @@
-// The answer's words: two, then one for each vertex.
+// The answer's words: two, then a word for each vertex, twice: the plain parts of the times, and their small parts.
 ghost use mathlib.Core.Path.{_≡_};
-ghost use mathlib.Core.List.{_∷_, _++_, map};
-ghost use Prim.Native.Nat.{ℕ, _+_, _≤_};
+ghost use mathlib.Core.List.{map};
+ghost use Prim.Native.Nat.{ℕ, _+_, _*_, _≤_};
 ghost use lib.IntN.{ℤ, pos};
-ghost use lib.ListN.{length, take, drop};
+ghost use lib.ListN.{length, replicate};
+ghost use lib.Seq.{paste};
 ghost use Rattle.rules.specs.Sizes.{mostVertices};
 ghost use Rattle.rules.specs.Times.{cycleWords};
-ghost use Rattle.times.specs.Lengths.{timeOf};
-ghost use Rattle.times.specs.Steps.{AllModest, Gathering, rowsOf};
+ghost use Rattle.times.specs.Lengths.{plainPart, smallPart};
+ghost use Rattle.times.specs.Steps.{AllPassed, Gathering, rowsOf, output};
 use crate::cycle::Way;
-use crate::reached::MOST_VERTICES;
-use crate::reached::Reached;
+use crate::length::Length;
+use crate::rows::MOST_VERTICES;
+
+// The two halves.
+pub struct Halves {
+    pub plain: [i64; MOST_VERTICES],
+    pub small: [i64; MOST_VERTICES],
+}
 
 // The times, minus the distances.
-pub fn times_of(known: [Reached; MOST_VERTICES]) -> [i64; MOST_VERTICES]
-    requires { ⌜ AllModest known ⌝ }
-    ensures { λ r. ⌜ r ≡ map timeOf known ⌝ }
+pub fn times_of(best: [Length; MOST_VERTICES]) -> Halves
+    requires { ⌜ AllPassed best ⌝ }
+    ensures { λ r. ⌜ (r .plain ≡ map plainPart best) × (r .small ≡ map smallPart best) ⌝ }
 {
-    let mut values = [0i64; MOST_VERTICES];
+    let mut plain = [0i64; MOST_VERTICES];
+    let mut small = [0i64; MOST_VERTICES];
     let mut v = 0;
     while v < MOST_VERTICES {
-        let reached = known[v];
-        let best = reached.best;
-        values[v] = best.time();
+        let far = best[v];
+        plain[v] = far.plain_time();
+        small[v] = far.small_time();
         v += 1;
     }
-    values
+    Halves { plain, small }
 }
 
 // The rows that go round, and zeros.
-pub fn gathered(way: Way) -> [i64; MOST_VERTICES]
+pub fn gathered(way: Way) -> Halves
     requires { ⌜ Gathering way ⌝ }
-    ensures { λ r. ⌜ r ≡ cycleWords mostVertices (rowsOf way) ⌝ }
+    ensures { λ r. ⌜ (r .plain ≡ cycleWords mostVertices (rowsOf way)) × (r .small ≡ replicate mostVertices (pos 0)) ⌝ }
 {
     let from = way.from;
     let count = way.to - from;
-    let mut values = [0i64; MOST_VERTICES];
+    let mut plain = [0i64; MOST_VERTICES];
     let mut i = 0;
     while i < count {
         let at = from + i;
-        values[i] = way.path[at] as i64;
+        plain[i] = way.path[at] as i64;
         i += 1;
     }
-    values
+    Halves {
+        plain,
+        small: [0i64; MOST_VERTICES],
+    }
+}
+
+// A half, from a place of the output on.
+fn place(half: [i64; MOST_VERTICES], n: usize, from: usize, out: &mut [i64])
+    requires { ⌜ (n ≤ mostVertices) × (from + n ≤ length (now out)) ⌝ }
+    ensures { λ r. ⌜ now (out .exit) ≡ paste (now (out .entry)) from half n ⌝ }
+{
+    let mut i = 0;
+    while i < n {
+        let at = from + i;
+        out[at] = half[i];
+        i += 1;
+    }
 }
 
 // The answer at the front of the output.
-pub fn write(verdict: i64, count: usize, values: [i64; MOST_VERTICES], n: usize, out: &mut [i64])
-    requires { ⌜ (n ≤ mostVertices) × (count ≤ mostVertices) × (2 + n ≤ length (now out)) ⌝ }
-    ensures { λ r. ⌜ now (out .exit) ≡ verdict ∷ pos count ∷ take n values ++ drop (2 + n) (now (out .entry)) ⌝ }
+pub fn write(verdict: i64, count: usize, halves: Halves, n: usize, out: &mut [i64])
+    requires { ⌜ (n ≤ mostVertices) × (count ≤ mostVertices) × (2 + 2 * n ≤ length (now out)) ⌝ }
+    ensures { λ r. ⌜ now (out .exit) ≡ output verdict count halves n (now (out .entry)) ⌝ }
 {
     out[0] = verdict;
     out[1] = count as i64;
-    let mut i = 0;
-    while i < n {
-        let at = 2 + i;
-        out[at] = values[i];
-        i += 1;
-    }
+    let plain = halves.plain;
+    let small = halves.small;
+    place(plain, n, 2, out);
+    place(small, n, 2 + n, out);
 }

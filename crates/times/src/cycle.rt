@@ -5,9 +5,8 @@ ghost use Prim.Native.Nat.{ℕ};
 ghost use lib.IntN.{ℤ};
 ghost use Rattle.rules.specs.Problem.{nOf};
 ghost use Rattle.times.specs.Steps.{Tried, Back};
-use crate::reached::MOST_VERTICES;
-use crate::reached::NO_ROW;
-use crate::reached::Reached;
+use crate::rows::MOST_VERTICES;
+use crate::rows::NO_ROW;
 use crate::rows::tail;
 
 // The rows that a way took, at the places from `from` on; those up to `to` go round, if there are any.
@@ -17,10 +16,10 @@ pub struct Way {
     pub path: [u16; MOST_VERTICES],
 }
 
-pub fn way_back(rows: &[i32], n: usize, known: [Reached; MOST_VERTICES], v: usize) -> Way
-    requires { ⌜ Tried (now rows) known v ⌝ }
+pub fn way_back(rows: &[i32], n: usize, last: [u32; MOST_VERTICES], v: usize) -> Way
+    requires { ⌜ Tried (now rows) last v ⌝ }
     requires { ⌜ n ≡ nOf (now rows) ⌝ }
-    ensures { λ r. ⌜ Back (now (rows .entry)) known v r ⌝ }
+    ensures { λ r. ⌜ Back (now (rows .entry)) last v r ⌝ }
 {
     let mut seen = [0u8; MOST_VERTICES];
     let mut path = [0u16; MOST_VERTICES];
@@ -35,8 +34,7 @@ pub fn way_back(rows: &[i32], n: usize, known: [Reached; MOST_VERTICES], v: usiz
                 path,
             };
         }
-        let reached = known[here];
-        let i = reached.last;
+        let i = last[here];
         if i == NO_ROW {
             return Way {
                 from: j,

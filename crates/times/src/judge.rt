@@ -12,7 +12,7 @@ ghost use Rattle.rules.specs.Problem.{nOf, mOf};
 ghost use Rattle.rules.specs.TimeWords.{badTimeSize, timeRefusal};
 ghost use Rattle.times.specs.Judged.{Framed, numberOf, rowNumber, rowsNumber};
 use crate::length::Length;
-use crate::reached::MOST_VERTICES;
+use crate::rows::MOST_VERTICES;
 use crate::rows::count_at;
 
 pub const MOST_ROWS: usize = 256;
@@ -126,7 +126,7 @@ pub fn judge(words: &[i32], room: usize) -> u32
     if number != NO_ROOM {
         return number;
     }
-    if room < 2 + count_at(words, 0) {
+    if room < 2 + 2 * count_at(words, 0) {
         return NO_ROOM;
     }
     0

@@ -1,8 +1,8 @@
-// Time rows x - y <= c: times that meet them all, or a cycle of rows that no times meet. docs/RULES.md, "Time rows".
+// Time rows x - y <= c or x - y < c: times that meet them all, or a cycle of rows that no times meet. docs/RULES.md,
+// "Time rows".
 //   judge     refusals 11 to 17
 //   length    what is added and compared along walks
 //   rows      accepted words as edges
-//   reached   what is known of a vertex
 //   passes    distances, pass by pass
 //   cycle     the way back to a cycle
 //   answer    the answer's words
@@ -18,7 +18,6 @@ mod cycle;
 mod judge;
 mod length;
 mod passes;
-mod reached;
 mod rows;
 
 // The times where the passes settle; else the cycle that the way back closed.
@@ -30,8 +29,8 @@ fn solve(rows: &[i32], out: &mut [i64])
     let m = rows::count_at(rows, 1);
     let s = passes::settle(rows, n, m);
     if s.met {
-        let known = s.known;
-        answer::write(1, n, answer::times_of(known), n, out);
+        let best = s.best;
+        answer::write(1, n, answer::times_of(best), n, out);
         return;
     }
     let way = s.way;

@@ -3,18 +3,16 @@
 ghost use mathlib.Core.Path.{_≡_};
 ghost use mathlib.Core.Bool.{Bool, cond};
 ghost use Prim.Native.Nat.{ℕ, _<_, min};
-ghost use lib.IntN.{ℤ};
-ghost use Rattle.whole.specs.Values.{whole};
+ghost use lib.IntN.{ℤ, _+ℤ_};
 ghost use Rattle.rules.specs.Problem.{mOf};
 ghost use Rattle.rules.specs.TimeWords.{timeEdges};
-ghost use Rattle.times.specs.Lengths.{lengthOf, Modest};
+ghost use Rattle.times.specs.Lengths.{lengthOf, keyOf, Modest};
 ghost use Rattle.times.specs.Steps.{Fine, Looking, Quiet, Solvable, Settling};
 use crate::cycle::Way;
 use crate::cycle::way_back;
 use crate::length::Length;
-use crate::reached::MOST_VERTICES;
-use crate::reached::NO_ROW;
-use crate::reached::Reached;
+use crate::rows::MOST_VERTICES;
+use crate::rows::NO_ROW;
 use crate::rows::head;
 use crate::rows::size;
 use crate::rows::tail;
@@ -22,20 +20,19 @@ use crate::rows::tail;
 // What the passes came to: whether all rows can be met, the distances if so, and a cycle if not.
 pub struct Ending {
     pub met: bool,
-    pub known: [Reached; MOST_VERTICES],
+    pub best: [Length; MOST_VERTICES],
     pub way: Way,
 }
 
 // What row i offers its head: the distance of its tail, and its length.
-fn offer(rows: &[i32], i: usize, from: Reached) -> Length
-    requires { ⌜ (Fine (now rows)) × (i < mOf (now rows)) × (Modest (from .best)) ⌝ }
-    ensures { λ r. ⌜ lengthOf r ≡ whole .plus (lengthOf (from .best)) (timeEdges (now (rows .entry)) .size i) ⌝ }
+fn offer(rows: &[i32], i: usize, best: Length) -> Length
+    requires { ⌜ (Fine (now rows)) × (i < mOf (now rows)) × (Modest best) ⌝ }
+    ensures { λ r. ⌜ lengthOf r ≡ lengthOf best +ℤ keyOf (timeEdges (now (rows .entry)) .size i) ⌝ }
 {
-    let best = from.best;
     best.plus(size(rows, i))
 }
 
-// One of two rows, or of two vertices' states, without a branch.
+// One of two rows, or of two lengths, without a branch.
 fn row_if(is: bool, row: u32, other: u32) -> u32
     ensures { λ r. ⌜ r ≡ cond is row other ⌝ }
 {
@@ -45,7 +42,7 @@ fn row_if(is: bool, row: u32, other: u32) -> u32
     other
 }
 
-fn reached_if(is: bool, next: Reached, was: Reached) -> Reached
+fn length_if(is: bool, next: Length, was: Length) -> Length
     ensures { λ r. ⌜ r ≡ cond is next was ⌝ }
 {
     if is {
@@ -64,18 +61,18 @@ fn lesser(a: usize, b: usize) -> usize
 }
 
 // Whether no row betters its head.
-fn is_quiet(rows: &[i32], m: usize, known: [Reached; MOST_VERTICES]) -> bool
-    requires { ⌜ Looking (now rows) known ⌝ }
+fn is_quiet(rows: &[i32], m: usize, best: [Length; MOST_VERTICES]) -> bool
+    requires { ⌜ Looking (now rows) best ⌝ }
     requires { ⌜ m ≡ mOf (now rows) ⌝ }
-    ensures { λ r. ⌜ Quiet (now (rows .entry)) known r ⌝ }
+    ensures { λ r. ⌜ Quiet (now (rows .entry)) best r ⌝ }
 {
     let mut i = 0;
     while i < m {
         let x = tail(rows, i);
         let y = head(rows, i);
-        let offered = offer(rows, i, known[x]);
-        let was = known[y];
-        if offered.less(was.best) {
+        let offered = offer(rows, i, best[x]);
+        let was = best[y];
+        if offered.less(was) {
             return false;
         }
         i += 1;
@@ -84,22 +81,20 @@ fn is_quiet(rows: &[i32], m: usize, known: [Reached; MOST_VERTICES]) -> bool
 }
 
 // Passes until no row betters its head, or the way back closes a cycle. In a pass each row is looked at once; one that
-// leads to a shorter walk betters its head. Rows in the order of their walks need one pass, and a look alone tells it.
-// The way back is tried after passes 2, 4, 8, ..; sooner where it had fewer places left than passes were made. After n
-// passes it has none.
+// leads to a shorter walk betters its head: its distance is kept, and the row. Rows in the order of their walks need
+// one pass, and a look alone tells it. The way back is tried after passes 2, 4, 8, ..; sooner where it had fewer places
+// left than passes were made. After n passes it has none.
 pub fn settle(rows: &[i32], n: usize, m: usize) -> Ending
     requires { ⌜ Solvable (now rows) n m ⌝ }
-    ensures { λ r. ⌜ Settling (now (rows .entry)) (r .met) (r .known) (r .way) ⌝ }
+    ensures { λ r. ⌜ Settling (now (rows .entry)) (r .met) (r .best) (r .way) ⌝ }
 {
     let nowhere = Way {
         from: n,
         to: n,
         path: [0u16; MOST_VERTICES],
     };
-    let mut known = [Reached {
-        best: Length(0),
-        last: NO_ROW,
-    }; MOST_VERTICES];
+    let mut best = [Length(0); MOST_VERTICES];
+    let mut last = [NO_ROW; MOST_VERTICES];
     let mut k = 0;
     let mut due = 2;
     loop {
@@ -108,27 +103,29 @@ pub fn settle(rows: &[i32], n: usize, m: usize) -> Ending
         while i < m {
             let x = tail(rows, i);
             let y = head(rows, i);
-            let best = offer(rows, i, known[x]);
-            let was = known[y];
-            let last = i as u32;
-            let is = best.less(was.best);
-            known[y] = reached_if(is, Reached { best, last }, was);
-            row = row_if(is, last, row);
+            let offered = offer(rows, i, best[x]);
+            let was = best[y];
+            let held = last[y];
+            let this = i as u32;
+            let is = offered.less(was);
+            best[y] = length_if(is, offered, was);
+            last[y] = row_if(is, this, held);
+            row = row_if(is, this, row);
             i += 1;
         }
         if row == NO_ROW {
             return Ending {
                 met: true,
-                known,
+                best,
                 way: nowhere,
             };
         }
         k += 1;
         if k == 1 {
-            if is_quiet(rows, m, known) {
+            if is_quiet(rows, m, best) {
                 return Ending {
                     met: true,
-                    known,
+                    best,
                     way: nowhere,
                 };
             }
@@ -137,11 +134,11 @@ pub fn settle(rows: &[i32], n: usize, m: usize) -> Ending
         if k != due {
             continue;
         }
-        let way = way_back(rows, n, known, head(rows, row as usize));
+        let way = way_back(rows, n, last, head(rows, row as usize));
         if way.from < way.to {
             return Ending {
                 met: false,
-                known,
+                best,
                 way,
             };
         }

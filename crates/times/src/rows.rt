@@ -1,4 +1,5 @@
-// The rows of accepted words as edges: row i goes from its tail to its head, and is as long as its c, less 1 if it is strict.
+// The rows of accepted words as edges: row i goes from its tail to its head, and is as long as its c, less a small
+// amount if it is strict.
 ghost use mathlib.Core.Path.{_≡_};
 ghost use Prim.Native.Nat.{ℕ, _+_, _*_, _<_};
 ghost use lib.IntN.{ℤ, pos, natAbs};
@@ -6,9 +7,14 @@ ghost use lib.ListN.{length};
 ghost use lib.Signed.{_≤ℤ_};
 ghost use Rattle.rules.specs.Problem.{word, mOf};
 ghost use Rattle.rules.specs.TimeWords.{timeEdges};
-ghost use Rattle.times.specs.Lengths.{lengthOf};
+ghost use Rattle.times.specs.Lengths.{lengthOf, keyOf};
 ghost use Rattle.times.specs.Steps.{Fine};
 use crate::length::Length;
+
+pub const MOST_VERTICES: usize = 64;
+
+// Stands for no row: one past the last number that a row can have.
+pub const NO_ROW: u32 = 256;
 
 // A word that is not below 0, as a count.
 pub fn count_at(words: &[i32], at: usize) -> usize
@@ -34,10 +40,9 @@ pub fn head(rows: &[i32], i: usize) -> usize
 
 pub fn size(rows: &[i32], i: usize) -> Length
     requires { ⌜ (Fine (now rows)) × (i < mOf (now rows)) ⌝ }
-    ensures { λ r. ⌜ lengthOf r ≡ timeEdges (now (rows .entry)) .size i ⌝ }
+    ensures { λ r. ⌜ lengthOf r ≡ keyOf (timeEdges (now (rows .entry)) .size i) ⌝ }
 {
     let strict = 4 + 4 * i;
     let c = 5 + 4 * i;
-    let read = rows[c] - rows[strict];
-    Length(read)
+    Length::of(rows[c], rows[strict])
 }

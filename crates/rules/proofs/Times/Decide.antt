@@ -1,7 +1,8 @@
 -- The passes decide: after as many as there are vertices the distances are settled, or there is a bad cycle (unsettled-cycle). So each input has one
 -- of the two answers, and never both.
 --   settled-shortest, settled-open     settled distances are the shortest ones, and no walk closes below 0
---   still-meets, still-distance        any walks' lengths that no row betters are those distances
+--   distances-low                      no distance is above 0
+--   still-can, still-distance          any walks' lengths that no row betters are those distances
 --   bad-cannot                         a bad cycle leaves them unsettled
 --   cycle-short                        a cycle has at most as many rows as there are vertices
 use mathlib.Core.Path.{_≡_, refl, sym, _∙_, ap, subst}
@@ -188,6 +189,10 @@ module _ {X : Type 0} {𝓥 : Values X} (L : Laws 𝓥) (E : Edges X) (ends : En
   pub can-still : canMeet 𝓥 E ≡ true → Still 𝓥 E (distance 𝓥 E (distances 𝓥 E))
   unfolding canMeet
   can-still e = settled-still 𝓥 E (distances 𝓥 E) e
+
+  pub distances-low : (v : ℕ) → Le 𝓥 (distance 𝓥 E (distances 𝓥 E) v) (𝓥 .nil)
+  unfolding distances
+  distances-low = held (E .vertices) .traced .low
 
   pub can-shortest : canMeet 𝓥 E ≡ true → (v : ℕ) → Shortest 𝓥 E v (distance 𝓥 E (distances 𝓥 E) v)
   unfolding canMeet distances

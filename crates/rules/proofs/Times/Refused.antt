@@ -3,17 +3,17 @@
 --   times-refusal-exactly         the refusal is k exactly where no earlier line's meaning holds and line k's does, and 0 where none does
 --   times-accepted-exactly        it is 0 exactly for accepted words with room enough
 --   accepted-ends, n-few, ..      what accepted words hold, as facts about their sizes and their edges
-use mathlib.Core.Path.{_≡_, refl}
+use mathlib.Core.Path.{_≡_}
 use mathlib.Core.List.{List, [], _∷_}
-use mathlib.Core.Logic.{_↔_, _≢_, _⊎_}
-use Prim.Native.Nat.{ℕ, _+_, _*_, _-_, _≤_, _<_}
+use mathlib.Core.Logic.{_↔_, _≢_, _⊎_, inl, inr}
+use Prim.Native.Nat.{ℕ, zero, suc, _+_, _*_, _-_, _≤_, _<_}
 use native.Mathlib.Omega.{arith}
-use lib.IntN.{ℤ, pos, natAbs, _-ℤ_}
+use lib.IntN.{ℤ, pos, natAbs}
 use lib.ListN.{length}
+use lib.Signed.{_≤ℤ_}
 use Rattle.whole.specs.Numbers.{Within}
-use Rattle.whole.proofs.Sizes.{within--}
 use Rattle.whole.proofs.Tells.{Tells, tells-eq, tells-lt, tells-not, tells-or, tells-outside, tells-some, tells-within}
-use Rattle.whole.proofs.Tests.{above, under}
+use Rattle.whole.proofs.Tests.{above, own-size, under}
 use Rattle.rules.specs.Sizes.{mostVertices, mostTimeRows, largestLength}
 use Rattle.rules.specs.Problem.{word, nOf, mOf}
 use Rattle.rules.specs.Walks.{Ends}
@@ -103,6 +103,15 @@ times-accepted-exactly ws room = let r = first-fine (timesTable ws room) (omega 
 
 -- ---- what accepted words hold
 
+-- s is 0 or 1
+zero-or-one : (s : ℤ) → pos 0 ≤ℤ s → s ≤ℤ pos 1 → (s ≡ pos 0) ⊎ (s ≡ pos 1)
+zero-or-one s h k = go (natAbs s) (own-size 0 s h) (under 1 0 s h k)
+  where
+    go : (n : ℕ) → s ≡ pos n → n ≤ 1 → (s ≡ pos 0) ⊎ (s ≡ pos 1)
+    go zero e l = inl e
+    go (suc zero) e l = inr e
+    go (suc (suc n)) e l = absurd (omega arith)
+
 module _ {ws : List ℤ} {room : ℕ} (A : AcceptedTimes ws room) where
   pub n-some : 1 ≤ nOf ws
   n-some = above 1 (word ws 0) (A .n-least)
@@ -122,6 +131,5 @@ module _ {ws : List ℤ} {room : ℕ} (A : AcceptedTimes ws room) where
   pub strict-within : (i : ℕ) → i < mOf ws → Within (strictWord ws i) 1
   strict-within i h = record { within = under 1 0 (strictWord ws i) (A .strict-least i h) (A .strict-most i h) }
 
-  -- a row's length as it is read: a strict row may be one longer
-  pub size-within : (i : ℕ) → i < mOf ws → Within (lengthWord ws i -ℤ strictWord ws i) (largestLength + 1)
-  size-within i h = within-- {b = strictWord ws i} (A .lengths i h) (strict-within i h)
+  pub strict-is : (i : ℕ) → i < mOf ws → (strictWord ws i ≡ pos 0) ⊎ (strictWord ws i ≡ pos 1)
+  strict-is i h = zero-or-one (strictWord ws i) (A .strict-least i h) (A .strict-most i h)

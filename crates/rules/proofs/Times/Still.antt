@@ -2,6 +2,7 @@
 --   settled-still, still-settled    the test, and back
 --   still-walk, still-least         along a walk; from the added vertex
 --   still-shortest, shortest-only   lengths of walks that no row betters are the shortest distances; these are unique
+--   still-back                      and so is what a shortest walk has before its last row
 --   still-open, bad-closes          they exclude a walk that closes below 0; a bad cycle is such a walk
 --   bad-no-still                    and so they exclude a bad cycle
 use mathlib.Core.Path.{_≡_, refl, sym, _∙_, ap, subst}
@@ -45,6 +46,13 @@ module _ {X : Type 0} {𝓥 : Values X} (L : Laws 𝓥) (E : Edges X) where
 
     pub still-shortest : ((v : ℕ) → Le 𝓥 (D v) nil) → (v : ℕ) → (u : ℕ) × (k : ℕ) × Walk 𝓥 E u k v (D v) → Shortest 𝓥 E v (D v)
     still-shortest low v w = record { walk = w; least = λ u k e x. still-least low u k v e x }
+
+    -- what a shortest walk has before its last row is the shortest distance there
+    pub still-back : ((v : ℕ) → Le 𝓥 (D v) nil) → (u k i : ℕ) (d : X) → i < E .count → Walk 𝓥 E u k (E .tail i) d →
+        D (E .head i) ≡ plus d (E .size i) → D (E .tail i) ≡ d
+    still-back low u k i d h w e =
+        L .le-antisym (D (E .tail i)) d (still-least low u k (E .tail i) d w)
+        (sym (L .less-plus (D (E .tail i)) d (E .size i)) ∙ ap (λ x. 𝓥 .less (through 𝓥 E D i) x) (sym e) ∙ s i h)
 
     pub still-open : ClosesBelow 𝓥 E → ⊥
     still-open c = true-false (c .below) (gain-le L (D (c .start)) (c .sum) (still-walk (c .start) (c .rows) (c .start) (c .sum) (c .walk)))

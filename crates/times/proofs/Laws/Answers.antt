@@ -4,30 +4,31 @@
 --   closed-gathering   the rows of a cycle are small numbers
 --   timed-unmet        a bad cycle, and its rows written
 use mathlib.Core.Path.{_≡_, refl, sym, _∙_, ap, ap₂}
-use mathlib.Core.Bool.{true, false}
+use mathlib.Core.Bool.{false}
 use mathlib.Core.List.{List, [], _∷_, _++_, map}
-use Prim.Native.Nat.{ℕ, zero, suc, _+_, _-_, _≤_, _<_}
+use Prim.Native.Nat.{ℕ, zero, suc, _+_, _*_, _-_, _≤_}
 use native.Mathlib.Omega.{arith}
 use lib.IntN.{ℤ, pos}
-use lib.ListN.{length, take, drop}
+use lib.ListN.{length, take, drop, replicate}
 use lib.Seq.{length-slice}
-use Rattle.whole.specs.Values.{whole}
+use Rattle.whole.specs.Values.{pairs}
+use Rattle.whole.proofs.Beside.{pairs-laws}
 use Rattle.whole.proofs.Bools.{true-false}
-use Rattle.whole.proofs.Instances.{whole-laws}
 use Rattle.rules.specs.Sizes.{mostVertices}
-use Rattle.rules.specs.Problem.{nOf, mOf}
+use Rattle.rules.specs.Problem.{nOf}
 use Rattle.rules.specs.Passes.{canMeet}
 use Rattle.rules.specs.TimeWords.{timesLength, timeRefusal, AcceptedTimes, timeEdges}
-use Rattle.rules.specs.Times.{cycleWords, timesWritten, Timed}
+use Rattle.rules.specs.Times.{timesOf, cycleWords, timesWritten, Timed}
 use Rattle.rules.proofs.Times.Closed.{slice-at}
 use Rattle.rules.proofs.Times.Decide.{cycle-short, bad-cannot}
 use Rattle.rules.proofs.Times.Only.{answer-can, answer-cannot}
 use Rattle.rules.proofs.Times.Refused.{n-few, m-few, accepted-ends, times-accepted-exactly}
-use Rattle.times.specs.declared.reached.Reached.{Reached}
+use Rattle.times.specs.declared.answer.Halves.{Halves}
 use Rattle.times.specs.declared.cycle.Way.{Way}
-use Rattle.times.specs.Lengths.{timeOf}
-use Rattle.times.specs.Steps.{Fine, Settled, Closed, Gathering, rowsOf}
-use Rattle.times.proofs.Laws.Words.{times-are, words-take}
+use Rattle.times.specs.declared.length.Length.{Length}
+use Rattle.times.specs.Lengths.{plainPart, smallPart}
+use Rattle.times.specs.Steps.{Fine, Settled, Closed, Gathering, rowsOf, output}
+use Rattle.times.proofs.Laws.Words.{words-take, words-twice, take-replicate, plains-are, smalls-are}
 
 -- a refusal keeps the output
 pub timed-refused : (ws before : List ℤ) (r : ℕ) → r ≡ timeRefusal ws (length before) → (r ≡ 0 → ⊥) → Timed ws before r before
@@ -54,18 +55,26 @@ fine-of A = record {
   roomy = omega arith;
 }
 
+-- the halves of times, and of a cycle
+abbrev pub halves-of : List Length → Halves
+halves-of best = record { plain = map plainPart best; small = map smallPart best }
+
+abbrev pub halves-round : Way → Halves
+halves-round w = record { plain = cycleWords mostVertices (rowsOf w); small = replicate mostVertices (pos 0) }
+
 module _ (ws before : List ℤ) (A : AcceptedTimes ws (length before)) where
   unrefused : 0 ≡ timeRefusal ws (length before)
   unrefused = sym (times-accepted-exactly ws (length before) .1 A)
 
-  pub timed-met : (known : List Reached) (after : List ℤ) (n : ℕ) → n ≡ nOf ws → Settled ws known →
-      after ≡ pos 1 ∷ pos n ∷ take n (map timeOf known) ++ drop (2 + n) before → Timed ws before 0 after
-  unfolding timesWritten
-  timed-met known after n e s w = record {
+  pub timed-met : (best : List Length) (after : List ℤ) (n : ℕ) → n ≡ nOf ws → Settled ws best →
+      after ≡ output (pos 1) n (halves-of best) n before → Timed ws before 0 after
+  unfolding timesWritten timesOf
+  timed-met best after n e s w = record {
     refused = unrefused;
     rows = [];
-    written = w ∙ ap (λ k. pos 1 ∷ pos k ∷ take k (map timeOf known) ++ drop (2 + k) before) e
-        ∙ ap (λ t. pos 1 ∷ pos (nOf ws) ∷ t ++ drop (timesLength ws) before) (times-are ws (fine-of A) known s)
+    written = w ∙ ap (λ k. output (pos 1) k (halves-of best) k before) e
+        ∙ ap₂ (λ p q. pos 1 ∷ pos (nOf ws) ∷ (p ++ q) ++ drop (timesLength ws) before)
+        (plains-are ws (fine-of A) best s) (smalls-are ws (fine-of A) best s)
         ∙ ap (λ t. t ++ drop (timesLength ws) before) (sym (answer-can ws [] (s .can)));
     named = λ z f. true-false (s .can) f;
   }
@@ -82,13 +91,15 @@ module _ (ws before : List ℤ) (A : AcceptedTimes ws (length before)) where
     }
 
     pub timed-unmet : (after : List ℤ) (n : ℕ) → n ≡ nOf ws →
-        after ≡ pos 2 ∷ pos (w .to - w .from) ∷ take n (cycleWords mostVertices (rowsOf w)) ++ drop (2 + n) before → Timed ws before 0 after
+        after ≡ output (pos 2) (w .to - w .from) (halves-round w) n before →
+        Timed ws before 0 after
     unfolding timesWritten
     timed-unmet after n e f = record {
       refused = unrefused;
       rows = rowsOf w;
-      written = f ∙ ap₂ (λ k q. pos 2 ∷ pos q ∷ take k (cycleWords mostVertices (rowsOf w)) ++ drop (2 + k) before) e (sym rows-long)
-          ∙ ap (λ t. pos 2 ∷ pos (length (rowsOf w)) ∷ t ++ drop (timesLength ws) before) (words-take (rowsOf w) (nOf ws) short (n-few A))
+      written = f
+          ∙ ap₂ (λ k q. output (pos 2) q (halves-round w) k before) e (sym rows-long)
+          ∙ ap (λ t. pos 2 ∷ pos (length (rowsOf w)) ∷ t ++ drop (timesLength ws) before) words
           ∙ ap (λ t. t ++ drop (timesLength ws) before) (sym (answer-cannot ws (rowsOf w) cannot));
       named = λ z g. c .bad;
     }
@@ -96,5 +107,12 @@ module _ (ws before : List ℤ) (A : AcceptedTimes ws (length before)) where
         short : length (rowsOf w) ≤ nOf ws
         short = cycle-short (timeEdges ws) (rowsOf w) (accepted-ends A) (c .bad .cycle)
 
-        cannot : canMeet whole (timeEdges ws) ≡ false
-        cannot = bad-cannot whole-laws (timeEdges ws) (accepted-ends A) (rowsOf w) (c .bad)
+        words : take (nOf ws) (cycleWords mostVertices (rowsOf w)) ++ take (nOf ws) (replicate mostVertices (pos 0))
+            ≡ cycleWords (2 * nOf ws) (rowsOf w)
+        words =
+            ap₂ (λ p q. p ++ q) (words-take (rowsOf w) (nOf ws) short (n-few A))
+            (take-replicate (nOf ws) mostVertices (pos 0) (n-few A))
+            ∙ sym (words-twice (rowsOf w) (nOf ws) short)
+
+        cannot : canMeet pairs (timeEdges ws) ≡ false
+        cannot = bad-cannot pairs-laws (timeEdges ws) (accepted-ends A) (rowsOf w) (c .bad)

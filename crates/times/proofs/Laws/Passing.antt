@@ -1,71 +1,99 @@
 -- A pass, row by row, and the passes one after the other.
 --   looked-start                   no pass
---   looked-modest                  what is known is modest, so a sum fits
+--   looked-modest                  distances are modest, so a sum fits
+--   looked-less                    a look compares numbers as the rules compare pairs
 --   pass-start                     no row of a pass
 --   pass-taken, pass-kept          a row that betters its head; one that does not
 --   looked-more                    the next pass begins
---   pass-still, pass-settled       a pass that bettered nothing leaves nothing to better; then the distances are right
+--   pass-quiet, pass-still         a pass that bettered nothing, or a look after it, leaves nothing to better
+--   pass-settled                   then the distances are right
 --   pass-closing                   a pass that bettered a vertex
-use mathlib.Core.Path.{_≡_, refl, sym, _∙_, ap, subst}
+use mathlib.Core.Path.{_≡_, refl, sym, _∙_, ap, ap₂, subst}
+use mathlib.Core.Bool.{Bool, true, false}
 use mathlib.Core.List.{List}
 use mathlib.Core.Logic.{_≢_}
 use Prim.Native.Nat.{ℕ, suc, _+_, _*_, _≤_, _<_}
 use native.Mathlib.Omega.{arith}
 use native.Mathlib.Decide.{ℕ-discrete, decLt}
 use native.Mathlib.Nat.{mul-suc, mul-zero}
-use lib.IntN.{ℤ, pos}
+use lib.IntN.{ℤ, pos, _+ℤ_}
 use lib.ListN.{length, set, replicate, length-set, length-replicate, getD-replicate, List·getD-eq-default}
+use lib.Signed.{ltZ, _≤ℤ_}
 use Rattle.whole.specs.Numbers.{Within}
-use Rattle.whole.specs.Values.{whole, Lt, Le}
-use Rattle.whole.proofs.Instances.{whole-laws}
-use Rattle.whole.proofs.Sizes.{within-+, within-le}
-use Rattle.rules.specs.Sizes.{mostVertices}
+use Rattle.whole.specs.Values.{pairs}
+use Rattle.whole.proofs.Beside.{pairs-laws}
+use Rattle.whole.proofs.Sizes.{within-le}
+use Rattle.rules.specs.Sizes.{mostVertices, largestLength}
 use Rattle.rules.specs.Problem.{nOf, mOf}
 use Rattle.rules.specs.Walks.{Edges, Ends}
-use Rattle.rules.specs.Passes.{through}
+use Rattle.rules.specs.Passes.{through, betters, distance, distances}
 use Rattle.rules.specs.TimeWords.{timeEdges}
 use Rattle.rules.proofs.Times.Decide.{set-put, still-can, still-distance}
-use Rattle.rules.proofs.Times.Refused.{n-few, m-few, accepted-ends, size-within}
+use Rattle.rules.proofs.Times.Refused.{n-few, m-few, accepted-ends}
 use Rattle.rules.proofs.Times.Still.{Still}
-use Rattle.rules.proofs.Times.Traced.{Put, put, put-put, Traced, traced-start, traced-kept, traced-taken, traced-pass, traced-still}
+use Rattle.rules.proofs.Times.Traced.{Put, put, put-put, Traced, traced-start, traced-kept, traced-taken, traced-pass}
+use Rattle.rules.proofs.Times.Traced.{traced-still}
 use Rattle.times.specs.declared.length.Length.{Length}
-use Rattle.times.specs.declared.reached.Reached.{Reached}
-use Rattle.times.specs.Lengths.{lengthOf, noRow, unreached, knownAt, at, rowAt, reach}
-use Rattle.times.specs.Steps.{Fine, AllModest, Looked, Pass, Settled, Closing}
+use Rattle.times.specs.Lengths.{unit, lengthOf, noRows, noRow, keyOf, looks, Near, lengthAt, at, rowAt}
+use Rattle.times.specs.Steps.{Fine, AllModest, isLess, Quiet, Looked, Pass, Settled, Closing}
+use Rattle.times.proofs.Laws.Keys.{key-plus, near-le, near-plus, near-within, size-near, key-less, key-low}
 
 -- ---- no pass
 
-blank : (v : ℕ) → v < mostVertices → knownAt (replicate mostVertices unreached) v ≡ unreached
-blank v h = getD-replicate mostVertices v unreached _ h
-
-zeros : (v : ℕ) → at (replicate mostVertices unreached) v ≡ pos 0
-zeros v = go (decLt v mostVertices)
+nowhere : (v : ℕ) → lengthAt (replicate mostVertices noRows) v ≡ noRows
+nowhere v = go (decLt v mostVertices)
   where
-    go : Dec (v < mostVertices) → at (replicate mostVertices unreached) v ≡ pos 0
-    go (yes h) = ap (λ r. lengthOf (r .best)) (blank v h)
+    go : Dec (v < mostVertices) → lengthAt (replicate mostVertices noRows) v ≡ noRows
+    go (yes h) = getD-replicate mostVertices v noRows noRows h
     go (no n) =
-        let h : length (replicate mostVertices unreached) ≤ v =
-        omega (arith, length-replicate mostVertices unreached) in
-        ap (λ r. lengthOf (r .best)) (List·getD-eq-default (replicate mostVertices unreached) _ h)
+        let h : length (replicate mostVertices noRows) ≤ v = omega (arith, length-replicate mostVertices noRows) in
+        List·getD-eq-default (replicate mostVertices noRows) noRows h
 
-pub looked-start : (ws : List ℤ) → Fine ws → Looked ws 0 0 (replicate mostVertices unreached)
+pub looked-start : (ws : List ℤ) → Fine ws →
+    Looked ws 0 0 (replicate mostVertices noRows) (replicate mostVertices noRow)
 looked-start ws f = record {
   fine = f;
   early = omega arith;
   time = λ v. 0;
-  traced = rw (mul-zero (mOf ws)) (traced-start whole-laws (timeEdges ws) _ _ zeros);
-  stands = λ v h n. absurd (n (ap (λ r. r .last) (blank v h)));
-  small = λ v. record { within = rw (zeros v) (omega arith) };
-  long = length-replicate mostVertices unreached;
+  far = λ v. pairs .nil;
+  are = λ v. ap lengthOf (nowhere v);
+  near = λ v. record { plain = record { within = omega arith }; small = record { within = omega arith } };
+  traced = rw (mul-zero (mOf ws)) (traced-start pairs-laws (timeEdges ws) _ _ (λ v. refl));
+  stands = λ v h n. absurd (n (getD-replicate {A = ℕ} mostVertices v noRow 0 h));
+  best-long = length-replicate mostVertices noRows;
+  last-long = length-replicate {A = ℕ} mostVertices noRow;
 }
 
 -- ---- looks
 
-pub looked-modest : {ws : List ℤ} {k i : ℕ} {known : List Reached} → Looked ws k i known → i ≤ mOf ws → AllModest known
-looked-modest l h v = within-le (l .small v) (omega (arith, l .early, m-few (l .fine)))
+module _ {ws : List ℤ} {k i : ℕ} {best : List Length} {last : List ℕ} (l : Looked ws k i best last)
+    (h : i ≤ mOf ws) where
+  -- no more looks than all passes have
+  near-all : (v : ℕ) → Near (l .far v) (looks mostVertices 0)
+  near-all v = near-le (l .near v) (omega (arith, l .early, m-few (l .fine)))
 
-pub pass-start : (ws : List ℤ) (k : ℕ) (known : List Reached) → Looked ws k 0 known → Pass ws k 0 known noRow
-pass-start ws k known l = record {
+  pub looked-modest : AllModest best
+  looked-modest v =
+      subst (λ z. Within z ((unit * largestLength + 1) * looks mostVertices 0)) (sym (l .are v))
+      (near-within (near-all v))
+
+  -- what a row offers, as a number and as a pair
+  pub looked-offer : (j : ℕ) →
+      at best (timeEdges ws .tail j) +ℤ keyOf (timeEdges ws .size j) ≡ keyOf (through pairs (timeEdges ws) (l .far) j)
+  looked-offer j =
+      ap (λ z. z +ℤ keyOf (timeEdges ws .size j)) (l .are (timeEdges ws .tail j))
+      ∙ sym (key-plus (l .far (timeEdges ws .tail j)) (timeEdges ws .size j))
+
+  pub looked-less : (j : ℕ) → j < mOf ws → isLess ws best j ≡ betters pairs (timeEdges ws) (l .far) j
+  looked-less j g =
+      ap₂ ltZ (looked-offer j) (l .are (timeEdges ws .head j))
+      ∙ key-less (through pairs (timeEdges ws) (l .far) j) (l .far (timeEdges ws .head j))
+      (within-le (near-plus (near-all (timeEdges ws .tail j)) (size-near (l .fine) j g) .small) (omega arith))
+      (within-le (near-all (timeEdges ws .head j) .small) (omega arith))
+
+pub pass-start : (ws : List ℤ) (k : ℕ) (best : List Length) (last : List ℕ) → Looked ws k 0 best last →
+    Pass ws k 0 best last noRow
+pass-start ws k best last l = record {
   looked = l;
   finds = record {
     none = λ e v. let h : l .time v ≤ mOf ws * k + 0 = l .traced .recent v in omega arith;
@@ -74,84 +102,101 @@ pass-start ws k known l = record {
   };
 }
 
-module _ (ws : List ℤ) (k : ℕ) (known : List Reached) (i row : ℕ) (p : Pass ws k i known row)
+module _ (ws : List ℤ) (k : ℕ) (best : List Length) (last : List ℕ) (i row : ℕ) (p : Pass ws k i best last row)
     (listed : i < mOf ws) where
-  abbrev E : Edges ℤ
+  abbrev E : Edges (ℤ × ℤ)
   E = timeEdges ws
 
-  abbrev l : Looked ws k i known
+  abbrev l : Looked ws k i best last
   l = p .looked
 
   abbrev y : ℕ
   y = E .head i
 
-  abbrev d : ℤ
-  d = through whole E (at known) i
+  abbrev d : ℤ × ℤ
+  d = through pairs E (l .far) i
 
-  grown : (v : ℕ) → Within (at known v) (reach k (suc i))
-  grown v = within-le (l .small v) (omega arith)
+  less-is : {b : Bool} → isLess ws best i ≡ b → betters pairs E (l .far) i ≡ b
+  less-is e = sym (looked-less l (omega arith) i listed) ∙ e
 
-  pub pass-kept : Le whole (at known y) d → Pass ws k (suc i) known row
-  pass-kept h = record {
+  pub pass-kept : isLess ws best i ≡ false → Pass ws k (suc i) best last row
+  pass-kept e = record {
     looked = record {
       fine = l .fine;
       early = l .early;
       time = l .time;
-      traced = traced-kept whole-laws E (mOf ws * k) (l .time) (at known) (rowAt known) i (l .traced) listed h;
+      far = l .far;
+      are = l .are;
+      near = λ v. near-le (l .near v) (omega arith);
+      traced = traced-kept pairs-laws E (mOf ws * k) (l .time) (l .far) (rowAt last) i (l .traced) listed (less-is e);
       stands = l .stands;
-      small = grown;
-      long = l .long;
+      best-long = l .best-long;
+      last-long = l .last-long;
     };
     finds = p .finds;
   }
 
-  module _ (best : Length) (e : lengthOf best ≡ d) (h : Lt whole d (at known y)) where
-    abbrev next : List Reached
-    next = set known y (record { best = best; last = i })
+  module _ (better : Length) (e : lengthOf better ≡ at best (E .tail i) +ℤ keyOf (E .size i))
+      (h : isLess ws best i ≡ true) where
+    abbrev best′ : List Length
+    best′ = set best y better
+
+    abbrev last′ : List ℕ
+    last′ = set last y i
 
     abbrev time′ : ℕ → ℕ
     time′ = put (l .time) y (suc (mOf ws * k + i))
 
+    abbrev far′ : ℕ → ℤ × ℤ
+    far′ = put (l .far) y d
+
     now : Put (l .time) time′ y (suc (mOf ws * k + i))
     now = put-put (l .time) y (suc (mOf ws * k + i))
+
+    farther : Put (l .far) far′ y d
+    farther = put-put (l .far) y d
 
     head-low : y < nOf ws
     head-low = accepted-ends (l .fine) .head-in i listed
 
-    stored : Put (knownAt known) (knownAt next) y (record { best = best; last = i })
-    stored = set-put known y (record { best = best; last = i }) _ (omega (arith, head-low, n-few (l .fine), l .long))
+    put-best : Put (lengthAt best) (lengthAt best′) y better
+    put-best = set-put best y better noRows (omega (arith, head-low, n-few (l .fine), l .best-long))
 
-    put-best : Put (at known) (at next) y d
-    put-best = record {
-      here = ap (λ r. lengthOf (r .best)) (stored .here) ∙ e;
-      there = λ v n. ap (λ r. lengthOf (r .best)) (stored .there v n);
-    }
+    put-last : Put (rowAt last) (rowAt last′) y i
+    put-last = set-put last y i 0 (omega (arith, head-low, n-few (l .fine), l .last-long))
 
-    put-last : Put (rowAt known) (rowAt next) y i
-    put-last = record { here = ap (λ r. r .last) (stored .here); there = λ v n. ap (λ r. r .last) (stored .there v n) }
+    are : (v : ℕ) → Dec (v ≡ y) → at best′ v ≡ keyOf (far′ v)
+    are v (yes q) =
+        ap (at best′) q ∙ ap lengthOf (put-best .here) ∙ e ∙ looked-offer l (omega arith) i
+        ∙ sym (ap (λ u. keyOf (far′ u)) q ∙ ap keyOf (farther .here))
+    are v (no n) = ap lengthOf (put-best .there v n) ∙ l .are v ∙ sym (ap keyOf (farther .there v n))
 
-    small : (v : ℕ) → Dec (v ≡ y) → Within (at next v) (reach k (suc i))
-    small v (yes q) =
-        subst (λ u. Within (at next u) (reach k (suc i))) (sym q)
-        (subst (λ z. Within z (reach k (suc i))) (sym (put-best .here))
-        (within-le (within-+ (l .small (E .tail i)) (size-within (l .fine) i listed)) (omega arith)))
-    small v (no n) = subst (λ z. Within z (reach k (suc i))) (sym (put-best .there v n)) (grown v)
+    near : (v : ℕ) → Dec (v ≡ y) → Near (far′ v) (looks k (suc i))
+    near v (yes q) =
+        subst (λ u. Near (far′ u) (looks k (suc i))) (sym q)
+        (subst (λ z. Near z (looks k (suc i))) (sym (farther .here))
+        (near-le (near-plus (l .near (E .tail i)) (size-near (l .fine) i listed)) (omega arith)))
+    near v (no n) =
+        subst (λ z. Near z (looks k (suc i))) (sym (farther .there v n)) (near-le (l .near v) (omega arith))
 
-    stands : (v : ℕ) → v < mostVertices → Dec (v ≡ y) → rowAt next v ≢ noRow → 0 < time′ v
+    stands : (v : ℕ) → v < mostVertices → Dec (v ≡ y) → rowAt last′ v ≢ noRow → 0 < time′ v
     stands v f (yes q) n = subst (λ u. 0 < time′ u) (sym q) (omega (arith, now .here))
     stands v f (no q) n = omega (arith, now .there v q, l .stands v f (λ z. n (put-last .there v q ∙ z)))
 
-    pub pass-taken : Pass ws k (suc i) next i
+    pub pass-taken : Pass ws k (suc i) best′ last′ i
     pass-taken = record {
       looked = record {
         fine = l .fine;
         early = l .early;
         time = time′;
-        traced = traced-taken whole-laws E (mOf ws * k) (l .time) (at known) (rowAt known) i (l .traced) listed h _ _
-            put-best put-last;
+        far = far′;
+        are = λ v. are v (ℕ-discrete v y);
+        near = λ v. near v (ℕ-discrete v y);
+        traced = traced-taken pairs-laws E (mOf ws * k) (l .time) (l .far) (rowAt last) i (l .traced) listed (less-is h)
+            _ _ farther put-last;
         stands = λ v f. stands v f (ℕ-discrete v y);
-        small = λ v. small v (ℕ-discrete v y);
-        long = length-set known y (record { best = best; last = i }) ∙ l .long;
+        best-long = length-set best y better ∙ l .best-long;
+        last-long = length-set last y i ∙ l .last-long;
       };
       finds = record {
         none = λ z. let o : ⊥ = omega (arith, m-few (l .fine)) in absurd o;
@@ -162,41 +207,57 @@ module _ (ws : List ℤ) (k : ℕ) (known : List Reached) (i row : ℕ) (p : Pas
 
 -- ---- the end of a pass
 
-module _ (ws : List ℤ) (k : ℕ) (known : List Reached) (row : ℕ) (p : Pass ws k (mOf ws) known row) where
-  abbrev done : Looked ws k (mOf ws) known
+module _ (ws : List ℤ) (k : ℕ) (best : List Length) (last : List ℕ) (row : ℕ)
+    (p : Pass ws k (mOf ws) best last row) where
+  abbrev done : Looked ws k (mOf ws) best last
   done = p .looked
 
-  pub looked-more : suc k < mostVertices → Looked ws (suc k) 0 known
+  pub looked-more : suc k < mostVertices → Looked ws (suc k) 0 best last
   looked-more h = record {
     fine = done .fine;
     early = h;
     time = done .time;
-    traced = subst (λ b. Traced whole (timeEdges ws) b 0 (done .time) (at known) (rowAt known))
+    far = done .far;
+    are = done .are;
+    near = λ v. near-le (done .near v) (omega (arith, m-few (done .fine)));
+    traced = subst (λ b. Traced pairs (timeEdges ws) b 0 (done .time) (done .far) (rowAt last))
         (sym (mul-suc (mOf ws) k))
-        (traced-pass whole-laws (timeEdges ws) (mOf ws * k) (done .time) (at known) (rowAt known) (done .traced));
+        (traced-pass pairs-laws (timeEdges ws) (mOf ws * k) (done .time) (done .far) (rowAt last) (done .traced));
     stands = done .stands;
-    small = λ v. within-le (done .small v) (omega (arith, m-few (done .fine)));
-    long = done .long;
+    best-long = done .best-long;
+    last-long = done .last-long;
   }
 
-  pub pass-still : row ≡ noRow → Still whole (timeEdges ws) (at known)
+  pub pass-quiet : Quiet ws best true → Still pairs (timeEdges ws) (done .far)
+  pass-quiet q i h = sym (looked-less done (omega arith) i h) ∙ q i h
+
+  pub pass-still : row ≡ noRow → Still pairs (timeEdges ws) (done .far)
   pass-still e =
-      traced-still whole-laws (timeEdges ws) (mOf ws * k) (done .time) (at known) (rowAt known) (done .traced)
+      traced-still pairs-laws (timeEdges ws) (mOf ws * k) (done .time) (done .far) (rowAt last) (done .traced)
       (p .finds .none e)
 
-  pub pass-settled : Still whole (timeEdges ws) (at known) → Settled ws known
+  pub pass-settled : Still pairs (timeEdges ws) (done .far) → Settled ws best
   pass-settled s = record {
-    can = still-can whole-laws (timeEdges ws) ends _ _ (done .time) (at known) (rowAt known) (done .traced) s;
-    are = still-distance whole-laws (timeEdges ws) ends _ _ (done .time) (at known) (rowAt known) (done .traced) s;
-    modest = looked-modest done (omega arith);
-    long = done .long;
+    can = still-can pairs-laws (timeEdges ws) ends _ _ (done .time) (done .far) (rowAt last) (done .traced) s;
+    are = λ v. done .are v ∙ ap keyOf (right v);
+    passed = λ v. record { modest = looked-modest done (omega arith) v; low = low v };
+    long = done .best-long;
   }
     where
       ends : Ends (timeEdges ws)
       ends = accepted-ends (done .fine)
 
-  pub pass-closing : row ≢ noRow → Closing ws known k (timeEdges ws .head row)
+      right : (v : ℕ) → done .far v ≡ distance pairs (timeEdges ws) (distances pairs (timeEdges ws)) v
+      right = still-distance pairs-laws (timeEdges ws) ends _ _ (done .time) (done .far) (rowAt last) (done .traced) s
+
+      low : (v : ℕ) → at best v ≤ℤ pos 0
+      low v =
+          subst (λ z. z ≤ℤ pos 0) (sym (done .are v))
+          (key-low (done .far v) (within-le (near-all done (omega arith) v .small) (omega arith)) (done .traced .low v))
+
+  pub pass-closing : row ≢ noRow → Closing ws last k (timeEdges ws .head row)
   pass-closing n = record {
+    best = best;
     looked = done;
     vertex = accepted-ends (done .fine) .head-in row (p .finds .listed n);
     late = p .finds .late n;

@@ -14,8 +14,8 @@ use native.Mathlib.Decide.{decLt}
 use native.Mathlib.Nat.{mul-le-mul-left}
 use lib.IntN.{ℤ}
 use lib.ListN.{length, set, replicate, length-set, length-replicate}
-use Rattle.whole.specs.Values.{whole}
-use Rattle.whole.proofs.Instances.{whole-laws}
+use Rattle.whole.specs.Values.{pairs}
+use Rattle.whole.proofs.Beside.{pairs-laws}
 use Rattle.rules.specs.Sizes.{mostVertices}
 use Rattle.rules.specs.Problem.{nOf, mOf}
 use Rattle.rules.specs.Walks.{Ends}
@@ -24,12 +24,11 @@ use Rattle.rules.specs.TimeWords.{timeEdges}
 use Rattle.rules.proofs.Times.Closed.{trail-cycle}
 use Rattle.rules.proofs.Times.Refused.{n-few, m-few, accepted-ends}
 use Rattle.rules.proofs.Times.Trail.{Trail, trail-start, trail-left, trail-ends, trail-more}
-use Rattle.times.specs.declared.reached.Reached.{Reached}
-use Rattle.times.specs.Lengths.{at, rowAt, noRow}
+use Rattle.times.specs.Lengths.{rowAt, noRow}
 use Rattle.times.specs.Steps.{Looked, Closing, Went}
 
-module _ {ws : List ℤ} {known : List Reached} {passes v : ℕ} (c : Closing ws known passes v) where
-  abbrev l : Looked ws passes (mOf ws) known
+module _ {ws : List ℤ} {last : List ℕ} {passes v : ℕ} (c : Closing ws last passes v) where
+  abbrev l : Looked ws passes (mOf ws) (c .best) last
   l = c .looked
 
   -- the passes that are still to be made
@@ -37,7 +36,7 @@ module _ {ws : List ℤ} {known : List Reached} {passes v : ℕ} (c : Closing ws
   spare = nOf ws - suc passes
 
   pub record Tracing (seen path : List ℕ) (here j : ℕ) : Type 0 where
-    pub trail : Trail whole (timeEdges ws) (l .time) (at known) (nOf ws) spare path seen here j
+    pub trail : Trail pairs (timeEdges ws) (l .time) (l .far) (nOf ws) spare path seen here j
     pub path-long : length path ≡ mostVertices
     pub seen-long : length seen ≡ mostVertices
 
@@ -52,14 +51,14 @@ module _ {ws : List ℤ} {known : List Reached} {passes v : ℕ} (c : Closing ws
 
   pub tracing-start : Tracing (replicate mostVertices 0) (replicate mostVertices 0) v (nOf ws)
   tracing-start = record {
-    trail = trail-start (timeEdges ws) ends _ _ (l .time) (at known) (rowAt known) (l .traced) (nOf ws) spare
+    trail = trail-start (timeEdges ws) ends _ _ (l .time) (l .far) (rowAt last) (l .traced) (nOf ws) spare
         (replicate mostVertices 0) v mostVertices (c .vertex) late;
     path-long = length-replicate {A = ℕ} mostVertices 0;
     seen-long = length-replicate {A = ℕ} mostVertices 0;
   }
 
   -- a vertex that no row has bettered
-  unbettered : (u : ℕ) → rowAt known u ≡ noRow → l .time u ≡ 0
+  unbettered : (u : ℕ) → rowAt last u ≡ noRow → l .time u ≡ 0
   unbettered u e = go (decLt 0 (l .time u))
     where
       go : Dec (0 < l .time u) → l .time u ≡ 0
@@ -82,7 +81,7 @@ module _ {ws : List ℤ} {known : List Reached} {passes v : ℕ} (c : Closing ws
 
     pub tracing-left : row seen here ≡ 0 → 0 < j
     tracing-left z =
-        trail-left (timeEdges ws) ends _ _ (l .time) (at known) (rowAt known) (l .traced) (nOf ws) spare
+        trail-left (timeEdges ws) ends _ _ (l .time) (l .far) (rowAt last) (l .traced) (nOf ws) spare
         path seen here j (t .trail) z (omega arith)
 
     -- a vertex met again, its mark m
@@ -93,7 +92,7 @@ module _ {ws : List ℤ} {known : List Reached} {passes v : ℕ} (c : Closing ws
       round = λ o. record {
         in-order = omega arith;
         in-path = omega (arith, t .trail .marks here p e .1, few);
-        bad = trail-cycle whole-laws (timeEdges ws) (l .time) (at known) (nOf ws) spare path seen here j (t .trail) p e
+        bad = trail-cycle pairs-laws (timeEdges ws) (l .time) (l .far) (nOf ws) spare path seen here j (t .trail) p e
             (omega (arith, t .path-long, few));
       };
       some = λ o. let z : ⊥ = omega (arith, t .trail .marks here p e .0) in absurd z;
@@ -101,11 +100,11 @@ module _ {ws : List ℤ} {known : List Reached} {passes v : ℕ} (c : Closing ws
     }
 
     -- no row leads on
-    pub tracing-ended : row seen here ≡ 0 → rowAt known here ≡ noRow →
+    pub tracing-ended : row seen here ≡ 0 → rowAt last here ≡ noRow →
         Went ws passes (record { from = j; to = j; path = path })
     tracing-ended z e =
         let s : j ≤ spare =
-        trail-ends (timeEdges ws) ends _ _ (l .time) (at known) (rowAt known) (l .traced) (nOf ws) spare
+        trail-ends (timeEdges ws) ends _ _ (l .time) (l .far) (rowAt last) (l .traced) (nOf ws) spare
         path seen here j (t .trail) (unbettered here e) in
         record {
           round = λ o. let y : ⊥ = omega arith in absurd y;
@@ -114,25 +113,25 @@ module _ {ws : List ℤ} {known : List Reached} {passes v : ℕ} (c : Closing ws
         }
 
   module _ (seen path : List ℕ) (here q : ℕ) (t : Tracing seen path here (suc q)) (z : row seen here ≡ 0)
-      (n : rowAt known here ≢ noRow) where
-    more : Tracing (set seen here (suc q)) (set path q (rowAt known here)) (timeEdges ws .tail (rowAt known here)) q
+      (n : rowAt last here ≢ noRow) where
+    more : Tracing (set seen here (suc q)) (set path q (rowAt last here)) (timeEdges ws .tail (rowAt last here)) q
     more = record {
-      trail = trail-more (timeEdges ws) ends _ _ (l .time) (at known) (rowAt known) (l .traced) (nOf ws) spare
+      trail = trail-more (timeEdges ws) ends _ _ (l .time) (l .far) (rowAt last) (l .traced) (nOf ws) spare
           path seen here q (t .trail) z
           (l .stands here (tracing-here seen path here (suc q) t) n)
           (omega (arith, t .path-long, tracing-high seen path here (suc q) t)) (omega (arith, t .seen-long, tracing-here seen path here (suc q) t));
-      path-long = length-set path q (rowAt known here) ∙ t .path-long;
+      path-long = length-set path q (rowAt last here) ∙ t .path-long;
       seen-long = length-set seen here (suc q) ∙ t .seen-long;
     }
 
-  pub tracing-listed : (u : ℕ) → u < mostVertices → rowAt known u ≢ noRow → rowAt known u < mOf ws
+  pub tracing-listed : (u : ℕ) → u < mostVertices → rowAt last u ≢ noRow → rowAt last u < mOf ws
   tracing-listed u h n = l .traced .bettered u (l .stands u h n) .listed
 
   -- by the place that the code has come to
   module _ (seen path : List ℕ) (here j : ℕ) (t : Tracing seen path here j) (z : row seen here ≡ 0)
-      (n : rowAt known here ≢ noRow) where
+      (n : rowAt last here ≢ noRow) where
     abbrev i : ℕ
-    i = rowAt known here
+    i = rowAt last here
 
     one-down : suc (j - 1) ≡ j
     one-down = omega (arith, tracing-left seen path here j t z)

@@ -1,11 +1,11 @@
 -- `times::solve` meets its contract: settled passes give the times, and else the way back gives a bad cycle. Assumes nothing.
-use mathlib.Core.Path.{_≡_, _∙_, ap, subst}
-use mathlib.Core.List.{List, _∷_, _++_}
-use Prim.Native.Nat.{ℕ, _+_, _-_, _≤_}
+use mathlib.Core.Path.{_≡_, _∙_, ap₂, subst}
+use mathlib.Core.List.{List}
+use Prim.Native.Nat.{ℕ, _+_, _*_, _-_, _≤_}
 use native.Mathlib.Omega.{arith}
 use borrow.Author.Needs.{needs}
 use lib.IntN.{ℤ, pos}
-use lib.ListN.{length, take, drop}
+use lib.ListN.{length}
 use Rattle.whole.proofs.Order.{≤ℤ-trans}
 use Rattle.rules.specs.Sizes.{mostVertices}
 use Rattle.rules.specs.Problem.{nOf}
@@ -13,7 +13,7 @@ use Rattle.rules.specs.TimeWords.{AcceptedTimes}
 use Rattle.rules.proofs.Times.Refused.{n-few}
 use Rattle.times.specs.declared.passes.Ending.{Ending}
 use Rattle.times.specs.declared.cycle.Way.{Way}
-use Rattle.times.specs.Steps.{Settled, Settling, Closed}
+use Rattle.times.specs.Steps.{Settled, Settling, Closed, output}
 use Rattle.times.proofs.Laws.Answers.{fine-of, timed-met, closed-gathering, timed-unmet}
 use Rattle.times.proofs.solve.Statement.{statement}
 use Rattle.times.proofs.solve.Tie as tie
@@ -53,22 +53,22 @@ module _ (c : tie.After-settle) where
   n-low : n ≤ mostVertices
   n-low = omega (arith, n-is, n-few accepted)
 
-  roomy : 2 + n ≤ length before
+  roomy : 2 + 2 * n ≤ length before
   roomy = omega (arith, n-is, accepted .roomy)
 
 -- ---- no row betters its head
 
-module _ (c : tie.After-known) where
+module _ (c : tie.After-best) where
   abbrev still : tie.After-settle
   still = c .before .before
 
-  settled : Settled (ws still) (ending still .known)
+  settled : Settled (ws still) (ending still .best)
   settled =
-      subst (λ b. Settling (ws still) b (ending still .known) (ending still .way)) (c .before .if1 .taken)
+      subst (λ b. Settling (ws still) b (ending still .best) (ending still .way)) (c .before .if1 .taken)
       (still .settle .ensures)
 
 times-of-requires : tie.Need-times-of-requires
-times-of-requires c κs = settled c .modest
+times-of-requires c κs = settled c .passed
 
 write-requires : tie.Need-write-requires
 write-requires c κs = let s = still (c .before .before) in (n-low s, n-low s, roomy s)
@@ -81,9 +81,10 @@ returns c =
     let t = c .before .before .before in
     let b = t .before in
     let s = still b in
-    timed-met (ws s) (before s) (accepted s) (ending s .known) _ (n s) (n-is s) (settled b)
+    timed-met (ws s) (before s) (accepted s) (ending s .best) _ (n s) (n-is s) (settled b)
     (c .before .write .ensures
-    ∙ ap (λ l. pos 1 ∷ pos (n s) ∷ take (n s) l ++ drop (2 + n s) (before s)) (t .times-of .ensures))
+    ∙ ap₂ (λ p q. output (pos 1) (n s) (record { plain = p; small = q }) (n s) (before s))
+    (t .times-of .ensures .0) (t .times-of .ensures .1))
 
 -- ---- the way back closed a cycle
 
@@ -96,7 +97,7 @@ module _ (c : tie.After-struct-known) where
 
   closed : Closed (ws from) way
   closed =
-      subst (λ b. Settling (ws from) b (ending from .known) way) (c .before .before .if1 .left) (from .settle .ensures)
+      subst (λ b. Settling (ws from) b (ending from .best) way) (c .before .before .if1 .left) (from .settle .ensures)
 
   path-long : length (way .path) ≡ mostVertices
   path-long = search needs
@@ -120,8 +121,8 @@ returns-2 c =
     let s = from k in
     timed-unmet (ws s) (before s) (accepted s) (way k) (path-long k) (closed k) _ (n s) (n-is s)
     (c .before .write2 .ensures
-    ∙ ap (λ l. pos 2 ∷ pos (way k .to - way k .from) ∷ take (n s) l ++ drop (2 + n s) (before s))
-    (g .gathered .ensures))
+    ∙ ap₂ (λ p q. output (pos 2) (way k .to - way k .from) (record { plain = p; small = q }) (n s) (before s))
+    (g .gathered .ensures .0) (g .gathered .ensures .1))
 
 pub solve-spec : {M : Type 1} → statement M
 solve-spec =

@@ -1,13 +1,13 @@
--- `times::answer::gathered` meets its contract. The invariant of its loop: the rows passed stand at the front, zeros after them. The measure is the rows left.
--- Assumes nothing.
+-- `times::answer::gathered` meets its contract. The invariant of its loop: the rows passed stand at the front, zeros
+-- after them. The measure is the rows left. Assumes nothing.
 use mathlib.Core.Path.{_≡_, refl, sym, _∙_, ap}
-use mathlib.Core.List.{List, _++_, map}
+use mathlib.Core.List.{_++_, map}
 use Prim.Native.Nat.{ℕ, _+_, _≤_, _<_, _-_}
 use native.Mathlib.Omega.{arith}
-use borrow.Author.Needs.{needs, sfits-of}
-use lib.IntN.{ℤ, pos}
+use borrow.Author.Needs.{needs}
+use lib.IntN.{pos}
 use lib.ListN.{length, getD, set, take, drop, replicate}
-use lib.Seq.{slice, length-slice}
+use lib.Seq.{length-slice}
 use mir.Facts.{toZ-ofZ}
 use mir.Syntax.{w64}
 use mir.Val.{SFits}
@@ -21,10 +21,10 @@ use Rattle.times.proofs.answer.gathered.Statement.{statement}
 use Rattle.times.proofs.answer.gathered.Tie as tie
 
 abbrev Inv-loop : tie.InvT-loop
-Inv-loop way from count values₀ i₀ values i = (i ≤ count) × (values ≡ take i (map pos (rowsOf way)) ++ drop i values₀)
+Inv-loop way from count plain₀ i₀ plain i = (i ≤ count) × (plain ≡ take i (map pos (rowsOf way)) ++ drop i plain₀)
 
 abbrev μ-loop : tie.MeasureT-loop
-μ-loop way from count values₀ i₀ values i = count - i
+μ-loop way from count plain₀ i₀ plain i = count - i
 
 sub-count : tie.Need-sub-count Inv-loop μ-loop
 sub-count c = omega arith
@@ -35,16 +35,16 @@ loop-holds c = (omega arith, refl)
 add-at : tie.Need-add-at Inv-loop μ-loop
 add-at c = omega arith
 
-mul-values : tie.Need-mul-values Inv-loop μ-loop
-mul-values c = omega arith
+mul-plain : tie.Need-mul-plain Inv-loop μ-loop
+mul-plain c = omega arith
 
-element-copy-out-values : tie.Need-element-copy-out-values Inv-loop μ-loop
-element-copy-out-values c = omega arith
+element-copy-out-plain : tie.Need-element-copy-out-plain Inv-loop μ-loop
+element-copy-out-plain c = omega arith
 
 long : (c : tie.Start Inv-loop μ-loop) → length (c .args .t1 .path) ≡ mostVertices
 long c = search needs
 
-module _ (c : tie.After-values Inv-loop μ-loop) where
+module _ (c : tie.After-plain Inv-loop μ-loop) where
   abbrev start : tie.Start Inv-loop μ-loop
   start = c .before .before .before
 
@@ -63,14 +63,14 @@ module _ (c : tie.After-values Inv-loop μ-loop) where
   fit : SFits w64 (pos (getD (way .path) (way .from + i) 0))
   fit = fits-abs (omega (arith, small))
 
-cast-values : tie.Need-cast-values Inv-loop μ-loop
-cast-values c = fit c
+cast-plain : tie.Need-cast-plain Inv-loop μ-loop
+cast-plain c = fit c
 
-mul-values-2 : tie.Need-mul-values-2 Inv-loop μ-loop
-mul-values-2 c = omega arith
+mul-plain-2 : tie.Need-mul-plain-2 Inv-loop μ-loop
+mul-plain-2 c = omega arith
 
-array-set-from-values : tie.Need-array-set-from-values Inv-loop μ-loop
-array-set-from-values c = omega arith
+array-set-from-plain : tie.Need-array-set-from-plain Inv-loop μ-loop
+array-set-from-plain c = omega arith
 
 add-i : tie.Need-add-i Inv-loop μ-loop
 add-i c = omega arith
@@ -81,16 +81,22 @@ loop-less c = omega arith
 loop-again : tie.Need-loop-again Inv-loop μ-loop
 loop-again c = (
   omega arith,
-  ap (set (c .before .before .loop .values) (i c)) (toZ-ofZ (fit c))
+  ap (set (c .before .before .loop .plain) (i c)) (toZ-ofZ (fit c))
       ∙ ap (λ l. set l (i c) (pos (getD (way c .path) (way c .from + i c) 0))) (c .before .before .loop .inv .1)
-      ∙ ap (λ z. set (take (i c) (map pos (rowsOf (way c))) ++ drop (i c) (replicate mostVertices (pos 0))) (i c) (pos z)) (sym (slice-at (way c .from) (way c .to) (i c) (way c .path) (omega arith)))
+      ∙ ap
+      (λ z. set (take (i c) (map pos (rowsOf (way c))) ++ drop (i c) (replicate mostVertices (pos 0))) (i c) (pos z))
+      (sym (slice-at (way c .from) (way c .to) (i c) (way c .path) (omega arith)))
       ∙ words-more (rowsOf (way c)) (i c) (omega (arith, rows-long c)) (omega (arith, rows-long c)),
 )
 
 returns : tie.Need-returns Inv-loop μ-loop
 returns c =
-    let w = c .before .before .args .t1 in
-    c .before .loop .inv .1 ∙ words-all (rowsOf w) (c .before .loop .i) (omega (arith, length-slice (w .from) (w .to) (w .path) (omega (arith, long (c .before .before)))))
+    let w = c .before .before .args .t1 in (
+      c .before .loop .inv .1
+          ∙ words-all (rowsOf w) (c .before .loop .i)
+          (omega (arith, length-slice (w .from) (w .to) (w .path) (omega (arith, long (c .before .before))))),
+      refl,
+    )
 
 pub gathered-spec : {M : Type 1} → statement M
 gathered-spec =
@@ -101,11 +107,11 @@ gathered-spec =
     sub-count
     loop-holds
     add-at
-    mul-values
-    element-copy-out-values
-    cast-values
-    mul-values-2
-    array-set-from-values
+    mul-plain
+    element-copy-out-plain
+    cast-plain
+    mul-plain-2
+    array-set-from-plain
     add-i
     loop-less
     loop-again

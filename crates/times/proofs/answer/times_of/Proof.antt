@@ -1,7 +1,7 @@
--- `times::answer::times_of` meets its contract. The invariant of its loop: the times of the distances passed stand at the front. The measure is the
--- distances left. Assumes nothing.
+-- `times::answer::times_of` meets its contract. The invariant of its loop: the parts of the times passed stand at the
+-- front. The measure is the distances left. Assumes nothing.
 use mathlib.Core.Path.{_≡_, refl, sym, _∙_, ap}
-use mathlib.Core.List.{List, [], _++_, map, append-nil}
+use mathlib.Core.List.{List, _++_, map, append-nil}
 use Prim.Native.Nat.{ℕ, _+_, _≤_, _<_, _-_}
 use native.Mathlib.Omega.{arith}
 use borrow.Author.Needs.{needs}
@@ -12,34 +12,48 @@ use mir.Syntax.{w64}
 use mir.Val.{SFits}
 use Rattle.whole.proofs.Prefix.{set-prefix, prefix-all}
 use Rattle.rules.specs.Sizes.{mostVertices}
-use Rattle.times.specs.declared.reached.Reached.{Reached}
-use Rattle.times.specs.Lengths.{timeOf}
+use Rattle.times.specs.declared.length.Length.{Length}
+use Rattle.times.specs.Lengths.{noRows, plainPart, smallPart}
 use Rattle.times.proofs.answer.times_of.Statement.{statement}
 use Rattle.times.proofs.answer.times_of.Tie as tie
 
+-- the first v words of a half
+abbrev Half : (Length → ℤ) → List Length → List ℤ → List ℤ → ℕ → Type 0
+Half part best start half v = half ≡ take v (map part best) ++ drop v start
+
 abbrev Inv-loop : tie.InvT-loop
-Inv-loop known values₀ v₀ values v = (v ≤ mostVertices) × (values ≡ take v (map timeOf known) ++ drop v values₀)
+Inv-loop best plain₀ small₀ v₀ plain small v =
+    (v ≤ mostVertices) × Half plainPart best plain₀ plain v × Half smallPart best small₀ small v
 
 abbrev μ-loop : tie.MeasureT-loop
-μ-loop known values₀ v₀ values v = mostVertices - v
+μ-loop best plain₀ small₀ v₀ plain small v = mostVertices - v
 
 loop-holds : tie.Need-loop-holds Inv-loop μ-loop
-loop-holds c = (omega arith, refl)
+loop-holds c = (omega arith, refl, refl)
 
-mul-reached : tie.Need-mul-reached Inv-loop μ-loop
-mul-reached c = omega arith
+mul-far : tie.Need-mul-far Inv-loop μ-loop
+mul-far c = omega arith
 
-array-copy-out-reached : tie.Need-array-copy-out-reached Inv-loop μ-loop
-array-copy-out-reached c = omega arith
+array-copy-out-far : tie.Need-array-copy-out-far Inv-loop μ-loop
+array-copy-out-far c = omega arith
 
-time-requires : tie.Need-time-requires Inv-loop μ-loop
-time-requires c κs = c .before .before .before .before .pre (c .before .before .before .loop .v)
+plain-time-requires : tie.Need-plain-time-requires Inv-loop μ-loop
+plain-time-requires c κs = c .before .before .before .pre (c .before .before .loop .v)
 
-mul-values : tie.Need-mul-values Inv-loop μ-loop
-mul-values c = omega arith
+mul-plain : tie.Need-mul-plain Inv-loop μ-loop
+mul-plain c = omega arith
 
-array-set-from-values : tie.Need-array-set-from-values Inv-loop μ-loop
-array-set-from-values c = omega arith
+array-set-from-plain : tie.Need-array-set-from-plain Inv-loop μ-loop
+array-set-from-plain c = omega arith
+
+small-time-requires : tie.Need-small-time-requires Inv-loop μ-loop
+small-time-requires c κs = c .before .before .before .before .pre (c .before .before .before .loop .v)
+
+mul-small : tie.Need-mul-small Inv-loop μ-loop
+mul-small c = omega arith
+
+array-set-from-small : tie.Need-array-set-from-small Inv-loop μ-loop
+array-set-from-small c = omega arith
 
 add-v : tie.Need-add-v Inv-loop μ-loop
 add-v c = omega arith
@@ -47,46 +61,52 @@ add-v c = omega arith
 loop-less : tie.Need-loop-less Inv-loop μ-loop
 loop-less c = omega arith
 
-long : (c : tie.Start Inv-loop μ-loop) → length (map timeOf (c .args .t1)) ≡ mostVertices
-long c = length-map (c .args .t1) timeOf ∙ given
-  where
-    given : length (c .args .t1) ≡ mostVertices
-    given = search needs
+long : (c : tie.Start Inv-loop μ-loop) → length (c .args .t1) ≡ mostVertices
+long c = search needs
 
--- one time more
-module _ (c : tie.After-time Inv-loop μ-loop) where
-  abbrev top : tie.At-loop Inv-loop μ-loop
-  top = c .before .before .before .before
+-- what a half is before the loop
+abbrev zeros : List ℤ
+zeros = replicate mostVertices (pos 0)
 
-  abbrev known : List Reached
-  known = top .before .args .t1
+-- a half, one word more, and all of it
+module _ (part : Length → ℤ) (best : List Length) (all : length best ≡ mostVertices) where
+  half-more : (half : List ℤ) (v : ℕ) (z w : ℤ) → v < mostVertices → Half part best zeros half v →
+      w ≡ z → z ≡ part (getD best v noRows) → Half part best zeros (set half v w) (v + 1)
+  half-more half v z w h e f g =
+      ap (set half v) (f ∙ g ∙ sym (List·getD-map part best v noRows))
+      ∙ ap (λ l. set l v (getD (map part best) v (part noRows))) e
+      ∙ set-prefix (map part best) zeros v (part noRows)
+      (omega (arith, length-map best part)) (omega (arith, length-map best part, length-replicate mostVertices (pos 0)))
 
-  abbrev v : ℕ
-  v = top .loop .v
-
-  fit : SFits w64 (c .time .result)
-  fit = search needs
-
-  time-is : c .time .result ≡ getD (map timeOf known) v (pos 0)
-  time-is = c .time .ensures ∙ sym (List·getD-map timeOf known v _)
+  half-all : (half : List ℤ) (v : ℕ) → v ≡ mostVertices → Half part best zeros half v → half ≡ map part best
+  half-all half v h e =
+      let k : v ≡ length (map part best) = omega (arith, length-map best part) in
+      e ∙ prefix-all (map part best) zeros v k
+      ∙ ap (λ k. map part best ++ drop k zeros) (length-map best part ∙ all)
+      ∙ append-nil (map part best)
 
 loop-again : tie.Need-loop-again Inv-loop μ-loop
-loop-again c = (
-  omega arith,
-  ap (set (top c .loop .values) (v c)) (toZ-ofZ (fit c) ∙ time-is c)
-      ∙ ap (λ l. set l (v c) (getD (map timeOf (known c)) (v c) (pos 0))) (top c .loop .inv .1)
-      ∙ set-prefix (map timeOf (known c)) (replicate mostVertices (pos 0)) (v c) (pos 0)
-      (omega (arith, long (top c .before))) (omega (arith, long (top c .before), length-replicate mostVertices (pos 0))),
-)
+loop-again c =
+    let p = c .before in
+    let h = p .before .before .before in
+    let q : SFits w64 (p .plain-time .result) = search needs in
+    let r : SFits w64 (c .small-time .result) = search needs in (
+      omega arith,
+      half-more plainPart (h .before .args .t1) (long (h .before)) (h .loop .plain) (h .loop .v) _ _ (omega arith)
+          (h .loop .inv .1) (toZ-ofZ q) (p .plain-time .ensures),
+      half-more smallPart (h .before .args .t1) (long (h .before)) (h .loop .small) (h .loop .v) _ _ (omega arith)
+          (h .loop .inv .2) (toZ-ofZ r) (c .small-time .ensures),
+    )
 
 returns : tie.Need-returns Inv-loop μ-loop
 returns c =
     let s = c .before .before in
-    let e : c .before .loop .v ≡ length (map timeOf (s .args .t1)) = omega (arith, long s) in
-    c .before .loop .inv .1
-    ∙ prefix-all (map timeOf (s .args .t1)) (replicate mostVertices (pos 0)) (c .before .loop .v) e
-    ∙ ap (λ k. map timeOf (s .args .t1) ++ drop k (replicate mostVertices (pos 0))) (long s)
-    ∙ append-nil (map timeOf (s .args .t1))
+    let e : c .before .loop .v ≡ mostVertices = omega arith in (
+      half-all plainPart (s .args .t1) (long s) (c .before .loop .plain) (c .before .loop .v) e
+          (c .before .loop .inv .1),
+      half-all smallPart (s .args .t1) (long s) (c .before .loop .small) (c .before .loop .v) e
+          (c .before .loop .inv .2),
+    )
 
 pub times-of-spec : {M : Type 1} → statement M
 times-of-spec =
@@ -95,11 +115,14 @@ times-of-spec =
     Inv-loop
     μ-loop
     loop-holds
-    mul-reached
-    array-copy-out-reached
-    time-requires
-    mul-values
-    array-set-from-values
+    mul-far
+    array-copy-out-far
+    plain-time-requires
+    mul-plain
+    array-set-from-plain
+    small-time-requires
+    mul-small
+    array-set-from-small
     add-v
     loop-less
     loop-again

@@ -1,119 +1,105 @@
--- `times::answer::write` meets its contract. The invariant of its loop: the values passed stand after the two words, and what is past them is as it was.
--- The measure is the values left. Assumes nothing.
-use mathlib.Core.Path.{_≡_, refl, sym, _∙_, ap, ap₂}
+-- `times::answer::write` meets its contract: two words, and the two halves after them. Assumes nothing.
+use mathlib.Core.Path.{_≡_, _∙_, ap, ap₂}
 use mathlib.Core.List.{List, _∷_, _++_}
-use Prim.Native.Nat.{ℕ, _+_, _≤_, _<_, _-_}
+use Prim.Native.Nat.{ℕ, _+_, _*_}
 use native.Mathlib.Omega.{arith}
-use borrow.Author.Needs.{needs, sfits-of}
+use borrow.Author.Needs.{needs}
 use lib.IntN.{ℤ, pos}
-use lib.ListN.{length, getD, set, take, drop, length-set}
-use lib.Seq.{paste, paste-zero, length-paste}
+use lib.ListN.{length, set, take, drop, length-set}
+use lib.Seq.{paste, length-paste}
 use mir.Facts.{toZ-ofZ}
 use mir.Syntax.{w64}
 use mir.Val.{SFits, toZ, ofZ}
 use Rattle.whole.proofs.Sizes.{fits-abs}
-use Rattle.times.proofs.Laws.Words.{paste-more, two-words}
+use Rattle.times.proofs.Laws.Words.{two-halves}
 use Rattle.times.proofs.answer.write.Statement.{statement}
 use Rattle.times.proofs.answer.write.Tie as tie
 
-abbrev Inv-loop : tie.InvT-loop
-Inv-loop verdict count n out₀ values i₀ out i = (i ≤ n) × (out ≡ paste out₀ 2 values i)
+module _ (c : tie.Start) where
+  abbrev n : ℕ
+  n = c .args .n
 
-abbrev μ-loop : tie.MeasureT-loop
-μ-loop verdict count n out₀ values i₀ out i = n - i
-
-slice-set-from-verdict : tie.Need-slice-set-from-verdict Inv-loop μ-loop
-slice-set-from-verdict c = omega arith
-
-count-fits : (c : tie.Start Inv-loop μ-loop) → SFits w64 (pos (c .args .count))
-count-fits c = fits-abs (omega arith)
-
-long : (c : tie.Start Inv-loop μ-loop) → length (c .args .t3) ≡ 64
-long c = search needs
-
-cast-out : tie.Need-cast-out Inv-loop μ-loop
-cast-out c = count-fits c
-
-slice-set-from-out : tie.Need-slice-set-from-out Inv-loop μ-loop
-slice-set-from-out c = simp length-set (omega arith)
-
-loop-holds : tie.Need-loop-holds Inv-loop μ-loop
-loop-holds c = (omega arith, paste-zero (set (set (c .args .out .now) 0 (toZ w64 (ofZ w64 (c .args .verdict)))) 1 (toZ w64 (c .args .count))) 2 (c .args .t3))
-
-add-at : tie.Need-add-at Inv-loop μ-loop
-add-at c = omega arith
-
-mul-out : tie.Need-mul-out Inv-loop μ-loop
-mul-out c = omega arith
-
-array-copy-out-out : tie.Need-array-copy-out-out Inv-loop μ-loop
-array-copy-out-out c = omega arith
-
-mul-t17 : tie.Need-mul-t17 Inv-loop μ-loop
-mul-t17 c = omega arith
-
--- what the loop started from, and its length
-module _ (c : tie.At-loop Inv-loop μ-loop) where
+  -- what the two words make of the output
   abbrev begun : List ℤ
-  begun = set (set (c .before .args .out .now) 0 (toZ w64 (ofZ w64 (c .before .args .verdict)))) 1 (toZ w64 (c .before .args .count))
+  begun = set (set (c .args .out .now) 0 (toZ w64 (ofZ w64 (c .args .verdict)))) 1 (toZ w64 (c .args .count))
 
-  begun-long : length begun ≡ length (c .before .args .out .now)
+  begun-long : length begun ≡ length (c .args .out .now)
   begun-long = simp length-set
 
-  out-long : length (c .loop .out) ≡ length (c .before .args .out .now)
-  out-long =
-      ap length (c .loop .inv .1)
-      ∙ length-paste begun 2 (c .before .args .t3) (c .loop .i) (omega (arith, begun-long)) (omega (arith, long (c .before)))
+  count-fits : SFits w64 (pos (c .args .count))
+  count-fits = fits-abs (omega arith)
+
+  plain-long : length (c .args .halves .plain) ≡ 64
+  plain-long = search needs
+
+  small-long : length (c .args .halves .small) ≡ 64
+  small-long = search needs
+
+  -- .. and the first half
+  abbrev first : List ℤ
+  first = paste begun 2 (c .args .halves .plain) n
+
+  first-long : length first ≡ length (c .args .out .now)
+  first-long =
+      length-paste begun 2 (c .args .halves .plain) n (omega (arith, begun-long)) (omega (arith, plain-long))
       ∙ begun-long
 
-slice-set-from-out-2 : tie.Need-slice-set-from-out-2 Inv-loop μ-loop
-slice-set-from-out-2 c = omega (arith, out-long (c .before .before))
+  both-long : length (paste first (2 + n) (c .args .halves .small) n) ≡ length (c .args .out .now)
+  both-long =
+      length-paste first (2 + n) (c .args .halves .small) n (omega (arith, first-long)) (omega (arith, small-long))
+      ∙ first-long
 
-add-i : tie.Need-add-i Inv-loop μ-loop
-add-i c = omega arith
+slice-set-from-verdict : tie.Need-slice-set-from-verdict
+slice-set-from-verdict c = omega arith
 
-loop-less : tie.Need-loop-less Inv-loop μ-loop
-loop-less c = omega arith
+cast-out : tie.Need-cast-out
+cast-out c = count-fits c
 
-loop-again : tie.Need-loop-again Inv-loop μ-loop
-loop-again c =
-    let h = c .before .before in (
-      omega arith,
-      ap (set (h .loop .out) (2 + h .loop .i)) (toZ-ofZ (sfits-of (c .out .given)))
-          ∙ ap (λ l. set l (2 + h .loop .i) (getD (h .before .args .t3) (h .loop .i) (pos 0))) (h .loop .inv .1)
-          ∙ paste-more (begun h) (h .before .args .t3) (h .loop .i) (omega (arith, begun-long h)) (omega (arith, long (h .before))),
-    )
+slice-set-from-out : tie.Need-slice-set-from-out
+slice-set-from-out c = simp length-set (omega arith)
 
-same-length : tie.Need-same-length Inv-loop μ-loop
-same-length c = out-long (c .before)
+place-requires : tie.Need-place-requires
+place-requires c κs = let s = c .before .before .before in (omega arith, omega (arith, begun-long s))
 
-returns : tie.Need-returns Inv-loop μ-loop
+add-place : tie.Need-add-place
+add-place c = omega arith
+
+place-requires-2 : tie.Need-place-requires-2
+place-requires-2 c κs =
+    let s = c .before .before .before .before .before .before in
+    (omega arith, omega (arith, ap length (c .before .before .place .ensures), first-long s))
+
+module _ (c : tie.After-out2) where
+  abbrev start : tie.Start
+  start = c .before .before .before .before .before .before .before .before
+
+  is : c .before .place2 .last .1 .1 .1 .0 ≡ paste (first start) (2 + n start) (start .args .halves .small) (n start)
+  is =
+      c .before .place2 .ensures
+      ∙ ap (λ l. paste l (2 + n start) (start .args .halves .small) (n start))
+      (c .before .before .before .before .place .ensures)
+
+same-length : tie.Need-same-length
+same-length c = ap length (is c) ∙ both-long (start c)
+
+returns : tie.Need-returns
 returns c =
-    let h = c .before in
-    let e : h .loop .i ≡ h .before .args .n = omega arith in
-    h .loop .inv .1
-    ∙ ap (λ k. paste (begun h) 2 (h .before .args .t3) k) e
-    ∙ two-words (h .before .args .out .now) (h .before .args .t3) (toZ w64 (ofZ w64 (h .before .args .verdict))) (toZ w64 (h .before .args .count)) (h .before .args .n) (omega arith)
-    ∙ ap₂ (λ x y. x ∷ y ∷ take (h .before .args .n) (h .before .args .t3) ++ drop (2 + h .before .args .n) (h .before .args .out .now))
-    (toZ-ofZ (h .before .fits .verdict)) (toZ-ofZ (count-fits (h .before)))
+    let s = start c in
+    is c
+    ∙ two-halves (s .args .out .now) (s .args .halves .plain) (s .args .halves .small)
+    (toZ w64 (ofZ w64 (s .args .verdict))) (toZ w64 (s .args .count)) (n s) (omega arith) (omega (arith, plain-long s))
+    ∙ ap₂ (λ x y. x ∷ y ∷ (take (n s) (s .args .halves .plain) ++ take (n s) (s .args .halves .small))
+    ++ drop (2 + 2 * n s) (s .args .out .now)) (toZ-ofZ (s .fits .verdict)) (toZ-ofZ (count-fits s))
 
 pub write-spec : {M : Type 1} → statement M
 write-spec =
     tie.close
     (tie.spec
-    Inv-loop
-    μ-loop
     slice-set-from-verdict
     cast-out
     slice-set-from-out
-    loop-holds
-    add-at
-    mul-out
-    array-copy-out-out
-    mul-t17
-    slice-set-from-out-2
-    add-i
-    loop-less
-    loop-again
+    place-requires
+    add-place
+    place-requires-2
     same-length
     returns)

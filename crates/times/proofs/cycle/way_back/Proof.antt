@@ -13,11 +13,11 @@ use Rattle.times.proofs.cycle.way_back.Statement.{statement}
 use Rattle.times.proofs.cycle.way_back.Tie as tie
 
 abbrev Inv-loop : tie.InvT-loop
-Inv-loop rows n v known seen₀ path₀ here₀ j₀ seen path here j =
-    (passes : ℕ) (c : Closing rows known passes v) → Tracing c seen path here j
+Inv-loop rows n v last seen₀ path₀ here₀ j₀ seen path here j =
+    (passes : ℕ) (c : Closing rows last passes v) → Tracing c seen path here j
 
 abbrev μ-loop : tie.MeasureT-loop
-μ-loop rows n v known seen₀ path₀ here₀ j₀ seen path here j = j
+μ-loop rows n v last seen₀ path₀ here₀ j₀ seen path here j = j
 
 loop-holds : tie.Need-loop-holds Inv-loop μ-loop
 loop-holds c p k = subst (Tracing k _ _ _) (sym (c .pre .1)) (tracing-start k)
@@ -44,19 +44,19 @@ cast-mark c = omega (arith, tracing-mark (closing c) _ _ _ _ (trace c))
 returns : tie.Need-returns Inv-loop μ-loop
 returns c p k = tracing-closed k _ _ _ _ (c .before .loop .inv p k) _ refl (c .if1 .taken)
 
-mul-reached : tie.Need-mul-reached Inv-loop μ-loop
-mul-reached c = omega (arith, here-low (c .before))
+mul-i : tie.Need-mul-i Inv-loop μ-loop
+mul-i c = omega (arith, here-low (c .before))
 
-array-copy-out-reached : tie.Need-array-copy-out-reached Inv-loop μ-loop
-array-copy-out-reached c = here-low (c .before)
+array-read-i : tie.Need-array-read-i Inv-loop μ-loop
+array-read-i c = here-low (c .before)
 
 -- a row leads on
 module _ (c : tie.Else2 Inv-loop μ-loop) where
   abbrev top : tie.At-loop Inv-loop μ-loop
-  top = c .before .before .before
+  top = c .before .before
 
   left : 0 < top .loop .j
-  left = tracing-left (closing top) _ _ _ _ (trace top) (c .before .before .if1 .left)
+  left = tracing-left (closing top) _ _ _ _ (trace top) (c .before .if1 .left)
 
   listed : rowAt (top .before .args .t3) (top .loop .here) < mOf (top .before .args .rows .now)
   listed = tracing-listed (closing top) (top .loop .here) (here-low top) (c .if2 .left)
@@ -66,7 +66,7 @@ module _ (c : tie.Else2 Inv-loop μ-loop) where
 
 returns-2 : tie.Need-returns-2 Inv-loop μ-loop
 returns-2 c p k =
-    let e = c .before .before in
+    let e = c .before in
     tracing-ended k _ _ _ _ (e .before .loop .inv p k) (e .if1 .left) (c .if2 .taken)
 
 sub-place : tie.Need-sub-place Inv-loop μ-loop
@@ -99,7 +99,7 @@ loop-less c = omega (arith, left (c .before))
 loop-again : tie.Need-loop-again Inv-loop μ-loop
 loop-again c p k =
     let e = c .before in
-    rw (c .tail .ensures) (tracing-more k _ _ _ _ (top e .loop .inv p k) (e .before .before .if1 .left) (e .if2 .left))
+    rw (c .tail .ensures) (tracing-more k _ _ _ _ (top e .loop .inv p k) (e .before .if1 .left) (e .if2 .left))
 
 pub way-back-spec : {M : Type 1} → statement M
 way-back-spec =
@@ -111,8 +111,8 @@ way-back-spec =
     array-read-mark
     cast-mark
     returns
-    mul-reached
-    array-copy-out-reached
+    mul-i
+    array-read-i
     returns-2
     sub-place
     cast-seen

@@ -136,6 +136,9 @@ count-at-requires-2 c κs = (omega (arith, framed (rows c) .exact), ≤ℤ-trans
 n-is : (c : tie.After-count-at2) → c .count-at2 .result ≡ nOf (ws (s (rows (c .before))))
 n-is c = c .count-at2 .ensures
 
+mul-if5 : tie.Need-mul-if5
+mul-if5 c = omega (arith, n-is c, framed (rows (c .before)) .n-few)
+
 add-if5 : tie.Need-add-if5
 add-if5 c = omega (arith, n-is c, framed (rows (c .before)) .n-few)
 
@@ -165,6 +168,7 @@ judge-spec =
     rows-number-requires
     returns-4
     count-at-requires-2
+    mul-if5
     add-if5
     returns-5
     returns-6)

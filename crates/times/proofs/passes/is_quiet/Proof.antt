@@ -6,23 +6,22 @@ use mathlib.Core.List.{List}
 use Prim.Native.Nat.{ℕ, _+_, _≤_, _<_, _-_}
 use native.Mathlib.Omega.{arith}
 use native.Mathlib.Decide.{ℕ-discrete}
-use lib.IntN.{ℤ}
-use Rattle.whole.specs.Values.{whole}
+use lib.IntN.{ℤ, _+ℤ_}
+use lib.Signed.{ltZ}
 use Rattle.rules.specs.Problem.{mOf}
-use Rattle.rules.specs.Passes.{through, betters}
 use Rattle.rules.specs.TimeWords.{timeEdges}
 use Rattle.rules.proofs.Times.Refused.{n-few, m-few, accepted-ends}
-use Rattle.times.specs.declared.reached.Reached.{Reached}
-use Rattle.times.specs.Lengths.{lengthOf, at}
-use Rattle.times.specs.Steps.{Looking}
+use Rattle.times.specs.declared.length.Length.{Length}
+use Rattle.times.specs.Lengths.{lengthOf, keyOf, at}
+use Rattle.times.specs.Steps.{isLess, Looking}
 use Rattle.times.proofs.passes.is_quiet.Statement.{statement}
 use Rattle.times.proofs.passes.is_quiet.Tie as tie
 
 abbrev Inv-loop : tie.InvT-loop
-Inv-loop rows m known i₀ i = (i ≤ m) × ((j : ℕ) → j < i → betters whole (timeEdges rows) (at known) j ≡ false)
+Inv-loop rows m best i₀ i = (i ≤ m) × ((j : ℕ) → j < i → isLess rows best j ≡ false)
 
 abbrev μ-loop : tie.MeasureT-loop
-μ-loop rows m known i₀ i = m - i
+μ-loop rows m best i₀ i = m - i
 
 loop-holds : tie.Need-loop-holds Inv-loop μ-loop
 loop-holds c = (omega arith, λ j h. let z : ⊥ = omega arith in absurd z)
@@ -95,17 +94,17 @@ module _ (c : tie.After-less Inv-loop μ-loop) where
   abbrev t : tie.In-loop Inv-loop μ-loop
   t = turn ends
 
-  abbrev known : List Reached
-  known = begun t .args .t3
+  abbrev best : List Length
+  best = begun t .args .t3
 
-  value : lengthOf (c .before .before .offer .result) ≡ through whole (timeEdges (ws t)) (at known) (i t)
+  value : lengthOf (c .before .before .offer .result)
+      ≡ at best (timeEdges (ws t) .tail (i t)) +ℤ keyOf (timeEdges (ws t) .size (i t))
   value =
       c .before .before .offer .ensures
-      ∙ ap (λ x. whole .plus (at known x) (timeEdges (ws t) .size (i t))) (x-is ends)
+      ∙ ap (λ x. at best x +ℤ keyOf (timeEdges (ws t) .size (i t))) (x-is ends)
 
-  same-test : {b : Bool} → c .less .result ≡ b → betters whole (timeEdges (ws t)) (at known) (i t) ≡ b
-  same-test e =
-      sym (ap₂ (λ z u. whole .less z (at known u)) value (y-is ends)) ∙ sym (c .less .ensures) ∙ e
+  same-test : {b : Bool} → c .less .result ≡ b → isLess (ws t) best (i t) ≡ b
+  same-test e = sym (ap₂ (λ z u. ltZ z (at best u)) value (y-is ends)) ∙ sym (c .less .ensures) ∙ e
 
 returns : tie.Need-returns Inv-loop μ-loop
 returns c = let k = t (c .before) in (i k, listed k, same-test (c .before) (c .if1 .taken))
@@ -120,10 +119,9 @@ loop-again : tie.Need-loop-again Inv-loop μ-loop
 loop-again c = (omega arith, λ j h. go j h (ℕ-discrete j (i (t (c .before)))))
   where
     go : (j : ℕ) → j < i (t (c .before)) + 1 → Dec (j ≡ i (t (c .before))) →
-        betters whole (timeEdges (ws (t (c .before)))) (at (known (c .before))) j ≡ false
+        isLess (ws (t (c .before))) (best (c .before)) j ≡ false
     go j h (yes e) =
-        ap (betters whole (timeEdges (ws (t (c .before)))) (at (known (c .before)))) e
-        ∙ same-test (c .before) (c .if1 .left)
+        ap (isLess (ws (t (c .before))) (best (c .before))) e ∙ same-test (c .before) (c .if1 .left)
     go j h (no n) = t (c .before) .before .loop .inv .1 j (omega arith)
 
 returns-2 : tie.Need-returns-2 Inv-loop μ-loop

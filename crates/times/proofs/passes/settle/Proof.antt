@@ -2,51 +2,49 @@
 -- after a later one, among the first 64; that of the loop inside: a pass more has come as far as row i. The measures
 -- are the passes left of 64, and the rows left. A way back that closed nothing has a place left, and no more places
 -- than are left of n passes: so it is due again, and not past them. Assumes nothing.
-use mathlib.Core.Path.{_≡_, refl, sym, _∙_, ap, ap₂, subst}
+use mathlib.Core.Path.{_≡_, refl, sym, _∙_, ap, ap₂, subst, subst₂}
 use mathlib.Core.Bool.{Bool, true, false, cond}
 use mathlib.Core.List.{List}
 use mathlib.Core.Logic.{_≢_}
 use Prim.Native.Nat.{ℕ, suc, _+_, _≤_, _<_, _-_}
 use native.Mathlib.Numerals.{add-one}
 use native.Mathlib.Omega.{arith}
-use lib.IntN.{ℤ}
+use lib.IntN.{ℤ, _+ℤ_}
 use lib.ListN.{set}
 use lib.Seq.{set-getD}
-use Rattle.whole.specs.Values.{whole}
+use lib.Signed.{ltZ}
 use Rattle.rules.specs.Sizes.{mostVertices}
 use Rattle.rules.specs.Problem.{mOf}
 use Rattle.rules.specs.Walks.{Edges}
-use Rattle.rules.specs.Passes.{through, betters}
 use Rattle.rules.specs.TimeWords.{timeEdges}
 use Rattle.rules.proofs.Times.Refused.{n-few, m-few, accepted-ends}
 use Rattle.times.specs.declared.length.Length.{Length}
-use Rattle.times.specs.declared.reached.Reached.{Reached}
-use Rattle.times.specs.Lengths.{lengthOf, knownAt, at, noRow}
-use Rattle.times.specs.Steps.{Fine, Quiet, Looked, Pass, Closing, Went}
+use Rattle.times.specs.Lengths.{lengthOf, keyOf, lengthAt, at, rowAt, noRow}
+use Rattle.times.specs.Steps.{Fine, isLess, Quiet, Looked, Pass, Closing, Went}
 use Rattle.times.proofs.Laws.Passing.{looked-start, looked-modest, pass-start, pass-taken, pass-kept}
-use Rattle.times.proofs.Laws.Passing.{looked-more, pass-still, pass-settled, pass-closing}
+use Rattle.times.proofs.Laws.Passing.{looked-more, pass-quiet, pass-still, pass-settled, pass-closing}
 use Rattle.times.proofs.passes.settle.Statement.{statement}
 use Rattle.times.proofs.passes.settle.Tie as tie
 
 abbrev Inv-loop2 : tie.InvT-loop2
-Inv-loop2 rows n m nowhere known₀ k due row₀ i₀ known row i =
-    (k < due) × (2 ≤ due) × (due ≤ mostVertices) × (i ≤ m) × Pass rows k i known row
+Inv-loop2 rows n m nowhere best₀ last₀ k due row₀ i₀ best last row i =
+    (k < due) × (2 ≤ due) × (due ≤ mostVertices) × (i ≤ m) × Pass rows k i best last row
 
 abbrev μ-loop2 : tie.MeasureT-loop2
-μ-loop2 rows n m nowhere known₀ k due row₀ i₀ known row i = m - i
+μ-loop2 rows n m nowhere best₀ last₀ k due row₀ i₀ best last row i = m - i
 
 abbrev Inv-loop : tie.InvT-loop
-Inv-loop rows n m nowhere known₀ k₀ due₀ known k due =
-    (k < due) × (2 ≤ due) × (due ≤ mostVertices) × Looked rows k 0 known
+Inv-loop rows n m nowhere best₀ last₀ k₀ due₀ best last k due =
+    (k < due) × (2 ≤ due) × (due ≤ mostVertices) × Looked rows k 0 best last
 
 abbrev μ-loop : tie.MeasureT-loop
-μ-loop rows n m nowhere known₀ k₀ due₀ known k due = mostVertices - k
+μ-loop rows n m nowhere best₀ last₀ k₀ due₀ best last k due = mostVertices - k
 
 loop-holds : tie.Need-loop-holds Inv-loop2 μ-loop2 Inv-loop μ-loop
 loop-holds c = (omega arith, omega arith, omega arith, looked-start _ (c .pre .fine))
 
 loop2-holds : tie.Need-loop2-holds Inv-loop2 μ-loop2 Inv-loop μ-loop
-loop2-holds c = let h = c .loop .inv in (h .0, h .1, h .2, omega arith, pass-start _ _ _ (h .3))
+loop2-holds c = let h = c .loop .inv in (h .0, h .1, h .2, omega arith, pass-start _ _ _ _ (h .3))
 
 -- ---- a look: the words, the row, and what the pass has come to before it
 module _ (c : tie.In-loop2 Inv-loop2 μ-loop2 Inv-loop μ-loop) where
@@ -56,7 +54,7 @@ module _ (c : tie.In-loop2 Inv-loop2 μ-loop2 Inv-loop μ-loop) where
   abbrev ws : List ℤ
   ws = begun .args .rows .now
 
-  abbrev E : Edges ℤ
+  abbrev E : Edges (ℤ × ℤ)
   E = timeEdges ws
 
   abbrev k : ℕ
@@ -65,8 +63,11 @@ module _ (c : tie.In-loop2 Inv-loop2 μ-loop2 Inv-loop μ-loop) where
   abbrev i : ℕ
   i = c .before .loop2 .i
 
-  abbrev known : List Reached
-  known = c .before .loop2 .known
+  abbrev best : List Length
+  best = c .before .loop2 .best
+
+  abbrev last : List ℕ
+  last = c .before .loop2 .last
 
   abbrev row : ℕ
   row = c .before .loop2 .row
@@ -77,7 +78,7 @@ module _ (c : tie.In-loop2 Inv-loop2 μ-loop2 Inv-loop μ-loop) where
   listed : i < mOf ws
   listed = omega (arith, begun .pre .m-is, c .loop2-test .taken)
 
-  going : Pass ws k i known row
+  going : Pass ws k i best last row
   going = c .before .loop2 .inv .4
 
 tail-requires : tie.Need-tail-requires Inv-loop2 μ-loop2 Inv-loop μ-loop
@@ -120,23 +121,17 @@ mul-was c = omega (arith, y-low (c .before .before))
 array-copy-out-was : tie.Need-array-copy-out-was Inv-loop2 μ-loop2 Inv-loop μ-loop
 array-copy-out-was c = y-low (c .before .before)
 
-cast-last : tie.Need-cast-last Inv-loop2 μ-loop2 Inv-loop μ-loop
-cast-last c = let t = turn (c .before .before .before) in omega (arith, listed t, m-few (fine t))
+mul-held : tie.Need-mul-held Inv-loop2 μ-loop2 Inv-loop μ-loop
+mul-held c = omega (arith, y-low (c .before .before .before))
+
+array-read-held : tie.Need-array-read-held Inv-loop2 μ-loop2 Inv-loop μ-loop
+array-read-held c = y-low (c .before .before .before)
+
+cast-this : tie.Need-cast-this Inv-loop2 μ-loop2 Inv-loop μ-loop
+cast-this c = let t = turn (c .before .before .before) in omega (arith, listed t, m-few (fine t))
 
 less-requires : tie.Need-less-requires Inv-loop2 μ-loop2 Inv-loop μ-loop
 less-requires c κs = tt
-
-reached-if-requires : tie.Need-reached-if-requires Inv-loop2 μ-loop2 Inv-loop μ-loop
-reached-if-requires c κs = tt
-
-mul-known : tie.Need-mul-known Inv-loop2 μ-loop2 Inv-loop μ-loop
-mul-known c = omega (arith, y-low (c .before .before .before .before .before))
-
-array-set-from-known : tie.Need-array-set-from-known Inv-loop2 μ-loop2 Inv-loop μ-loop
-array-set-from-known c = y-low (c .before .before .before .before .before)
-
-row-if-requires : tie.Need-row-if-requires Inv-loop2 μ-loop2 Inv-loop μ-loop
-row-if-requires c κs = tt
 
 -- after the test
 module _ (c : tie.After-less Inv-loop2 μ-loop2 Inv-loop μ-loop) where
@@ -152,39 +147,64 @@ module _ (c : tie.After-less Inv-loop2 μ-loop2 Inv-loop μ-loop) where
   abbrev offered : Length
   offered = c .before .before .offer .result
 
-  value : lengthOf offered ≡ through whole (E t) (at (known t)) (i t)
-  value = c .before .before .offer .ensures ∙ ap (λ x. whole .plus (at (known t) x) (E t .size (i t))) (x-is ends)
+  value : lengthOf offered ≡ at (best t) (E t .tail (i t)) +ℤ keyOf (E t .size (i t))
+  value =
+      c .before .before .offer .ensures ∙ ap (λ x. at (best t) x +ℤ keyOf (E t .size (i t))) (x-is ends)
 
-  same-test : {b : Bool} → c .less .result ≡ b → betters whole (E t) (at (known t)) (i t) ≡ b
-  same-test e = sym (ap₂ (λ z u. whole .less z (at (known t) u)) value (y-is ends)) ∙ sym (c .less .ensures) ∙ e
+  same-test : {b : Bool} → c .less .result ≡ b → isLess (ws t) (best t) (i t) ≡ b
+  same-test e = sym (ap₂ (λ z u. ltZ z (at (best t) u)) value (y-is ends)) ∙ sym (c .less .ensures) ∙ e
 
   -- one row more
   stepped : (b : Bool) → c .less .result ≡ b → Pass (ws t) (k t) (i t + 1)
-      (set (known t) y (cond b (record { best = offered; last = i t }) (knownAt (known t) y))) (cond b (i t) (row t))
+      (set (best t) y (cond b offered (lengthAt (best t) y))) (set (last t) y (cond b (i t) (rowAt (last t) y)))
+      (cond b (i t) (row t))
   stepped true e =
       rw add-one
-      (subst (λ u. Pass (ws t) (k t) (suc (i t)) (set (known t) u (record { best = offered; last = i t })) (i t))
+      (subst (λ u. Pass (ws t) (k t) (suc (i t)) (set (best t) u offered) (set (last t) u (i t)) (i t))
       (sym (y-is ends))
-      (pass-taken _ _ _ _ _ (going t) (listed t) offered value (same-test e)))
+      (pass-taken _ _ _ _ _ _ (going t) (listed t) offered value (same-test e)))
   stepped false e =
-      rw add-one (subst (λ l. Pass (ws t) (k t) (suc (i t)) l (row t)) (sym (set-getD (known t) y _))
-      (pass-kept _ _ _ _ _ (going t) (listed t) (same-test e)))
+      rw add-one (subst₂ (λ a b. Pass (ws t) (k t) (suc (i t)) a b (row t))
+      (sym (set-getD (best t) y _)) (sym (set-getD (last t) y _))
+      (pass-kept _ _ _ _ _ _ (going t) (listed t) (same-test e)))
+
+length-if-requires : tie.Need-length-if-requires Inv-loop2 μ-loop2 Inv-loop μ-loop
+length-if-requires c κs = tt
+
+mul-best : tie.Need-mul-best Inv-loop2 μ-loop2 Inv-loop μ-loop
+mul-best c = omega (arith, y-low (ends (c .before)))
+
+array-set-from-best : tie.Need-array-set-from-best Inv-loop2 μ-loop2 Inv-loop μ-loop
+array-set-from-best c = y-low (ends (c .before))
+
+row-if-requires : tie.Need-row-if-requires Inv-loop2 μ-loop2 Inv-loop μ-loop
+row-if-requires c κs = tt
+
+mul-last : tie.Need-mul-last Inv-loop2 μ-loop2 Inv-loop μ-loop
+mul-last c = omega (arith, y-low (ends (c .before .before)))
+
+array-write-last : tie.Need-array-write-last Inv-loop2 μ-loop2 Inv-loop μ-loop
+array-write-last c = y-low (ends (c .before .before))
+
+row-if-requires-2 : tie.Need-row-if-requires-2 Inv-loop2 μ-loop2 Inv-loop μ-loop
+row-if-requires-2 c κs = tt
 
 add-i : tie.Need-add-i Inv-loop2 μ-loop2 Inv-loop μ-loop
-add-i c = let q = t (c .before .before) in omega (arith, listed q, m-few (fine q))
+add-i c = let q = t (c .before .before .before) in omega (arith, listed q, m-few (fine q))
 
 loop2-less : tie.Need-loop2-less Inv-loop2 μ-loop2 Inv-loop μ-loop
-loop2-less c = let q = t (c .before .before) in omega (arith, listed q, begun q .pre .m-is)
+loop2-less c = let q = t (c .before .before .before) in omega (arith, listed q, begun q .pre .m-is)
 
 loop2-again : tie.Need-loop2-again Inv-loop2 μ-loop2 Inv-loop μ-loop
 loop2-again c =
-    let q = t (c .before .before) in
+    let q = t (c .before .before .before) in
     let h = q .before .loop2 .inv in (
       h .0,
       h .1,
       h .2,
       omega (arith, listed q, begun q .pre .m-is),
-      rw (c .before .reached-if .ensures, c .row-if .ensures) (stepped (c .before .before) _ refl),
+      rw (c .before .before .length-if .ensures, c .before .row-if .ensures, c .row-if2 .ensures)
+          (stepped (c .before .before .before) _ refl),
     )
 
 -- ---- a pass is done
@@ -201,17 +221,20 @@ module _ (c : tie.After-loop2 Inv-loop2 μ-loop2 Inv-loop μ-loop) where
   abbrev due : ℕ
   due = c .before .before .loop .due
 
-  abbrev reached : List Reached
-  reached = c .before .loop2 .known
+  abbrev far : List Length
+  far = c .before .loop2 .best
 
-  abbrev last : ℕ
-  last = c .before .loop2 .row
+  abbrev rows-by : List ℕ
+  rows-by = c .before .loop2 .last
+
+  abbrev latest : ℕ
+  latest = c .before .loop2 .row
 
   all : c .before .loop2 .i ≡ mOf words
   all = omega (arith, start .pre .m-is, c .before .loop2 .inv .3)
 
-  passed : Pass words passes (mOf words) reached last
-  passed = subst (λ j. Pass words passes j reached last) all (c .before .loop2 .inv .4)
+  passed : Pass words passes (mOf words) far rows-by latest
+  passed = subst (λ j. Pass words passes j far rows-by latest) all (c .before .loop2 .inv .4)
 
   early : passes < due
   early = c .before .loop2 .inv .0
@@ -223,15 +246,15 @@ module _ (c : tie.After-loop2 Inv-loop2 μ-loop2 Inv-loop μ-loop) where
   few = c .before .loop2 .inv .2
 
   -- the next pass begins
-  next : passes + 1 < due → Looked words (passes + 1) 0 reached
-  next h = rw add-one (looked-more _ _ _ _ passed (omega (arith, few)))
+  next : passes + 1 < due → Looked words (passes + 1) 0 far rows-by
+  next h = rw add-one (looked-more _ _ _ _ _ passed (omega (arith, few)))
 
   -- the last pass bettered a vertex
-  closing : last ≢ noRow → Closing words reached passes (timeEdges words .head last)
-  closing n = pass-closing _ _ _ _ passed n
+  closing : latest ≢ noRow → Closing words rows-by passes (timeEdges words .head latest)
+  closing n = pass-closing _ _ _ _ _ passed n
 
 returns : tie.Need-returns Inv-loop2 μ-loop2 Inv-loop μ-loop
-returns c = let d = c .before in pass-settled _ _ _ _ (passed d) (pass-still _ _ _ _ (passed d) (c .if1 .taken))
+returns c = let d = c .before in pass-settled _ _ _ _ _ (passed d) (pass-still _ _ _ _ _ (passed d) (c .if1 .taken))
 
 add-k : tie.Need-add-k Inv-loop2 μ-loop2 Inv-loop μ-loop
 add-k c = omega (arith, early (c .before), few (c .before))
@@ -244,7 +267,8 @@ is-quiet-requires c κs =
 returns-2 : tie.Need-returns-2 Inv-loop2 μ-loop2 Inv-loop μ-loop
 returns-2 c =
     let d = c .before .before .before .before in
-    pass-settled _ _ _ _ (passed d) (subst (Quiet (words d) (reached d)) (c .if3 .taken) (c .before .is-quiet .ensures))
+    pass-settled _ _ _ _ _ (passed d)
+    (pass-quiet _ _ _ _ _ (passed d) (subst (Quiet (words d) (far d)) (c .if3 .taken) (c .before .is-quiet .ensures)))
 
 loop-less : tie.Need-loop-less Inv-loop2 μ-loop2 Inv-loop μ-loop
 loop-less c = let d = c .before .before .before .before in omega (arith, early d, few d)
@@ -279,9 +303,9 @@ module _ (c : tie.After-head2 Inv-loop2 μ-loop2 Inv-loop μ-loop) where
   abbrev done : tie.After-loop2 Inv-loop2 μ-loop2 Inv-loop μ-loop
   done = c .before .before .before .before
 
-  tried : Closing (words done) (reached done) (passes done) (c .head2 .result)
+  tried : Closing (words done) (rows-by done) (passes done) (c .head2 .result)
   tried =
-      subst (Closing (words done) (reached done) (passes done)) (sym (c .head2 .ensures))
+      subst (Closing (words done) (rows-by done) (passes done)) (sym (c .head2 .ensures))
       (closing done (c .before .before .before .if1 .left))
 
 way-back-requires : tie.Need-way-back-requires Inv-loop2 μ-loop2 Inv-loop μ-loop
@@ -325,7 +349,7 @@ loop-again-3 c = (
   omega (arith, more c),
   omega (arith, more c),
   within c,
-  rw add-one (looked-more _ _ _ _ (passed (d c)) (omega (arith, more c, within c))),
+  rw add-one (looked-more _ _ _ _ _ (passed (d c)) (omega (arith, more c, within c))),
 )
 
 pub settle-spec : {M : Type 1} → statement M
@@ -345,12 +369,17 @@ settle-spec =
     offer-requires
     mul-was
     array-copy-out-was
-    cast-last
+    mul-held
+    array-read-held
+    cast-this
     less-requires
-    reached-if-requires
-    mul-known
-    array-set-from-known
+    length-if-requires
+    mul-best
+    array-set-from-best
     row-if-requires
+    mul-last
+    array-write-last
+    row-if-requires-2
     add-i
     loop2-less
     loop2-again

@@ -1,16 +1,14 @@
--- `times::rows::size` meets its contract: c and the strict word fit 32 bits, and so does their difference. Assumes
--- nothing.
+-- `times::rows::size` meets its contract. Assumes nothing.
 use borrow.Author.Needs.{needs}
 use mathlib.Core.List.{List}
-use mathlib.Core.Path.{refl}
 use Prim.Native.Nat.{ℕ}
-use lib.IntN.{ℤ, _-ℤ_}
+use lib.IntN.{ℤ}
 use mir.Facts.{toZ-ofZ}
 use mir.Syntax.{w32}
 use mir.Val.{SFits}
 use Rattle.whole.proofs.Sizes.{fits-by}
 use Rattle.rules.specs.TimeWords.{lengthWord, strictWord}
-use Rattle.rules.proofs.Times.Refused.{size-within, strict-within}
+use Rattle.rules.proofs.Times.Refused.{strict-within}
 use Rattle.times.proofs.rows.size.Statement.{statement}
 use Rattle.times.proofs.rows.size.Tie as tie
 
@@ -27,12 +25,6 @@ module _ (c : tie.Start) where
   strict : SFits w32 (strictWord words i)
   strict = fits-by (strict-within (c .pre .0) i (c .pre .1)) tt
 
-  fit : SFits w32 (lengthWord words i -ℤ strictWord words i)
-  fit = fits-by (size-within (c .pre .0) i (c .pre .1)) tt
-
-returns : tie.Need-returns
-returns c = let s = c .before .before in simp (toZ-ofZ (span s), toZ-ofZ (strict s), toZ-ofZ (fit s)) refl
-
 mul-strict : tie.Need-mul-strict
 mul-strict c = search needs
 
@@ -45,20 +37,26 @@ mul-c c = search needs
 add-c : tie.Need-add-c
 add-c c = search needs
 
-mul-read : tie.Need-mul-read
-mul-read c = search needs
+mul-of : tie.Need-mul-of
+mul-of c = search needs
 
-shared-slice-copy-out-read : tie.Need-shared-slice-copy-out-read
-shared-slice-copy-out-read c = search needs
+shared-slice-copy-out-of : tie.Need-shared-slice-copy-out-of
+shared-slice-copy-out-of c = search needs
 
-mul-read-2 : tie.Need-mul-read-2
-mul-read-2 c = search needs
+mul-of-2 : tie.Need-mul-of-2
+mul-of-2 c = search needs
 
-shared-slice-copy-out-read-2 : tie.Need-shared-slice-copy-out-read-2
-shared-slice-copy-out-read-2 c = search needs
+shared-slice-copy-out-of-2 : tie.Need-shared-slice-copy-out-of-2
+shared-slice-copy-out-of-2 c = search needs
 
-sub-read : tie.Need-sub-read
-sub-read c = let s = c .before .before in simp (toZ-ofZ (span s), toZ-ofZ (strict s)) (fit s)
+of-requires : tie.Need-of-requires
+of-requires c κs =
+    let s = c .before .before in
+    simp (toZ-ofZ (span s), toZ-ofZ (strict s))
+    (s .pre .0 .lengths (i s) (s .pre .1), strict-within (s .pre .0) (i s) (s .pre .1))
+
+returns : tie.Need-returns
+returns c = let s = c .before .before .before in simp (toZ-ofZ (span s), toZ-ofZ (strict s)) at (c .of .ensures)
 
 pub size-spec : {M : Type 1} → statement M
 size-spec =
@@ -68,9 +66,9 @@ size-spec =
     add-strict
     mul-c
     add-c
-    mul-read
-    shared-slice-copy-out-read
-    mul-read-2
-    shared-slice-copy-out-read-2
-    sub-read
+    mul-of
+    shared-slice-copy-out-of
+    mul-of-2
+    shared-slice-copy-out-of-2
+    of-requires
     returns)

@@ -2,20 +2,20 @@
 use borrow.Author.Needs.{needs}
 use lib.IntN.{_+ℤ_}
 use mir.Facts.{toZ-ofZ}
-use mir.Syntax.{w32}
+use mir.Syntax.{w64}
 use mir.Val.{SFits}
 use Rattle.whole.proofs.Sizes.{fits-by, within-+}
 use Rattle.times.proofs.length.Length.plus.Statement.{statement}
 use Rattle.times.proofs.length.Length.plus.Tie as tie
 
 module _ (c : tie.Start) where
-  own : SFits w32 (c .args .self .0)
+  own : SFits w64 (c .args .self .0)
   own = search needs
 
-  other : SFits w32 (c .args .other .0)
+  other : SFits w64 (c .args .other .0)
   other = search needs
 
-  fit : SFits w32 (c .args .self .0 +ℤ c .args .other .0)
+  fit : SFits w64 (c .args .self .0 +ℤ c .args .other .0)
   fit = fits-by (within-+ (c .pre .0) (c .pre .1)) tt
 
 add-sum : tie.Need-add-sum
