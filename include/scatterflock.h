@@ -65,7 +65,7 @@ enum {
     SCATTERFLOCK_MOST_VERTICES = 64,
     SCATTERFLOCK_MOST_TIME_ROWS = 256,
     SCATTERFLOCK_MOST_TIME_WORDS = 1026,
-    SCATTERFLOCK_MOST_TIMES = 66,   /* words of an answer to time rows */
+    SCATTERFLOCK_MOST_TIMES = 130,  /* words of an answer to time rows */
     SCATTERFLOCK_SLICE_WORDS = 113  /* of 64 bits, beside the count, in the state of a run */
 };
 
@@ -162,16 +162,20 @@ uint32_t scatterflock_check(const int32_t *words, size_t word_count,
  * Answers time rows over n vertices.
  *
  * Returns 0 when they are answered. Then either out[0] is 1, out[1] is n and
- * the next n words are times that meet every row; or out[0] is 2, out[1] is k,
- * the next k words are the numbers of rows that lead round and sum below 0, so
- * that no whole times meet all rows, and zeros follow up to word 2 + n. Words
- * past 2 + n keep what they had. Which such rows are named is the one thing
- * that the promise leaves open.
+ * the next 2 n words are times that meet every row: n words of minutes, then
+ * n words that say how often a small amount is added, from 0 to n - 1. Any
+ * fraction of a minute up to 1 / n may be put for the small amount: with 1 / n
+ * the time of vertex v is (n * out[2 + v] + out[2 + n + v]) / n. Or out[0] is
+ * 2, out[1] is k, the next k words are the numbers of rows that lead round and
+ * whose c sum below 0, or to 0 with a strict row among them, so that no
+ * fractions meet all rows, and zeros follow up to word 2 + 2 n. Words past
+ * 2 + 2 n keep what they had. Which such rows are named is the one thing that
+ * the promise leaves open.
  *
  * Returns 11 to 17 when the words or the room are refused: 11 fewer than two
  * words, 12 n or m out of range, 13 another count of words, 14 a vertex that
  * is none, 15 a strict word that is not 0 or 1, 16 a length out of range, 17
- * out_count below 2 + n. It is the first that applies, and every word of out
+ * out_count below 2 + 2 n. It is the first that applies, and every word of out
  * keeps what it had.
  */
 uint32_t scatterflock_times(const int32_t *words, size_t word_count,

@@ -3,7 +3,7 @@
 use crate::input::{self, bad, Content, Input};
 use crate::table::table;
 use crate::{json, Ended, Failure, CAN, CANNOT};
-use scatterflock::{Schedule, TimesRefusal};
+use scatterflock::{Fractions, Schedule, TimesRefusal};
 use std::ffi::OsStr;
 use std::io::Read;
 use text::times::{self, Row, Times};
@@ -11,10 +11,14 @@ use text::times::{self, Row, Times};
 pub fn run(file: &OsStr, is_json: bool, stdin: &mut dyn Read) -> Result<Ended, Failure> {
     let (file, rows) = rows(input::problem(file, stdin)?)?;
     let schedule = scatterflock::times(&rows.words()).map_err(refused)?;
+    if let Some(times) = schedule.fractions() {
+        return match rows.rows.iter().all(|row| is_met(row, &times)) {
+            true if is_json => Ok(can_json(&file, &rows, &times)),
+            true => Ok(can(&rows, &times)),
+            false => Err(Failure::Contradicted),
+        };
+    }
     match schedule {
-        Schedule::Times(times) if rows.rows.iter().all(|row| spare(row, &times) >= 0) => {
-            Ok(if is_json { can_json(&file, &rows, &times) } else { can(&rows, &times) })
-        }
         Schedule::Cycle(cycle) if is_cycle(&rows, &cycle) => {
             Ok(if is_json { cannot_json(&file, &rows, &cycle) } else { cannot(&rows, &cycle) })
         }
@@ -44,36 +48,67 @@ fn refused(refusal: TimesRefusal) -> Failure {
     Failure::Refused { number: refusal.number(), what: refusal.to_string(), notes: vec![] }
 }
 
-/// How much the difference is at most, in whole minutes.
-fn length(row: &Row) -> i64 {
-    i64::from(row.c) - i64::from(row.is_strict)
+/// How many minutes are left in a row, over the denominator of the times.
+fn spare(row: &Row, times: &Fractions) -> i64 {
+    let [x, y] = [row.x, row.y].map(|point| times.numerators[point]);
+    i64::from(row.c) * times.over - (x - y)
 }
 
-/// How many minutes are left in a row; below 0 where it is broken.
-fn spare(row: &Row, times: &[i64]) -> i64 {
-    length(row) - (times[row.x] - times[row.y])
+/// Whether the times meet a row, a strict one strictly.
+fn is_met(row: &Row, times: &Fractions) -> bool {
+    spare(row, times) >= i64::from(row.is_strict)
 }
 
-/// Whether these rows lead round, and come to less than 0.
+/// A fraction of a minute in its lowest terms: `3`, or `1/2`.
+fn minutes(numerator: i64, over: i64) -> String {
+    let (mut common, mut rest) = (numerator.abs(), over);
+    while rest != 0 {
+        (common, rest) = (rest, common % rest);
+    }
+    match over / common {
+        1 => (numerator / common).to_string(),
+        over => format!("{}/{over}", numerator / common),
+    }
+}
+
+/// What the rows come to, added up, and whether a strict one is among them.
+fn sum(rows: &[&Row]) -> (i64, bool) {
+    (rows.iter().map(|row| i64::from(row.c)).sum(), rows.iter().any(|row| row.is_strict))
+}
+
+/// The sign of a row, or of a sum of rows.
+fn sign(is_strict: bool) -> &'static str {
+    if is_strict {
+        "<"
+    } else {
+        "<="
+    }
+}
+
+/// Whether these rows lead round, and say that 0 is below 0, or below itself.
 fn is_cycle(rows: &Times, cycle: &[usize]) -> bool {
     let listed: Option<Vec<&Row>> = cycle.iter().map(|&row| rows.rows.get(row)).collect();
     let Some(listed) = listed else { return false };
     let next = listed.iter().cycle().skip(1);
     let leads_round = listed.iter().zip(next).all(|(row, next)| row.y == next.x);
-    leads_round && listed.iter().map(|row| length(row)).sum::<i64>() < 0
+    let (sum, is_strict) = sum(&listed);
+    leads_round && sum < i64::from(is_strict)
 }
 
 fn place(row: &Row) -> Option<String> {
     row.line.map(|line| format!("line {line}"))
 }
 
-fn can(rows: &Times, times: &[i64]) -> Ended {
-    let values = rows.names.iter().zip(times).map(|(name, time)| vec![format!("{name} = {time}")]);
+fn can(rows: &Times, times: &Fractions) -> Ended {
+    let time = |numerator: &i64| minutes(*numerator, times.over);
+    let named = rows.names.iter().zip(&times.numerators);
+    let values = named.map(|(name, numerator)| vec![format!("{name} = {}", time(numerator))]);
     let mut said = format!("can\n\n{}\n", table("", &values.collect::<Vec<_>>()));
     let far = rows.rows.iter().map(|row| {
-        let far = match spare(row, times) {
-            0 => "met exactly".to_string(),
-            1 => "1 minute to spare".to_string(),
+        let far = match minutes(spare(row, times), times.over).as_str() {
+            "0" => "met exactly".to_string(),
+            "1" => "1 minute to spare".to_string(),
+            spare if spare.contains('/') => format!("{spare} of a minute to spare"),
             spare => format!("{spare} minutes to spare"),
         };
         place(row).into_iter().chain([rows.row_text(row), far]).collect()
@@ -82,7 +117,7 @@ fn can(rows: &Times, times: &[i64]) -> Ended {
     if !far.is_empty() {
         said += &format!("# How far each row is from being broken:\n{}#\n", table("#   ", &far));
     }
-    said += "# Whole minutes from 0 on. Every row was looked at once more before this was shown.\n";
+    said += "# Minutes from 0 on. Every row was looked at once more before this was shown.\n";
     Ended::saying(said, CAN)
 }
 
@@ -92,18 +127,19 @@ fn cannot(rows: &Times, cycle: &[usize]) -> Ended {
         vec![place(row).unwrap_or(format!("row {number}")), format!("# {}", rows.row_text(row))]
     });
     let mut said = format!("cannot\n\n{}\n", table("", &named.collect::<Vec<_>>()));
-    said += "# In whole minutes, and all of them added up:\n";
+    said += "# All of them added up:\n";
     let left = |row: &Row| format!("{} - {}", rows.names[row.x], rows.names[row.y]);
-    let sum: i64 = listed.iter().map(|row| length(row)).sum();
+    let (sum, is_strict) = sum(&listed);
     let wide = listed.iter().map(|row| left(row).len()).max().unwrap_or(0);
-    let rights = listed.iter().map(|row| length(row)).chain([sum]);
+    let rights = listed.iter().map(|row| i64::from(row.c)).chain([sum]);
     let right_wide = rights.map(|right| right.to_string().len()).max().unwrap_or(0);
     for row in &listed {
-        said += &format!("#   {:>wide$} <= {}\n", left(row), length(row));
+        said += &format!("#   {:>wide$} {:<2} {}\n", left(row), sign(row.is_strict), row.c);
     }
     said += &format!("#   {}\n", "-".repeat(wide + 4 + right_wide));
-    said += &format!("#   {:>wide$} <= {sum}\n#\n", "0");
-    said += "# No whole times meet these rows together. The sum was made once more before this was shown.\n";
+    said += &format!("#   {:>wide$} {:<2} {sum}\n#\n", "0", sign(is_strict));
+    said +=
+        "# No times meet these rows together. The sum was made once more before this was shown.\n";
     Ended::saying(said, CANNOT)
 }
 
@@ -111,9 +147,9 @@ fn row_json(rows: &Times, row: &Row) -> Vec<(&'static str, String)> {
     vec![("line", json::line(row.line)), ("row", json::text(&rows.row_text(row)))]
 }
 
-fn can_json(file: &str, rows: &Times, times: &[i64]) -> Ended {
-    let values = rows.names.iter().zip(times).map(|(name, time)| {
-        json::inner(&[("name", json::text(name)), ("minutes", time.to_string())])
+fn can_json(file: &str, rows: &Times, times: &Fractions) -> Ended {
+    let values = rows.names.iter().zip(&times.numerators).map(|(name, numerator)| {
+        json::inner(&[("name", json::text(name)), ("minutes", numerator.to_string())])
     });
     let far = rows.rows.iter().map(|row| {
         let mut fields = row_json(rows, row);
@@ -123,6 +159,7 @@ fn can_json(file: &str, rows: &Times, times: &[i64]) -> Ended {
     let fields = [
         ("verdict", json::text("can")),
         ("file", json::text(file)),
+        ("over", times.over.to_string()),
         ("times", json::list(values)),
         ("rows", json::list(far)),
     ];
@@ -130,13 +167,13 @@ fn can_json(file: &str, rows: &Times, times: &[i64]) -> Ended {
 }
 
 fn cannot_json(file: &str, rows: &Times, cycle: &[usize]) -> Ended {
-    let listed = cycle.iter().map(|&row| &rows.rows[row]);
-    let sum: i64 = listed.clone().map(length).sum();
+    let listed: Vec<&Row> = cycle.iter().map(|&row| &rows.rows[row]).collect();
+    let (sum, is_strict) = sum(&listed);
     let fields = [
         ("verdict", json::text("cannot")),
         ("file", json::text(file)),
-        ("rows", json::list(listed.map(|row| json::inner(&row_json(rows, row))))),
-        ("sum", json::text(&format!("0 <= {sum}"))),
+        ("rows", json::list(listed.iter().map(|row| json::inner(&row_json(rows, row))))),
+        ("sum", json::text(&format!("0 {} {sum}", sign(is_strict)))),
     ];
     Ended::saying(json::object(&fields), CANNOT)
 }

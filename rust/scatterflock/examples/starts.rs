@@ -11,7 +11,7 @@ pub fn main() -> Result<(), BuildError> {
         let rows =
             TimeRows::new(3)?.at_most(0, 1, -30)?.at_most(1, 2, -30)?.below(2, 0, minutes)?;
         match rows.solve() {
-            Schedule::Times(times) => println!("within {minutes} minutes: {times:?}"),
+            schedule @ Schedule::Times(_) => println!("within {minutes} minutes: {schedule}"),
             Schedule::Cycle(rows) => println!("within {minutes} minutes: no, for rows {rows:?}"),
             _ => println!("another answer"),
         }

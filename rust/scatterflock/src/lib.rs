@@ -74,4 +74,4 @@ pub use problem::Problem;
 pub use refusal::{Refusal, TimesRefusal};
 pub use rows::TimeRows;
 pub use slice::Slice;
-pub use times::{times, Schedule};
+pub use times::{times, Fractions, Schedule, Time};

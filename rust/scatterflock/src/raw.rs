@@ -118,9 +118,9 @@ pub fn check(words: &[i32], answer: &[i64]) -> u32 {
 /// number of a [`TimesRefusal`](crate::TimesRefusal) and `out` as it was.
 ///
 /// ```
-/// let mut out = [-1; 5];
+/// let mut out = [-1; 7];
 /// assert_eq!(scatterflock::raw::times(&[2, 1, 0, 1, 0, -3], &mut out), 0);
-/// assert_eq!(out, [1, 2, 0, 3, -1]);
+/// assert_eq!(out, [1, 2, 0, 3, 0, 0, -1]);
 /// assert_eq!(scatterflock::raw::times(&[], &mut out), 11);
 /// ```
 #[must_use = "where it is not 0, nothing was written"]

@@ -9,11 +9,12 @@ use crate::times::{times, Schedule};
 /// refused.
 ///
 /// ```
-/// use scatterflock::{Schedule, TimeRows};
+/// use scatterflock::{Schedule, Time, TimeRows};
 ///
 /// // y comes at least 3 minutes after x, and less than 5 after it
 /// let rows = TimeRows::new(2)?.at_most(0, 1, -3)?.below(1, 0, 5)?;
-/// assert_eq!(rows.solve(), Schedule::Times(vec![0, 3]));
+/// let [x, y] = [Time { minutes: 0, small: 0 }, Time { minutes: 3, small: 0 }];
+/// assert_eq!(rows.solve(), Schedule::Times(vec![x, y]));
 /// # Ok::<(), scatterflock::BuildError>(())
 /// ```
 #[derive(Debug, Clone, PartialEq, Eq, Hash)]

@@ -20,4 +20,4 @@ pub const MOST_VERTICES: usize = 64;
 /// The most time rows.
 pub const MOST_TIME_ROWS: usize = 256;
 /// The most words of an answer to time rows.
-pub const MOST_TIMES: usize = 2 + MOST_VERTICES;
+pub const MOST_TIMES: usize = 2 + 2 * MOST_VERTICES;

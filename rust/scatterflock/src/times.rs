@@ -9,16 +9,35 @@ use std::fmt;
 #[derive(Debug, Clone, PartialEq, Eq, Hash)]
 #[non_exhaustive]
 pub enum Schedule {
-    /// The time of each vertex, in whole minutes from 0 on. All rows hold.
-    Times(Vec<i64>),
+    /// The time of each vertex, from 0 on. All rows hold, whatever fraction up
+    /// to 1 / n is put for the small amount.
+    Times(Vec<Time>),
     /// Rows that lead round and leave less than no time.
     Cycle(Vec<usize>),
+}
+
+/// A time: minutes, and how often an arbitrarily small amount is added.
+#[derive(Debug, Clone, Copy, PartialEq, Eq, PartialOrd, Ord, Hash)]
+pub struct Time {
+    /// Whole minutes, from 0 on.
+    pub minutes: i64,
+    /// Small amounts: from 0 on, and fewer than there are vertices.
+    pub small: i64,
+}
+
+/// Times as fractions of a minute over one denominator.
+#[derive(Debug, Clone, PartialEq, Eq, Hash)]
+pub struct Fractions {
+    /// The numerator of each vertex's time.
+    pub numerators: Vec<i64>,
+    /// The denominator, above 0.
+    pub over: i64,
 }
 
 /// Answers the time rows of these words.
 ///
 /// ```
-/// use scatterflock::{times, Schedule};
+/// use scatterflock::{times, Schedule, Time};
 ///
 /// // x - y <= -3: y comes at least 3 minutes after x
 /// let row = [0, 1, 0, -3];
@@ -26,7 +45,8 @@ pub enum Schedule {
 /// let strict = [1, 0, 1, 3];
 ///
 /// let schedule = times(&[&[2, 1], &row[..]].concat())?;
-/// assert_eq!(schedule, Schedule::Times(vec![0, 3]));
+/// let [x, y] = [Time { minutes: 0, small: 0 }, Time { minutes: 3, small: 0 }];
+/// assert_eq!(schedule, Schedule::Times(vec![x, y]));
 /// assert_eq!(schedule.to_string(), "times 0, 3");
 ///
 /// let Schedule::Cycle(rows) = times(&[&[2, 2], &row[..], &strict].concat())? else {
@@ -49,12 +69,35 @@ pub fn times(rows: &[i32]) -> Result<Schedule, TimesRefusal> {
 
 impl Schedule {
     fn read(out: &[i64]) -> Schedule {
-        let listed = &out[2..2 + out[1] as usize];
+        let count = out[1] as usize;
+        let listed = &out[2..2 + count];
         if out[0] == 1 {
-            Schedule::Times(listed.to_vec())
+            let times = listed.iter().zip(&out[2 + count..]);
+            Schedule::Times(times.map(|(&minutes, &small)| Time { minutes, small }).collect())
         } else {
             Schedule::Cycle(listed.iter().map(|&row| row as usize).collect())
         }
+    }
+
+    /// Times that meet all rows, as numbers: 1 / n is put for the small amount.
+    /// Where no time has any, they are whole minutes over 1.
+    ///
+    /// ```
+    /// use scatterflock::TimeRows;
+    ///
+    /// // x comes after y, and less than a minute after it: half a minute
+    /// let rows = TimeRows::new(2)?.below(0, 1, 1)?.below(1, 0, 0)?;
+    /// let fractions = rows.solve().fractions().unwrap();
+    /// assert_eq!((fractions.numerators, fractions.over), (vec![1, 0], 2));
+    /// # Ok::<(), scatterflock::BuildError>(())
+    /// ```
+    #[must_use]
+    pub fn fractions(&self) -> Option<Fractions> {
+        let Schedule::Times(times) = self else { return None };
+        let whole = times.iter().all(|time| time.small == 0);
+        let over = if whole { 1 } else { times.len() as i64 };
+        let numerators = times.iter().map(|time| over * time.minutes + time.small).collect();
+        Some(Fractions { numerators, over })
     }
 }
 
@@ -63,6 +106,15 @@ impl fmt::Display for Schedule {
         match self {
             Schedule::Times(times) => write!(to, "times {}", joined(times)),
             Schedule::Cycle(rows) => write!(to, "no times: rows {} go round below 0", joined(rows)),
+        }
+    }
+}
+
+impl fmt::Display for Time {
+    fn fmt(&self, to: &mut fmt::Formatter) -> fmt::Result {
+        match self.small {
+            0 => write!(to, "{}", self.minutes),
+            small => write!(to, "{} and {small} small", self.minutes),
         }
     }
 }

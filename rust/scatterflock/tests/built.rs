@@ -5,7 +5,7 @@ use problems::limits::Family;
 use problems::random::{seed, Random};
 use problems::worked::{self, TimesAnswer};
 use scatterflock::sizes::{MOST_ROWS, MOST_TIME_ROWS};
-use scatterflock::{solve, BuildError, Problem, Refusal, Schedule, TimeRows, Verdict};
+use scatterflock::{solve, BuildError, Problem, Refusal, Schedule, Time, TimeRows, Verdict};
 
 #[test]
 fn words_and_back() {
@@ -64,7 +64,7 @@ fn the_worked_cases_step_by_step() {
         }
         assert_eq!(rows.words(), case.words);
         let found = matches!(rows.solve(), Schedule::Times(_));
-        assert_eq!(found, matches!(case.answer, TimesAnswer::Times(_)), "{}", case.name);
+        assert_eq!(found, matches!(case.answer, TimesAnswer::Times { .. }), "{}", case.name);
     }
 }
 
@@ -98,7 +98,7 @@ fn what_cannot_be_built() {
     assert_eq!(rows().below(0, 1, 30_001), Err(BuildError::Limit(30_001)));
     let full = (0..MOST_TIME_ROWS).fold(rows(), |full, _| full.at_most(0, 1, 30_000).unwrap());
     assert_eq!(full.clone().at_most(0, 1, 0), Err(BuildError::TimeRows));
-    assert_eq!(full.solve(), Schedule::Times(vec![0, 0]));
+    assert_eq!(full.solve(), Schedule::Times(vec![Time { minutes: 0, small: 0 }; 2]));
 }
 
 #[test]

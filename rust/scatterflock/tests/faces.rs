@@ -4,7 +4,8 @@ use problems::draft::{at_least, Draft, FREE};
 use problems::published::published;
 use problems::worked::{self, time_words, TimesAnswer};
 use scatterflock::sizes::{MOST_ANSWER, MOST_TIMES, MOST_WORDS};
-use scatterflock::{check, solve, times, Judgement, Refusal, Schedule, TimesRefusal, Verdict};
+use scatterflock::{check, solve, times};
+use scatterflock::{Judgement, Refusal, Schedule, Time, TimesRefusal, Verdict};
 
 #[test]
 fn worked_cases_and_published_problems() {
@@ -21,7 +22,10 @@ fn worked_cases_and_published_problems() {
     }
     for case in worked::times() {
         match (times(&case.words).unwrap(), case.answer) {
-            (Schedule::Times(times), TimesAnswer::Times(expected)) => assert_eq!(times, expected),
+            (Schedule::Times(times), TimesAnswer::Times { minutes, small }) => {
+                let parts = times.iter().map(|time| (time.minutes, time.small));
+                assert!(parts.eq(minutes.into_iter().zip(small)), "{}", case.name);
+            }
             (Schedule::Cycle(rows), TimesAnswer::Cycle(expected)) => {
                 assert_eq!(rows.len(), expected.len())
             }
@@ -40,7 +44,8 @@ fn answers_of_every_length() {
     for n in 1..=64 {
         let mut rows: Vec<[i32; 4]> = (1..n).map(|vertex| [vertex - 1, vertex, 0, -1]).collect();
         let chain = times(&time_words(n as usize, &rows)).unwrap();
-        assert_eq!(chain, Schedule::Times((0..i64::from(n)).collect()));
+        let whole = |minutes| Time { minutes, small: 0 };
+        assert_eq!(chain, Schedule::Times((0..i64::from(n)).map(whole).collect()));
         rows.push([n - 1, 0, 0, -1]);
         let ring = times(&time_words(n as usize, &rows)).unwrap();
         let Schedule::Cycle(mut listed) = ring else { panic!("{n} vertices: {ring}") };
@@ -149,6 +154,29 @@ fn texts_of_answers() {
 }
 
 #[test]
+fn fractions_meet_strict_rows() {
+    for n in 2..=64 {
+        let mut rows: Vec<[i32; 4]> = (1..n).map(|to| [to - 1, to, 1, 0]).collect();
+        rows.push([n - 1, 0, 1, 1]);
+        let schedule = times(&time_words(n as usize, &rows)).unwrap();
+        let small: Vec<Time> = (0..i64::from(n)).map(|small| Time { minutes: 0, small }).collect();
+        assert_eq!(schedule, Schedule::Times(small));
+        let fractions = schedule.fractions().unwrap();
+        assert_eq!(fractions.over, i64::from(n));
+        for [x, y, _, c] in rows {
+            let [x, y] = [x, y].map(|vertex| fractions.numerators[vertex as usize]);
+            assert!(x - y < i64::from(c) * fractions.over);
+        }
+    }
+    let row = [0, 1, 0, -3];
+    let whole = times(&time_words(2, &[row])).unwrap().fractions().unwrap();
+    assert_eq!((whole.numerators, whole.over), (vec![0, 3], 1));
+    let half = times(&time_words(2, &[[0, 1, 1, 1], [1, 0, 1, 0]])).unwrap();
+    assert_eq!(half.to_string(), "times 0 and 1 small, 0");
+    assert_eq!(times(&time_words(1, &[[0, 0, 1, 0]])).unwrap().fractions(), None);
+}
+
+#[test]
 fn sizes_are_those_of_the_rules() {
-    assert_eq!([MOST_WORDS, MOST_ANSWER, MOST_TIMES], [202, 51, 66]);
+    assert_eq!([MOST_WORDS, MOST_ANSWER, MOST_TIMES], [202, 51, 130]);
 }

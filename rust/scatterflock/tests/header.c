@@ -21,7 +21,7 @@ static const int64_t C_WRONG[] = {2, 2, 0, 0, 0, 3, 2, 2, 0, 0, 0, 0, 0};
 
 static const int32_t J[] = {4, 6, 0, 1, 0, 5, 1, 0, 0, -5, 1, 2, 0, -2,
                             0, 2, 0, -3, 3, 0, 0, 2, 0, 3, 0, -2};
-static const int64_t J_TIMES[] = {1, 4, 5, 0, 8, 7};
+static const int64_t J_TIMES[] = {1, 4, 5, 0, 8, 7, 0, 0, 0, 0};
 
 static const int32_t NINE_VARIABLES[] = {9, 0};
 static const int32_t NO_SUCH_VERTEX[] = {1, 1, 0, 1, 0, 0};
