@@ -40,7 +40,7 @@ pub fn check(contenders: &[Contender], set: &LimitSet) -> Vec<f64> {
 /// ns a problem of each contender.
 pub fn times(contenders: &[Contender], set: &TimeSet) -> Vec<f64> {
     interleaved(contenders, set.problems.len(), |contender, few| {
-        let mut out = [0; 66];
+        let mut out = [0; 130];
         for words in &set.problems[few] {
             black_box((contender.times)(black_box(words), black_box(&mut out)));
         }

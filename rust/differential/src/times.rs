@@ -18,8 +18,8 @@ pub struct Outcome {
 pub fn compare(random: &mut Random, family: Family) -> Result<Outcome, String> {
     let words = family.words(random);
     let needed = match words[..] {
-        [n @ 1..=64, ..] => 2 + n as usize,
-        _ => 66,
+        [n @ 1..=64, ..] => 2 + 2 * n as usize,
+        _ => 130,
     };
     let length = length(random, needed);
     let before = fresh(random, length);

@@ -72,7 +72,7 @@ fn every_problem_pivot_by_pivot() {
 #[test]
 fn cases_j_to_l() {
     for case in worked::times() {
-        let needed = 2 + case.words[0] as usize;
+        let needed = 2 + 2 * case.words[0] as usize;
         for length in 0..needed + 3 {
             let mut out = vec![KEPT; length];
             let number = archive::times(&case.words, &mut out);

@@ -3,15 +3,17 @@
 use crate::words::every;
 
 const MOST_VERTICES: usize = 64;
+/// Small amounts to a minute, in a length that is kept as one number.
+const UNIT: i64 = 65_536;
 
 /// Writes times or a cycle and returns 0, or returns the number of the
-/// refusal and writes nothing. Words past 2 + n are not touched.
+/// refusal and writes nothing. Words past 2 + 2n are not touched.
 pub fn times(rows: &[i32], out: &mut [i64]) -> u32 {
     let (n, rows) = match judged(rows) {
         Ok(accepted) => accepted,
         Err(refusal) => return refusal,
     };
-    let Some(out) = out.get_mut(..2 + n) else {
+    let Some(out) = out.get_mut(..2 + 2 * n) else {
         return 17;
     };
     let mut passes = Passes { distances: [0; MOST_VERTICES], last_rows: [0; MOST_VERTICES] };
@@ -19,8 +21,10 @@ pub fn times(rows: &[i32], out: &mut [i64]) -> u32 {
         None => {
             out[0] = 1;
             out[1] = n as i64;
-            for (word, distance) in out[2..].iter_mut().zip(&passes.distances) {
-                *word = -i64::from(*distance);
+            let (minutes, small) = out[2..].split_at_mut(n);
+            for (vertex, distance) in passes.distances[..n].iter().enumerate() {
+                minutes[vertex] = -distance / UNIT;
+                small[vertex] = -distance % UNIT;
             }
         }
         Some(bettered) => {
@@ -56,9 +60,10 @@ fn judged(words: &[i32]) -> Result<(usize, &[[i32; 4]]), u32> {
     Ok((*n as usize, rows))
 }
 
-/// No distance is below -64 * 256 * 30,001, so 32 bits are enough.
+/// A length is a pair, minutes and small amounts. There are at most 64 * 256
+/// small amounts, so the order of the numbers is that of the pairs.
 struct Passes {
-    distances: [i32; MOST_VERTICES],
+    distances: [i64; MOST_VERTICES],
     /// The row that bettered each vertex last.
     last_rows: [u16; MOST_VERTICES],
 }
@@ -80,7 +85,7 @@ impl Passes {
         let mut bettered = None;
         for (number, &[x, y, strict, length]) in rows.iter().enumerate() {
             let (from, to) = (x as usize & 63, y as usize & 63);
-            let distance = self.distances[from] + (length - strict);
+            let distance = self.distances[from] + UNIT * i64::from(length) - i64::from(strict);
             if distance < self.distances[to] {
                 self.distances[to] = distance;
                 self.last_rows[to] = number as u16;

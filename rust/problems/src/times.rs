@@ -19,8 +19,11 @@ pub enum Family {
     ChainBackward,
     /// One bad ring through all vertices, nothing else wrong.
     BadRing,
-    /// One bad ring of any size, the sum -1, with a path into or out of it.
+    /// One bad ring of any size, missed by a minute or by a strict row, with a
+    /// path into or out of it.
     LoneRing,
+    /// A ring whose c sum to 0, often with a strict row or some.
+    LevelRing,
     /// Many rows between few vertices.
     Parallel,
     /// Rows of another family with something wrong.
@@ -33,7 +36,7 @@ const LARGEST_LENGTH: i32 = 30_000;
 
 impl Family {
     /// Every family.
-    pub const ALL: [Family; 10] = [
+    pub const ALL: [Family; 11] = [
         Family::Small,
         Family::Feasible,
         Family::Infeasible,
@@ -41,13 +44,14 @@ impl Family {
         Family::ChainBackward,
         Family::BadRing,
         Family::LoneRing,
+        Family::LevelRing,
         Family::Parallel,
         Family::Damaged,
         Family::Garbage,
     ];
 
     /// The families whose words are never refused.
-    pub const ACCEPTED: [Family; 8] = [
+    pub const ACCEPTED: [Family; 9] = [
         Family::Small,
         Family::Feasible,
         Family::Infeasible,
@@ -55,6 +59,7 @@ impl Family {
         Family::ChainBackward,
         Family::BadRing,
         Family::LoneRing,
+        Family::LevelRing,
         Family::Parallel,
     ];
 
@@ -68,6 +73,7 @@ impl Family {
             Family::ChainBackward => "chain backward",
             Family::BadRing => "bad ring",
             Family::LoneRing => "lone ring",
+            Family::LevelRing => "level ring",
             Family::Parallel => "parallel",
             Family::Damaged => "damaged",
             Family::Garbage => "garbage",
@@ -84,6 +90,7 @@ impl Family {
             Family::ChainBackward => chain(random, true),
             Family::BadRing => bad_ring(random),
             Family::LoneRing => lone_ring(random),
+            Family::LevelRing => level_ring(random),
             Family::Parallel => parallel(random),
             Family::Damaged => {
                 let whole = random.pick(&Family::ACCEPTED).words(random);
@@ -162,8 +169,8 @@ fn bad_ring(random: &mut Random) -> Vec<i32> {
     time_words(64, &rows)
 }
 
-/// Hidden times miss one row of a ring by 1, and meet its other rows and those
-/// of a path just so. All rows beside have room, so no other cycle is bad.
+/// Hidden times miss one row of a ring, by 1 or because it is strict, and meet
+/// its other rows just so. All rows beside have room, so no other cycle is bad.
 fn lone_ring(random: &mut Random) -> Vec<i32> {
     let n = random.pick(&[64, 64, 64, 20, 5, 2, 1]);
     let hidden: Vec<i32> = (0..n).map(|_| random.within(0, 10_000)).collect();
@@ -172,9 +179,9 @@ fn lone_ring(random: &mut Random) -> Vec<i32> {
     let (ring, rest) = vertices.split_at(random.size(1, n));
     let mut rows = vec![];
     for (at, &x) in ring.iter().enumerate() {
-        let room = if at == 0 { -1 } else { 0 };
+        let (strict, room) = if at == 0 { (random.below(2) as i32, -1) } else { (0, 0) };
         let y = ring[(at + 1) % ring.len()];
-        rows.push(row_between(&hidden, x, y, random.below(2) as i32, room));
+        rows.push(row_between(&hidden, x, y, strict, room));
     }
     let into = random.percent(50);
     let path = if into { [rest, &ring[..1]].concat() } else { [&ring[..1], rest].concat() };
@@ -191,6 +198,27 @@ fn lone_ring(random: &mut Random) -> Vec<i32> {
         1 => random.shuffle(&mut rows),
         _ => {}
     }
+    time_words(n, &rows)
+}
+
+/// Hidden times meet every row of a ring just so, and break the strict ones.
+/// All rows beside have room.
+fn level_ring(random: &mut Random) -> Vec<i32> {
+    let n = random.pick(&[64, 64, 30, 5, 2, 1]);
+    let hidden: Vec<i32> = (0..n).map(|_| random.within(0, 10_000)).collect();
+    let mut ring: Vec<usize> = (0..n).collect();
+    random.shuffle(&mut ring);
+    ring.truncate(random.size(1, n));
+    let share = random.pick(&[0, 0, 2, 100]);
+    let mut rows: Vec<[i32; 4]> = vec![];
+    for (at, &x) in ring.iter().enumerate() {
+        let strict = i32::from(random.percent(share));
+        rows.push(row_between(&hidden, x, ring[(at + 1) % ring.len()], strict, -strict));
+    }
+    for _ in 0..random.size(0, 256 - rows.len()) {
+        rows.push(row_around(random, &hidden));
+    }
+    random.shuffle(&mut rows);
     time_words(n, &rows)
 }
 

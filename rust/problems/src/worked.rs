@@ -1,4 +1,4 @@
-//! The worked cases A to L of docs/RULES.md.
+//! The worked cases A to L of docs/RULES.md, and those with strict time rows.
 
 use crate::draft::{at_least, at_most, between, Draft, FREE};
 
@@ -34,8 +34,13 @@ pub struct Times {
 
 /// An answer to time rows.
 pub enum TimesAnswer {
-    /// The time of each vertex.
-    Times(Vec<i64>),
+    /// The time of each vertex: minutes, and small amounts.
+    Times {
+        /// The minutes.
+        minutes: Vec<i64>,
+        /// The small amounts.
+        small: Vec<i64>,
+    },
     /// The one bad cycle there is. An answer may start at any of its rows.
     Cycle(Vec<i64>),
 }
@@ -109,7 +114,8 @@ fn case_h() -> Limits {
     can("H", Draft::new(1, &[], &[FREE]), 0, 1, &[0])
 }
 
-/// Cases J to L.
+/// Cases J to L; a row of less than a minute that is met; rows whose c sum to 0,
+/// none strict, and one of them strict.
 pub fn times() -> Vec<Times> {
     let rows_of_j =
         [[0, 1, 0, 5], [1, 0, 0, -5], [1, 2, 0, -2], [0, 2, 0, -3], [3, 0, 0, 2], [0, 3, 0, -2]];
@@ -119,7 +125,7 @@ pub fn times() -> Vec<Times> {
         Times {
             name: "J",
             words: time_words(4, &rows_of_j),
-            answer: TimesAnswer::Times(vec![5, 0, 8, 7]),
+            answer: TimesAnswer::Times { minutes: vec![5, 0, 8, 7], small: vec![0; 4] },
         },
         Times {
             name: "K",
@@ -130,6 +136,21 @@ pub fn times() -> Vec<Times> {
             name: "L",
             words: time_words(1, &[[0, 0, 1, 0]]),
             answer: TimesAnswer::Cycle(vec![0]),
+        },
+        Times {
+            name: "less than a minute",
+            words: time_words(2, &[[0, 1, 1, 1], [1, 0, 1, 0]]),
+            answer: TimesAnswer::Times { minutes: vec![0, 0], small: vec![1, 0] },
+        },
+        Times {
+            name: "sum 0, none strict",
+            words: time_words(2, &[[0, 1, 0, 1], [1, 0, 0, -1]]),
+            answer: TimesAnswer::Times { minutes: vec![1, 0], small: vec![0, 0] },
+        },
+        Times {
+            name: "sum 0, one strict",
+            words: time_words(2, &[[0, 1, 1, 1], [1, 0, 0, -1]]),
+            answer: TimesAnswer::Cycle(vec![0, 1]),
         },
     ]
 }
@@ -142,11 +163,12 @@ pub fn time_words(n: usize, rows: &[[i32; 4]]) -> Vec<i32> {
 }
 
 impl TimesAnswer {
-    /// Whether these 2 + n words give this answer.
+    /// Whether these 2 + 2n words give this answer.
     pub fn is(&self, words: &[i64]) -> bool {
         match self {
-            TimesAnswer::Times(times) => {
-                words[..2] == [1, times.len() as i64] && words[2..] == times[..]
+            TimesAnswer::Times { minutes, small } => {
+                words[..2] == [1, minutes.len() as i64]
+                    && words[2..] == [&minutes[..], &small[..]].concat()
             }
             TimesAnswer::Cycle(cycle) => {
                 let (listed, rest) = words[2..].split_at(cycle.len());

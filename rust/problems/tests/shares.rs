@@ -100,7 +100,7 @@ fn accepted_families_are_accepted() {
         let mut out = [0; 51];
         assert_eq!(reference::solve(&family.words(&mut random), &mut out), 0, "SEED={seed}");
         let family = random.pick(&times::Family::ACCEPTED);
-        let mut out = [0; 66];
+        let mut out = [0; 130];
         assert_eq!(reference::times(&family.words(&mut random), &mut out), 0, "SEED={seed}");
     }
 }
@@ -109,7 +109,7 @@ fn time_shares(family: times::Family, seed: u64) -> Shares {
     let mut verdicts = Shares::new();
     for problem in 0..1_500 {
         let words = family.words(&mut Random::of_problem(seed, problem));
-        let mut out = [0; 66];
+        let mut out = [0; 130];
         let returned = reference::times(&words, &mut out);
         count(&mut verdicts, verdict(returned, out[0]));
     }
@@ -124,6 +124,7 @@ fn least_time_shares(family: times::Family) -> &'static [(&'static str, usize)] 
         times::Family::Parallel => &[("can", 20), ("cannot", 5)],
         times::Family::Infeasible => &[("cannot", 95)],
         times::Family::BadRing | times::Family::LoneRing => &[("cannot", 100)],
+        times::Family::LevelRing => &[("can", 40), ("cannot", 20)],
         times::Family::Damaged => &[
             ("can", 5),
             ("cannot", 3),

@@ -1,4 +1,8 @@
-//! Time rows: times that meet every row, or rows that go round below 0.
+//! Time rows: times that meet every row, or rows that cannot be met together.
+//!
+//! Times are fractions of a minute. Lengths have two parts: the c, and how many
+//! rows are strict, the more the less. A time is minus a distance, part by part:
+//! minutes, and how often a small amount is added.
 //!
 //! Renders "Time rows" of docs/RULES.md. Which bad cycle is named is free, so
 //! there is also a judge that says whether an output is an allowed one.
@@ -10,12 +14,16 @@ const VERTICES: RangeInclusive<i32> = 1..=64;
 const ROWS: RangeInclusive<i32> = 0..=256;
 const LENGTHS: RangeInclusive<i32> = -30_000..=30_000;
 
-/// A time row as an edge. A strict row is one shorter than it was written.
+/// The c, and minus the number of strict rows; the c is compared first.
+type Length = (i64, i64);
+
+/// A time row as an edge.
 #[derive(Debug, Clone, Copy, PartialEq, Eq)]
 struct Edge {
     from: usize,
     to: usize,
-    length: i64,
+    c: i64,
+    is_strict: bool,
 }
 
 #[derive(Debug, Clone, PartialEq, Eq)]
@@ -25,18 +33,22 @@ struct Graph {
 }
 
 /// Writes times or a cycle and returns 0, or returns the number of the
-/// refusal and writes nothing. Words past 2 + n are not touched.
+/// refusal and writes nothing. Words past 2 + 2n are not touched.
 pub fn times(rows: &[i32], out: &mut [i64]) -> u32 {
     let graph = match Graph::read(rows) {
         Ok(graph) => graph,
         Err(refusal) => return refusal,
     };
-    let length = 2 + graph.vertices;
+    let length = 2 + 2 * graph.vertices;
     if out.len() < length {
         return 17;
     }
     let mut answer = match graph.distances() {
-        Some(distances) => times_words(&distances),
+        Some(distances) => {
+            let words = times_words(&distances);
+            assert!(graph.holds(&words), "a small amount of 1 / (n + 1) meets every row");
+            words
+        }
         None => cycle_words(&graph.cycle()),
     };
     answer.resize(length, 0);
@@ -44,9 +56,10 @@ pub fn times(rows: &[i32], out: &mut [i64]) -> u32 {
     0
 }
 
-fn times_words(distances: &[i64]) -> Vec<i64> {
+fn times_words(distances: &[Length]) -> Vec<i64> {
     let mut words = vec![1, distances.len() as i64];
-    words.extend(distances.iter().map(|distance| -distance));
+    words.extend(distances.iter().map(|(minutes, _)| -minutes));
+    words.extend(distances.iter().map(|(_, strict)| -strict));
     words
 }
 
@@ -63,7 +76,7 @@ pub fn times_is_right(rows: &[i32], before: &[i64], after: &[i64], returned: u32
         Ok(graph) => graph,
         Err(refusal) => return returned == refusal && after == before,
     };
-    let length = 2 + graph.vertices;
+    let length = 2 + 2 * graph.vertices;
     if before.len() < length {
         return returned == 17 && after == before;
     }
@@ -107,8 +120,8 @@ impl Graph {
     ///
     /// After k rounds each number is the least length of a walk of at most k
     /// edges. Where no walk closes below 0, walks of n edges are not needed.
-    fn distances(&self) -> Option<Vec<i64>> {
-        let mut distances = vec![0; self.vertices];
+    fn distances(&self) -> Option<Vec<Length>> {
+        let mut distances = vec![(0, 0); self.vertices];
         for _ in 0..self.vertices {
             let next = self.round(&distances).0;
             if next == distances {
@@ -121,11 +134,11 @@ impl Graph {
 
     /// One round: the least lengths with one more edge, and the row that
     /// bettered each vertex, if one did.
-    fn round(&self, distances: &[i64]) -> (Vec<i64>, Vec<Option<usize>>) {
+    fn round(&self, distances: &[Length]) -> (Vec<Length>, Vec<Option<usize>>) {
         let mut next = distances.to_vec();
         let mut bettered = vec![None; self.vertices];
         for (row, edge) in self.edges.iter().enumerate() {
-            let length = distances[edge.from] + edge.length;
+            let length = sum([distances[edge.from], edge.length()]);
             if length < next[edge.to] {
                 next[edge.to] = length;
                 bettered[edge.to] = Some(row);
@@ -134,14 +147,14 @@ impl Graph {
         (next, bettered)
     }
 
-    /// A cycle below 0, where there is one.
+    /// A bad cycle, where there is one.
     ///
     /// A vertex that round n bettered was reached by a walk of n edges that is
     /// shorter than every walk of fewer edges. Walked back, it meets a vertex
     /// twice; the part between closes below 0, since without it the walk
     /// would be as short with fewer edges.
     fn cycle(&self) -> Vec<usize> {
-        let mut distances = vec![0; self.vertices];
+        let mut distances = vec![(0, 0); self.vertices];
         let mut rounds = Vec::new();
         for _ in 0..self.vertices {
             let (next, bettered) = self.round(&distances);
@@ -164,10 +177,25 @@ impl Graph {
         unreachable!("n + 1 vertices of n, so one was met twice")
     }
 
-    /// Whether these 2 + n words are an allowed answer.
+    /// Whether these times meet every row, a strict one strictly, where
+    /// 1 / (n + 1) is put for the small amount. All is taken n + 1 times.
+    fn holds(&self, words: &[i64]) -> bool {
+        let (minutes, small) = words[2..].split_at(self.vertices);
+        let over = self.vertices as i64 + 1;
+        let time = |vertex: usize| over * minutes[vertex] + small[vertex];
+        self.edges.iter().all(|edge| {
+            let apart = time(edge.from) - time(edge.to);
+            apart < over * edge.c || (!edge.is_strict && apart == over * edge.c)
+        })
+    }
+
+    /// Whether these 2 + 2n words are an allowed answer.
     fn allows(&self, words: &[i64]) -> bool {
         match words[0] {
-            1 => self.distances().is_some_and(|distances| words == times_words(&distances)),
+            1 => {
+                let right = self.distances().map(|distances| times_words(&distances));
+                right.is_some_and(|right| words == right) && self.holds(words)
+            }
             2 => self.allows_cycle(words[1], &words[2..]),
             _ => false,
         }
@@ -195,17 +223,30 @@ impl Edge {
         Edge {
             from: row[0] as usize,
             to: row[1] as usize,
-            length: i64::from(row[3]) - i64::from(row[2]),
+            c: row[3].into(),
+            is_strict: row[2] == 1,
         }
+    }
+
+    fn length(&self) -> Length {
+        (self.c, if self.is_strict { -1 } else { 0 })
     }
 }
 
+fn sum(lengths: impl IntoIterator<Item = Length>) -> Length {
+    lengths.into_iter().fold((0, 0), |sum, length| (sum.0 + length.0, sum.1 + length.1))
+}
+
 /// Each edge ends where the next starts, the last where the first does, no
-/// two start at one vertex, and the sum is below 0. No edges sum to 0.
+/// two start at one vertex, and the sum of c is below 0, or 0 with a strict row
+/// among them. No edges sum to 0.
 fn is_bad_cycle(edges: &[Edge]) -> bool {
     let nexts = edges.iter().cycle().skip(1);
     let starts: HashSet<usize> = edges.iter().map(|edge| edge.from).collect();
     edges.iter().zip(nexts).all(|(edge, next)| edge.to == next.from)
         && starts.len() == edges.len()
-        && edges.iter().map(|edge| edge.length).sum::<i64>() < 0
+        && match edges.iter().map(|edge| edge.c).sum::<i64>() {
+            0 => edges.iter().any(|edge| edge.is_strict),
+            sum => sum < 0,
+        }
 }

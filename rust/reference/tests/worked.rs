@@ -38,7 +38,7 @@ fn case_i_is_refused() {
 #[test]
 fn cases_j_to_l() {
     for case in worked::times() {
-        let length = 2 + case.words[0] as usize;
+        let length = 2 + 2 * case.words[0] as usize;
         let before = vec![UNTOUCHED; length + 3];
         let mut after = before.clone();
         assert_eq!(times(&case.words, &mut after), 0);

@@ -23,15 +23,16 @@ fn times(name: impl Into<String>, words: Vec<i32>, room: usize) -> Vector {
 
 /// A call with as much room as any answer needs.
 fn roomy(name: impl Into<String>, words: Vec<i32>) -> Vector {
-    times(name, words, 67)
+    times(name, words, 131)
 }
 
-/// Cases J to L: room exactly enough, one word too little, and two too many.
+/// Cases J to L and those with strict rows: room exactly enough, one word too
+/// little, and two too many.
 fn cases() -> Vec<Vector> {
     worked::times()
         .into_iter()
         .flat_map(|case| {
-            let needed = 2 + case.words[0] as usize;
+            let needed = 2 + 2 * case.words[0] as usize;
             [needed, needed - 1, needed + 2]
                 .map(|room| times(format!("{}, {room} words", case.name), case.words.clone(), room))
         })
@@ -45,11 +46,12 @@ fn sizes() -> Vec<Vector> {
         roomy("one word", vec![1]),
         roomy("one vertex, no rows", vec![1, 0]),
         roomy("64 vertices, no rows", vec![64, 0]),
-        times("64 vertices, one word too little", vec![64, 0], 65),
+        times("64 vertices, one word too little", vec![64, 0], 129),
         roomy("256 rows", time_words(1, &[row; 256])),
         roomy("257 rows", time_words(1, &[row; 257])),
         roomy("one word short", time_words(1, &[row])[..5].to_vec()),
         roomy("one word long", [&time_words(1, &[row])[..], &[0]].concat()),
+        times("room for the plain parts alone", vec![64, 0], 66),
         times("no room", vec![1, 0], 0),
     ];
     for (n, m) in [(0, 0), (65, 0), (-1, 0), (1, -1), (i32::MIN, 0), (1, i32::MAX)] {
@@ -111,7 +113,8 @@ fn paths() -> Vec<Vector> {
     vectors
 }
 
-/// A ring through 64 vertices: its sum is 0, or just below.
+/// A ring through 64 vertices: its sum is 0, or just below; and rings of strict
+/// rows, with all of a minute to share, and with none.
 fn rings() -> Vec<Vector> {
     let ring = |last: [i32; 2]| {
         let mut rows: Vec<[i32; 4]> = (0..63)
@@ -121,14 +124,21 @@ fn rings() -> Vec<Vector> {
         rows
     };
     let exact = -(32 * 500 - 31 * 480);
+    let strict = |last: i32| {
+        let mut rows: Vec<[i32; 4]> = (1..64).map(|to| [to - 1, to, 1, 0]).collect();
+        rows.push([63, 0, 1, last]);
+        rows
+    };
     let mut turned = ring([0, exact - 1]);
     turned.reverse();
     vec![
         roomy("a ring that sums to 0", time_words(64, &ring([0, exact]))),
         roomy("a ring that sums to -1", time_words(64, &ring([0, exact - 1]))),
         roomy("a ring whose last row is strict", time_words(64, &ring([1, exact]))),
+        roomy("a ring of strict rows with a minute", time_words(64, &strict(1))),
+        roomy("a ring of strict rows with none", time_words(64, &strict(0))),
         roomy("the ring from its end", time_words(64, &turned)),
-        times("the ring with room exactly enough", time_words(64, &turned), 66),
+        times("the ring with room exactly enough", time_words(64, &turned), 130),
     ]
 }
 
