@@ -38,6 +38,9 @@ fn verdicts_and_statuses() {
         (&["solve", "-"], "1", "refused 1", 3),
         (&["times", "-"], "a - b <= 1", "can", 0),
         (&["times", "-"], "a - a < 0", "cannot", 1),
+        (&["times", "-"], "a - b < 1\nb < a", "can", 0),
+        (&["times", "-"], "a - b < 1\na - b >= 1", "cannot", 1),
+        (&["times", "-"], "a - b = 1", "can", 0),
         (&["times", "-"], "65 0", "refused 12", 3),
         (&["words", "-"], "x >= 1", "1 0 1 1 0", 0),
         (&["words", "-"], "1 0 1 1 0", "x0 >= 1", 0),
@@ -180,7 +183,7 @@ fn damaged_texts_never_panic() {
     let seed = seed();
     println!("SEED={seed}");
     let mut texts: Vec<String> = files::shown::all().iter().map(|shown| shown.text()).collect();
-    for name in ["problems/oven.txt", "problems/starts.txt"] {
+    for name in ["problems/oven.txt", "problems/starts.txt", "problems/stamps.txt"] {
         texts.push(fs::read_to_string(files::top().join(name)).unwrap());
     }
     let mut statuses = [0; 7];

@@ -60,5 +60,6 @@ fn quoted_texts_are_the_files() {
     };
     assert!(quotes(&page, "problems/oven.txt"));
     assert!(quotes(&page, "problems/starts.txt"));
+    assert!(quotes(&page, "problems/stamps.txt"));
     assert!(quotes(&readme, "problems/oven.txt"));
 }
