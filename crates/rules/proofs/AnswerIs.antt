@@ -15,11 +15,11 @@ use native.Mathlib.Omega.{arith}
 use lib.IntN.{pos, ℤ}
 use Rattle.whole.proofs.Below.{lowest-passes, none-passes}
 use Rattle.whole.proofs.Bools.{true-false}
-use Rattle.whole.proofs.Instances.{whole-laws}
+use Rattle.whole.proofs.Beside.{pairs-laws}
 use Rattle.whole.proofs.Tells.{Tells, tells-false, tells-true}
 use Rattle.whole.proofs.Values.{Laws}
 use Rattle.whole.specs.Tables.{table}
-use Rattle.whole.specs.Values.{Lt, Values, whole}
+use Rattle.whole.specs.Values.{Lt, Values, pairs}
 use Rattle.rules.proofs.Bounded.{below-bound}
 use Rattle.rules.proofs.Ends.{ends}
 use Rattle.rules.proofs.Moved.{sound-after}
@@ -108,53 +108,54 @@ module _ {X : Type 0} (𝓥 : Values X) where
 -- ---- the answer
 
 -- the one count of pivots, and the words of the state that the run ends at
-pub record TheRun (P : Problem ℤ) (s : State ℤ) : Type 0 where
-  pub uncrossed : conflict whole P ≡ none
+pub record TheRun (P : Problem (ℤ × ℤ)) (s : State (ℤ × ℤ)) : Type 0 where
+  pub uncrossed : conflict pairs P ≡ none
   pub count : ℕ
-  pub ends : Ends whole P s count
-  pub sound : Sound whole P (after whole P s count)
-  pub only : (k : ℕ) → Ends whole P s k → k ≡ count
+  pub ends : Ends pairs P s count
+  pub sound : Sound pairs P (after pairs P s count)
+  pub only : (k : ℕ) → Ends pairs P s k → k ≡ count
   pub below : count < bound P
-  pub words : answerFrom P s ≡ wordsOf P (ended whole P s count)
+  pub words : answerFrom P s ≡ wordsOf P (ended pairs P s count)
   pub word-1 : word (answerFrom P s) 1 ≡ pos count
 
 -- word 1 is the count, whatever the ending
-words-count : (P : Problem ℤ) (e : Ending ℤ) → word (wordsOf P e) 1 ≡ pos (e .pivots)
+words-count : (P : Problem (ℤ × ℤ)) (e : Ending (ℤ × ℤ)) → word (wordsOf P e) 1 ≡ pos (e .pivots)
 unfolding wordsOf
 words-count P e = go (e .how)
   where
-    go : (o : Outcome ℤ) → word (wordsOf P (record { how = o; pivots = e .pivots; last = e .last })) 1 ≡ pos (e .pivots)
+    go : (o : Outcome (ℤ × ℤ)) →
+        word (wordsOf P (record { how = o; pivots = e .pivots; last = e .last })) 1 ≡ pos (e .pivots)
     go can = refl
     go (cannot ls us) = refl
     go range = refl
     go (goes t) = refl
 
-pub answer-run : (P : Problem ℤ) (s : State ℤ) → conflict whole P ≡ none → Ready whole P s → TheRun P s
+pub answer-run : (P : Problem (ℤ × ℤ)) (s : State (ℤ × ℤ)) → conflict pairs P ≡ none → Ready pairs P s → TheRun P s
 unfolding answerFrom
-answer-run P s e R = go (ends whole whole-laws P s A S (R .seated-many))
+answer-run P s e R = go (ends pairs pairs-laws P s A S (R .seated-many))
   where
-    A : Apart whole P
-    A = no-conflict whole P e
+    A : Apart pairs P
+    A = no-conflict pairs P e
 
-    S : Sound whole P s
-    S = ready-sound whole P s A R
+    S : Sound pairs P s
+    S = ready-sound pairs P s A R
 
-    words : (k : ℕ) → Ends whole P s k → answerFrom P s ≡ wordsOf P (ended whole P s k)
-    words k E = ap (wordsOf P) (ending-run whole whole-laws P s e S (R .seated-many) k E)
+    words : (k : ℕ) → Ends pairs P s k → answerFrom P s ≡ wordsOf P (ended pairs P s k)
+    words k E = ap (wordsOf P) (ending-run pairs pairs-laws P s e S (R .seated-many) k E)
 
-    go : (k : ℕ) × Ends whole P s k → TheRun P s
+    go : (k : ℕ) × Ends pairs P s k → TheRun P s
     go (k, E) = record {
       uncrossed = e;
       count = k;
       ends = E;
-      sound = sound-after whole whole-laws P s A S k;
-      only = λ j F. ends-only whole P s j k F E;
-      below = below-bound whole whole-laws P s A S (R .seated-many) k (E .runs);
+      sound = sound-after pairs pairs-laws P s A S k;
+      only = λ j F. ends-only pairs P s j k F E;
+      below = below-bound pairs pairs-laws P s A S (R .seated-many) k (E .runs);
       words = words k E;
-      word-1 = ap (λ a. word a 1) (words k E) ∙ words-count P (ended whole P s k);
+      word-1 = ap (λ a. word a 1) (words k E) ∙ words-count P (ended pairs P s k);
     }
 
-pub answer-crossed : (P : Problem ℤ) (s : State ℤ) (v : ℕ) → conflict whole P ≡ some v →
+pub answer-crossed : (P : Problem (ℤ × ℤ)) (s : State (ℤ × ℤ)) (v : ℕ) → conflict pairs P ≡ some v →
     answerFrom P s ≡ pos 2 ∷ pos 0 ∷ pos 0 ∷ table (vars P) (same v) ++ table (vars P) (same v)
 unfolding answerFrom wordsOf
-answer-crossed P s v e = ap (wordsOf P) (ending-crossed whole P s v e)
+answer-crossed P s v e = ap (wordsOf P) (ending-crossed pairs P s v e)

@@ -12,7 +12,7 @@ use lib.IntN.{natAbs, pos, ℤ}
 use lib.ListN.{List·getD-append, length, length-append, replicate, replicate-append-replicate}
 use lib.Seq.{getD-append-add}
 use Rattle.whole.specs.Tables.{table}
-use Rattle.whole.specs.Values.{whole}
+use Rattle.whole.specs.Values.{pairs}
 use Rattle.rules.proofs.AnswerIs.{TheRun, answer-crossed, answer-run, ended}
 use Rattle.rules.proofs.Blame.{Blamed, cannot-blames}
 use Rattle.rules.proofs.Moved.{rowed-after}
@@ -53,45 +53,45 @@ module _ (a b c : ℤ) (xs ys : List ℤ) where
   upper-part N v e = let z : 3 + N + v ≡ suc (suc (suc (length xs + v))) = omega arith in
       rw z (getD-append-add xs ys v (pos 0))
 
-pub data Answered (P : Problem ℤ) (s : State ℤ) : Type 0 where
-  crossing : (v : ℕ) → conflict whole P ≡ some v →
+pub data Answered (P : Problem (ℤ × ℤ)) (s : State (ℤ × ℤ)) : Type 0 where
+  crossing : (v : ℕ) → conflict pairs P ≡ some v →
       answerFrom P s ≡ laid (pos 2) (pos 0) (pos 0) (table (vars P) (same v)) (table (vars P) (same v)) → Answered P s
-  can-at : (R : TheRun P s) → leaving whole P (after whole P s (R .count)) ≡ none →
-      answerFrom P s ≡ laid (pos 1) (pos (R .count)) (common (after whole P s (R .count)))
-      (table (vars P) (scaled whole P (after whole P s (R .count))))
-      (replicate (vars P) (pos 0)) → Answered P s
-  cannot-at : (R : TheRun P s) (ls us : List ℤ) → Blamed whole P (after whole P s (R .count)) ls us →
+  can-at : (R : TheRun P s) → leaving pairs P (after pairs P s (R .count)) ≡ none →
+      answerFrom P s ≡ laid (pos 1) (pos (R .count)) (common (after pairs P s (R .count)))
+      (table (vars P) (λ v. scaled pairs P (after pairs P s (R .count)) v .0))
+      (table (vars P) (λ v. scaled pairs P (after pairs P s (R .count)) v .1)) → Answered P s
+  cannot-at : (R : TheRun P s) (ls us : List ℤ) → Blamed pairs P (after pairs P s (R .count)) ls us →
       answerFrom P s ≡ laid (pos 2) (pos (R .count)) (pos 0) ls us → Answered P s
-  range-at : (R : TheRun P s) → step whole P (after whole P s (R .count)) ≡ range →
+  range-at : (R : TheRun P s) → step pairs P (after pairs P s (R .count)) ≡ range →
       answerFrom P s ≡ laid (pos 3) (pos (R .count)) (pos 0) (replicate (vars P) (pos 0)) (replicate (vars P) (pos 0)) →
       Answered P s
 
-module _ (P : Problem ℤ) (s : State ℤ) where
-  words-at : (k : ℕ) (o : Outcome ℤ) → step whole P (after whole P s k) ≡ o →
-      wordsOf P (ended whole P s k) ≡ wordsOf P (record { how = o; pivots = k; last = after whole P s k })
-  words-at k o e = ap (λ (h : Outcome ℤ). wordsOf P (record { how = h; pivots = k; last = after whole P s k })) e
+module _ (P : Problem (ℤ × ℤ)) (s : State (ℤ × ℤ)) where
+  words-at : (k : ℕ) (o : Outcome (ℤ × ℤ)) → step pairs P (after pairs P s k) ≡ o →
+      wordsOf P (ended pairs P s k) ≡ wordsOf P (record { how = o; pivots = k; last = after pairs P s k })
+  words-at k o e = ap (λ (h : Outcome (ℤ × ℤ)). wordsOf P (record { how = h; pivots = k; last = after pairs P s k })) e
 
   zeros : replicate (2 * vars P) (pos 0) ≡ replicate (vars P) (pos 0) ++ replicate (vars P) (pos 0)
   zeros = ap (λ k. replicate k (pos 0)) (let z : 2 * vars P ≡ vars P + vars P = omega arith in z)
       ∙ sym (replicate-append-replicate (vars P) (vars P) (pos 0))
 
-  of-run : Rowed whole P s → (R : TheRun P s) → Stepped whole P (after whole P s (R .count)) → Answered P s
+  of-run : Rowed pairs P s → (R : TheRun P s) → Stepped pairs P (after pairs P s (R .count)) → Answered P s
   unfolding laid wordsOf evidence
   of-run S R (is-can q e) = can-at R q (R .words ∙ words-at (R .count) _ e)
   of-run S R (is-cannot r q n e) = cannot-at R _ _
-      (cannot-blames whole P (after whole P s (R .count)) _ _ (rowed-after whole P s S (R .count)) e)
+      (cannot-blames pairs P (after pairs P s (R .count)) _ _ (rowed-after pairs P s S (R .count)) e)
       (R .words ∙ words-at (R .count) _ e)
   of-run S R (is-range r w q y f e) = range-at R e
       (R .words ∙ words-at (R .count) _ e ∙ ap (λ l. pos 3 ∷ pos (R .count) ∷ pos 0 ∷ l) zeros)
   of-run S R (is-goes r w q y f e) = absurd (subst Ended e (R .ends .ended))
 
-  pub answered : Ready whole P s → Answered P s
+  pub answered : Ready pairs P s → Answered P s
   unfolding laid
-  answered S = go (conflict whole P) refl
+  answered S = go (conflict pairs P) refl
     where
-      go : (o : Option ℕ) → conflict whole P ≡ o → Answered P s
+      go : (o : Option ℕ) → conflict pairs P ≡ o → Answered P s
       go (some v) e = crossing v e (answer-crossed P s v e)
-      go none e = let R = answer-run P s e S in of-run (S .rowed) R (stepped whole P (after whole P s (R .count)))
+      go none e = let R = answer-run P s e S in of-run (S .rowed) R (stepped pairs P (after pairs P s (R .count)))
 
   -- the answer has one verdict
   pub other-verdict : {A : Type 0} (j k : ℕ) (b c : ℤ) (xs ys : List ℤ) → j ≢ k →

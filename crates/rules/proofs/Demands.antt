@@ -1,39 +1,49 @@
 -- The demands, at the level of words, of the answer to any words.
---   can-meets-limits     verdict 1: the fractions in the answer meet the rows and all limits
---   cannot-leaves-none   verdict 2: no fractions do
+--   can-satisfied        verdict 1: whatever fraction above 0 and up to 1 / 17,179,869,177 is put for the small amount,
+--                        the fractions in the answer meet the rows and all limits, a strict one strictly
+--   cannot-satisfied     verdict 2: no fractions do
+--   cannot-fractions     .. nor do fractions over denominators of their own
 --   never-both           an answer that says can, and words whose problem no fractions meet, do not stand together
+--   can-meets-limits, cannot-leaves-none    the first two over pairs, as the run reads the limits
 --   no-twice, few-pivots, run-ends    no arrangement comes twice; the count is below the bound; the run ends
 --   count-below          word 1 is a count below the bound, crossed limits or not
 --   solve-only           any two results that the solver's promise allows are equal
 --   written-length, written-past      an answered output keeps its length and the words past the answer
-use mathlib.Core.List.{List, _++_}
-use mathlib.Core.Logic.{_≢_}
+use mathlib.Core.List.{List, [], append-nil, _++_}
+use mathlib.Core.Logic.{inl, _≢_}
 use mathlib.Core.Option.{Option, none, some}
-use mathlib.Core.Path.{ap, refl, subst, sym, _∙_, _≡_}
+use mathlib.Core.Path.{ap, refl, subst, sym, _∙_, _≡_, ap₂}
 use Prim.Native.Nat.{ℕ, _+_, _<_, _≤_}
 use native.Mathlib.Omega.{arith}
 use lib.IntN.{pos, ℤ}
-use lib.ListN.{drop, length, length-append, length-drop, replicate}
+use lib.ListN.{drop, length, length-append, length-drop}
 use lib.Seq.{getD-append-add, getD-drop}
-use Rattle.whole.proofs.Instances.{whole-laws}
+use Rattle.whole.proofs.Beside.{pairs-laws}
 use Rattle.whole.proofs.Tables.{table-at, table-length}
 use Rattle.whole.proofs.Values.{Laws, le-le, lt-irrefl, lt-le-trans, total-same, up-strict}
 use Rattle.whole.specs.Tables.{table}
-use Rattle.whole.specs.Values.{Values, whole}
+use Rattle.whole.specs.Values.{Values, pairs}
 use Rattle.rules.proofs.AnswerIs.{Crosses, TheRun, answer-crossed, answer-run, crosses-exactly}
-use Rattle.rules.proofs.Answers.{Answered, answered, can-at, cannot-at, crossing, denominator-word, lower-part, other-verdict, range-at}
+use Rattle.rules.proofs.Answers.{Answered, answered, can-at, cannot-at, crossing, denominator-word, lower-part}
+use Rattle.rules.proofs.Answers.{other-verdict, range-at, upper-part}
 use Rattle.rules.proofs.Bounded.{below-bound, bound-some}
 use Rattle.rules.proofs.Ends.{ready-start, start-seated}
+use Rattle.rules.proofs.Evidence.Answers.{answer-accepted}
+use Rattle.rules.proofs.Evidence.Means.{MetSmall, can-means}
+use Rattle.rules.proofs.Evidence.Satisfied.{pairs-satisfied, unmet-none}
+use Rattle.rules.proofs.Evidence.Separate.{Fraction, FractionsMeet, unsatisfied-fractions}
 use Rattle.rules.proofs.Fractions.{can-is-met, cannot-is-unmet}
 use Rattle.rules.proofs.Moved.{twice-never}
 use Rattle.rules.proofs.Shape.{answer-shaped}
 use Rattle.rules.proofs.Sound.{Apart, Ready, Sound}
 use Rattle.rules.proofs.Started.{no-conflict, sound-start}
 use Rattle.rules.specs.Answer.{answer, answerFrom, written}
-use Rattle.rules.specs.Evidence.{AtLeast, AtMost, Meets, Unmet, denominatorOf, lowerPart, verdictOf}
-use Rattle.rules.specs.Problem.{Problem, answerLength, problem, vars, word}
-use Rattle.rules.specs.Refusal.{refusal}
+use Rattle.rules.specs.Evidence.{AtLeast, AtMost, Meets, Unmet, Unsatisfied, checked, denominatorOf, pairPart}
+use Rattle.rules.specs.Evidence.{verdictOf}
+use Rattle.rules.specs.Problem.{Problem, inner, answerLength, problem, vars, word}
+use Rattle.rules.specs.Refusal.{Accepted, refusal}
 use Rattle.rules.specs.Run.{Runs, after, bound, conflict}
+use Rattle.rules.specs.Sizes.{mostRows}
 use Rattle.rules.specs.Step.{State, common, positive, scaled, start}
 
 -- ---- fractions, in the answer from any state that is ready
@@ -55,92 +65,110 @@ module _ {X : Type 0} (𝓥 : Values X) (law : Laws 𝓥) (P : Problem X) where
       lt-irrefl law (lt-le-trans law (up-strict law (M .positive) c)
       (le-le law (rw a at (M .lowers v h)) (rw b at (M .uppers v h))))
 
-module _ (P : Problem ℤ) (s : State ℤ) (S : Ready whole P s) where
+module _ (P : Problem (ℤ × ℤ)) (s : State (ℤ × ℤ)) (S : Ready pairs P s) where
   pub can-from : verdictOf (answerFrom P s) ≡ pos 1 →
-      Meets whole P (denominatorOf (answerFrom P s)) (lowerPart (answerFrom P s))
+      Meets pairs P (denominatorOf (answerFrom P s)) (pairPart (vars P) (answerFrom P s))
   can-from e = go (answered P s S)
     where
-      go : Answered P s → Meets whole P (denominatorOf (answerFrom P s)) (lowerPart (answerFrom P s))
+      go : Answered P s → Meets pairs P (denominatorOf (answerFrom P s)) (pairPart (vars P) (answerFrom P s))
       go (crossing v c z) = other-verdict P s 1 2 _ _ _ _ (omega arith) z e
-      go (can-at R q z) = rw z (rw (denominator-word (pos 1) (pos (R .count)) d xs zeros)
-          (meets-same whole whole-laws P d (scaled whole P t) _
-          (λ v h. sym (lower-part (pos 1) (pos (R .count)) d xs zeros v
-          (rw (table-length (vars P) (scaled whole P t)) h) ∙ table-at (vars P) (scaled whole P t) (pos 0) v h))
-          (can-is-met whole whole-laws P t (R .sound) q)))
+      go (can-at R q z) = rw z (rw (denominator-word (pos 1) (pos (R .count)) d xs ys)
+          (meets-same pairs pairs-laws P d (scaled pairs P t) _
+          (λ v h. sym (ap₂ (λ a b. (a, b))
+          (lower-part (pos 1) (pos (R .count)) d xs ys v (rw (table-length (vars P) (λ v. scaled pairs P t v .0)) h)
+          ∙ table-at (vars P) (λ v. scaled pairs P t v .0) (pos 0) v h)
+          (upper-part (pos 1) (pos (R .count)) d xs ys (vars P) v (table-length (vars P) (λ v. scaled pairs P t v .0))
+          ∙ table-at (vars P) (λ v. scaled pairs P t v .1) (pos 0) v h)))
+          (can-is-met pairs pairs-laws P t (R .sound) q)))
         where
-          t : State ℤ
-          t = after whole P s (R .count)
+          t : State (ℤ × ℤ)
+          t = after pairs P s (R .count)
 
           d : ℤ
           d = common t
 
           xs : List ℤ
-          xs = table (vars P) (scaled whole P t)
+          xs = table (vars P) (λ v. scaled pairs P t v .0)
 
-          zeros : List ℤ
-          zeros = replicate (vars P) (pos 0)
+          ys : List ℤ
+          ys = table (vars P) (λ v. scaled pairs P t v .1)
       go (cannot-at R ls us b z) = other-verdict P s 1 2 _ _ _ _ (omega arith) z e
       go (range-at R b z) = other-verdict P s 1 3 _ _ _ _ (omega arith) z e
 
-  pub cannot-from : verdictOf (answerFrom P s) ≡ pos 2 → Unmet whole P
+  pub cannot-from : verdictOf (answerFrom P s) ≡ pos 2 → Unmet pairs P
   cannot-from e = go (answered P s S)
     where
-      go : Answered P s → Unmet whole P
-      go (crossing v c z) = let k = crosses-exactly whole P v .0 c in crossed-unmet whole whole-laws P v (k .0) (k .1)
+      go : Answered P s → Unmet pairs P
+      go (crossing v c z) = let k = crosses-exactly pairs P v .0 c in crossed-unmet pairs pairs-laws P v (k .0) (k .1)
       go (can-at R q z) = other-verdict P s 2 1 _ _ _ _ (omega arith) z e
-      go (cannot-at R ls us b z) = cannot-is-unmet whole whole-laws P (after whole P s (R .count)) (R .sound) (b .out)
+      go (cannot-at R ls us b z) = cannot-is-unmet pairs pairs-laws P (after pairs P s (R .count)) (R .sound) (b .out)
           (b .leaves) (b .none-enters)
       go (range-at R b z) = other-verdict P s 2 3 _ _ _ _ (omega arith) z e
 
 -- ---- the answer to words
 
 module _ (ws : List ℤ) where
-  abbrev pub begin : State ℤ
-  begin = start whole (problem ws)
+  abbrev pub begin : State (ℤ × ℤ)
+  begin = start pairs (inner (problem ws))
 
-  ready : Ready whole (problem ws) begin
-  ready = ready-start whole whole-laws (problem ws)
+  ready : Ready pairs (inner (problem ws)) begin
+  ready = ready-start pairs pairs-laws (inner (problem ws))
 
   pub can-meets-limits : verdictOf (answer ws) ≡ pos 1 →
-      Meets whole (problem ws) (denominatorOf (answer ws)) (lowerPart (answer ws))
+      Meets pairs (inner (problem ws)) (denominatorOf (answer ws)) (pairPart (vars (problem ws)) (answer ws))
   unfolding answer
-  can-meets-limits e = can-from (problem ws) begin ready e
+  can-meets-limits e = can-from (inner (problem ws)) begin ready e
 
-  pub cannot-leaves-none : verdictOf (answer ws) ≡ pos 2 → Unmet whole (problem ws)
+  pub cannot-leaves-none : verdictOf (answer ws) ≡ pos 2 → Unmet pairs (inner (problem ws))
   unfolding answer
-  cannot-leaves-none e = cannot-from (problem ws) begin ready e
+  cannot-leaves-none e = cannot-from (inner (problem ws)) begin ready e
 
-  pub never-both : verdictOf (answer ws) ≡ pos 1 → Unmet whole (problem ws) → ⊥
-  never-both e U = U (denominatorOf (answer ws)) (lowerPart (answer ws)) (can-meets-limits e)
+  pub can-satisfied : Accepted mostRows ws → verdictOf (answer ws) ≡ pos 1 → MetSmall (problem ws) (answer ws)
+  can-satisfied A e = can-means ws (answer ws)
+      (subst (λ a. checked ws a ≡ 8) (append-nil (answer ws)) (answer-accepted ws [] A (inl e))) e
+
+  pub cannot-satisfied : verdictOf (answer ws) ≡ pos 2 → Unsatisfied (problem ws)
+  cannot-satisfied e = unmet-none (problem ws) (cannot-leaves-none e)
+
+  pub cannot-fractions : verdictOf (answer ws) ≡ pos 2 → (x : ℕ → Fraction) → ¬ FractionsMeet (problem ws) x
+  cannot-fractions e = unsatisfied-fractions (problem ws) (cannot-satisfied e)
+
+  pub never-both : verdictOf (answer ws) ≡ pos 1 → Unsatisfied (problem ws) → ⊥
+  never-both e U =
+      let (d, x, S) = pairs-satisfied (problem ws) (denominatorOf (answer ws))
+      (pairPart (vars (problem ws)) (answer ws)) (can-meets-limits e) in
+      U d x S
 
   -- ---- the run of words whose limits do not cross
 
-  module _ (c : conflict whole (problem ws) ≡ none) where
-    apart : Apart whole (problem ws)
-    apart = no-conflict whole (problem ws) c
+  module _ (c : conflict pairs (inner (problem ws)) ≡ none) where
+    apart : Apart pairs (inner (problem ws))
+    apart = no-conflict pairs (inner (problem ws)) c
 
-    sound : Sound whole (problem ws) begin
-    sound = sound-start whole (problem ws) whole-laws apart
+    sound : Sound pairs (inner (problem ws)) begin
+    sound = sound-start pairs (inner (problem ws)) pairs-laws apart
 
-    pub no-twice : (i j : ℕ) → i < j → Runs whole (problem ws) begin j →
-        after whole (problem ws) begin i .seats ≢ after whole (problem ws) begin j .seats
-    no-twice = twice-never whole whole-laws (problem ws) begin apart sound
+    pub no-twice : (i j : ℕ) → i < j → Runs pairs (inner (problem ws)) begin j →
+        after pairs (inner (problem ws)) begin i .seats ≢ after pairs (inner (problem ws)) begin j .seats
+    no-twice = twice-never pairs pairs-laws (inner (problem ws)) begin apart sound
 
-    pub few-pivots : (k : ℕ) → Runs whole (problem ws) begin k → k < bound (problem ws)
-    few-pivots = below-bound whole whole-laws (problem ws) begin apart sound (start-seated whole (problem ws))
+    pub few-pivots : (k : ℕ) → Runs pairs (inner (problem ws)) begin k → k < bound (inner (problem ws))
+    few-pivots =
+        below-bound pairs pairs-laws (inner (problem ws)) begin apart sound (start-seated pairs (inner (problem ws)))
 
-    pub run-ends : TheRun (problem ws) begin
-    run-ends = answer-run (problem ws) begin c ready
+    pub run-ends : TheRun (inner (problem ws)) begin
+    run-ends = answer-run (inner (problem ws)) begin c ready
 
   -- ---- the count, of any words
 
-  pub count-below : (k : ℕ) × (word (answer ws) 1 ≡ pos k) × (k < bound (problem ws))
+  pub count-below : (k : ℕ) × (word (answer ws) 1 ≡ pos k) × (k < bound (inner (problem ws)))
   unfolding answer
-  count-below = go (conflict whole (problem ws)) refl
+  count-below = go (conflict pairs (inner (problem ws))) refl
     where
-      go : (o : Option ℕ) → conflict whole (problem ws) ≡ o →
-          (k : ℕ) × (word (answerFrom (problem ws) begin) 1 ≡ pos k) × (k < bound (problem ws))
-      go (some v) e = (0, ap (λ a. word a 1) (answer-crossed (problem ws) begin v e), bound-some (problem ws))
+      go : (o : Option ℕ) → conflict pairs (inner (problem ws)) ≡ o →
+          (k : ℕ) × (word (answerFrom (inner (problem ws)) begin) 1 ≡ pos k) × (k < bound (inner (problem ws)))
+      go (some v) e =
+          (0, ap (λ a. word a 1) (answer-crossed (inner (problem ws)) begin v e), bound-some (inner (problem ws)))
       go none e = let R = run-ends e in (R .count, R .word-1, R .below)
 
 -- ---- the output

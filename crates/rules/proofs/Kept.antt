@@ -13,7 +13,7 @@ use lib.IntN.{pos, ℤ}
 use Rattle.whole.proofs.Sizes.{within-le}
 use Rattle.whole.proofs.Tells.{tells-lt, tells-true}
 use Rattle.whole.specs.Numbers.{Within}
-use Rattle.whole.specs.Values.{Values, whole}
+use Rattle.whole.specs.Values.{Values, pairs}
 use Rattle.rules.proofs.Bounded.{seated-moved}
 use Rattle.rules.proofs.Ends.{start-seated}
 use Rattle.rules.proofs.Enters.{entered}
@@ -26,7 +26,7 @@ use Rattle.rules.proofs.Ranges.{coefficient-within, problem-m, problem-
 use Rattle.rules.proofs.Small.{small-tells}
 use Rattle.rules.proofs.Sound.{Kept, Rowed}
 use Rattle.rules.proofs.Started.{at-start, common-one}
-use Rattle.rules.specs.Problem.{Problem, problem, vars}
+use Rattle.rules.specs.Problem.{Problem, inner, problem, vars}
 use Rattle.rules.specs.Refusal.{Accepted}
 use Rattle.rules.specs.Run.{after}
 use Rattle.rules.specs.Sizes.{largestCoefficient, largestNumber}
@@ -79,6 +79,7 @@ module _ {X : Type 0} (𝓥 : Values X) where
   kept-after P s S K k = kept-along 𝓥 P (λ t. Rowed 𝓥 P t × Kept 𝓥 P t)
       (λ s t B e. (rowed-goes 𝓥 P s t (B .0) e, kept-goes P s t (B .0) (B .1) e)) s (S, K) k .1
 
-pub kept-begin : {rows : ℕ} {ws : List ℤ} → Accepted rows ws → Kept whole (problem ws) (start whole (problem ws))
-kept-begin {rows} {ws} A = kept-start whole (problem ws)
+pub kept-begin : {rows : ℕ} {ws : List ℤ} → Accepted rows ws →
+    Kept pairs (inner (problem ws)) (start pairs (inner (problem ws)))
+kept-begin {rows} {ws} A = kept-start pairs (inner (problem ws))
     (λ i j h k. coefficient-within A i j (rw (← problem-m ws) h) (rw (← problem-n ws) k))

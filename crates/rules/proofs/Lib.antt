@@ -1,4 +1,5 @@
 -- The theory of the rules. Nothing is assumed.
+pub mod Gaps
 pub mod Relation
 pub mod Lowest
 pub mod Moves

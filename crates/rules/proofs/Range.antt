@@ -13,10 +13,10 @@ use Prim.Native.Nat.{ℕ}
 use native.Mathlib.Omega.{arith}
 use lib.Dec.{T}
 use lib.IntN.{pos, ℤ}
-use Rattle.whole.proofs.Instances.{whole-laws}
+use Rattle.whole.proofs.Beside.{pairs-laws}
 use Rattle.whole.proofs.Tells.{tells-false}
 use Rattle.whole.specs.Numbers.{Within}
-use Rattle.whole.specs.Values.{Values, whole}
+use Rattle.whole.specs.Values.{Values, pairs}
 use Rattle.rules.proofs.AnswerIs.{answer-run, ended}
 use Rattle.rules.proofs.Answers.{Answered, answered, can-at, cannot-at, crossing, other-verdict, range-at}
 use Rattle.rules.proofs.Ends.{ready-start}
@@ -29,7 +29,7 @@ use Rattle.rules.proofs.Small.{Beyond, small-tells}
 use Rattle.rules.proofs.Sound.{Ready, Rowed}
 use Rattle.rules.specs.Answer.{answer, answerFrom, wordsOf}
 use Rattle.rules.specs.Evidence.{verdictOf}
-use Rattle.rules.specs.Problem.{Problem, problem, vars, word}
+use Rattle.rules.specs.Problem.{Problem, inner, problem, vars, word}
 use Rattle.rules.specs.Run.{Runs, after, conflict}
 use Rattle.rules.specs.Sizes.{largestNumber}
 use Rattle.rules.specs.Step.{Leaving, Outcome, State, entering, leaving, moved, range, start, step}
@@ -76,36 +76,38 @@ module _ {X : Type 0} (𝓥 : Values X) (P : Problem X) where
         beyond = small-tells (vars P) (moved 𝓥 P s r w .tableau) .if-false f;
       }
 
-module _ (P : Problem ℤ) (s : State ℤ) (S : Ready whole P s) where
+module _ (P : Problem (ℤ × ℤ)) (s : State (ℤ × ℤ)) (S : Ready pairs P s) where
   pub range-verdict : (verdictOf (answerFrom P s) ≡ pos 3)
-      ↔ ((conflict whole P ≡ none) × ((k : ℕ) × Runs whole P s k × TooLarge whole P (after whole P s k)))
+      ↔ ((conflict pairs P ≡ none) × ((k : ℕ) × Runs pairs P s k × TooLarge pairs P (after pairs P s k)))
   unfolding wordsOf
   range-verdict = (λ e. there e (answered P s S), back)
     where
       there : verdictOf (answerFrom P s) ≡ pos 3 → Answered P s →
-          (conflict whole P ≡ none) × ((k : ℕ) × Runs whole P s k × TooLarge whole P (after whole P s k))
+          (conflict pairs P ≡ none) × ((k : ℕ) × Runs pairs P s k × TooLarge pairs P (after pairs P s k))
       there e (crossing v c z) = other-verdict P s 3 2 _ _ _ _ (omega arith) z e
       there e (can-at R q z) = other-verdict P s 3 1 _ _ _ _ (omega arith) z e
       there e (cannot-at R ls us b z) = other-verdict P s 3 2 _ _ _ _ (omega arith) z e
       there e (range-at R q z) = (
         R .uncrossed,
-        (R .count, R .ends .runs, range-exactly whole P (after whole P s (R .count)) (R .sound .rowed) .0 q),
+        (R .count, R .ends .runs, range-exactly pairs P (after pairs P s (R .count)) (R .sound .rowed) .0 q),
       )
 
-      back : (conflict whole P ≡ none) × ((k : ℕ) × Runs whole P s k × TooLarge whole P (after whole P s k)) →
+      back : (conflict pairs P ≡ none) × ((k : ℕ) × Runs pairs P s k × TooLarge pairs P (after pairs P s k)) →
           verdictOf (answerFrom P s) ≡ pos 3
       back (c, (k, runs, T)) =
           let R = answer-run P s c S in
-          let q = range-exactly whole P (after whole P s k) (rowed-after whole P s (S .rowed) k) .1 T in
+          let q = range-exactly pairs P (after pairs P s k) (rowed-after pairs P s (S .rowed) k) .1 T in
           let z = R .only k (record { runs = runs; ended = rw q tt }) in
           ap (λ a. word a 0) (R .words)
-          ∙ ap (λ (h : Outcome ℤ). word (wordsOf P
-          (record { how = h; pivots = R .count; last = after whole P s (R .count) })) 0)
-          (ap (λ j. step whole P (after whole P s j)) (sym z) ∙ q)
+          ∙ ap (λ (h : Outcome (ℤ × ℤ)). word (wordsOf P
+          (record { how = h; pivots = R .count; last = after pairs P s (R .count) })) 0)
+          (ap (λ j. step pairs P (after pairs P s j)) (sym z) ∙ q)
 
 -- of the answer to any words
 pub range-words : (ws : List ℤ) → (verdictOf (answer ws) ≡ pos 3)
-    ↔ ((conflict whole (problem ws) ≡ none) × ((k : ℕ) × Runs whole (problem ws) (start whole (problem ws)) k
-    × TooLarge whole (problem ws) (after whole (problem ws) (start whole (problem ws)) k)))
+    ↔ ((conflict pairs (inner (problem ws)) ≡ none)
+    × ((k : ℕ) × Runs pairs (inner (problem ws)) (start pairs (inner (problem ws))) k
+    × TooLarge pairs (inner (problem ws)) (after pairs (inner (problem ws)) (start pairs (inner (problem ws))) k)))
 unfolding answer
-range-words ws = range-verdict (problem ws) (start whole (problem ws)) (ready-start whole whole-laws (problem ws))
+range-words ws = range-verdict (inner (problem ws)) (start pairs (inner (problem ws)))
+    (ready-start pairs pairs-laws (inner (problem ws)))

@@ -6,13 +6,13 @@
 use mathlib.Core.Bool.{Bool, false, true}
 use mathlib.Core.List.{List}
 use mathlib.Core.Option.{Option·none-ne-some, some}
-use mathlib.Core.Path.{refl, _≡_}
+use mathlib.Core.Path.{ap, refl, _≡_}
 use Prim.Native.Nat.{ℕ, _*_, _+_, _<_, _≤_}
 use lib.Arith.{digits-lt}
 use lib.IntN.{pos, ℤ}
 use Rattle.whole.proofs.Tests.{above, own-size, under}
 use Rattle.whole.specs.Numbers.{Within}
-use Rattle.rules.specs.Limit.{hasLower, hasUpper, present}
+use Rattle.rules.specs.Limit.{Limit, strictLower, strictUpper, hasLower, hasUpper, present}
 use Rattle.rules.specs.Problem.{kind, lowerWord, mOf, nOf, problem, upperWord, vars, varsOf, word}
 use Rattle.rules.specs.Refusal.{Accepted, FineLimit}
 use Rattle.rules.specs.Sizes.{largestCoefficient, largestLimit, mostColumns}
@@ -30,10 +30,12 @@ module _ (ws : List ℤ) where
   unfolding problem
   problem-vars = refl
 
-present-within : (b : Bool) (z l : ℤ) → FineLimit b z → present b z ≡ some l → Within l largestLimit
+present-within : (b s : Bool) (z : ℤ) (l : Limit) → FineLimit b z →
+    present b (record { plain = z; strict = s }) ≡ some l → Within (l .plain) largestLimit
 unfolding present
-present-within true z l h e = let q : z ≡ l = cc in rw q at h
-present-within false z l h e = absurd (Option·none-ne-some l e)
+present-within true s z l h e = let q : _≡_ {A = Limit} (record { plain = z; strict = s }) l = cc in
+    rw (ap (λ k. k .plain) q) at h
+present-within false s z l h e = absurd (Option·none-ne-some l e)
 
 module _ {rows : ℕ} {ws : List ℤ} (A : Accepted rows ws) where
   pub n-some : 1 ≤ nOf ws
@@ -55,10 +57,12 @@ module _ {rows : ℕ} {ws : List ℤ} (A : Accepted rows ws) where
   unfolding problem
   coefficient-within i j h k = A .coefficients (i * nOf ws + j) (digits-lt h k)
 
-  pub lower-within : (v : ℕ) (l : ℤ) → v < varsOf ws → problem ws .lower v ≡ some l → Within l largestLimit
+  pub lower-within : (v : ℕ) (l : Limit) → v < varsOf ws → problem ws .lower v ≡ some l → Within (l .plain) largestLimit
   unfolding problem
-  lower-within v l h e = present-within (hasLower (kind ws v)) (lowerWord ws v) l (A .lowers v h) e
+  lower-within v l h e =
+      present-within (hasLower (kind ws v)) (strictLower (kind ws v)) (lowerWord ws v) l (A .lowers v h) e
 
-  pub upper-within : (v : ℕ) (u : ℤ) → v < varsOf ws → problem ws .upper v ≡ some u → Within u largestLimit
+  pub upper-within : (v : ℕ) (u : Limit) → v < varsOf ws → problem ws .upper v ≡ some u → Within (u .plain) largestLimit
   unfolding problem
-  upper-within v u h e = present-within (hasUpper (kind ws v)) (upperWord ws v) u (A .uppers v h) e
+  upper-within v u h e =
+      present-within (hasUpper (kind ws v)) (strictUpper (kind ws v)) (upperWord ws v) u (A .uppers v h) e

@@ -6,19 +6,20 @@
 --   numbered                     the numbers of refusals 1 to 6 and 10
 --   accepted-exactly             refusals 1 to 6 and 10 give 0 exactly for accepted words, with any most rows
 --   answered-exactly             the refusal is 0 exactly for accepted words with room enough
-use mathlib.Core.Bool.{Bool, false, true}
+use mathlib.Core.Bool.{Bool, false, not, true, _&&_}
 use mathlib.Core.List.{List, [], _++_, _∷_}
 use mathlib.Core.Logic.{_↔_, _≢_, _⊎_}
-use mathlib.Core.Path.{_≡_}
+use mathlib.Core.Path.{refl, _≡_}
 use Prim.Native.Nat.{ℕ, _*_, _+_, _<_, _≤_}
 use native.Mathlib.Omega.{arith}
 use lib.IntN.{pos, ℤ}
 use lib.ListN.{length}
 use lib.Signed.{_<ℤ_, _≤ℤ_}
 use Rattle.whole.proofs.Tells.{Tells, tells-all, tells-eq, tells-eqZ, tells-lt, tells-not, tells-or, tells-outside, tells-some, tells-within}
+use Rattle.whole.proofs.Bools.{true-false}
 use Rattle.whole.specs.Numbers.{Within}
 use Rattle.rules.proofs.First.{AllFine, First, Test, Upto, first-exactly, first-fine, line}
-use Rattle.rules.specs.Limit.{badLimitWord, hasLower, hasUpper}
+use Rattle.rules.specs.Limit.{badLimitWord, hasLower, hasUpper, badKindWord, strictLower, strictUpper}
 use Rattle.rules.specs.Problem.{answerLength, coefficientWord, kind, lowerWord, mOf, nOf, upperWord, varsOf, word}
 use Rattle.rules.specs.Refusal.{Accepted, FineLimit, badCoefficient, badKind, badLength, badLimit, badSize, blankRow, first, problemRefusal, problemTests, refusal, someBlank, tooFew, tooShort}
 use Rattle.rules.specs.Sizes.{largestCoefficient, largestLimit, mostColumns, mostRows}
@@ -38,6 +39,37 @@ InRange lo hi z = (pos lo ≤ℤ z) × (z ≤ℤ pos hi)
 abbrev pub BadLimit : Bool → ℤ → Type 0
 BadLimit true z = ¬ Within z largestLimit
 BadLimit false z = z ≢ pos 0
+
+-- a strict mark on a missing limit
+stray-tells : (s p : Bool) → Tells (s && not p) ((s ≡ true) × (p ≡ false)) (s ≡ true → p ≡ true)
+stray-tells true true = record {
+  if-true = λ e. true-false e refl;
+  if-false = λ e k. refl;
+  not-both = λ y n. true-false refl (y .1);
+}
+stray-tells true false = record {
+  if-true = λ e. (refl, refl);
+  if-false = λ e k. true-false refl e;
+  not-both = λ y n. true-false (n refl) refl;
+}
+stray-tells false p = record {
+  if-true = λ e. true-false e refl;
+  if-false = λ e k. true-false k refl;
+  not-both = λ y n. true-false (y .0) refl;
+}
+
+-- outside 0 to 15, or a strict mark on a missing limit
+abbrev pub BadKind : ℤ → Type 0
+BadKind k = OutOfRange 0 15 k
+    ⊎ (((strictLower k ≡ true) × (hasLower k ≡ false)) ⊎ ((strictUpper k ≡ true) × (hasUpper k ≡ false)))
+
+abbrev pub FineKind : ℤ → Type 0
+FineKind k = InRange 0 15 k × ((strictLower k ≡ true → hasLower k ≡ true) × (strictUpper k ≡ true → hasUpper k ≡ true))
+
+pub kind-word-tells : (k : ℤ) → Tells (badKindWord k) (BadKind k) (FineKind k)
+unfolding badKindWord
+kind-word-tells k = tells-or (tells-outside 0 15 k)
+    (tells-or (stray-tells (strictLower k) (hasLower k)) (stray-tells (strictUpper k) (hasUpper k)))
 
 pub limit-tells : (b : Bool) (z : ℤ) → Tells (badLimitWord b z) (BadLimit b z) (FineLimit b z)
 unfolding badLimitWord
@@ -71,10 +103,10 @@ module _ (ws : List ℤ) where
       (λ i h. tells-not (tells-within largestCoefficient (word ws (2 + i))))
 
   pub kind-tells : Tells (badKind ws)
-      ((v : ℕ) × (v < varsOf ws) × OutOfRange 0 3 (kind ws v))
-      ((v : ℕ) → v < varsOf ws → InRange 0 3 (kind ws v))
+      ((v : ℕ) × (v < varsOf ws) × BadKind (kind ws v))
+      ((v : ℕ) → v < varsOf ws → FineKind (kind ws v))
   unfolding badKind
-  kind-tells = tells-some (varsOf ws) _ (λ v h. tells-outside 0 3 (kind ws v))
+  kind-tells = tells-some (varsOf ws) _ (λ v h. kind-word-tells (kind ws v))
 
   -- a variable has a bad word for its lower or for its upper limit, be that limit present or missing
   pub limits-tell : Tells (badLimit ws)
@@ -131,8 +163,10 @@ fine-accepted rows ws (few, (size, (exact, (coefficients, (kinds, (limits, (blan
   m-most = size .1 .1;
   exact = exact;
   coefficients = coefficients;
-  kind-least = λ v h. kinds v h .0;
-  kind-most = λ v h. kinds v h .1;
+  kind-least = λ v h. kinds v h .0 .0;
+  kind-most = λ v h. kinds v h .0 .1;
+  lower-marked = λ v h. kinds v h .1 .0;
+  upper-marked = λ v h. kinds v h .1 .1;
   lowers = λ v h. limits v h .0;
   uppers = λ v h. limits v h .1;
   no-blank = blank;
@@ -148,7 +182,7 @@ accepted-fine rows ws A = (
       (
         A .coefficients,
         (
-          (λ v h. (A .kind-least v h, A .kind-most v h)),
+          (λ v h. ((A .kind-least v h, A .kind-most v h), (A .lower-marked v h, A .upper-marked v h))),
           ((λ v h. (A .lowers v h, A .uppers v h)), (A .no-blank, tt)),
         ),
       ),

@@ -12,7 +12,7 @@ use mathlib.Core.Logic.{_↔_}
 use mathlib.Core.Option.{Option, none, some}
 use mathlib.Core.Path.{ap, refl, sym, _∙_, _≡_}
 use Prim.Native.Nat.{ℕ, _<_}
-use lib.IntN.{negsuc, pos, ℤ}
+use lib.IntN.{pos, ℤ}
 use lib.Signed.{_<ℤ_}
 use Rattle.whole.proofs.Below.{lowest-empty, lowest-is, lowest-passes, none-passes}
 use Rattle.whole.proofs.Bools.{zero-one}
@@ -20,11 +20,14 @@ use Rattle.whole.proofs.Tells.{tells-false, tells-true}
 use Rattle.whole.proofs.Values.{Laws, le-le, up, weaken}
 use Rattle.whole.specs.Values.{Le, Lt, Values}
 use Rattle.rules.proofs.Enters.{Entered, Stuck, entered, none-enters, suits-tells}
-use Rattle.rules.proofs.Leaves.{Inside, Left, Outside, left, none-leaves, over-tells, too-high, too-low, under-tells}
+use Rattle.rules.proofs.Gaps.{gap-more}
+use Rattle.rules.proofs.Leaves.{Inside, Left, Outside, left, none-leaves, over-tells, too-high, too-low}
+use Rattle.rules.proofs.Leaves.{under-tells}
 use Rattle.rules.proofs.Sides.{near, outside-by}
 use Rattle.rules.proofs.Sound.{Apart}
 use Rattle.rules.specs.Problem.{Problem, vars}
-use Rattle.rules.specs.Step.{Leaving, Side, State, above, below, broken, common, entering, gap, leaves, leaving, limitAt, pull, scaled, seat, seated, shortfallBy, shortfallOf, suits}
+use Rattle.rules.specs.Step.{Leaving, Side, State, above, below, broken, common, entering, leaves, leaving}
+use Rattle.rules.specs.Step.{limitAt, pull, scaled, seat, seated, shortfallBy, shortfallOf, suits}
 use Rattle.rules.specs.Tableau.{entry}
 
 module _ {X : Type 0} (𝓥 : Values X) where
@@ -129,17 +132,12 @@ module _ {X : Type 0} (𝓥 : Values X) where
 -- ---- by how much: D times the limit and D times the value are that far apart, and it is above 0
 
 module _ {X : Type 0} (𝓥 : Values X) (law : Laws 𝓥) (P : Problem X) (s : State X) where
-  cancel : (x : X) → 𝓥 .plus x (𝓥 .scale (negsuc 0) x) ≡ 𝓥 .nil
-  cancel x = ap (λ z. 𝓥 .plus z (𝓥 .scale (negsuc 0) x)) (sym (law .one-scale x)) ∙ sym (law .plus-scale (pos 1) (negsuc 0) x)
-      ∙ law .zero-scale x
-
-  gap-more : (x y : X) → 𝓥 .less (𝓥 .nil) (gap 𝓥 x y) ≡ 𝓥 .less y x
-  gap-more x y = ap (λ z. 𝓥 .less z (gap 𝓥 x y)) (sym (cancel y)) ∙ law .less-plus y x (𝓥 .scale (negsuc 0) y)
-
   positive-by : {v : ℕ} {σ : Side} {x : X} → Outside 𝓥 P s v σ x → Lt 𝓥 (𝓥 .nil) (shortfallOf 𝓥 P s v σ)
   unfolding shortfallBy seated
-  positive-by {v} (too-low {l} e h) = gap-more (𝓥 .scale (common s) (seated 𝓥 (P .lower v))) (scaled 𝓥 P s v) ∙ (rw e h)
-  positive-by {v} (too-high {u} e h) = gap-more (scaled 𝓥 P s v) (𝓥 .scale (common s) (seated 𝓥 (P .upper v))) ∙ (rw e h)
+  positive-by {v} (too-low {l} e h) =
+      gap-more 𝓥 law (𝓥 .scale (common s) (seated 𝓥 (P .lower v))) (scaled 𝓥 P s v) ∙ (rw e h)
+  positive-by {v} (too-high {u} e h) =
+      gap-more 𝓥 law (scaled 𝓥 P s v) (𝓥 .scale (common s) (seated 𝓥 (P .upper v))) ∙ (rw e h)
 
   pub shortfall-positive : (r : Leaving X) → Left 𝓥 P s r → Lt 𝓥 (𝓥 .nil) (r .shortfall)
   shortfall-positive r L = rw (L .exact) (positive-by (L .outside))

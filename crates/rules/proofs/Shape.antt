@@ -11,21 +11,21 @@ use lib.IntN.{pos, ℤ}
 use lib.ListN.{getD-replicate, length, length-replicate, replicate}
 use lib.Signed.{_<ℤ_}
 use Rattle.whole.proofs.Bools.{zero-one}
-use Rattle.whole.proofs.Instances.{whole-laws}
+use Rattle.whole.proofs.Beside.{pairs-laws}
 use Rattle.whole.proofs.Tables.{table-length}
-use Rattle.whole.specs.Values.{whole}
+use Rattle.whole.specs.Values.{pairs}
 use Rattle.rules.proofs.Answers.{Answered, answered, can-at, cannot-at, crossing, denominator-word, laid, laid-length, lower-part, range-at, upper-part, verdict-word}
 use Rattle.rules.proofs.Ends.{ready-start}
 use Rattle.rules.proofs.Sound.{Ready}
 use Rattle.rules.specs.Answer.{answer, answerFrom}
 use Rattle.rules.specs.Evidence.{denominatorOf, lowerPart, upperPart, verdictOf}
-use Rattle.rules.specs.Problem.{Problem, problem, vars, varsOf, word}
+use Rattle.rules.specs.Problem.{Problem, inner, problem, vars, varsOf, word}
 use Rattle.rules.specs.Run.{after}
 use Rattle.rules.specs.Step.{State, same, scaled, start}
 
 pub data Shape (N : ℕ) (a : List ℤ) : Type 0 where
-  -- can: a denominator above 0, and zeros after the numerators
-  shape-can : verdictOf a ≡ pos 1 → pos 0 <ℤ denominatorOf a → ((v : ℕ) → v < N → upperPart N a v ≡ pos 0) → Shape N a
+  -- can: a denominator above 0
+  shape-can : verdictOf a ≡ pos 1 → pos 0 <ℤ denominatorOf a → Shape N a
   shape-cannot : verdictOf a ≡ pos 2 → denominatorOf a ≡ pos 0 → Shape N a
   -- out of range: zeros
   shape-range : verdictOf a ≡ pos 3 → denominatorOf a ≡ pos 0 →
@@ -45,11 +45,10 @@ module _ (N : ℕ) where
   zero-at : (v : ℕ) → v < N → word zeros v ≡ pos 0
   zero-at v h = getD-replicate N v (pos 0) (pos 0) h
 
-  laid-can : (k d : ℤ) (xs : List ℤ) → pos 0 <ℤ d → length xs ≡ N → Shaped N (laid (pos 1) k d xs zeros)
-  laid-can k d xs h e = record {
-    many = laid-length (pos 1) k d xs zeros N e zeros-many;
-    shape = shape-can (verdict-word (pos 1) k d xs zeros) (rw (denominator-word (pos 1) k d xs zeros) h)
-        (λ v l. upper-part (pos 1) k d xs zeros N v e ∙ zero-at v l);
+  laid-can : (k d : ℤ) (xs ys : List ℤ) → pos 0 <ℤ d → length xs ≡ N → length ys ≡ N → Shaped N (laid (pos 1) k d xs ys)
+  laid-can k d xs ys h e f = record {
+    many = laid-length (pos 1) k d xs ys N e f;
+    shape = shape-can (verdict-word (pos 1) k d xs ys) (rw (denominator-word (pos 1) k d xs ys) h);
   }
 
   laid-cannot : (k : ℤ) (xs ys : List ℤ) → length xs ≡ N → length ys ≡ N → Shaped N (laid (pos 2) k (pos 0) xs ys)
@@ -68,27 +67,29 @@ module _ (N : ℕ) where
         ));
   }
 
-module _ (P : Problem ℤ) (s : State ℤ) where
+module _ (P : Problem (ℤ × ℤ)) (s : State (ℤ × ℤ)) where
   of-answered : Answered P s → Shaped (vars P) (answerFrom P s)
   of-answered (crossing v c e) = rw e (laid-cannot (vars P) (pos 0) _ _ (table-length (vars P) (same v))
       (table-length (vars P) (same v)))
-  of-answered (can-at R q e) = rw e (laid-can (vars P) _ _ _ (R .sound .rowed .positive)
-      (table-length (vars P) (scaled whole P (after whole P s (R .count)))))
+  of-answered (can-at R q e) = rw e (laid-can (vars P) _ _ _ _ (R .sound .rowed .positive)
+      (table-length (vars P) (λ v. scaled pairs P (after pairs P s (R .count)) v .0))
+      (table-length (vars P) (λ v. scaled pairs P (after pairs P s (R .count)) v .1)))
   of-answered (cannot-at R ls us b e) = rw e
       (laid-cannot (vars P) _ ls us (b .blame .many-lowers) (b .blame .many-uppers))
   of-answered (range-at R b e) = rw e (laid-range (vars P) _)
 
-  pub shaped : Ready whole P s → Shaped (vars P) (answerFrom P s)
+  pub shaped : Ready pairs P s → Shaped (vars P) (answerFrom P s)
   shaped S = of-answered (answered P s S)
 
 pub answer-shaped : (ws : List ℤ) → Shaped (varsOf ws) (answer ws)
 unfolding answer problem
-answer-shaped ws = shaped (problem ws) (start whole (problem ws)) (ready-start whole whole-laws (problem ws))
+answer-shaped ws = shaped (inner (problem ws)) (start pairs (inner (problem ws)))
+    (ready-start pairs pairs-laws (inner (problem ws)))
 
 pub never-zero : {N : ℕ} {a : List ℤ} → Shaped N a → verdictOf a ≢ pos 0
 never-zero {N} {a} S e = go (S .shape)
   where
     go : Shape N a → ⊥
-    go (shape-can v d z) = zero-one (let z : _≡_ {A = ℕ} 0 1 = cc in z)
+    go (shape-can v d) = zero-one (let z : _≡_ {A = ℕ} 0 1 = cc in z)
     go (shape-cannot v d) = zero-one (let z : _≡_ {A = ℕ} 0 1 = cc in z)
     go (shape-range v d z) = zero-one (let z : _≡_ {A = ℕ} 0 1 = cc in z)

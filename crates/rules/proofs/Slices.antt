@@ -18,8 +18,8 @@ use native.Mathlib.Decide.{decLt}
 use native.Mathlib.Nat.{add-zero}
 use native.Mathlib.Omega.{arith}
 use lib.IntN.{pos, ℤ}
-use Rattle.whole.proofs.Instances.{whole-laws}
-use Rattle.whole.specs.Values.{Values, whole}
+use Rattle.whole.proofs.Beside.{pairs-laws}
+use Rattle.whole.specs.Values.{Values, pairs}
 use Rattle.rules.proofs.AnswerIs.{TheRun, answer-crossed, answer-run, ended, ending-crossed, spending-crossed}
 use Rattle.rules.proofs.AnswerIs.{spending-run}
 use Rattle.rules.proofs.Bounded.{bound-some}
@@ -28,7 +28,7 @@ use Rattle.rules.proofs.Moved.{rowed-after}
 use Rattle.rules.proofs.Runs.{next-after, run-from, run-on}
 use Rattle.rules.proofs.Sound.{Ready, Rowed}
 use Rattle.rules.specs.Answer.{answer, answerFrom, wordsOf}
-use Rattle.rules.specs.Problem.{Problem, problem, word}
+use Rattle.rules.specs.Problem.{Problem, inner, problem, word}
 use Rattle.rules.specs.Run.{Ended, Ending, Ends, Moves, after, bound, conflict, run, spending}
 use Rattle.rules.specs.Slices.{Slice, begun, continued, continuedBy, sliceAnswer, told}
 use Rattle.rules.specs.Step.{Outcome, State, can, cannot, goes, range, start}
@@ -77,7 +77,7 @@ module _ {X : Type 0} (𝓥 : Values X) (P : Problem X) (s : State X) where
 
 -- ---- the answer
 
-pub told-ended : (P : Problem ℤ) (o : Outcome ℤ) (k : ℕ) (s : State ℤ) → Ended o →
+pub told-ended : (P : Problem (ℤ × ℤ)) (o : Outcome (ℤ × ℤ)) (k : ℕ) (s : State (ℤ × ℤ)) → Ended o →
     told P (record { how = o; pivots = k; last = s }) ≡ some (wordsOf P (record { how = o; pivots = k; last = s }))
 unfolding told
 told-ended P can k s e = refl
@@ -85,7 +85,7 @@ told-ended P (cannot ls us) k s e = refl
 told-ended P range k s e = refl
 told-ended P (goes t) k s e = absurd e
 
-pub told-moves : (P : Problem ℤ) (o : Outcome ℤ) (k : ℕ) (s : State ℤ) → Moves o →
+pub told-moves : (P : Problem (ℤ × ℤ)) (o : Outcome (ℤ × ℤ)) (k : ℕ) (s : State (ℤ × ℤ)) → Moves o →
     told P (record { how = o; pivots = k; last = s }) ≡ none
 unfolding told
 told-moves P can k s e = absurd e
@@ -93,27 +93,28 @@ told-moves P (cannot ls us) k s e = absurd e
 told-moves P range k s e = absurd e
 told-moves P (goes t) k s e = refl
 
-module _ (P : Problem ℤ) (s : State ℤ) (T : TheRun P s) (b i : ℕ) (g : i ≤ T .count) where
-  spent : spending whole b P (after whole P s i) i ≡ ended whole P s (min (T .count) (i + b))
-  spent = spent-to whole P s (T .count) (T .ends) (T .uncrossed) b i g
+module _ (P : Problem (ℤ × ℤ)) (s : State (ℤ × ℤ)) (T : TheRun P s) (b i : ℕ) (g : i ≤ T .count) where
+  spent : spending pairs b P (after pairs P s i) i ≡ ended pairs P s (min (T .count) (i + b))
+  spent = spent-to pairs P s (T .count) (T .ends) (T .uncrossed) b i g
 
-  pub answer-whole : T .count ≤ i + b → sliceAnswer (cutAt whole P s i) b ≡ some (answerFrom P s)
+  pub answer-whole : T .count ≤ i + b → sliceAnswer (cutAt pairs P s i) b ≡ some (answerFrom P s)
   unfolding sliceAnswer
-  answer-whole h = let z : min (T .count) (i + b) ≡ T .count = omega arith in ap (told P) (spent ∙ ap (ended whole P s) z)
+  answer-whole h = let z : min (T .count) (i + b) ≡ T .count = omega arith in
+      ap (told P) (spent ∙ ap (ended pairs P s) z)
       ∙ told-ended P _ (T .count) _ (T .ends .ended) ∙ ap some (sym (T .words))
 
-  pub answer-short : i + b < T .count → sliceAnswer (cutAt whole P s i) b ≡ none
+  pub answer-short : i + b < T .count → sliceAnswer (cutAt pairs P s i) b ≡ none
   unfolding sliceAnswer
-  answer-short h = let z : min (T .count) (i + b) ≡ i + b = omega arith in ap (told P) (spent ∙ ap (ended whole P s) z)
+  answer-short h = let z : min (T .count) (i + b) ≡ i + b = omega arith in ap (told P) (spent ∙ ap (ended pairs P s) z)
       ∙ told-moves P _ (i + b) _ (T .ends .runs (i + b) h)
 
 -- ---- of any problem and state
 
-module _ (P : Problem ℤ) (s : State ℤ) where
-  abbrev cut : ℕ → Slice ℤ
-  cut = cutAt whole P s
+module _ (P : Problem (ℤ × ℤ)) (s : State (ℤ × ℤ)) where
+  abbrev cut : ℕ → Slice (ℤ × ℤ)
+  cut = cutAt pairs P s
 
-  abbrev pub first : Slice ℤ
+  abbrev pub first : Slice (ℤ × ℤ)
   first = record { problem = P; state = s; count = 0 }
 
   -- what a continue comes to, i pivots on with b to spend: the pivots up to the count of the uncut run, and the answer exactly then
@@ -121,7 +122,7 @@ module _ (P : Problem ℤ) (s : State ℤ) where
     pub count : ℕ
     pub word-1 : word (answerFrom P s) 1 ≡ pos count
     pub below : count < bound P
-    pub moves : (b i : ℕ) → i ≤ count → continued whole (cut i) b ≡ cut (min count (i + b))
+    pub moves : (b i : ℕ) → i ≤ count → continued pairs (cut i) b ≡ cut (min count (i + b))
     pub answers : (b i : ℕ) → i ≤ count → count ≤ i + b → sliceAnswer (cut i) b ≡ some (answerFrom P s)
     pub goes-on : (b i : ℕ) → i + b < count → sliceAnswer (cut i) b ≡ none
 
@@ -130,19 +131,19 @@ module _ (P : Problem ℤ) (s : State ℤ) where
     count = T .count;
     word-1 = T .word-1;
     below = T .below;
-    moves = cut-at whole P s (T .count) (T .ends) (T .uncrossed);
+    moves = cut-at pairs P s (T .count) (T .ends) (T .uncrossed);
     answers = answer-whole P s T;
     goes-on = λ b i h. answer-short P s T b i (omega arith) h;
   }
 
-  module _ (v : ℕ) (e : conflict whole P ≡ some v) where
+  module _ (v : ℕ) (e : conflict pairs P ≡ some v) where
     -- finished at 0
-    pub conflict-slice : (b : ℕ) → (continued whole first b ≡ first) × (sliceAnswer first b ≡ some (answerFrom P s))
+    pub conflict-slice : (b : ℕ) → (continued pairs first b ≡ first) × (sliceAnswer first b ≡ some (answerFrom P s))
     unfolding sliceAnswer answerFrom
     conflict-slice b = (
-      crossed-stays whole P s v e 0 b,
-      ap (told P) (spending-crossed whole P v e b s 0) ∙ told-ended P _ 0 s tt
-          ∙ ap (λ d. some (wordsOf P d)) (sym (ending-crossed whole P s v e)),
+      crossed-stays pairs P s v e 0 b,
+      ap (told P) (spending-crossed pairs P v e b s 0) ∙ told-ended P _ 0 s tt
+          ∙ ap (λ d. some (wordsOf P d)) (sym (ending-crossed pairs P s v e)),
     )
 
     of-crossed : Sliced
@@ -151,85 +152,85 @@ module _ (P : Problem ℤ) (s : State ℤ) where
       count = 0;
       word-1 = ap (λ a. word a 1) (answer-crossed P s v e);
       below = bound-some P;
-      moves = λ b i h. let z : i ≡ 0 = omega arith in ap (λ j. continued whole (cut j) b) z ∙ conflict-slice b .0
+      moves = λ b i h. let z : i ≡ 0 = omega arith in ap (λ j. continued pairs (cut j) b) z ∙ conflict-slice b .0
           ∙ ap cut (let y : 0 ≡ min 0 (i + b) = omega arith in y);
       answers = λ b i h k. let z : i ≡ 0 = omega arith in ap (λ j. sliceAnswer (cut j) b) z ∙ conflict-slice b .1;
       goes-on = λ b i h. let z : ⊥ = omega arith in absurd z;
     }
 
-  pub sliced : Ready whole P s → Sliced
-  sliced R = go (conflict whole P) refl
+  pub sliced : Ready pairs P s → Sliced
+  sliced R = go (conflict pairs P) refl
     where
-      go : (o : Option ℕ) → conflict whole P ≡ o → Sliced
+      go : (o : Option ℕ) → conflict pairs P ≡ o → Sliced
       go none e = of-run (answer-run P s e R)
       go (some v) e = of-crossed v e
 
   module _ (S : Sliced) where
     -- however the numbers are chosen
-    from-by : (bs : List ℕ) (i : ℕ) → i ≤ S .count → continuedBy whole (cut i) bs ≡ cut (min (S .count) (i + sum bs))
+    from-by : (bs : List ℕ) (i : ℕ) → i ≤ S .count → continuedBy pairs (cut i) bs ≡ cut (min (S .count) (i + sum bs))
     unfolding continuedBy
     from-by [] i h = ap cut (let z : i ≡ min (S .count) (i + 0) = omega arith in z)
-    from-by (b ∷ bs) i h = ap (λ A. continuedBy whole A bs) (S .moves b i h)
+    from-by (b ∷ bs) i h = ap (λ A. continuedBy pairs A bs) (S .moves b i h)
         ∙ from-by bs (min (S .count) (i + b)) (omega arith)
         ∙ ap cut (let z : min (S .count) (min (S .count) (i + b) + sum bs) ≡ min (S .count) (i + (b + sum bs)) = omega arith in z)
 
-    pub cut-by : (bs : List ℕ) → continuedBy whole first bs ≡ cut (min (S .count) (sum bs))
+    pub cut-by : (bs : List ℕ) → continuedBy pairs first bs ≡ cut (min (S .count) (sum bs))
     unfolding after
     cut-by bs = from-by bs 0 (omega arith) ∙ ap (λ j. cut (min (S .count) j)) (let z : 0 + sum bs ≡ sum bs = omega arith in z)
 
     pub answer-by : (bs : List ℕ) (b : ℕ) → S .count ≤ sum bs + b →
-        sliceAnswer (continuedBy whole first bs) b ≡ some (answerFrom P s)
+        sliceAnswer (continuedBy pairs first bs) b ≡ some (answerFrom P s)
     answer-by bs b h = ap (λ A. sliceAnswer A b) (cut-by bs)
         ∙ S .answers b (min (S .count) (sum bs)) (omega arith) (omega arith)
 
-    pub none-by : (bs : List ℕ) (b : ℕ) → sum bs + b < S .count → sliceAnswer (continuedBy whole first bs) b ≡ none
+    pub none-by : (bs : List ℕ) (b : ℕ) → sum bs + b < S .count → sliceAnswer (continuedBy pairs first bs) b ≡ none
     none-by bs b h = ap (λ A. sliceAnswer A b) (cut-by bs) ∙ S .goes-on b (min (S .count) (sum bs)) (omega arith)
 
     pub finished-again : (b : ℕ) →
-        (continued whole (cut (S .count)) b ≡ cut (S .count)) × (sliceAnswer (cut (S .count)) b ≡ some (answerFrom P s))
+        (continued pairs (cut (S .count)) b ≡ cut (S .count)) × (sliceAnswer (cut (S .count)) b ≡ some (answerFrom P s))
     finished-again b = let z : min (S .count) (S .count + b) ≡ S .count = omega arith in
         (S .moves b (S .count) (omega arith) ∙ ap cut z, S .answers b (S .count) (omega arith) (omega arith))
 
     pub slices-only : (bs cs : List ℕ) → S .count ≤ sum bs → S .count ≤ sum cs →
-        continuedBy whole first bs ≡ continuedBy whole first cs
+        continuedBy pairs first bs ≡ continuedBy pairs first cs
     slices-only bs cs h k = let z : min (S .count) (sum bs) ≡ min (S .count) (sum cs) = omega arith in
         cut-by bs ∙ ap cut z ∙ sym (cut-by cs)
 
 -- ---- a state on the way of its run: what every state has that a start or a continue hands back
 
-pub record OnWay (S : Slice ℤ) : Type 0 where
+pub record OnWay (S : Slice (ℤ × ℤ)) : Type 0 where
   -- where the run began
-  pub from : State ℤ
-  pub ready : Ready whole (S .problem) from
+  pub from : State (ℤ × ℤ)
+  pub ready : Ready pairs (S .problem) from
   pub run : Sliced (S .problem) from
   -- the state is that of the run after as many pivots as are counted, which are not more than it has
-  pub state-is : S .state ≡ after whole (S .problem) from (S .count)
+  pub state-is : S .state ≡ after pairs (S .problem) from (S .count)
   pub reached : S .count ≤ run .count
 
-pub on-way-start : (P : Problem ℤ) (s : State ℤ) → Ready whole P s → OnWay (first P s)
+pub on-way-start : (P : Problem (ℤ × ℤ)) (s : State (ℤ × ℤ)) → Ready pairs P s → OnWay (first P s)
 unfolding after
 on-way-start P s R = record { from = s; ready = R; run = sliced P s R; state-is = refl; reached = omega arith }
 
-module _ (S : Slice ℤ) (W : OnWay S) where
-  abbrev P : Problem ℤ
+module _ (S : Slice (ℤ × ℤ)) (W : OnWay S) where
+  abbrev P : Problem (ℤ × ℤ)
   P = S .problem
 
-  abbrev way : ℕ → Slice ℤ
-  way = cutAt whole P (W .from)
+  abbrev way : ℕ → Slice (ℤ × ℤ)
+  way = cutAt pairs P (W .from)
 
   slice-is : S ≡ way (S .count)
   slice-is = ap (λ x. record { problem = P; state = x; count = S .count }) (W .state-is)
 
-  pub on-way-rowed : Rowed whole P (S .state)
-  on-way-rowed = rw (W .state-is) (rowed-after whole P (W .from) (W .ready .rowed) (S .count))
+  pub on-way-rowed : Rowed pairs P (S .state)
+  on-way-rowed = rw (W .state-is) (rowed-after pairs P (W .from) (W .ready .rowed) (S .count))
 
   pub on-way-below : S .count < bound P
   on-way-below = let a = W .reached in let b = W .run .below in omega arith
 
-  pub continued-is : (b : ℕ) → continued whole S b ≡ way (min (W .run .count) (S .count + b))
-  continued-is b = ap (λ A. continued whole A b) slice-is ∙ W .run .moves b (S .count) (W .reached)
+  pub continued-is : (b : ℕ) → continued pairs S b ≡ way (min (W .run .count) (S .count + b))
+  continued-is b = ap (λ A. continued pairs A b) slice-is ∙ W .run .moves b (S .count) (W .reached)
 
-  pub on-way-more : (b : ℕ) → OnWay (continued whole S b)
+  pub on-way-more : (b : ℕ) → OnWay (continued pairs S b)
   on-way-more b = subst OnWay (sym (continued-is b))
       (record { from = W .from; ready = W .ready; run = W .run; state-is = refl; reached = omega arith })
 
@@ -243,11 +244,12 @@ module _ (S : Slice ℤ) (W : OnWay S) where
 -- ---- of words
 
 module _ (ws : List ℤ) where
-  pub sliced-words : Sliced (problem ws) (start whole (problem ws))
-  sliced-words = sliced (problem ws) (start whole (problem ws)) (ready-start whole whole-laws (problem ws))
+  pub sliced-words : Sliced (inner (problem ws)) (start pairs (inner (problem ws)))
+  sliced-words = sliced (inner (problem ws)) (start pairs (inner (problem ws)))
+      (ready-start pairs pairs-laws (inner (problem ws)))
 
   -- the words of the uncut run, and its count
   pub cut-answer : (bs : List ℕ) (b : ℕ) → sliced-words .count ≤ sum bs + b →
-      sliceAnswer (continuedBy whole (begun whole (problem ws)) bs) b ≡ some (answer ws)
+      sliceAnswer (continuedBy pairs (begun pairs (inner (problem ws))) bs) b ≡ some (answer ws)
   unfolding begun answer
-  cut-answer = answer-by (problem ws) (start whole (problem ws)) sliced-words
+  cut-answer = answer-by (inner (problem ws)) (start pairs (inner (problem ws))) sliced-words

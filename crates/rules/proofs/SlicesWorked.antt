@@ -7,7 +7,7 @@ use Rattle.whole.specs.Sums.{sumBy}
 use Rattle.whole.specs.Tables.{matrix, tableFrom}
 use Rattle.rules.specs.Answer.{wordsOf}
 use Rattle.rules.specs.Limit.{bit, present}
-use Rattle.rules.specs.Problem.{problem}
+use Rattle.rules.specs.Problem.{mapped, problem}
 use Rattle.rules.specs.Run.{conflict, crossed, run, spending}
 use Rattle.rules.specs.SliceCases.{SlicesRight, repliesOf, sliceCases}
 use Rattle.rules.specs.Slices.{begun, continued, sliceAnswer, told}
@@ -17,6 +17,7 @@ use Rattle.rules.specs.Tableau.{divisor, divisorSize, pivot, reduced, re
 pub slices-right : SlicesRight sliceCases
 unfolding sliceCases repliesOf sliceAnswer continued begun told wordsOf spending conflict crossed run step
     leaving broken under over entering suits mayRise mayFall pull moved limitAt admit evidence scaled seated shortfallBy
-    start startEntry startSeat startValue pivot solved reduced relation divisor divisorSize small problem present bit
+    start startEntry startSeat startValue pivot solved reduced relation divisor divisorSize small
+    problem present bit mapped
     lowest someBelow allBelow foldBelow sumBy tableFrom matrix gcd gcdTurns within outside
 slices-right = refl

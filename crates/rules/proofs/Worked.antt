@@ -8,26 +8,34 @@ use Rattle.whole.specs.Tables.{matrix, tableFrom}
 use Rattle.rules.specs.Answer.{answer, answerFrom, wordsOf}
 use Rattle.rules.specs.Cases.{cases}
 use Rattle.rules.specs.Cycle.{isBadCycle}
-use Rattle.rules.specs.Evidence.{accepted, atLeast, atMost, checked, column, fair, showsCan, showsCannot, surplus}
+use Rattle.rules.specs.Evidence.{accepted, atLeast, atMost, checked, column, contradicts, fair, plainOf}
+use Rattle.rules.specs.Evidence.{showsCan, showsCannot, someStrict, strictNamed, surplus}
+use Rattle.rules.specs.EvidenceCases.{evidenceCases}
 use Rattle.rules.specs.Expected.{AllRight, comesOut, wanted}
-use Rattle.rules.specs.Limit.{badLimitWord, bit, present}
+use Rattle.rules.specs.Limit.{badKindWord, badLimitWord, bit, present}
 use Rattle.rules.specs.LimitCases.{limitCases}
 use Rattle.rules.specs.Passes.{canMeet, distances, look, passes, settled}
-use Rattle.rules.specs.Problem.{problem}
-use Rattle.rules.specs.Refusal.{badCoefficient, badKind, badLength, badLimit, badSize, blankRow, first, problemTests, refusal, someBlank, tooFew, tooShort}
+use Rattle.rules.specs.Problem.{problem, mapped}
+use Rattle.rules.specs.Refusal.{badCoefficient, badKind, badLength, badLimit, badSize, blankRow, first}
+use Rattle.rules.specs.Refusal.{problemTests, refusal, someBlank, tooFew, tooShort}
 use Rattle.rules.specs.Run.{bound, choose, conflict, crossed, ending, run, spending}
-use Rattle.rules.specs.Step.{admit, broken, entering, evidence, leaving, limitAt, mayFall, mayRise, moved, over, pull, scaled, seated, shortfallBy, start, startEntry, startSeat, startValue, step, suits, under}
+use Rattle.rules.specs.Step.{admit, broken, entering, evidence, leaving, limitAt, mayFall, mayRise, moved, over}
+use Rattle.rules.specs.Step.{pull, scaled, seated, shortfallBy, start, startEntry, startSeat, startValue, step}
+use Rattle.rules.specs.Step.{suits, under}
 use Rattle.rules.specs.Tableau.{divisor, divisorSize, pivot, reduced, relation, small, solved}
 use Rattle.rules.specs.TimeCases.{timeCases}
 use Rattle.rules.specs.Times.{cycleWords, timesAnswer, timesOf}
-use Rattle.rules.specs.TimeWords.{badEnd, badRowLength, badStrict, badTimeSize, badWordCount, noRoom, timeRefusal, timeTests}
+use Rattle.rules.specs.TimeWords.{badEnd, badRowLength, badStrict, badTimeSize, badWordCount, noRoom}
+use Rattle.rules.specs.TimeWords.{timeRefusal, timeTests}
 
 pub all-right : AllRight cases
-unfolding cases limitCases timeCases comesOut wanted answer answerFrom wordsOf ending spending conflict crossed run bound choose step
+unfolding cases limitCases evidenceCases timeCases comesOut wanted
+    answer answerFrom wordsOf ending spending conflict crossed run bound choose step
     leaving broken under over entering suits mayRise mayFall pull moved limitAt admit evidence scaled seated shortfallBy
-    start startEntry startSeat startValue pivot solved reduced relation divisor divisorSize small problem present bit
+    start startEntry startSeat startValue pivot solved reduced relation divisor divisorSize small
+    problem present bit mapped badKindWord
     refusal first problemTests tooFew badSize badLength badCoefficient badKind badLimit blankRow someBlank badLimitWord tooShort
-    checked accepted showsCan showsCannot atLeast atMost fair column surplus
+    checked accepted showsCan showsCannot atLeast atMost fair column surplus plainOf strictNamed someStrict contradicts
     timeRefusal timeTests badTimeSize badWordCount badEnd badStrict badRowLength noRoom
     timesAnswer timesOf cycleWords canMeet distances passes look settled isBadCycle
     lowest someBelow allBelow foldBelow sumBy tableFrom matrix gcd gcdTurns within outside

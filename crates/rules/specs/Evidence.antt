@@ -1,20 +1,20 @@
 -- docs/RULES.md, "The evidence checker": its rule as a function that computes, and what its two kinds of evidence mean.
 use mathlib.Core.Path.{_≡_}
-use mathlib.Core.Bool.{Bool, true, false, cond, _&&_, not}
+use mathlib.Core.Bool.{Bool, true, false, cond, _&&_, _||_, not}
 use mathlib.Core.List.{List, [], _∷_, _++_}
 use mathlib.Core.Option.{Option, none, some}
 use Prim.Native.Nat.{ℕ, _+_, _<_}
 use lib.IntN.{ℤ, pos, _+ℤ_, _-ℤ_, _*ℤ_}
 use lib.ListN.{length}
-use lib.Signed.{leZ, _<ℤ_}
-use Rattle.whole.specs.Below.{allBelow}
+use lib.Signed.{_≤ℤ_, _<ℤ_}
+use Rattle.whole.specs.Below.{allBelow, someBelow}
 use Rattle.whole.specs.Numbers.{within, outside, eqZ, isPos}
 use Rattle.whole.specs.Sums.{sum}
-use Rattle.whole.specs.Values.{Values, whole, total, Le}
-use Rattle.rules.specs.Sizes.{mostRows, largestNumber, largestNumerator}
+use Rattle.whole.specs.Values.{Values, pairs, total, whole, Le}
+use Rattle.rules.specs.Sizes.{mostRows, largestNumber, largestNumerator, largestSmall}
 use Rattle.rules.specs.Problem.{Problem, vars, problem, word}
 use Rattle.rules.specs.Refusal.{first, problemTests, tooShort}
-use Rattle.rules.specs.Step.{seated}
+use Rattle.rules.specs.Limit.{Limit}
 
 -- ---- the answer's parts; word 1 is not judged
 
@@ -28,9 +28,13 @@ denominatorOf a = word a 2
 abbrev pub lowerPart : List ℤ → ℕ → ℤ
 lowerPart a v = word a (3 + v)
 
--- zeros, or upper multipliers
+-- the small parts' numerators, or upper multipliers
 abbrev pub upperPart : ℕ → List ℤ → ℕ → ℤ
 upperPart N a v = word a (3 + N + v)
+
+-- the two numerators of a value
+abbrev pub pairPart : ℕ → List ℤ → ℕ → ℤ × ℤ
+pairPart N a v = (lowerPart a v, upperPart N a v)
 
 -- ---- verdict 1
 
@@ -38,51 +42,73 @@ upperPart N a v = word a (3 + N + v)
 abbrev pub rowSum : {X Y : Type 0} → Values Y → Problem X → (ℕ → Y) → ℕ → Y
 rowSum 𝓥 P x i = total 𝓥 (P .n) (λ j. 𝓥 .scale (P .coefficient i j) (x j))
 
-unfoldable pub atLeast : Option ℤ → ℤ → ℤ → Bool
+-- one pair is at most another, or strictly below it
+abbrev pub clears : (strict : Bool) → ℤ × ℤ → ℤ × ℤ → Bool
+clears true x y = pairs .less x y
+clears false x y = not (pairs .less y x)
+
+-- a numerator and its small part, over d, against the plain limit
+unfoldable pub atLeast : Option Limit → ℤ → ℤ × ℤ → Bool
 atLeast none d x = true
-atLeast (some l) d x = leZ (d *ℤ l) x
+atLeast (some l) d x = clears (l .strict) (d *ℤ l .plain, pos 0) x
 
-unfoldable pub atMost : Option ℤ → ℤ → ℤ → Bool
+unfoldable pub atMost : Option Limit → ℤ → ℤ × ℤ → Bool
 atMost none d x = true
-atMost (some u) d x = leZ x (d *ℤ u)
+atMost (some u) d x = clears (u .strict) x (d *ℤ u .plain, pos 0)
 
-unfoldable pub showsCan : Problem ℤ → List ℤ → Bool
+unfoldable pub showsCan : Problem Limit → List ℤ → Bool
 showsCan P a =
     let d : ℤ = denominatorOf a in
     let x : ℕ → ℤ = lowerPart a in
+    let y : ℕ → ℤ = upperPart (vars P) a in
     not (outside 1 largestNumber d)
     && allBelow (vars P) (λ v. within largestNumerator (x v))
+    && allBelow (vars P) (λ v. within largestSmall (y v))
     && allBelow (P .m) (λ i. eqZ (x (P .n + i)) (rowSum whole P x i))
-    && allBelow (vars P) (λ v. atLeast (P .lower v) d (x v) && atMost (P .upper v) d (x v))
-    && allBelow (vars P) (λ v. eqZ (upperPart (vars P) a v) (pos 0))
+    && allBelow (P .m) (λ i. eqZ (y (P .n + i)) (rowSum whole P y i))
+    && allBelow (vars P) (λ v. atLeast (P .lower v) d (x v, y v) && atMost (P .upper v) d (x v, y v))
 
 -- ---- verdict 2
 
--- a multiplier of a limit that may be missing
-unfoldable pub fair : Option ℤ → ℤ → Bool
+-- a limit's number, or 0 where it is missing
+unfoldable pub plainOf : Option Limit → ℤ
+plainOf none = pos 0
+plainOf (some l) = l .plain
+
+unfoldable pub fair : Option Limit → ℤ → Bool
 fair none k = eqZ k (pos 0)
 fair (some l) k = not (outside 0 largestNumber k)
 
--- column j of multipliers put through the rows
-unfoldable pub column : Problem ℤ → (ℕ → ℤ) → ℕ → ℤ
+-- a strict limit with a multiplier other than 0
+unfoldable pub strictNamed : Option Limit → ℤ → Bool
+strictNamed none k = false
+strictNamed (some l) k = l .strict && not (eqZ k (pos 0))
+
+unfoldable pub column : {X : Type 0} → Problem X → (ℕ → ℤ) → ℕ → ℤ
 column P y j = y j +ℤ sum (P .m) (λ i. P .coefficient i j *ℤ y (P .n + i))
 
--- lower limits times multipliers less upper limits times multipliers; a missing limit has multiplier 0
-unfoldable pub surplus : Problem ℤ → (ℕ → ℤ) → (ℕ → ℤ) → ℤ
-surplus P lo up = sum (vars P) (λ v. seated whole (P .lower v) *ℤ lo v -ℤ seated whole (P .upper v) *ℤ up v)
+unfoldable pub surplus : Problem Limit → (ℕ → ℤ) → (ℕ → ℤ) → ℤ
+surplus P lo up = sum (vars P) (λ v. plainOf (P .lower v) *ℤ lo v -ℤ plainOf (P .upper v) *ℤ up v)
 
-unfoldable pub showsCannot : Problem ℤ → List ℤ → Bool
+unfoldable pub someStrict : Problem Limit → (ℕ → ℤ) → (ℕ → ℤ) → Bool
+someStrict P lo up = someBelow (vars P) (λ v. strictNamed (P .lower v) (lo v) || strictNamed (P .upper v) (up v))
+
+-- above 0, or 0 and a strict limit has a multiplier other than 0
+unfoldable pub contradicts : ℤ → Bool → Bool
+contradicts total strict = isPos total || (eqZ total (pos 0) && strict)
+
+unfoldable pub showsCannot : Problem Limit → List ℤ → Bool
 showsCannot P a =
     let lo : ℕ → ℤ = lowerPart a in
     let up : ℕ → ℤ = upperPart (vars P) a in
     eqZ (denominatorOf a) (pos 0)
     && allBelow (vars P) (λ v. fair (P .lower v) (lo v) && fair (P .upper v) (up v))
     && allBelow (P .n) (λ j. eqZ (column P (λ v. lo v -ℤ up v) j) (pos 0))
-    && isPos (surplus P lo up)
+    && contradicts (surplus P lo up) (someStrict P lo up)
 
 -- ---- the checker: 1 to 6 and 10 by the problem, 7 too short, 8 accepted, 9 not
 
-unfoldable pub accepted : Problem ℤ → List ℤ → Bool
+unfoldable pub accepted : Problem Limit → List ℤ → Bool
 accepted P a =
     cond (eqZ (verdictOf a) (pos 1)) (showsCan P a)
     (cond (eqZ (verdictOf a) (pos 2)) (showsCannot P a) false)
@@ -114,3 +140,32 @@ pub record Meets {X : Type 0} (𝓥 : Values X) (P : Problem X) (d : ℤ) (x : �
 -- no fractions meet them
 abbrev pub Unmet : {X : Type 0} → Values X → Problem X → Type 0
 Unmet {X} 𝓥 P = (d : ℤ) (x : ℕ → X) → ¬ Meets 𝓥 P d x
+
+-- ---- .. and of actual fractions, with the marks
+
+abbrev pub Clears : Bool → ℤ → ℤ → Type 0
+Clears true a b = a <ℤ b
+Clears false a b = a ≤ℤ b
+
+abbrev pub Above : Option Limit → ℤ → ℤ → Type 0
+Above none d x = Unit {0}
+Above (some l) d x = Clears (l .strict) (d *ℤ l .plain) x
+
+abbrev pub Below : Option Limit → ℤ → ℤ → Type 0
+Below none d x = Unit {0}
+Below (some u) d x = Clears (u .strict) x (d *ℤ u .plain)
+
+-- the fractions x v / d meet the rows and all limits, a strict one strictly
+pub record Satisfies (P : Problem Limit) (d : ℤ) (x : ℕ → ℤ) : Type 0 where
+  pub positive : pos 0 <ℤ d
+  pub rows : Rows whole P x
+  pub lowers : (v : ℕ) → v < vars P → Above (P .lower v) d (x v)
+  pub uppers : (v : ℕ) → v < vars P → Below (P .upper v) d (x v)
+
+-- some fractions do
+abbrev pub Satisfiable : Problem Limit → Type 0
+Satisfiable P = (d : ℤ) × (x : ℕ → ℤ) × Satisfies P d x
+
+-- no fractions do
+abbrev pub Unsatisfied : Problem Limit → Type 0
+Unsatisfied P = (d : ℤ) (x : ℕ → ℤ) → ¬ Satisfies P d x

@@ -14,10 +14,12 @@ use Rattle.rules.specs.Cycle.{around, isBadCycle}
 use Rattle.rules.specs.TimeWords.{timeEdges, timeRefusal, timesLength}
 use Rattle.rules.specs.Times.{timesAnswer}
 
--- a refusal, or an answer's words; of time rows, those of times, or of a cycle with its rows and what their lengths sum to
+-- a refusal, an answer's words, or the checker's number of a stranger's; of time rows, those of times, or of a cycle
+-- with its rows and what their lengths sum to
 pub data Expected : Type 0 where
   refused : ℕ → Expected
   answers : List ℤ → Expected
+  checks : (answer : List ℤ) (number : ℕ) → Expected
   times : List ℤ → Expected
   cycle : (rows : List ℕ) (length-sum : ℤ × ℤ) (answer : List ℤ) → Expected
 
@@ -30,6 +32,7 @@ pub record Case : Type 0 where
 unfoldable pub comesOut : List ℤ → Expected → List ℤ
 comesOut ws (refused k) = pos (refusal ws (answerLength ws)) ∷ []
 comesOut ws (answers a) = pos (refusal ws (length a)) ∷ pos (checked ws a) ∷ answer ws
+comesOut ws (checks a k) = pos (checked ws a) ∷ []
 comesOut ws (times a) = pos (timeRefusal ws (timesLength ws)) ∷ timesAnswer ws []
 comesOut ws (cycle rows total a) =
     pos (timeRefusal ws (timesLength ws)) ∷ around pairs (timeEdges ws) rows .0 ∷ around pairs (timeEdges ws) rows .1
@@ -39,6 +42,7 @@ comesOut ws (cycle rows total a) =
 unfoldable pub wanted : Expected → List ℤ
 wanted (refused k) = pos k ∷ []
 wanted (answers a) = pos 0 ∷ pos 8 ∷ a
+wanted (checks a k) = pos k ∷ []
 wanted (times a) = pos 0 ∷ a
 wanted (cycle rows total a) = pos 0 ∷ total .0 ∷ total .1 ∷ pos 1 ∷ a
 

@@ -16,6 +16,7 @@ pub mod TimeWords
 pub mod Times
 pub mod Expected
 pub mod LimitCases
+pub mod EvidenceCases
 pub mod SliceCases
 pub mod TimeCases
 pub mod Cases

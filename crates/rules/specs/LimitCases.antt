@@ -1,4 +1,4 @@
--- docs/RULES.md, "Runs worked by hand": cases A to I and the edges, as words and what is expected of them.
+-- docs/RULES.md, "Runs worked by hand": cases A to I, strict limits and the edges, as words and what is expected.
 use mathlib.Core.List.{List, [], _∷_, _++_}
 use Prim.Native.Nat.{ℕ}
 use lib.IntN.{ℤ, pos}
@@ -11,20 +11,27 @@ use Rattle.rules.specs.Expected.{Case, answers, minus, refused}
 abbrev free : List ℤ
 free = pos 0 ∷ pos 0 ∷ pos 0 ∷ []
 
-abbrev atLeast : ℤ → List ℤ
+abbrev pub atLeast : ℤ → List ℤ
 atLeast l = pos 1 ∷ l ∷ pos 0 ∷ []
 
-abbrev atMost : ℤ → List ℤ
+abbrev pub atMost : ℤ → List ℤ
 atMost u = pos 2 ∷ pos 0 ∷ u ∷ []
 
 abbrev between : ℤ → ℤ → List ℤ
 between l u = pos 3 ∷ l ∷ u ∷ []
 
+-- strict ones
+abbrev pub moreThan : ℤ → List ℤ
+moreThan l = pos 5 ∷ l ∷ pos 0 ∷ []
+
+abbrev lessThan : ℤ → List ℤ
+lessThan u = pos 10 ∷ pos 0 ∷ u ∷ []
+
 -- n and m, or a row of two coefficients
-abbrev two : ℤ → ℤ → List ℤ
+abbrev pub two : ℤ → ℤ → List ℤ
 two a b = a ∷ b ∷ []
 
-abbrev zeros : ℕ → List ℤ
+abbrev pub zeros : ℕ → List ℤ
 zeros k = replicate k (pos 0)
 
 abbrev gives : List ℤ → List ℤ → Case
@@ -88,6 +95,41 @@ caseH = gives (two (pos 1) (pos 0) ++ free) (pos 1 ∷ pos 0 ∷ pos 1 ∷ pos 0
 abbrev caseI : Case
 caseI = turnedAway (two (pos 1) (pos 1) ++ (pos 0 ∷ []) ++ free ++ atLeast (pos 1)) 10
 
+-- ---- strict limits
+
+-- x>0: can, 0, over 1: 0, small part 1
+abbrev caseMore : Case
+caseMore = gives (two (pos 1) (pos 0) ++ moreThan (pos 0)) (pos 1 ∷ pos 0 ∷ pos 1 ∷ pos 0 ∷ pos 1 ∷ [])
+
+-- 5<x<=5: cannot, 0, lower 1, upper 1
+abbrev caseNone : Case
+caseNone = gives (two (pos 1) (pos 0) ++ (pos 7 ∷ pos 5 ∷ pos 5 ∷ [])) (pos 2 ∷ pos 0 ∷ pos 0 ∷ pos 1 ∷ pos 1 ∷ [])
+
+-- x>0, y<3, x+y>3: can, 1, over 1: 3 0 3, small parts 1 0 1
+abbrev pub caseInside : Case
+caseInside = gives
+    (two (pos 2) (pos 1) ++ two (pos 1) (pos 1) ++ moreThan (pos 0) ++ lessThan (pos 3) ++ moreThan (pos 3))
+    (pos 1 ∷ pos 1 ∷ pos 1 ∷ pos 3 ∷ pos 0 ∷ pos 3 ∷ pos 1 ∷ pos 0 ∷ pos 1 ∷ [])
+
+-- x<=0, y<3, x+y>=3: cannot, 1, lower of the row 1, uppers of x and y 1; the limits sum to 0, and one is strict
+abbrev pub caseTouching : Case
+caseTouching = gives
+    (two (pos 2) (pos 1) ++ two (pos 1) (pos 1) ++ atMost (pos 0) ++ lessThan (pos 3) ++ atLeast (pos 3))
+    (pos 2 ∷ pos 1 ∷ pos 0 ∷ pos 0 ∷ pos 0 ∷ pos 1 ∷ pos 1 ∷ pos 1 ∷ pos 0 ∷ [])
+
+-- 0<2x+3y<1, 3x-2y>0: can, 1, over 2: 0 0 0 0, small parts 1 0 2 3
+abbrev caseOver : Case
+caseOver = gives
+    (two (pos 2) (pos 2) ++ two (pos 2) (pos 3) ++ two (pos 3) (minus 2)
+    ++ free ++ free ++ (pos 15 ∷ pos 0 ∷ pos 1 ∷ []) ++ moreThan (pos 0))
+    (pos 1 ∷ pos 1 ∷ pos 2 ∷ zeros 4 ++ (pos 1 ∷ pos 0 ∷ pos 2 ∷ pos 3 ∷ []))
+
+-- x<0, row 4x: can, 0, over 1: 0 0 0, small parts -1 0 -4
+abbrev caseLess : Case
+caseLess = gives
+    (two (pos 2) (pos 1) ++ two (pos 4) (pos 0) ++ lessThan (pos 0) ++ free ++ free)
+    (pos 1 ∷ pos 0 ∷ pos 1 ∷ zeros 3 ++ (minus 1 ∷ pos 0 ∷ minus 4 ∷ []))
+
 -- ---- the edges
 
 -- one variable, one row with coefficient c, and limits of the row
@@ -108,7 +150,14 @@ edges =
     -- kind 1 with an upper word; kind 7 together with a coefficient of 1,001
     ∷ turnedAway (oneRow (pos 1) (pos 1 ∷ pos 0 ∷ pos 5 ∷ [])) 6
     ∷ turnedAway (oneRow (pos 1001) (pos 7 ∷ pos 0 ∷ pos 0 ∷ [])) 4
+    -- a mark on a missing limit, lower, upper and with the other limit there; a kind past 15
+    ∷ turnedAway (oneRow (pos 1) (pos 4 ∷ pos 0 ∷ pos 0 ∷ [])) 5
+    ∷ turnedAway (oneRow (pos 1) (pos 9 ∷ pos 0 ∷ pos 0 ∷ [])) 5
+    ∷ turnedAway (oneRow (pos 1) (pos 14 ∷ pos 0 ∷ pos 0 ∷ [])) 5
+    ∷ turnedAway (oneRow (pos 1) (pos 16 ∷ pos 0 ∷ pos 0 ∷ [])) 5
     ∷ []
 
 unfoldable pub limitCases : List Case
-limitCases = caseA ∷ caseB ∷ caseC ∷ caseD ∷ caseE ∷ caseF ∷ caseG ∷ caseH ∷ caseI ∷ edges
+limitCases =
+    caseA ∷ caseB ∷ caseC ∷ caseD ∷ caseE ∷ caseF ∷ caseG ∷ caseH ∷ caseI
+    ∷ caseMore ∷ caseNone ∷ caseInside ∷ caseTouching ∷ caseOver ∷ caseLess ∷ edges

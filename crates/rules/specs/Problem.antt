@@ -1,10 +1,10 @@
 -- docs/RULES.md, "The limit problem as words": n, m, then m rows of n coefficients, then kind, lower and upper of each variable.
 use mathlib.Core.List.{List}
-use mathlib.Core.Option.{Option}
+use mathlib.Core.Option.{Option, none, some}
 use Prim.Native.Nat.{ℕ, _+_, _*_}
 use lib.IntN.{ℤ, pos, natAbs}
 use lib.ListN.{getD}
-use Rattle.rules.specs.Limit.{hasLower, hasUpper, present}
+use Rattle.rules.specs.Limit.{Limit, hasLower, hasUpper, lowerPair, present, strictLower, strictUpper, upperPair}
 
 -- word i; a word that is not there is 0
 abbrev pub word : List ℤ → ℕ → ℤ
@@ -50,11 +50,26 @@ pub record Problem (X : Type 0) : Type 0 where
 abbrev pub vars : {X : Type 0} → Problem X → ℕ
 vars P = P .n + P .m
 
-unfoldable pub problem : List ℤ → Problem ℤ
+unfoldable pub problem : List ℤ → Problem Limit
 problem ws = record {
   n = nOf ws;
   m = mOf ws;
   coefficient = coefficientWord ws;
-  lower = λ v. present (hasLower (kind ws v)) (lowerWord ws v);
-  upper = λ v. present (hasUpper (kind ws v)) (upperWord ws v);
+  lower = λ v. present (hasLower (kind ws v)) (record { plain = lowerWord ws v; strict = strictLower (kind ws v) });
+  upper = λ v. present (hasUpper (kind ws v)) (record { plain = upperWord ws v; strict = strictUpper (kind ws v) });
+}
+
+-- something that may be missing, as something else
+unfoldable pub mapped : {X Y : Type 0} → (X → Y) → Option X → Option Y
+mapped f none = none
+mapped f (some x) = some (f x)
+
+-- as the run reads it: a strict limit stands for a pair one small amount inside
+abbrev pub inner : Problem Limit → Problem (ℤ × ℤ)
+inner P = record {
+  n = P .n;
+  m = P .m;
+  coefficient = P .coefficient;
+  lower = λ v. mapped lowerPair (P .lower v);
+  upper = λ v. mapped upperPair (P .upper v);
 }

@@ -11,7 +11,7 @@ use lib.Signed.{_≤ℤ_}
 use Rattle.whole.specs.Below.{allBelow, someBelow}
 use Rattle.whole.specs.Numbers.{Within, eqZ, outside, within}
 use Rattle.rules.specs.Sizes.{mostColumns, mostRows, largestCoefficient, largestLimit}
-use Rattle.rules.specs.Limit.{hasLower, hasUpper, badLimitWord}
+use Rattle.rules.specs.Limit.{hasLower, hasUpper, badLimitWord, strictLower, strictUpper, badKindWord}
 use Rattle.rules.specs.Problem.{word, nOf, mOf, varsOf, coefficientWord, kind, lowerWord, upperWord, answerLength}
 
 -- the number beside the first test that applies, or 0
@@ -33,7 +33,7 @@ unfoldable pub badCoefficient : List ℤ → Bool
 badCoefficient ws = someBelow (mOf ws * nOf ws) (λ i. not (within largestCoefficient (word ws (2 + i))))
 
 unfoldable pub badKind : List ℤ → Bool
-badKind ws = someBelow (varsOf ws) (λ v. outside 0 3 (kind ws v))
+badKind ws = someBelow (varsOf ws) (λ v. badKindWord (kind ws v))
 
 unfoldable pub badLimit : List ℤ → Bool
 badLimit ws = someBelow (varsOf ws) (λ v.
@@ -78,7 +78,9 @@ pub record Accepted (rows : ℕ) (ws : List ℤ) : Type 0 where
   pub exact : length ws ≡ 2 + mOf ws * nOf ws + 3 * varsOf ws
   pub coefficients : (i : ℕ) → i < mOf ws * nOf ws → Within (word ws (2 + i)) largestCoefficient
   pub kind-least : (v : ℕ) → v < varsOf ws → pos 0 ≤ℤ kind ws v
-  pub kind-most : (v : ℕ) → v < varsOf ws → kind ws v ≤ℤ pos 3
+  pub kind-most : (v : ℕ) → v < varsOf ws → kind ws v ≤ℤ pos 15
+  pub lower-marked : (v : ℕ) → v < varsOf ws → strictLower (kind ws v) ≡ true → hasLower (kind ws v) ≡ true
+  pub upper-marked : (v : ℕ) → v < varsOf ws → strictUpper (kind ws v) ≡ true → hasUpper (kind ws v) ≡ true
   pub lowers : (v : ℕ) → v < varsOf ws → FineLimit (hasLower (kind ws v)) (lowerWord ws v)
   pub uppers : (v : ℕ) → v < varsOf ws → FineLimit (hasUpper (kind ws v)) (upperWord ws v)
   pub no-blank : (i : ℕ) → i < mOf ws → (j : ℕ) × (j < nOf ws) × (coefficientWord ws i j ≢ pos 0)

@@ -28,6 +28,10 @@ largestNumber = 2147483647
 abbrev pub largestNumerator : ℕ
 largestNumerator = 515396075280000
 
+-- of evidence: mostColumns times largestNumber
+abbrev pub largestSmall : ℕ
+largestSmall = 17179869176
+
 -- of a shortfall: largestNumerator and largestNumber times largestLimit
 abbrev pub largestShortfall : ℕ
 largestShortfall = 579820584690000
@@ -58,9 +62,9 @@ mostDecimal = 20
 abbrev pub mostPivotsLine : ℕ
 mostPivotsLine = 7 + mostDecimal + 1
 
--- the line of a numerator: a variable of two digits, a space, a number and a newline
+-- the line of a numerator: a variable of two digits, a space, a number, a space, the small part and a newline
 abbrev pub mostValueLine : ℕ
-mostValueLine = 2 + 1 + mostDecimal + 1
+mostValueLine = 2 + 1 + mostDecimal + 1 + mostDecimal + 1
 
 -- the two lines of a variable's multipliers: two digits, " lower " or " upper ", a number and a newline
 abbrev pub mostMultiplierLines : ℕ

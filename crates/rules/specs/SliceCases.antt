@@ -4,9 +4,9 @@ use mathlib.Core.Option.{Option, none, some}
 use mathlib.Core.Path.{_≡_}
 use Prim.Native.Nat.{ℕ}
 use lib.IntN.{ℤ, pos}
-use Rattle.whole.specs.Values.{whole}
-use Rattle.rules.specs.LimitCases.{caseA, caseG, caseH}
-use Rattle.rules.specs.Problem.{problem}
+use Rattle.whole.specs.Values.{pairs}
+use Rattle.rules.specs.LimitCases.{caseA, caseG, caseH, caseInside}
+use Rattle.rules.specs.Problem.{inner, problem}
 use Rattle.rules.specs.Slices.{Slice, begun, continued, sliceAnswer}
 
 -- words, the pivots of each continue, and what each hands back: an answer's words, or nothing
@@ -15,16 +15,21 @@ pub record SliceCase : Type 0 where
   pub pivots : List ℕ
   pub replies : List (Option (List ℤ))
 
-unfoldable pub repliesOf : Slice ℤ → List ℕ → List (Option (List ℤ))
+unfoldable pub repliesOf : Slice (ℤ × ℤ) → List ℕ → List (Option (List ℤ))
 repliesOf S [] = []
-repliesOf S (b ∷ bs) = sliceAnswer S b ∷ repliesOf (continued whole S b) bs
+repliesOf S (b ∷ bs) = sliceAnswer S b ∷ repliesOf (continued pairs S b) bs
 
 abbrev pub SlicesRight : List SliceCase → Type 0
-SlicesRight cs = map (λ c. repliesOf (begun whole (problem (c .words))) (c .pivots)) cs ≡ map (λ c. c .replies) cs
+SlicesRight cs =
+    map (λ c. repliesOf (begun pairs (inner (problem (c .words)))) (c .pivots)) cs ≡ map (λ c. c .replies) cs
 
 -- over 3: 3 3 6 3 3, after 2 pivots
 abbrev answerA : List ℤ
 answerA = pos 1 ∷ pos 2 ∷ pos 3 ∷ pos 3 ∷ pos 3 ∷ pos 6 ∷ pos 3 ∷ pos 3 ∷ pos 0 ∷ pos 0 ∷ pos 0 ∷ pos 0 ∷ pos 0 ∷ []
+
+-- over 1: 3 0 3 and small parts 1 0 1, after 1 pivot
+abbrev answerInside : List ℤ
+answerInside = pos 1 ∷ pos 1 ∷ pos 1 ∷ pos 3 ∷ pos 0 ∷ pos 3 ∷ pos 1 ∷ pos 0 ∷ pos 1 ∷ []
 
 unfoldable pub sliceCases : List SliceCase
 sliceCases =
@@ -39,6 +44,12 @@ sliceCases =
       words = caseA .words;
       pivots = 18446744073709551615 ∷ 0 ∷ [];
       replies = some answerA ∷ some answerA ∷ [];
+    }
+    -- strict limits, cut before the pivot and behind it
+    ∷ record {
+      words = caseInside .words;
+      pivots = 0 ∷ 1 ∷ 0 ∷ [];
+      replies = none ∷ some answerInside ∷ some answerInside ∷ [];
     }
     -- limits that cross, and a run of no pivots: the answer at once
     ∷ record { words = caseG .words; pivots = 0 ∷ []; replies = some (pos 2 ∷ pos 0 ∷ pos 0 ∷ pos 1 ∷ pos 1 ∷ []) ∷ [] }

@@ -8,7 +8,7 @@ use Prim.Native.Nat.{ℕ, _*_, _+_}
 use lib.Dec.{ltb}
 use lib.IntN.{ℤ}
 use lib.ListN.{drop}
-use Rattle.whole.specs.Values.{Values, whole}
+use Rattle.whole.specs.Values.{Values, pairs}
 use Rattle.rules.specs.Answer.{wordsOf}
 use Rattle.rules.specs.Problem.{Problem, vars}
 use Rattle.rules.specs.Refusal.{first}
@@ -35,7 +35,7 @@ module _ {X : Type 0} (𝓥 : Values X) where
   continuedBy S (b ∷ bs) = continuedBy (continued S b) bs
 
 -- what an ending says: nothing where the run goes on past it
-unfoldable pub told : Problem ℤ → Ending ℤ → Option (List ℤ)
+unfoldable pub told : Problem (ℤ × ℤ) → Ending (ℤ × ℤ) → Option (List ℤ)
 told P e = elim (e .how) [
   | can ↦ some (wordsOf P e)
   | cannot ls us ↦ some (wordsOf P e)
@@ -44,8 +44,8 @@ told P e = elim (e .how) [
 ]
 
 -- the answer of a continue, or nothing
-unfoldable pub sliceAnswer : Slice ℤ → ℕ → Option (List ℤ)
-sliceAnswer S b = told (S .problem) (spending whole b (S .problem) (S .state) (S .count))
+unfoldable pub sliceAnswer : Slice (ℤ × ℤ) → ℕ → Option (List ℤ)
+sliceAnswer S b = told (S .problem) (spending pairs b (S .problem) (S .state) (S .count))
 
 -- is there one
 abbrev pub isAnswer : Option (List ℤ) → Bool
@@ -53,11 +53,11 @@ isAnswer none = false
 isAnswer (some a) = true
 
 -- how many words its answer has
-abbrev pub sliceLength : Slice ℤ → ℕ
+abbrev pub sliceLength : Slice (ℤ × ℤ) → ℕ
 sliceLength S = 3 + 2 * vars (S .problem)
 
 -- 7 where there is no room for an answer, whether there is one or not
-unfoldable pub sliceRefusal : Slice ℤ → ℕ → ℕ
+unfoldable pub sliceRefusal : Slice (ℤ × ℤ) → ℕ → ℕ
 sliceRefusal S room = first ((ltb room (sliceLength S), 7) ∷ [])
 
 -- what stands in the output afterwards: without an answer what stood there

@@ -50,6 +50,12 @@ line name z = name ++ decimal z ++ ascii "\n"
 unfoldable pub variableLine : ℕ → List ℕ → ℤ → List ℕ
 variableLine v between z = digits v ++ line between z
 
+-- how a value's line ends: a small part other than 0 stands behind a space
+unfoldable pub smallEnd : ℤ → List ℕ
+smallEnd (pos zero) = ascii "\n"
+smallEnd (pos (suc n)) = line (ascii " ") (pos (suc n))
+smallEnd (negsuc k) = line (ascii " ") (negsuc k)
+
 -- a multiplier of 0 has no line
 unfoldable pub multiplierLine : ℕ → List ℕ → ℤ → List ℕ
 multiplierLine v between (pos zero) = []
@@ -67,9 +73,9 @@ linesBelow (suc k) f = linesBelow k f ++ f k
 unfoldable pub headLines : List ℕ → List ℤ → List ℕ
 headLines verdict ws = verdict ++ line (ascii "pivots ") (word ws 1)
 
--- the numerator of v
-unfoldable pub valueLine : List ℤ → ℕ → List ℕ
-valueLine ws v = variableLine v (ascii " ") (word ws (3 + v))
+-- the numerator of v, and its small part's
+unfoldable pub valueLine : List ℤ → ℕ → ℕ → List ℕ
+valueLine ws N v = digits v ++ ascii " " ++ decimal (word ws (3 + v)) ++ smallEnd (word ws (3 + N + v))
 
 -- the two multipliers of v, the lower limit's first
 unfoldable pub multiplierLines : List ℤ → ℕ → ℕ → List ℕ
@@ -77,7 +83,7 @@ multiplierLines ws N v =
     multiplierLine v (ascii " lower ") (word ws (3 + v)) ++ multiplierLine v (ascii " upper ") (word ws (3 + N + v))
 
 unfoldable pub canText : List ℤ → ℕ → List ℕ
-canText ws N = headLines (ascii "can\n") ws ++ line (ascii "over ") (word ws 2) ++ linesBelow N (valueLine ws)
+canText ws N = headLines (ascii "can\n") ws ++ line (ascii "over ") (word ws 2) ++ linesBelow N (valueLine ws N)
 
 unfoldable pub cannotText : List ℤ → ℕ → List ℕ
 cannotText ws N = headLines (ascii "cannot\n") ws ++ linesBelow N (multiplierLines ws N)

@@ -17,9 +17,10 @@ use Rattle.whole.proofs.Bools.{true-false}
 use Rattle.whole.proofs.Tells.{Tells}
 use Rattle.rules.proofs.Evidence.Same.{multipliers-same, numerators-same}
 use Rattle.rules.proofs.Evidence.Shows.{Shown, shown-tells}
-use Rattle.rules.proofs.First.{First, Test, Upto, first-exactly, first-kept, first-passed, line}
+use Rattle.rules.proofs.First.{First, Test, first-exactly, first-kept, first-passed, line}
 use Rattle.rules.proofs.Refused.{numbered, problemTable, room-tells}
 use Rattle.rules.specs.Evidence.{accepted, checked, denominatorOf, lowerPart, upperPart, verdictOf}
+use Rattle.rules.specs.Limit.{Limit}
 use Rattle.rules.specs.Problem.{Problem, answerLength, problem, vars, word}
 use Rattle.rules.specs.Refusal.{first, problemRefusal, problemTests, tooShort}
 use Rattle.rules.specs.Sizes.{mostRows}
@@ -191,7 +192,7 @@ module _ (ws a : List ℤ) where
 
 -- ---- words that never matter
 
-shown-same : (P : Problem ℤ) (a b : List ℤ) → ((i : ℕ) → i < 3 + 2 * vars P → i ≢ 1 → word a i ≡ word b i) →
+shown-same : (P : Problem Limit) (a b : List ℤ) → ((i : ℕ) → i < 3 + 2 * vars P → i ≢ 1 → word a i ≡ word b i) →
     Shown P a → Shown P b
 shown-same P a b same = go
   where

@@ -1,31 +1,32 @@
--- What the two kinds of evidence mean. Fractions that show "can" meet the problem; and multipliers that cancel in every
--- column, none below 0 and none at a missing limit, whose surplus is above 0, leave no fractions at all (Farkas). No size is
--- asked of any number.
---   rows-balance     a sum over all variables, of a solution of the rows, is a sum over the columns
---   farkas           any multipliers of that kind: `Unmet`
---   can-meets, cannot-unmet    the same of an answer's words
-use mathlib.Core.List.{List, [], _∷_}
+-- What multipliers mean: where they cancel in every column, none is below 0 and none at a missing limit, and the
+-- surplus is above 0, or is 0 and a strict limit has one other than 0, no fractions meet rows and limits (Farkas).
+--   rows-balance       a sum over all variables, of a solution of the rows, is a sum over the columns
+--   farkas             any multipliers of that kind: `Unsatisfied`
+use mathlib.Core.Bool.{Bool, false, true}
+use mathlib.Core.List.{[], _∷_}
+use mathlib.Core.Logic.{_≢_, _⊎_, inl, inr}
 use mathlib.Core.Option.{Option, none, some}
-use mathlib.Core.Path.{ap, refl, sym, _∙_, _≡_}
-use Prim.Native.Nat.{ℕ, _+_, _<_}
-use lib.IntN.{*ℤ-comm, pos, zero-*ℤ, ℤ, _*ℤ_, _+ℤ_, _-ℤ_}
-use lib.Signed.{<ℤ-irrefl, <ℤ-≤ℤ-trans, ltZ-yes, _<ℤ_, _≤ℤ_}
-use Rattle.whole.proofs.Nonneg.{nn-nat, of-le, slk, _⊞_, _⊠_}
-use Rattle.whole.proofs.Order.{*ℤ-pos-pos, false→le, le→false, ≤ℤ-<ℤ-trans}
+use mathlib.Core.Path.{_∙_, _≡_, ap, refl, sym}
+use Prim.Native.Nat.{_+_, _<_, ℕ}
+use lib.IntN.{*ℤ-comm, *ℤ-zero, _*ℤ_, _+ℤ_, _-ℤ_, pos, zero-*ℤ, ℤ}
+use lib.Signed.{<ℤ-irrefl, <ℤ-≤ℤ-trans, _<ℤ_, _≤ℤ_}
+use Rattle.whole.proofs.Instances.{whole-laws}
+use Rattle.whole.proofs.Nonneg.{_⊞_, _⊠_, nn-nat, of-le, of-lt, slk}
+use Rattle.whole.proofs.Order.{*ℤ-pos-pos, Sign, le→false, lt→true, minus, null, plus, sign, true→lt, ≤ℤ-<ℤ-trans}
 use Rattle.whole.proofs.Reify.{reify}
 use Rattle.whole.proofs.RingLaws.{*ℤ-distribr}
 use Rattle.whole.proofs.Sums.{sum-mono, sum-parts, sum-plus, sum-same, sum-swap, sum-times, sum-zero}
-use Rattle.whole.proofs.Tools.{le-at, ring-at}
+use Rattle.whole.proofs.Tools.{le-at, lt-at, ring-at}
+use Rattle.whole.proofs.Values.{total-lt}
 use Rattle.whole.specs.Sums.{sum}
 use Rattle.whole.specs.Values.{whole}
-use Rattle.rules.proofs.Evidence.Shows.{Multipliers, Numerators, ShowsCan, ShowsCannot}
-use Rattle.rules.proofs.Fractions.{lower-met, upper-met}
-use Rattle.rules.specs.Evidence.{AtLeast, AtMost, Meets, Rows, Unmet, column, denominatorOf, lowerPart, surplus, upperPart}
+use Rattle.rules.proofs.Evidence.Shows.{Contradiction, Multiplier, Multipliers, StrictNamed}
+use Rattle.rules.specs.Evidence.{Above, Below, Clears, Rows, Unsatisfied, column, plainOf, surplus}
+use Rattle.rules.specs.Limit.{Limit}
 use Rattle.rules.specs.Problem.{Problem, vars}
-use Rattle.rules.specs.Step.{seated}
 
 -- sum over v of y v times x v is the sum over the columns of column j times x j
-pub rows-balance : (P : Problem ℤ) (x y : ℕ → ℤ) → Rows whole P x →
+pub rows-balance : {X : Type 0} (P : Problem X) (x y : ℕ → ℤ) → Rows whole P x →
     sum (vars P) (λ v. y v *ℤ x v) ≡ sum (P .n) (λ j. column P y j *ℤ x j)
 unfolding column
 rows-balance P x y R =
@@ -55,78 +56,111 @@ rows-balance P x y R =
         ∙ sum-times (P .m) (x j) (λ i. P .coefficient i j *ℤ y (P .n + i))
         ∙ *ℤ-comm (x j) (sum (P .m) (λ i. P .coefficient i j *ℤ y (P .n + i)))
 
--- what is asked of multipliers: none below 0, none at a missing limit
-pub record Farkas (P : Problem ℤ) (lo up : ℕ → ℤ) : Type 0 where
-  pub lowers-least : (v : ℕ) → v < vars P → pos 0 ≤ℤ lo v
-  pub uppers-least : (v : ℕ) → v < vars P → pos 0 ≤ℤ up v
-  pub lowers-missing : (v : ℕ) → v < vars P → P .lower v ≡ none → lo v ≡ pos 0
-  pub uppers-missing : (v : ℕ) → v < vars P → P .upper v ≡ none → up v ≡ pos 0
-  pub cancels : (j : ℕ) → j < P .n → column P (λ v. lo v -ℤ up v) j ≡ pos 0
-  pub above-zero : pos 0 <ℤ surplus P lo up
+-- ---- one limit, d times, with its multiplier k
 
--- a limit that may be missing, times d, times its multiplier, is no more than x times the multiplier; and no less
-lower-bound : (o : Option ℤ) (d x k : ℤ) → AtLeast whole o d x → pos 0 ≤ℤ k → (o ≡ none → k ≡ pos 0) →
-    (d *ℤ (seated whole o *ℤ k)) ≤ℤ (k *ℤ x)
-unfolding seated
-lower-bound none d x k h p m = rw (m refl) (le-at (d ∷ x ∷ []) (nn-nat 0) (search reify depth 30) slk)
-lower-bound (some l) d x k h p m =
-    le-at (d ∷ l ∷ x ∷ k ∷ []) (of-le (false→le {a = d *ℤ l} {b = x} h) ⊠ of-le p) (search reify depth 30) slk
+weaker : (b : Bool) (x y : ℤ) → Clears b x y → x ≤ℤ y
+weaker true x y h = le-at (x ∷ y ∷ []) (of-lt h) (search reify depth 30) slk
+weaker false x y h = h
 
-upper-bound : (o : Option ℤ) (d x k : ℤ) → AtMost whole o d x → pos 0 ≤ℤ k → (o ≡ none → k ≡ pos 0) →
-    (k *ℤ x) ≤ℤ (d *ℤ (seated whole o *ℤ k))
-unfolding seated
-upper-bound none d x k h p m = rw (m refl) (le-at (d ∷ x ∷ []) (nn-nat 0) (search reify depth 30) slk)
-upper-bound (some u) d x k h p m =
-    le-at (d ∷ u ∷ x ∷ k ∷ []) (of-le (false→le {a = x} {b = d *ℤ u} h) ⊠ of-le p) (search reify depth 30) slk
+lower-bound : (o : Option Limit) (d x k : ℤ) → Above o d x → Multiplier o k → (d *ℤ (plainOf o *ℤ k)) ≤ℤ (k *ℤ x)
+unfolding plainOf
+lower-bound none d x k h m = rw (m .missing refl) (le-at (d ∷ x ∷ []) (nn-nat 0) (search reify depth 30) slk)
+lower-bound (some l) d x k h m = go (l .plain) (weaker (l .strict) (d *ℤ l .plain) x h)
+  where
+    go : (a : ℤ) → (d *ℤ a) ≤ℤ x → (d *ℤ (a *ℤ k)) ≤ℤ (k *ℤ x)
+    go a q = le-at (d ∷ a ∷ x ∷ k ∷ []) (of-le q ⊠ of-le (m .least)) (search reify depth 30) slk
 
-module _ (P : Problem ℤ) (lo up : ℕ → ℤ) (F : Farkas P lo up) where
-  difference : (d l a u b z : ℤ) → (d *ℤ (l *ℤ a)) ≤ℤ (a *ℤ z) → (b *ℤ z) ≤ℤ (d *ℤ (u *ℤ b)) →
+upper-bound : (o : Option Limit) (d x k : ℤ) → Below o d x → Multiplier o k → (k *ℤ x) ≤ℤ (d *ℤ (plainOf o *ℤ k))
+unfolding plainOf
+upper-bound none d x k h m = rw (m .missing refl) (le-at (d ∷ x ∷ []) (nn-nat 0) (search reify depth 30) slk)
+upper-bound (some u) d x k h m = go (u .plain) (weaker (u .strict) x (d *ℤ u .plain) h)
+  where
+    go : (a : ℤ) → x ≤ℤ (d *ℤ a) → (k *ℤ x) ≤ℤ (d *ℤ (a *ℤ k))
+    go a q = le-at (d ∷ a ∷ x ∷ k ∷ []) (of-le q ⊠ of-le (m .least)) (search reify depth 30) slk
+
+above-zero : (k : ℤ) → pos 0 ≤ℤ k → k ≢ pos 0 → pos 0 <ℤ k
+above-zero k h n = go (sign k)
+  where
+    go : Sign k → pos 0 <ℤ k
+    go (plus p) = p
+    go (null e) = absurd (n e)
+    go (minus p) = absurd (<ℤ-irrefl (<ℤ-≤ℤ-trans p h))
+
+lower-strict : (o : Option Limit) (d x k : ℤ) → Above o d x → Multiplier o k → StrictNamed o k →
+    (d *ℤ (plainOf o *ℤ k)) <ℤ (k *ℤ x)
+unfolding plainOf
+lower-strict o d x k h m (l, e, s, n) = rw e (go (l .plain) (rw s at (rw e at h)) (above-zero k (m .least) n))
+  where
+    go : (a : ℤ) → (d *ℤ a) <ℤ x → pos 0 <ℤ k → (d *ℤ (a *ℤ k)) <ℤ (k *ℤ x)
+    go a q p = lt-at (d ∷ a ∷ x ∷ k ∷ []) (of-lt q ⊠ of-lt p ⊞ of-lt q ⊞ of-lt p) (search reify depth 30) slk
+
+upper-strict : (o : Option Limit) (d x k : ℤ) → Below o d x → Multiplier o k → StrictNamed o k →
+    (k *ℤ x) <ℤ (d *ℤ (plainOf o *ℤ k))
+unfolding plainOf
+upper-strict o d x k h m (u, e, s, n) = rw e (go (u .plain) (rw s at (rw e at h)) (above-zero k (m .least) n))
+  where
+    go : (a : ℤ) → x <ℤ (d *ℤ a) → pos 0 <ℤ k → (k *ℤ x) <ℤ (d *ℤ (a *ℤ k))
+    go a q p = lt-at (d ∷ a ∷ x ∷ k ∷ []) (of-lt q ⊠ of-lt p ⊞ of-lt q ⊞ of-lt p) (search reify depth 30) slk
+
+-- ---- the two limits of a variable
+
+module _ (d l a u b z : ℤ) where
+  difference : (d *ℤ (l *ℤ a)) ≤ℤ (a *ℤ z) → (b *ℤ z) ≤ℤ (d *ℤ (u *ℤ b)) →
       (d *ℤ (l *ℤ a -ℤ u *ℤ b)) ≤ℤ ((a -ℤ b) *ℤ z)
-  difference d l a u b z h k = le-at (d ∷ l ∷ a ∷ u ∷ b ∷ z ∷ []) (of-le h ⊞ of-le k) (search reify depth 30) slk
+  difference h k = le-at (d ∷ l ∷ a ∷ u ∷ b ∷ z ∷ []) (of-le h ⊞ of-le k) (search reify depth 30) slk
 
-  pub farkas : Unmet whole P
+  difference-low : (d *ℤ (l *ℤ a)) <ℤ (a *ℤ z) → (b *ℤ z) ≤ℤ (d *ℤ (u *ℤ b)) →
+      (d *ℤ (l *ℤ a -ℤ u *ℤ b)) <ℤ ((a -ℤ b) *ℤ z)
+  difference-low h k = lt-at (d ∷ l ∷ a ∷ u ∷ b ∷ z ∷ []) (of-lt h ⊞ of-le k) (search reify depth 30) slk
+
+  difference-high : (d *ℤ (l *ℤ a)) ≤ℤ (a *ℤ z) → (b *ℤ z) <ℤ (d *ℤ (u *ℤ b)) →
+      (d *ℤ (l *ℤ a -ℤ u *ℤ b)) <ℤ ((a -ℤ b) *ℤ z)
+  difference-high h k = lt-at (d ∷ l ∷ a ∷ u ∷ b ∷ z ∷ []) (of-le h ⊞ of-lt k) (search reify depth 30) slk
+
+-- ---- all of them
+
+module _ (P : Problem Limit) (word : ℤ) (lo up : ℕ → ℤ) (S : Multipliers P word lo up) where
+  pub farkas : Unsatisfied P
   unfolding surplus
-  farkas d x M = <ℤ-irrefl (≤ℤ-<ℤ-trans (rw none-left at scaled-up) (*ℤ-pos-pos (M .positive) (F .above-zero)))
+  farkas d x M = go (S .contradiction)
     where
       term : ℕ → ℤ
-      term v = seated whole (P .lower v) *ℤ lo v -ℤ seated whole (P .upper v) *ℤ up v
+      term v = plainOf (P .lower v) *ℤ lo v -ℤ plainOf (P .upper v) *ℤ up v
 
-      each : (v : ℕ) → v < vars P → (d *ℤ term v) ≤ℤ ((lo v -ℤ up v) *ℤ x v)
-      each v h = difference d (seated whole (P .lower v)) (lo v) (seated whole (P .upper v)) (up v) (x v)
-          (lower-bound (P .lower v) d (x v) (lo v) (M .lowers v h) (F .lowers-least v h) (F .lowers-missing v h))
-          (upper-bound (P .upper v) d (x v) (up v) (M .uppers v h) (F .uppers-least v h) (F .uppers-missing v h))
+      -- what the row sums to, times y
+      share : ℕ → ℤ
+      share v = (lo v -ℤ up v) *ℤ x v
 
-      scaled-up : (d *ℤ sum (vars P) term) ≤ℤ sum (vars P) (λ v. (lo v -ℤ up v) *ℤ x v)
-      scaled-up = rw (← sum-times (vars P) d term) (sum-mono (vars P) each)
+      low : (v : ℕ) → v < vars P → (d *ℤ (plainOf (P .lower v) *ℤ lo v)) ≤ℤ (lo v *ℤ x v)
+      low v h = lower-bound (P .lower v) d (x v) (lo v) (M .lowers v h) (S .lowers v h)
 
-      none-left : sum (vars P) (λ v. (lo v -ℤ up v) *ℤ x v) ≡ pos 0
+      high : (v : ℕ) → v < vars P → (up v *ℤ x v) ≤ℤ (d *ℤ (plainOf (P .upper v) *ℤ up v))
+      high v h = upper-bound (P .upper v) d (x v) (up v) (M .uppers v h) (S .uppers v h)
+
+      each : (v : ℕ) → v < vars P → (d *ℤ term v) ≤ℤ share v
+      each v h = difference d (plainOf (P .lower v)) (lo v) (plainOf (P .upper v)) (up v) (x v) (low v h) (high v h)
+
+      one : (v : ℕ) → v < vars P → StrictNamed (P .lower v) (lo v) ⊎ StrictNamed (P .upper v) (up v) →
+          (d *ℤ term v) <ℤ share v
+      one v h (inl s) = difference-low d (plainOf (P .lower v)) (lo v) (plainOf (P .upper v)) (up v) (x v)
+          (lower-strict (P .lower v) d (x v) (lo v) (M .lowers v h) (S .lowers v h) s) (high v h)
+      one v h (inr s) = difference-high d (plainOf (P .lower v)) (lo v) (plainOf (P .upper v)) (up v) (x v) (low v h)
+          (upper-strict (P .upper v) d (x v) (up v) (M .uppers v h) (S .uppers v h) s)
+
+      none-left : sum (vars P) share ≡ pos 0
       none-left = rows-balance P x (λ v. lo v -ℤ up v) (M .rows)
           ∙ sum-zero (P .n) (λ j. column P (λ v. lo v -ℤ up v) j *ℤ x j)
-          (λ j h. ap (λ z. z *ℤ x j) (F .cancels j h) ∙ zero-*ℤ (x j))
+          (λ j h. ap (λ z. z *ℤ x j) (S .cancels j h) ∙ zero-*ℤ (x j))
 
--- ---- of an answer's words
+      weak : (d *ℤ sum (vars P) term) ≤ℤ sum (vars P) share
+      weak = rw (← sum-times (vars P) d term) (sum-mono (vars P) each)
 
-pub numerators-meet : (P : Problem ℤ) (d : ℤ) (x zeros : ℕ → ℤ) → Numerators P d x zeros → Meets whole P d x
-numerators-meet P d x zeros S = record {
-  positive = <ℤ-≤ℤ-trans (ltZ-yes {a = pos 0} {b = pos 1} tt) (S .least);
-  rows = S .rows;
-  lowers = λ v h. lower-met whole (P .lower v) d (x v) (λ l k. le→false (S .lowers v h l k));
-  uppers = λ v h. upper-met whole (P .upper v) d (x v) (λ u k. le→false (S .uppers v h u k));
-}
+      strong : (v : ℕ) → v < vars P → StrictNamed (P .lower v) (lo v) ⊎ StrictNamed (P .upper v) (up v) →
+          (d *ℤ sum (vars P) term) <ℤ sum (vars P) share
+      strong v h s = rw (← sum-times (vars P) d term)
+          (true→lt (total-lt whole-laws (vars P) v (λ v. d *ℤ term v) share h (lt→true (one v h s))
+          (λ w q. le→false (each w q))))
 
-pub multipliers-farkas : (P : Problem ℤ) (d : ℤ) (lo up : ℕ → ℤ) → Multipliers P d lo up → Farkas P lo up
-multipliers-farkas P d lo up S = record {
-  lowers-least = λ v h. S .lowers v h .least;
-  uppers-least = λ v h. S .uppers v h .least;
-  lowers-missing = λ v h. S .lowers v h .missing;
-  uppers-missing = λ v h. S .uppers v h .missing;
-  cancels = S .cancels;
-  above-zero = S .above-zero;
-}
-
-pub can-meets : (P : Problem ℤ) (a : List ℤ) → ShowsCan P a → Meets whole P (denominatorOf a) (lowerPart a)
-can-meets P a S = numerators-meet P (denominatorOf a) (lowerPart a) (upperPart (vars P) a) S
-
-pub cannot-unmet : (P : Problem ℤ) (a : List ℤ) → ShowsCannot P a → Unmet whole P
-cannot-unmet P a S = farkas P (lowerPart a) (upperPart (vars P) a)
-    (multipliers-farkas P (denominatorOf a) (lowerPart a) (upperPart (vars P) a) S)
+      go : Contradiction P lo up → ⊥
+      go (inl p) = <ℤ-irrefl (≤ℤ-<ℤ-trans (rw none-left at weak) (*ℤ-pos-pos (M .positive) p))
+      go (inr (z, (v, h, s))) = <ℤ-irrefl (rw (z, *ℤ-zero d) at (rw none-left at (strong v h s)))

@@ -1,17 +1,17 @@
 -- Evidence depends on no other number than the denominator and those of the variables.
 --   numerators-same, multipliers-same
+use mathlib.Core.Logic.{inl, inr}
 use mathlib.Core.Path.{ap, ap₂, sym, _∙_, _≡_}
 use Prim.Native.Nat.{ℕ, _+_, _<_}
 use native.Mathlib.Omega.{arith}
 use lib.IntN.{ℤ, _*ℤ_, _+ℤ_, _-ℤ_}
 use Rattle.whole.proofs.Sums.{sum-same}
-use Rattle.whole.specs.Values.{whole}
-use Rattle.rules.proofs.Evidence.Shows.{Multipliers, Numerators}
-use Rattle.rules.specs.Evidence.{column, surplus}
+use Rattle.rules.proofs.Evidence.Shows.{Contradiction, Multipliers, Numerators}
+use Rattle.rules.specs.Evidence.{column, plainOf, surplus}
 use Rattle.rules.specs.Problem.{Problem, vars}
-use Rattle.rules.specs.Step.{seated}
+use Rattle.rules.specs.Limit.{Limit}
 
-module _ (P : Problem ℤ) {d e : ℤ} {x y z w : ℕ → ℤ} (same-d : d ≡ e)
+module _ (P : Problem Limit) {d e : ℤ} {x y z w : ℕ → ℤ} (same-d : d ≡ e)
     (same-x : (v : ℕ) → v < vars P → x v ≡ y v) (same-z : (v : ℕ) → v < vars P → z v ≡ w v) where
   pub numerators-same : Numerators P d x z → Numerators P e y w
   numerators-same S = record {
@@ -21,9 +21,12 @@ module _ (P : Problem ℤ) {d e : ℤ} {x y z w : ℕ → ℤ} (same-d : d ≡ e
     rows = λ i h. sym (same-x (P .n + i) (omega arith)) ∙ S .rows i h
         ∙ sum-same (P .n) (λ j. P .coefficient i j *ℤ x j) (λ j. P .coefficient i j *ℤ y j)
         (λ j k. ap (λ a. P .coefficient i j *ℤ a) (same-x j (omega arith)));
-    lowers = λ v h l k. rw (← same-d, ← same-x v h) (S .lowers v h l k);
-    uppers = λ v h u k. rw (← same-d, ← same-x v h) (S .uppers v h u k);
-    rest = λ v h. sym (same-z v h) ∙ S .rest v h;
+    lowers = λ v h l k. rw (← same-d, ← same-x v h, ← same-z v h) (S .lowers v h l k);
+    uppers = λ v h u k. rw (← same-d, ← same-x v h, ← same-z v h) (S .uppers v h u k);
+    smalls = λ v h. rw (← same-z v h) (S .smalls v h);
+    small-rows = λ i h. sym (same-z (P .n + i) (omega arith)) ∙ S .small-rows i h
+        ∙ sum-same (P .n) (λ j. P .coefficient i j *ℤ z j) (λ j. P .coefficient i j *ℤ w j)
+        (λ j k. ap (λ a. P .coefficient i j *ℤ a) (same-z j (omega arith)));
   }
 
   column-same : (j : ℕ) → j < P .n → column P (λ v. x v -ℤ z v) j ≡ column P (λ v. y v -ℤ w v) j
@@ -39,7 +42,7 @@ module _ (P : Problem ℤ) {d e : ℤ} {x y z w : ℕ → ℤ} (same-d : d ≡ e
   surplus-same : surplus P x z ≡ surplus P y w
   unfolding surplus
   surplus-same = sum-same (vars P) _ _
-      (λ v h. ap₂ (λ a b. seated whole (P .lower v) *ℤ a -ℤ seated whole (P .upper v) *ℤ b) (same-x v h) (same-z v h))
+      (λ v h. ap₂ (λ a b. plainOf (P .lower v) *ℤ a -ℤ plainOf (P .upper v) *ℤ b) (same-x v h) (same-z v h))
 
   pub multipliers-same : Multipliers P d x z → Multipliers P e y w
   multipliers-same S = record {
@@ -47,5 +50,12 @@ module _ (P : Problem ℤ) {d e : ℤ} {x y z w : ℕ → ℤ} (same-d : d ≡ e
     lowers = λ v h. rw (← same-x v h) (S .lowers v h);
     uppers = λ v h. rw (← same-z v h) (S .uppers v h);
     cancels = λ j h. sym (column-same j h) ∙ S .cancels j h;
-    above-zero = rw (← surplus-same) (S .above-zero);
+    contradiction = go (S .contradiction);
   }
+    where
+      go : Contradiction P x z → Contradiction P y w
+      go (inl h) = inl (rw (← surplus-same) h)
+      go (inr (q, (v, h, inl (l, a, b, n)))) =
+          inr (sym surplus-same ∙ q, (v, h, inl (l, a, b, λ k. n (same-x v h ∙ k))))
+      go (inr (q, (v, h, inr (l, a, b, n)))) =
+          inr (sym surplus-same ∙ q, (v, h, inr (l, a, b, λ k. n (same-z v h ∙ k))))

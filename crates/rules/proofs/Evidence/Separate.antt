@@ -1,12 +1,13 @@
--- Fractions with separate denominators reduce to one: where fractions, each over a denominator of its own, meet the rows and
--- limits, whole numbers over one denominator do. So `Unmet` says that no fractions at all meet them.
+-- Fractions with separate denominators reduce to one: where fractions, each over a denominator of its own, meet the
+-- rows and limits, a strict one strictly, whole numbers over one denominator do. So `Unsatisfied` says that there are
+-- no fractions at all.
 --   Fraction, fractions, Equal     a whole number over one above 0; sums and multiples; a / b = c / d is a d = c b
 --   FractionsMeet                  rows and limits, of fractions
---   one-denominator, unmet-fractions
+--   one-denominator, unsatisfied-fractions
 use mathlib.Core.Bool.{Bool, cond, false, not, true}
 use mathlib.Core.List.{[], _∷_}
-use mathlib.Core.Option.{some}
-use mathlib.Core.Path.{ap, refl, sym, _∙_, _≡_}
+use mathlib.Core.Option.{Option, none, some}
+use mathlib.Core.Path.{ap, refl, subst, sym, _∙_, _≡_}
 use Prim.Native.Nat.{suc, zero, ℕ, _+_, _<_, _≤_}
 use native.Mathlib.Omega.{arith}
 use lib.Dec.{ltb, ltb→lt, nltb→le}
@@ -14,13 +15,13 @@ use lib.IntN.{*ℤ-zero, negℤ, pos, ℤ, _*ℤ_, _+ℤ_}
 use lib.Signed.{ltZ, ltZ-yes, _<ℤ_, _≤ℤ_}
 use Rattle.whole.proofs.Bools.{true→T}
 use Rattle.whole.proofs.Nonneg.{of-le, of-lt, slk, _⊞_, _⊠_}
-use Rattle.whole.proofs.Order.{*ℤ-cancel, *ℤ-pos-pos, false→le, le→false}
+use Rattle.whole.proofs.Order.{*ℤ-cancel, *ℤ-pos-pos, false→le, true→lt}
 use Rattle.whole.proofs.Reify.{reify}
-use Rattle.whole.proofs.Tools.{eq-by, le-at, of-≡, ring-at, _⊞₀_, _⊠₀_}
+use Rattle.whole.proofs.Tools.{eq-by, le-at, lt-at, of-≡, ring-at, _⊞₀_, _⊠₀_}
 use Rattle.whole.specs.Sums.{sum, sumBy}
-use Rattle.whole.specs.Values.{Le, Values, total, whole}
-use Rattle.rules.proofs.Fractions.{lower-met, upper-met}
-use Rattle.rules.specs.Evidence.{Meets, Unmet, rowSum}
+use Rattle.whole.specs.Values.{Le, Lt, Values, total, whole}
+use Rattle.rules.specs.Evidence.{Above, Below, Clears, Satisfies, Unsatisfied, rowSum}
+use Rattle.rules.specs.Limit.{Limit}
 use Rattle.rules.specs.Problem.{Problem, vars}
 
 pub record Fraction : Type 0 where
@@ -48,16 +49,23 @@ Equal x y = x .top *ℤ y .under ≡ y .top *ℤ x .under
 abbrev pub over-one : ℤ → Fraction
 over-one l = record { top = l; under = pos 1; positive = ltZ-yes tt }
 
-pub record FractionsMeet (P : Problem ℤ) (x : ℕ → Fraction) : Type 0 where
+-- strictly less, or at most
+abbrev pub InOrder : (strict : Bool) → Fraction → Fraction → Type 0
+InOrder true x y = Lt fractions x y
+InOrder false x y = Le fractions x y
+
+pub record FractionsMeet (P : Problem Limit) (x : ℕ → Fraction) : Type 0 where
   pub rows : (i : ℕ) → i < P .m → Equal (x (P .n + i)) (rowSum fractions P x i)
-  pub lowers : (v : ℕ) → v < vars P → (l : ℤ) → P .lower v ≡ some l → Le fractions (over-one l) (x v)
-  pub uppers : (v : ℕ) → v < vars P → (u : ℤ) → P .upper v ≡ some u → Le fractions (x v) (over-one u)
+  pub lowers : (v : ℕ) → v < vars P → (l : Limit) → P .lower v ≡ some l →
+      InOrder (l .strict) (over-one (l .plain)) (x v)
+  pub uppers : (v : ℕ) → v < vars P → (u : Limit) → P .upper v ≡ some u →
+      InOrder (u .strict) (x v) (over-one (u .plain))
 
 -- whole numbers over one denominator that meet the problem, with the same values
-pub record OneDenominator (P : Problem ℤ) (x : ℕ → Fraction) : Type 0 where
+pub record OneDenominator (P : Problem Limit) (x : ℕ → Fraction) : Type 0 where
   pub denominator : ℤ
   pub numerator : ℕ → ℤ
-  pub meets : Meets whole P denominator numerator
+  pub meets : Satisfies P denominator numerator
   pub same-value : (v : ℕ) → v < vars P → denominator *ℤ x v .top ≡ numerator v *ℤ x v .under
 
 -- ---- the algebra
@@ -77,11 +85,30 @@ row-over d a b t u y s r q p =
     eq-by (d ∷ a ∷ b ∷ t ∷ u ∷ y ∷ s ∷ []) (d ⊠₀ of-≡ r ⊞₀ negℤ u ⊠₀ of-≡ q ⊞₀ b ⊠₀ of-≡ p)
     (search reify depth 30 fits 20000) refl
 
-low-over : (f u t l : ℤ) → pos 0 <ℤ f → (l *ℤ u) ≤ℤ (t *ℤ pos 1) → ((f *ℤ u) *ℤ l) ≤ℤ (f *ℤ t)
-low-over f u t l p h = le-at (f ∷ u ∷ t ∷ l ∷ []) (of-lt p ⊠ of-le h ⊞ of-le h) (search reify depth 30) slk
+-- f times a fraction t / u against a limit l: f u is the one denominator
+low-over : (b : Bool) (f l : ℤ) (x : Fraction) → pos 0 <ℤ f → InOrder b (over-one l) x →
+    Clears b ((f *ℤ x .under) *ℤ l) (f *ℤ x .top)
+low-over true f l x p h = strictly f (x .under) (x .top) l p (true→lt h)
+  where
+    strictly : (f u t l : ℤ) → pos 0 <ℤ f → (l *ℤ u) <ℤ (t *ℤ pos 1) → ((f *ℤ u) *ℤ l) <ℤ (f *ℤ t)
+    strictly f u t l p h =
+        lt-at (f ∷ u ∷ t ∷ l ∷ []) (of-lt p ⊠ of-lt h ⊞ of-lt h ⊞ of-lt p) (search reify depth 30) slk
+low-over false f l x p h = weakly f (x .under) (x .top) l p (false→le h)
+  where
+    weakly : (f u t l : ℤ) → pos 0 <ℤ f → (l *ℤ u) ≤ℤ (t *ℤ pos 1) → ((f *ℤ u) *ℤ l) ≤ℤ (f *ℤ t)
+    weakly f u t l p h = le-at (f ∷ u ∷ t ∷ l ∷ []) (of-lt p ⊠ of-le h ⊞ of-le h) (search reify depth 30) slk
 
-high-over : (f u t l : ℤ) → pos 0 <ℤ f → (t *ℤ pos 1) ≤ℤ (l *ℤ u) → (f *ℤ t) ≤ℤ ((f *ℤ u) *ℤ l)
-high-over f u t l p h = le-at (f ∷ u ∷ t ∷ l ∷ []) (of-lt p ⊠ of-le h ⊞ of-le h) (search reify depth 30) slk
+high-over : (b : Bool) (f u : ℤ) (x : Fraction) → pos 0 <ℤ f → InOrder b x (over-one u) →
+    Clears b (f *ℤ x .top) ((f *ℤ x .under) *ℤ u)
+high-over true f u x p h = strictly f (x .under) (x .top) u p (true→lt h)
+  where
+    strictly : (f u t l : ℤ) → pos 0 <ℤ f → (t *ℤ pos 1) <ℤ (l *ℤ u) → (f *ℤ t) <ℤ ((f *ℤ u) *ℤ l)
+    strictly f u t l p h =
+        lt-at (f ∷ u ∷ t ∷ l ∷ []) (of-lt p ⊠ of-lt h ⊞ of-lt h ⊞ of-lt p) (search reify depth 30) slk
+high-over false f u x p h = weakly f (x .under) (x .top) u p (false→le h)
+  where
+    weakly : (f u t l : ℤ) → pos 0 <ℤ f → (t *ℤ pos 1) ≤ℤ (l *ℤ u) → (f *ℤ t) ≤ℤ ((f *ℤ u) *ℤ l)
+    weakly f u t l p h = le-at (f ∷ u ∷ t ∷ l ∷ []) (of-lt p ⊠ of-le h ⊞ of-le h) (search reify depth 30) slk
 
 -- ---- one denominator for the first k of q
 
@@ -126,7 +153,7 @@ shared (suc k) q h = more (shared k q (λ v l. h v (omega arith)))
             ∙ ap (λ z. z *ℤ q k) (S .is-common v (ltb→lt v k (true→T e))))
         is v l false e = rw (e, last v l e) refl
 
-module _ (P : Problem ℤ) (x : ℕ → Fraction) (M : FractionsMeet P x) where
+module _ (P : Problem Limit) (x : ℕ → Fraction) (M : FractionsMeet P x) where
   S : Shared (vars P) (λ v. x v .under)
   S = shared (vars P) (λ v. x v .under) (λ v h. x v .positive)
 
@@ -151,12 +178,12 @@ module _ (P : Problem ℤ) (x : ℕ → Fraction) (M : FractionsMeet P x) where
       one-more d (partial c k .top) (partial c k .under) (sum k (λ j. c j *ℤ y j)) (c k) (x k .top) (x k .under) (y k)
       (same-sum k c (omega arith)) (same-value k (omega arith))
 
-  over-one-meets : Meets whole P d y
+  over-one-meets : Satisfies P d y
   over-one-meets = record {
     positive = S .common-pos;
     rows = λ i h. row i h (rowSum fractions P x i) refl;
-    lowers = λ v h. lower-met whole (P .lower v) d (y v) (λ l k. le→false (low v h l (false→le (M .lowers v h l k))));
-    uppers = λ v h. upper-met whole (P .upper v) d (y v) (λ u k. le→false (high v h u (false→le (M .uppers v h u k))));
+    lowers = λ v h. low v h (P .lower v) refl;
+    uppers = λ v h. high v h (P .upper v) refl;
   }
     where
       row : (i : ℕ) → i < P .m → (T : Fraction) → rowSum fractions P x i ≡ T → y (P .n + i) ≡ rowSum whole P y i
@@ -167,14 +194,18 @@ module _ (P : Problem ℤ) (x : ℕ → Fraction) (M : FractionsMeet P x) where
           (rw e at (M .rows i h)) (same-value v (omega arith))
           (rw e at (same-sum (P .n) (P .coefficient i) (omega arith))))
 
-      low : (v : ℕ) → v < vars P → (l : ℤ) → (l *ℤ x v .under) ≤ℤ (x v .top *ℤ pos 1) → (d *ℤ l) ≤ℤ y v
-      low v h l k = rw (← S .is-common v h) (low-over (S .factor v) (x v .under) (x v .top) l (S .factor-pos v h) k)
+      low : (v : ℕ) → v < vars P → (o : Option Limit) → P .lower v ≡ o → Above o d (y v)
+      low v h none e = tt
+      low v h (some l) e = subst (λ c. Clears (l .strict) (c *ℤ l .plain) (y v)) (S .is-common v h)
+          (low-over (l .strict) (S .factor v) (l .plain) (x v) (S .factor-pos v h) (M .lowers v h l e))
 
-      high : (v : ℕ) → v < vars P → (u : ℤ) → (x v .top *ℤ pos 1) ≤ℤ (u *ℤ x v .under) → y v ≤ℤ (d *ℤ u)
-      high v h u k = rw (← S .is-common v h) (high-over (S .factor v) (x v .under) (x v .top) u (S .factor-pos v h) k)
+      high : (v : ℕ) → v < vars P → (o : Option Limit) → P .upper v ≡ o → Below o d (y v)
+      high v h none e = tt
+      high v h (some u) e = subst (λ c. Clears (u .strict) (y v) (c *ℤ u .plain)) (S .is-common v h)
+          (high-over (u .strict) (S .factor v) (u .plain) (x v) (S .factor-pos v h) (M .uppers v h u e))
 
   pub one-denominator : OneDenominator P x
   one-denominator = record { denominator = d; numerator = y; meets = over-one-meets; same-value = same-value }
 
-pub unmet-fractions : (P : Problem ℤ) → Unmet whole P → (x : ℕ → Fraction) → ¬ FractionsMeet P x
-unmet-fractions P U x M = let O = one-denominator P x M in U (O .denominator) (O .numerator) (O .meets)
+pub unsatisfied-fractions : (P : Problem Limit) → Unsatisfied P → (x : ℕ → Fraction) → ¬ FractionsMeet P x
+unsatisfied-fractions P U x M = let O = one-denominator P x M in U (O .denominator) (O .numerator) (O .meets)

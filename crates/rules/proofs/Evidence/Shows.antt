@@ -3,92 +3,136 @@
 --   ShowsCannot, shows-cannot   verdict 2: likewise
 --   Shown, shown-tells          the verdict with its evidence: `accepted` passes exactly when `Shown` holds
 -- Both records are over the numbers that the words stand for, so that they speak of numbers that stand in no list too.
-use mathlib.Core.Bool.{Bool, cond, false, true}
+use mathlib.Core.Bool.{Bool, cond, false, not, true}
 use mathlib.Core.List.{List}
-use mathlib.Core.Logic.{inl, inr, _↔_, _⊎_}
+use mathlib.Core.Logic.{inl, inr, _↔_, _≢_, _⊎_}
 use mathlib.Core.Option.{Option, Option·none-ne-some, none, some}
-use mathlib.Core.Path.{refl, sym, _≡_}
+use mathlib.Core.Path.{ap, refl, sym, _≡_}
 use Prim.Native.Nat.{ℕ, _+_, _<_}
 use lib.IntN.{pos, ℤ, _*ℤ_, _-ℤ_}
-use lib.Signed.{leZ, leZ-yes, _<ℤ_, _≤ℤ_}
-use Rattle.whole.proofs.Bools.{true-false}
-use Rattle.whole.proofs.Order.{le→true}
-use Rattle.whole.proofs.Tells.{Tells, tells-all, tells-and, tells-eqZ, tells-ltZ, tells-missing, tells-not, tells-outside, tells-true, tells-within}
-use Rattle.whole.proofs.Tests.{leZ-true}
+use lib.Signed.{leZ-yes, _<ℤ_, _≤ℤ_}
+use Rattle.whole.proofs.Bools.{and-of, and-true, not-true, true-false}
+use Rattle.whole.proofs.Tells.{Tells, tells-all, tells-and, tells-eqZ, tells-ltZ, tells-missing, tells-not, tells-or}
+use Rattle.whole.proofs.Tells.{tells-outside, tells-some, tells-true, tells-within}
 use Rattle.whole.specs.Numbers.{Within, eqZ}
-use Rattle.whole.specs.Values.{whole}
-use Rattle.rules.specs.Evidence.{Rows, accepted, atLeast, atMost, column, denominatorOf, fair, lowerPart, rowSum, showsCan, showsCannot, surplus, upperPart, verdictOf}
+use Rattle.whole.specs.Values.{Le, Lt, pairs, whole}
+use Rattle.rules.specs.Evidence.{Rows, accepted, atLeast, atMost, clears, column, contradicts, someStrict}
+use Rattle.rules.specs.Evidence.{strictNamed, denominatorOf, fair, lowerPart, rowSum, showsCan, showsCannot}
+use Rattle.rules.specs.Evidence.{surplus, upperPart, verdictOf}
 use Rattle.rules.specs.Problem.{Problem, vars}
-use Rattle.rules.specs.Sizes.{largestNumber, largestNumerator}
+use Rattle.rules.specs.Sizes.{largestNumber, largestNumerator, largestSmall}
+use Rattle.rules.specs.Limit.{Limit}
 
--- x v / d are the fractions; the words after them are zeros
-pub record Numerators (P : Problem ℤ) (d : ℤ) (x zeros : ℕ → ℤ) : Type 0 where
+-- one pair is at most another, or strictly below it
+abbrev pub Passes : Bool → ℤ × ℤ → ℤ × ℤ → Type 0
+Passes true x y = Lt pairs x y
+Passes false x y = Le pairs x y
+
+pub record Numerators (P : Problem Limit) (d : ℤ) (x y : ℕ → ℤ) : Type 0 where
   pub least : pos 1 ≤ℤ d
   pub most : d ≤ℤ pos largestNumber
   pub numerators : (v : ℕ) → v < vars P → Within (x v) largestNumerator
+  pub smalls : (v : ℕ) → v < vars P → Within (y v) largestSmall
   pub rows : Rows whole P x
-  pub lowers : (v : ℕ) → v < vars P → (l : ℤ) → P .lower v ≡ some l → (d *ℤ l) ≤ℤ x v
-  pub uppers : (v : ℕ) → v < vars P → (u : ℤ) → P .upper v ≡ some u → x v ≤ℤ (d *ℤ u)
-  pub rest : (v : ℕ) → v < vars P → zeros v ≡ pos 0
+  pub small-rows : Rows whole P y
+  pub lowers : (v : ℕ) → v < vars P → (l : Limit) → P .lower v ≡ some l →
+      Passes (l .strict) (d *ℤ l .plain, pos 0) (x v, y v)
+  pub uppers : (v : ℕ) → v < vars P → (u : Limit) → P .upper v ≡ some u →
+      Passes (u .strict) (x v, y v) (d *ℤ u .plain, pos 0)
 
 -- k is a multiplier of a limit that may be missing
-pub record Multiplier (limit : Option ℤ) (k : ℤ) : Type 0 where
+pub record Multiplier (limit : Option Limit) (k : ℤ) : Type 0 where
   pub least : pos 0 ≤ℤ k
   pub most : k ≤ℤ pos largestNumber
   pub missing : limit ≡ none → k ≡ pos 0
 
--- lo and up are the multipliers of the lower and upper limits
-pub record Multipliers (P : Problem ℤ) (d : ℤ) (lo up : ℕ → ℤ) : Type 0 where
+-- a strict limit with a multiplier other than 0
+abbrev pub StrictNamed : Option Limit → ℤ → Type 0
+StrictNamed o k = (l : Limit) × (o ≡ some l) × (l .strict ≡ true) × (k ≢ pos 0)
+
+-- lo and up are the multipliers of the lower and upper limits: what they give in all is above 0, or is 0 and a strict
+-- limit has a multiplier other than 0
+abbrev pub Contradiction : Problem Limit → (lo up : ℕ → ℤ) → Type 0
+Contradiction P lo up = (pos 0 <ℤ surplus P lo up)
+    ⊎ ((surplus P lo up ≡ pos 0)
+    × ((v : ℕ) × (v < vars P) × (StrictNamed (P .lower v) (lo v) ⊎ StrictNamed (P .upper v) (up v))))
+
+pub record Multipliers (P : Problem Limit) (d : ℤ) (lo up : ℕ → ℤ) : Type 0 where
   pub no-denominator : d ≡ pos 0
   pub lowers : (v : ℕ) → v < vars P → Multiplier (P .lower v) (lo v)
   pub uppers : (v : ℕ) → v < vars P → Multiplier (P .upper v) (up v)
   pub cancels : (j : ℕ) → j < P .n → column P (λ v. lo v -ℤ up v) j ≡ pos 0
-  pub above-zero : pos 0 <ℤ surplus P lo up
+  pub contradiction : Contradiction P lo up
 
-abbrev pub ShowsCan : Problem ℤ → List ℤ → Type 0
+abbrev pub ShowsCan : Problem Limit → List ℤ → Type 0
 ShowsCan P a = Numerators P (denominatorOf a) (lowerPart a) (upperPart (vars P) a)
 
-abbrev pub ShowsCannot : Problem ℤ → List ℤ → Type 0
+abbrev pub ShowsCannot : Problem Limit → List ℤ → Type 0
 ShowsCannot P a = Multipliers P (denominatorOf a) (lowerPart a) (upperPart (vars P) a)
 
 -- the verdict is 1 or 2, with its evidence
-abbrev pub Shown : Problem ℤ → List ℤ → Type 0
+abbrev pub Shown : Problem Limit → List ℤ → Type 0
 Shown P a = ((verdictOf a ≡ pos 1) × ShowsCan P a) ⊎ ((verdictOf a ≡ pos 2) × ShowsCannot P a)
 
 -- ---- one limit
 
-low-tells : (d x : ℤ) (o : Option ℤ) →
-    Tells (atLeast o d x) ((l : ℤ) → o ≡ some l → leZ (d *ℤ l) x ≡ true)
-    ((l : ℤ) × (o ≡ some l) × (leZ (d *ℤ l) x ≡ false))
+low-tells : (d : ℤ) (x : ℤ × ℤ) (o : Option Limit) →
+    Tells (atLeast o d x) ((l : Limit) → o ≡ some l → clears (l .strict) (d *ℤ l .plain, pos 0) x ≡ true)
+    ((l : Limit) × (o ≡ some l) × (clears (l .strict) (d *ℤ l .plain, pos 0) x ≡ false))
 unfolding atLeast
-low-tells d x = tells-missing (λ o. atLeast o d x) (λ l. leZ (d *ℤ l) x) (λ l. refl) refl
+low-tells d x = tells-missing (λ o. atLeast o d x) (λ l. clears (l .strict) (d *ℤ l .plain, pos 0) x) (λ l. refl) refl
 
-high-tells : (d x : ℤ) (o : Option ℤ) →
-    Tells (atMost o d x) ((u : ℤ) → o ≡ some u → leZ x (d *ℤ u) ≡ true)
-    ((u : ℤ) × (o ≡ some u) × (leZ x (d *ℤ u) ≡ false))
+high-tells : (d : ℤ) (x : ℤ × ℤ) (o : Option Limit) →
+    Tells (atMost o d x) ((u : Limit) → o ≡ some u → clears (u .strict) x (d *ℤ u .plain, pos 0) ≡ true)
+    ((u : Limit) × (o ≡ some u) × (clears (u .strict) x (d *ℤ u .plain, pos 0) ≡ false))
 unfolding atMost
-high-tells d x = tells-missing (λ o. atMost o d x) (λ u. leZ x (d *ℤ u)) (λ u. refl) refl
+high-tells d x = tells-missing (λ o. atMost o d x) (λ u. clears (u .strict) x (d *ℤ u .plain, pos 0)) (λ u. refl) refl
 
-fair-yes : (o : Option ℤ) (k : ℤ) → fair o k ≡ true → Multiplier o k
+passes-yes : (b : Bool) (x y : ℤ × ℤ) → clears b x y ≡ true → Passes b x y
+passes-yes true x y e = e
+passes-yes false x y e = not-true (pairs .less y x) e
+
+passes-of : (b : Bool) (x y : ℤ × ℤ) → Passes b x y → clears b x y ≡ true
+passes-of true x y e = e
+passes-of false x y e = ap not e
+
+named-yes : (o : Option Limit) (k : ℤ) → strictNamed o k ≡ true → StrictNamed o k
+unfolding strictNamed
+named-yes none k e = true-false e refl
+named-yes (some l) k e = let (a, b) = and-true (l .strict) (not (eqZ k (pos 0))) e in
+    (l, refl, a, tells-not (tells-eqZ k (pos 0)) .if-true b)
+
+named-of : (o : Option Limit) (k : ℤ) → StrictNamed o k → strictNamed o k ≡ true
+unfolding strictNamed
+named-of o k (l, e, s, n) = rw e (and-of s (tells-true (tells-not (tells-eqZ k (pos 0))) n))
+
+named-tells : (o : Option Limit) (k : ℤ) → Tells (strictNamed o k) (StrictNamed o k) (¬ StrictNamed o k)
+named-tells o k = record {
+  if-true = named-yes o k;
+  if-false = λ e n. true-false (named-of o k n) e;
+  not-both = λ y n. n y;
+}
+
+fair-yes : (o : Option Limit) (k : ℤ) → fair o k ≡ true → Multiplier o k
 unfolding fair
 fair-yes none k e = let z = tells-eqZ k (pos 0) .if-true e in
     rw z (record { least = leZ-yes tt; most = leZ-yes tt; missing = λ q. refl })
 fair-yes (some l) k e = let h = tells-not (tells-outside 0 largestNumber k) .if-true e in
     record { least = h .0; most = h .1; missing = λ q. absurd (Option·none-ne-some l (sym q)) }
 
-fair-of : (o : Option ℤ) (k : ℤ) → Multiplier o k → fair o k ≡ true
+fair-of : (o : Option Limit) (k : ℤ) → Multiplier o k → fair o k ≡ true
 unfolding fair
 fair-of none k M = tells-true (tells-eqZ k (pos 0)) (M .missing refl)
 fair-of (some l) k M = tells-true (tells-not (tells-outside 0 largestNumber k)) (M .least, M .most)
 
-fair-tells : (o : Option ℤ) (k : ℤ) → Tells (fair o k) (Multiplier o k) (¬ Multiplier o k)
+fair-tells : (o : Option Limit) (k : ℤ) → Tells (fair o k) (Multiplier o k) (¬ Multiplier o k)
 fair-tells o k = record {
   if-true = fair-yes o k;
   if-false = λ e M. true-false (fair-of o k M) e;
   not-both = λ M n. n M;
 }
 
-module _ (P : Problem ℤ) (a : List ℤ) where
+module _ (P : Problem Limit) (a : List ℤ) where
   abbrev d : ℤ
   d = denominatorOf a
 
@@ -103,47 +147,50 @@ module _ (P : Problem ℤ) (a : List ℤ) where
   pub shows-can : (showsCan P a ≡ true) ↔ ShowsCan P a
   unfolding showsCan
   shows-can =
-      let t = tells-and (tells-and (tells-and (tells-and (tells-not (tells-outside 1 largestNumber d))
+      let t = tells-and (tells-and (tells-and (tells-and (tells-and (tells-not (tells-outside 1 largestNumber d))
       (tells-all (vars P) _ (λ v h. tells-within largestNumerator (x v))))
+      (tells-all (vars P) _ (λ v h. tells-within largestSmall (y v))))
       (tells-all (P .m) _ (λ i h. tells-eqZ (x (P .n + i)) (rowSum whole P x i))))
-      (tells-all (vars P) _ (λ v h. tells-and (low-tells d (x v) (P .lower v))
-      (high-tells d (x v) (P .upper v)))))
-      (tells-all (vars P) _ (λ v h. tells-eqZ (y v) (pos 0))) in (
+      (tells-all (P .m) _ (λ i h. tells-eqZ (y (P .n + i)) (rowSum whole P y i))))
+      (tells-all (vars P) _ (λ v h. tells-and (low-tells d (x v, y v) (P .lower v))
+      (high-tells d (x v, y v) (P .upper v)))) in (
         λ e. let f = t .if-true e in record {
-          least = f .0 .0 .0 .0 .0;
-          most = f .0 .0 .0 .0 .1;
-          numerators = f .0 .0 .0 .1;
+          least = f .0 .0 .0 .0 .0 .0;
+          most = f .0 .0 .0 .0 .0 .1;
+          numerators = f .0 .0 .0 .0 .1;
+          smalls = f .0 .0 .0 .1;
           rows = f .0 .0 .1;
-          lowers = λ v h l k. leZ-true (f .0 .1 v h .0 l k);
-          uppers = λ v h u k. leZ-true (f .0 .1 v h .1 u k);
-          rest = f .1;
+          small-rows = f .0 .1;
+          lowers = λ v h l k. passes-yes (l .strict) _ _ (f .1 v h .0 l k);
+          uppers = λ v h u k. passes-yes (u .strict) _ _ (f .1 v h .1 u k);
         },
         λ S. tells-true t (
-          (
-            (((S .least, S .most), S .numerators), S .rows),
-            λ v h. (λ l k. le→true (S .lowers v h l k), λ u k. le→true (S .uppers v h u k)),
+          (((((S .least, S .most), S .numerators), S .smalls), S .rows), S .small-rows),
+          λ v h. (
+            λ l k. passes-of (l .strict) _ _ (S .lowers v h l k),
+            λ u k. passes-of (u .strict) _ _ (S .uppers v h u k),
           ),
-          S .rest,
         ),
       )
 
   -- ---- verdict 2
 
   pub shows-cannot : (showsCannot P a ≡ true) ↔ ShowsCannot P a
-  unfolding showsCannot
+  unfolding showsCannot contradicts someStrict
   shows-cannot =
       let t = tells-and (tells-and (tells-and (tells-eqZ d (pos 0))
       (tells-all (vars P) _ (λ v h. tells-and (fair-tells (P .lower v) (x v)) (fair-tells (P .upper v) (y v)))))
       (tells-all (P .n) _ (λ j h. tells-eqZ (column P (λ v. x v -ℤ y v) j) (pos 0))))
-      (tells-ltZ (pos 0) (surplus P x y)) in (
+      (tells-or (tells-ltZ (pos 0) (surplus P x y)) (tells-and (tells-eqZ (surplus P x y) (pos 0))
+      (tells-some (vars P) _ (λ v h. tells-or (named-tells (P .lower v) (x v)) (named-tells (P .upper v) (y v)))))) in (
         λ e. let f = t .if-true e in record {
           no-denominator = f .0 .0 .0;
           lowers = λ v h. f .0 .0 .1 v h .0;
           uppers = λ v h. f .0 .0 .1 v h .1;
           cancels = f .0 .1;
-          above-zero = f .1;
+          contradiction = f .1;
         },
-        λ S. tells-true t (((S .no-denominator, λ v h. (S .lowers v h, S .uppers v h)), S .cancels), S .above-zero),
+        λ S. tells-true t (((S .no-denominator, λ v h. (S .lowers v h, S .uppers v h)), S .cancels), S .contradiction),
       )
 
   -- ---- either verdict

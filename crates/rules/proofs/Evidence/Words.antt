@@ -7,17 +7,18 @@ use mathlib.Core.Path.{ap, refl, sym, _∙_, _≡_}
 use Prim.Native.Nat.{ℕ, _*_, _+_, _<_, _≤_}
 use native.Mathlib.Omega.{arith}
 use lib.IntN.{pos, ℤ}
-use lib.ListN.{List·getD-append, getD-replicate, length, length-append, length-replicate, replicate}
+use lib.ListN.{List·getD-append, length, length-append}
 use Rattle.whole.proofs.Tables.{table-at, table-length}
 use Rattle.whole.specs.Tables.{table}
 use Rattle.rules.proofs.Answers.{laid, laid-length, lower-part, upper-part}
 use Rattle.rules.proofs.Evidence.Same.{multipliers-same, numerators-same}
 use Rattle.rules.proofs.Evidence.Shows.{Multipliers, Numerators, Shown}
 use Rattle.rules.specs.Evidence.{lowerPart, upperPart}
+use Rattle.rules.specs.Limit.{Limit}
 use Rattle.rules.specs.Problem.{Problem, vars, word}
 
 -- long enough to be judged, and its verdict shown
-pub record Judged (P : Problem ℤ) (a : List ℤ) : Type 0 where
+pub record Judged (P : Problem Limit) (a : List ℤ) : Type 0 where
   pub enough : 3 + 2 * vars P ≤ length a
   pub judged : Shown P a
 
@@ -37,17 +38,17 @@ module _ (N : ℕ) (a b c : ℤ) (ls us rest : List ℤ) (l-many : length ls ≡
   upper-word v h = rw with-rest (upper-part a b c ls (us ++ rest) N v l-many
       ∙ List·getD-append us rest (pos 0) v (omega arith))
 
-module _ (P : Problem ℤ) (k : ℤ) (rest : List ℤ) where
-  pub can-words : (d : ℤ) (x : ℕ → ℤ) → Numerators P d x (λ v. pos 0) →
-      Judged P (laid (pos 1) k d (table (vars P) x) (replicate (vars P) (pos 0)) ++ rest)
+module _ (P : Problem Limit) (k : ℤ) (rest : List ℤ) where
+  pub can-words : (d : ℤ) (x y : ℕ → ℤ) → Numerators P d x y →
+      Judged P (laid (pos 1) k d (table (vars P) x) (table (vars P) y) ++ rest)
   unfolding laid
-  can-words d x S = record {
+  can-words d x y S = record {
     enough = long N (pos 1) k d ls us rest l-many u-many;
     judged = inl (
       refl,
       numerators-same P refl
           (λ v h. sym (lower-word N (pos 1) k d ls us rest l-many u-many v h ∙ table-at N x (pos 0) v h))
-          (λ v h. sym (upper-word N (pos 1) k d ls us rest l-many u-many v h ∙ getD-replicate N v (pos 0) (pos 0) h)) S,
+          (λ v h. sym (upper-word N (pos 1) k d ls us rest l-many u-many v h ∙ table-at N y (pos 0) v h)) S,
     );
   }
     where
@@ -58,13 +59,13 @@ module _ (P : Problem ℤ) (k : ℤ) (rest : List ℤ) where
       ls = table N x
 
       us : List ℤ
-      us = replicate N (pos 0)
+      us = table N y
 
       l-many : length ls ≡ N
       l-many = table-length N x
 
       u-many : length us ≡ N
-      u-many = length-replicate N (pos 0)
+      u-many = table-length N y
 
   pub cannot-words : (lo hi : ℕ → ℤ) → Multipliers P (pos 0) lo hi →
       Judged P (laid (pos 2) k (pos 0) (table (vars P) lo) (table (vars P) hi) ++ rest)

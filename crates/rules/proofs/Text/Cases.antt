@@ -63,11 +63,19 @@ outputs =
     ∷ "cannot\npivots 0\n0 lower 1\n0 upper 1\n"
     ∷ "can\npivots 0\nover 1\n0 0\n"
     ∷ "refused 10\n"
+    -- strict limits
+    ∷ "can\npivots 0\nover 1\n0 0 1\n"
+    ∷ "cannot\npivots 0\n0 lower 1\n0 upper 1\n"
+    ∷ "can\npivots 1\nover 1\n0 3 1\n1 0\n2 3 1\n"
+    ∷ "cannot\npivots 1\n0 upper 1\n1 upper 1\n2 lower 1\n"
+    ∷ "can\npivots 1\nover 2\n0 0 1\n1 0\n2 0 2\n3 0 3\n"
+    ∷ "can\npivots 0\nover 1\n0 0 -1\n1 0\n2 0 -4\n"
     -- the edges
     ∷ "can\npivots 0\nover 1\n0 0\n1 0\n" ∷ "refused 4\n" ∷ "refused 6\n" ∷ "refused 2\n" ∷ "refused 2\n"
     ∷ String._++_ "can\npivots 0\nover 1\n"
     "0 0\n1 0\n2 0\n3 0\n4 0\n5 0\n6 0\n7 0\n8 0\n9 0\n10 0\n11 0\n12 0\n13 0\n14 0\n15 0\n16 0\n"
     ∷ "refused 6\n" ∷ "refused 4\n"
+    ∷ "refused 5\n" ∷ "refused 5\n" ∷ "refused 5\n" ∷ "refused 5\n"
     -- out of range, and byte counts
     ∷ "range\npivots 2\n"
     ∷ "refused 1\n" ∷ "refused 2\n" ∷ "refused 3\n" ∷ "refused 2\n" ∷ "refused 3\n"
@@ -77,7 +85,7 @@ pub program-cases : map programText inputs ≡ map ascii outputs
 unfolding inputs outputs limitCases
     Below.lowest Below.someBelow Below.allBelow Below.foldBelow Divisors.gcdTurns Divisors.gcd Divisors.gcdList
     Numbers.within Numbers.outside Sums.sumBy Tables.tableFrom Tables.matrix
-    Limit.bit Limit.present Limit.badLimitWord Problem.problem
+    Limit.bit Limit.present Limit.badKindWord Limit.badLimitWord Problem.problem Problem.mapped
     Refusal.first Refusal.tooFew Refusal.badSize Refusal.badLength Refusal.badCoefficient Refusal.badKind
     Refusal.badLimit Refusal.blankRow Refusal.someBlank Refusal.problemTests Refusal.problemRefusal
     Tableau.relation Tableau.solved Tableau.divisorSize Tableau.divisor Tableau.reduced Tableau.pivot Tableau.small
@@ -88,7 +96,7 @@ unfolding inputs outputs limitCases
     Answer.wordsOf Answer.answerFrom Answer.answer
     Bytes.signed Bytes.wordAt Bytes.wordsFrom Bytes.unsigned Bytes.bytesFrom Bytes.countRefusal
     Text.ascii Text.digitsTurns Text.digits Text.decimal Text.line Text.variableLine Text.multiplierLine
-    Text.linesBelow Text.headLines Text.valueLine Text.multiplierLines
+    Text.smallEnd Text.linesBelow Text.headLines Text.valueLine Text.multiplierLines
     Text.canText Text.cannotText Text.rangeText Text.answerText Text.refusalText
     Program.replyTo Program.replyAfter Program.programText
 program-cases = refl

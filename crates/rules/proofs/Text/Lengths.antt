@@ -14,7 +14,7 @@ use mir.Val.{SFits}
 use Rattle.rules.specs.Sizes.{mostVariables, mostDecimal}
 use Rattle.rules.specs.Sizes.{mostPivotsLine, mostValueLine, mostMultiplierLines, mostText}
 use Rattle.rules.specs.Problem.{word}
-use Rattle.rules.specs.Text.{ascii, line, variableLine, multiplierLine, linesBelow}
+use Rattle.rules.specs.Text.{ascii, line, variableLine, multiplierLine, linesBelow, smallEnd}
 use Rattle.rules.specs.Text.{headLines, valueLine, multiplierLines, canText, cannotText, rangeText, refusalText}
 use Rattle.rules.proofs.Text.Numbers.{digits-short, decimal-short}
 
@@ -43,11 +43,19 @@ pub head-short :
 unfolding headLines ascii
 head-short verdict ws f = rw length-append (omega (arith, line-short (ascii "pivots ") (word ws 1) f))
 
+end-short : (z : ℤ) → SFits w64 z → length (smallEnd z) ≤ mostDecimal + 2
+unfolding smallEnd ascii
+end-short (pos zero) f = omega arith
+end-short (pos (suc n)) f = line-short (ascii " ") (pos (suc n)) f
+end-short (negsuc k) f = line-short (ascii " ") (negsuc k) f
+
 pub value-short :
-    (ws : List ℤ) (v : ℕ) → v < 100 → SFits w64 (word ws (3 + v))
-    → length (valueLine ws v) ≤ mostValueLine
+    (ws : List ℤ) (N v : ℕ) → v < 100 → SFits w64 (word ws (3 + v)) → SFits w64 (word ws (3 + N + v))
+    → length (valueLine ws N v) ≤ mostValueLine
 unfolding valueLine ascii
-value-short ws v few f = variable-short v (ascii " ") few (word ws (3 + v)) f
+value-short ws N v few f g =
+    simp length-append
+    (omega (arith, digits-short 1 v few, decimal-short (word ws (3 + v)) f, end-short (word ws (3 + N + v)) g))
 
 pub multipliers-short :
     (ws : List ℤ) (N v : ℕ) → v < 100 → SFits w64 (word ws (3 + v)) → SFits w64 (word ws (3 + N + v))
@@ -71,7 +79,7 @@ lines-longer v f = ap (λ k. length (linesBelow k f)) (add-one v) ∙ length-app
 module _ (ws : List ℤ) (N : ℕ) (few : N ≤ mostVariables) where
   pub can-short :
       length (headLines (ascii "can\n") ws) ≤ 4 + mostPivotsLine → SFits w64 (word ws 2)
-      → length (linesBelow N (valueLine ws)) ≤ mostValueLine * N
+      → length (linesBelow N (valueLine ws N)) ≤ mostValueLine * N
       → length (canText ws N) ≤ mostText
   unfolding canText ascii
   can-short h f l = simp length-append (omega (arith, line-short (ascii "over ") (word ws 2) f))

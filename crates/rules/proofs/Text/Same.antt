@@ -1,6 +1,6 @@
 -- The text of an answer asks only for its first 3 + 2N words.
 --   answer-text-same
-use mathlib.Core.Bool.{Bool, cond}
+use mathlib.Core.Bool.{cond}
 use mathlib.Core.List.{List, _++_}
 use mathlib.Core.Path.{ap, ap₂, refl, _∙_, _≡_}
 use Prim.Native.Nat.{suc, zero, ℕ, _*_, _+_, _<_}
@@ -8,7 +8,8 @@ use native.Mathlib.Omega.{arith}
 use lib.IntN.{pos, ℤ}
 use Rattle.whole.specs.Numbers.{eqZ}
 use Rattle.rules.specs.Problem.{word}
-use Rattle.rules.specs.Text.{answerText, ascii, canText, cannotText, headLines, line, linesBelow, multiplierLine, multiplierLines, rangeText, valueLine, variableLine}
+use Rattle.rules.specs.Text.{answerText, ascii, canText, cannotText, decimal, digits, headLines, line}
+use Rattle.rules.specs.Text.{linesBelow, multiplierLine, multiplierLines, rangeText, smallEnd, valueLine}
 
 lines-same : (k : ℕ) (f g : ℕ → List ℕ) → ((v : ℕ) → v < k → f v ≡ g v) → linesBelow k f ≡ linesBelow k g
 unfolding linesBelow
@@ -23,7 +24,9 @@ module _ (ws us : List ℤ) (N : ℕ) (same : (i : ℕ) → i < 3 + 2 * N → wo
   can-same : canText ws N ≡ canText us N
   unfolding canText valueLine
   can-same = ap₂ _++_ (ap₂ (λ h z. h ++ line (ascii "over ") z) (head-same (ascii "can\n")) (same 2 (omega arith)))
-      (lines-same N (valueLine ws) (valueLine us) (λ v h. ap (variableLine v (ascii " ")) (same (3 + v) (omega arith))))
+      (lines-same N (valueLine ws N) (valueLine us N) (λ v h.
+      ap₂ (λ x y. digits v ++ ascii " " ++ decimal x ++ smallEnd y)
+      (same (3 + v) (omega arith)) (same (3 + N + v) (omega arith))))
 
   cannot-same : cannotText ws N ≡ cannotText us N
   unfolding cannotText multiplierLines

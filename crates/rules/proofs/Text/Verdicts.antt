@@ -1,5 +1,6 @@
--- Which text an answer has, by its verdict, and a multiplier's line, by whether it is 0.
+-- Which text an answer has, by its verdict; a multiplier's line and a small part's, by whether it is 0.
 --   multiplier-none, multiplier-some        no line, or the variable's
+--   end-none, end-some                      the newline alone, or a space and the small part before it
 --   answer-can, answer-cannot, answer-range the text of verdict 1, of verdict 2, and of every other
 use mathlib.Core.Path.{_≡_, refl}
 use mathlib.Core.List.{List, []}
@@ -7,7 +8,8 @@ use Prim.Native.Nat.{ℕ, zero, suc}
 use lib.IntN.{ℤ, pos, negsuc}
 use Rattle.whole.proofs.Tells.{tells-eqZ, tells-false}
 use Rattle.rules.specs.Problem.{word}
-use Rattle.rules.specs.Text.{variableLine, multiplierLine, canText, cannotText, rangeText, answerText}
+use Rattle.rules.specs.Text.{answerText, ascii, canText, cannotText, line, multiplierLine, rangeText}
+use Rattle.rules.specs.Text.{smallEnd, variableLine}
 
 module _ (v : ℕ) (between : List ℕ) where
   pub multiplier-none : (z : ℤ) → z ≡ pos 0 → multiplierLine v between z ≡ []
@@ -19,6 +21,16 @@ module _ (v : ℕ) (between : List ℕ) where
   multiplier-some (pos zero) h = absurd (h refl)
   multiplier-some (pos (suc n)) h = refl
   multiplier-some (negsuc k) h = refl
+
+pub end-none : (z : ℤ) → z ≡ pos 0 → smallEnd z ≡ ascii "\n"
+unfolding smallEnd
+end-none z e = rw e refl
+
+pub end-some : (z : ℤ) → (z ≡ pos 0 → ⊥) → smallEnd z ≡ line (ascii " ") z
+unfolding smallEnd
+end-some (pos zero) h = absurd (h refl)
+end-some (pos (suc n)) h = refl
+end-some (negsuc k) h = refl
 
 module _ (ws : List ℤ) (N : ℕ) where
   pub answer-can : word ws 0 ≡ pos 1 → answerText ws N ≡ canText ws N
