@@ -30,6 +30,8 @@ pub mod Blame
 pub mod Answers
 pub mod Shape
 pub mod Demands
+pub mod Through
+pub mod Plain
 pub mod Slices
 pub mod Holds
 pub mod Rule

@@ -7,6 +7,7 @@ pub mod Tableau
 pub mod Step
 pub mod Run
 pub mod Answer
+pub mod Plain
 pub mod Slices
 pub mod Evidence
 pub mod Walks
