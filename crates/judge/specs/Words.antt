@@ -6,8 +6,7 @@ use mathlib.Core.Bool.{Bool, true, false, _||_}
 use mathlib.Core.List.{List}
 use lib.IntN.{ℤ}
 use lib.ListN.{length}
-use Rattle.whole.specs.Numbers.{outside}
-use Rattle.rules.specs.Limit.{badLimitWord, hasLower, hasUpper}
+use Rattle.rules.specs.Limit.{badKindWord, badLimitWord, hasLower, hasUpper}
 use Rattle.rules.specs.Refusal.{badKind, badLimit}
 use Rattle.rules.specs.Sizes.{mostColumns, mostRows}
 use Rattle.rules.specs.Problem.{nOf, mOf}
@@ -21,7 +20,7 @@ pub record Framed (ws : List ℤ) (n m : ℕ) : Type 0 where
 
 -- the test of a variable's kind, or of its limits
 abbrev pub badBy : Bool → ℤ → ℤ → ℤ → Bool
-badBy true kind lower upper = outside 0 3 kind
+badBy true kind lower upper = badKindWord kind
 badBy false kind lower upper = badLimitWord (hasLower kind) lower || badLimitWord (hasUpper kind) upper
 
 -- .. at some variable

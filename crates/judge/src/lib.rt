@@ -2,13 +2,14 @@
 ghost use mathlib.Core.Path.{_≡_};
 ghost use mathlib.Core.Bool.{_||_};
 ghost use mathlib.Core.List.{[], _∷_};
-ghost use Prim.Native.Nat.{_≤_, _<_};
+ghost use Prim.Native.Nat.{_/_, _%_, _≤_, _<_};
+ghost use lib.Dec.{eqb};
 ghost use lib.IntN.{ℤ, pos, natAbs};
 ghost use lib.ListN.{length};
-ghost use lib.Signed.{_≤ℤ_};
+ghost use lib.Signed.{_<ℤ_, _≤ℤ_};
 ghost use Rattle.whole.specs.Numbers.{within, outside};
 ghost use Rattle.rules.specs.Sizes.{mostRows};
-ghost use Rattle.rules.specs.Limit.{hasLower, hasUpper, badLimitWord};
+ghost use Rattle.rules.specs.Limit.{hasLower, hasUpper, strictLower, strictUpper, badKindWord, badLimitWord};
 ghost use Rattle.rules.specs.Problem.{word};
 ghost use Rattle.rules.specs.Refusal.{badSize, badCoefficient, blankRow, first, problemRefusal, someBlank};
 ghost use Rattle.judge.specs.Words.{Framed, badBy, badVariable};
@@ -35,6 +36,14 @@ fn is_within(word: i32, largest: i32) -> bool
     word <= largest
 }
 
+// Whether a kind has the bit that stands for `power`.
+fn has_bit(kind: i32, power: i32) -> bool
+    requires { ⌜ pos 0 <ℤ power ⌝ }
+    ensures { λ r. ⌜ r ≡ eqb (natAbs kind / natAbs power % 2) 1 ⌝ }
+{
+    kind / power % 2 != 0
+}
+
 // Whether a kind says that there is a lower limit.
 pub fn has_lower(kind: i32) -> bool
     ensures { λ r. ⌜ r ≡ hasLower kind ⌝ }
@@ -46,7 +55,30 @@ pub fn has_lower(kind: i32) -> bool
 pub fn has_upper(kind: i32) -> bool
     ensures { λ r. ⌜ r ≡ hasUpper kind ⌝ }
 {
-    kind / 2 % 2 != 0
+    has_bit(kind, 2)
+}
+
+// Whether a kind marks the lower limit as strict.
+pub fn strict_lower(kind: i32) -> bool
+    ensures { λ r. ⌜ r ≡ strictLower kind ⌝ }
+{
+    has_bit(kind, 4)
+}
+
+// Whether a kind marks the upper limit as strict.
+pub fn strict_upper(kind: i32) -> bool
+    ensures { λ r. ⌜ r ≡ strictUpper kind ⌝ }
+{
+    has_bit(kind, 8)
+}
+
+// Whether a kind is outside 0 to 15, or marks a missing limit.
+fn is_bad_kind(kind: i32) -> bool
+    ensures { λ r. ⌜ r ≡ badKindWord kind ⌝ }
+{
+    let lower = strict_lower(kind) & !has_lower(kind);
+    let upper = strict_upper(kind) & !has_upper(kind);
+    is_outside(kind, 0, 15) | (lower | upper)
 }
 
 // Whether a limit's word is out of range, or not 0 where the limit is missing.
@@ -59,12 +91,12 @@ fn is_bad_limit(present: bool, word: i32) -> bool
     word != 0
 }
 
-// Whether a variable's kind is outside 0 to 3, or one of its two limits bad.
+// Whether a variable's kind is bad, or else one of its two limits.
 fn is_bad_variable(kind: i32, lower: i32, upper: i32, kinds: bool) -> bool
     ensures { λ r. ⌜ r ≡ badBy kinds kind lower upper ⌝ }
 {
     if kinds {
-        return is_outside(kind, 0, 3);
+        return is_bad_kind(kind);
     }
     either(
         is_bad_limit(has_lower(kind), lower),

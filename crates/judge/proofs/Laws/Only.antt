@@ -3,6 +3,8 @@
 use mathlib.Core.Path.{_≡_, sym, _∙_}
 use Rattle.judge.proofs.has_lower.Reads as has-lower
 use Rattle.judge.proofs.has_upper.Reads as has-upper
+use Rattle.judge.proofs.strict_lower.Reads as strict-lower
+use Rattle.judge.proofs.strict_upper.Reads as strict-upper
 use Rattle.judge.proofs.count_at.Reads as count-at
 use Rattle.judge.proofs.judge.Reads as judge
 
@@ -17,3 +19,11 @@ count-at-only κs x a b e h k = h ∙ sym k
 
 pub judge-only : (κs : _) (x : _) (a b : _) (e : _) → judge.Post κs x a e → judge.Post κs x b e → a ≡ b
 judge-only κs x a b e h k = h ∙ sym k
+
+pub strict-lower-only : (κs : _) (x : _) (a b : _) (e : _) → strict-lower.Post κs x a e → strict-lower.Post κs x b e →
+    a ≡ b
+strict-lower-only κs x a b e h k = h ∙ sym k
+
+pub strict-upper-only : (κs : _) (x : _) (a b : _) (e : _) → strict-upper.Post κs x a e → strict-upper.Post κs x b e →
+    a ≡ b
+strict-upper-only κs x a b e h k = h ∙ sym k

@@ -8,12 +8,12 @@ use Rattle.judge.specs.Words.{badBy}
 use Rattle.judge.proofs.is_bad_variable.Statement.{statement}
 use Rattle.judge.proofs.is_bad_variable.Tie as tie
 
-is-outside-requires : tie.Need-is-outside-requires
-is-outside-requires c κs = search needs
+is-bad-kind-requires : tie.Need-is-bad-kind-requires
+is-bad-kind-requires c κs = search needs
 
 returns : tie.Need-returns
 returns c = let s = c .before .before in
-    (simp (toZ-ofZ (s .fits .kind)) at (c .is-outside .ensures))
+    (simp (toZ-ofZ (s .fits .kind)) at (c .is-bad-kind .ensures))
     ∙ sym (ap (λ b. badBy b (s .args .kind) (s .args .lower) (s .args .upper)) (c .before .if1 .taken))
 
 has-lower-requires : tie.Need-has-lower-requires
@@ -48,7 +48,7 @@ pub is-bad-variable-spec : {M : Type 1} → statement M
 is-bad-variable-spec =
     tie.close
     (tie.spec
-    is-outside-requires
+    is-bad-kind-requires
     returns
     has-lower-requires
     is-bad-limit-requires
