@@ -27,6 +27,7 @@ withNumbers t c l = record {
   basic = t .basic;
   nonbasic = t .nonbasic;
   values = t .values;
+  smalls = t .smalls;
   seats = t .seats;
   limits = t .limits;
 }
@@ -40,7 +41,7 @@ abbrev pub pivotedAt : Tableau → ℕ → ℕ → Tableau
 pivotedAt = pivotedLaid inUse
 
 -- the variables of row place p and column place q change places, and the one that leaves gets the value x
-unfoldable pub swappedAt : Tableau → ℕ → ℕ → ℤ → Tableau
+unfoldable pub swappedAt : Tableau → ℕ → ℕ → ℤ × ℤ → Tableau
 swappedAt t p q x =
     let r : Variable = getD (t .basic) p (variable 0) in
     let w : Variable = getD (t .nonbasic) q (variable 0) in
@@ -51,7 +52,8 @@ swappedAt t p q x =
       entries = t .entries;
       basic = set (t .basic) p w;
       nonbasic = set (t .nonbasic) q r;
-      values = set (t .values) q x;
+      values = set (t .values) q (x .0);
+      smalls = set (t .smalls) q (x .1);
       seats = set (set (t .seats) (w .0) (record { basic = true; row = row p; column = column q })) (r .0)
           (record { basic = false; row = row p; column = column q });
       limits = t .limits;

@@ -1,32 +1,37 @@
 -- The tableau by place at the start of a run: docs/RULES.md, "The run". Problem variable j sits in column place j, row
 -- i's variable in row place i.
 use Prim.Native.Nat.{ℕ, _+_, _-_}
-use mathlib.Core.Bool.{Bool, true, false, not}
+use mathlib.Core.Bool.{Bool, true, false, not, _||_}
 use mathlib.Core.List.{List}
 use mathlib.Core.Option.{Option, none, some}
 use lib.Dec.{ltb}
 use lib.IntN.{ℤ, pos}
 use Rattle.whole.specs.Tables.{table, filled}
-use Rattle.whole.specs.Values.{whole}
+use Rattle.whole.specs.Below.{someBelow}
+use Rattle.whole.specs.Values.{pairs}
 use Rattle.rules.specs.Sizes.{mostColumns, mostRows, mostVariables}
-use Rattle.rules.specs.Problem.{Problem, vars}
-use Rattle.rules.specs.Step.{seated, startValue}
+use Rattle.rules.specs.Limit.{Limit}
+use Rattle.rules.specs.Problem.{Problem, inner, vars}
+use Rattle.rules.specs.Step.{startValue}
 use Rattle.pivot.specs.Layout.{Order, inUse, mostEntries, rowLaid, columnLaid, rowAt, columnAt, live, row, column}
 use Rattle.tableau.specs.declared.Variable.{Variable}
 use Rattle.tableau.specs.declared.Seat.{Seat}
+use Rattle.tableau.specs.declared.Given.{Given}
 use Rattle.tableau.specs.declared.Limits.{Limits}
 use Rattle.tableau.specs.declared.Tableau.{Tableau}
-use Rattle.tableau.specs.Parts.{variable, nowhere, lowerOf, upperOf}
+use Rattle.tableau.specs.declared.read.Starts.{Starts}
+use Rattle.tableau.specs.Amounts.{absent}
+use Rattle.tableau.specs.Parts.{variable, nowhere, lowestOf, highestOf}
 
-abbrev pub startEntriesLaid : Order → Problem ℤ → List ℤ
+abbrev pub startEntriesLaid : {X : Type 0} → Order → Problem X → List ℤ
 startEntriesLaid o P = filled mostEntries (pos 0) (live (P .m) (P .n))
     (λ k. P .coefficient (rowLaid o (P .m) (P .n) k) (columnLaid o (P .m) (P .n) k))
 
-abbrev pub startEntries : Problem ℤ → List ℤ
+abbrev pub startEntries : {X : Type 0} → Problem X → List ℤ
 startEntries = startEntriesLaid inUse
 
 -- .. the first k cells alone, for m rows and n columns; the others are 0
-abbrev pub startUpTo : Problem ℤ → ℕ → ℕ → ℕ → List ℤ
+abbrev pub startUpTo : {X : Type 0} → Problem X → ℕ → ℕ → ℕ → List ℤ
 startUpTo P m n k = filled mostEntries (pos 0) k (λ k. P .coefficient (rowAt m n k) (columnAt m n k))
 
 -- ---- places, for n columns in use
@@ -46,28 +51,49 @@ startSeats n k = filled mostVariables nowhere k (seatFor n)
 
 -- ---- limits and values
 
-abbrev pub isPresent : Option ℤ → Bool
-isPresent none = false
-isPresent (some l) = true
+-- a limit as the code holds it
+abbrev pub givenOf : Option Limit → Given
+givenOf none = absent
+givenOf (some l) = record { there = true; strict = l .strict; plain = l .plain }
 
-unfoldable pub limitsFor : Problem ℤ → Limits
+abbrev pub isStrict : Option Limit → Bool
+isStrict none = false
+isStrict (some l) = l .strict
+
+-- whether one of a variable's limits is strict
+abbrev pub strictAt : Problem Limit → ℕ → Bool
+strictAt P v = isStrict (P .lower v) || isStrict (P .upper v)
+
+unfoldable pub limitsFor : Problem Limit → Limits
 limitsFor P = record {
-  lowers = filled mostVariables false (vars P) (λ v. isPresent (P .lower v));
-  lower = filled mostVariables (pos 0) (vars P) (λ v. seated whole (P .lower v));
-  uppers = filled mostVariables false (vars P) (λ v. isPresent (P .upper v));
-  upper = filled mostVariables (pos 0) (vars P) (λ v. seated whole (P .upper v));
+  lower = filled mostVariables absent (vars P) (λ v. givenOf (P .lower v));
+  upper = filled mostVariables absent (vars P) (λ v. givenOf (P .upper v));
+  strict = someBelow (vars P) (strictAt P);
 }
 
-abbrev pub startValues : Problem ℤ → List ℤ
-startValues P = filled mostColumns (pos 0) (P .n) (λ j. startValue whole (P .lower j) (P .upper j))
+-- the value of problem variable j
+abbrev pub startOf : Problem Limit → ℕ → ℤ × ℤ
+startOf P j = startValue pairs (inner P .lower j) (inner P .upper j)
+
+abbrev pub startValues : Problem Limit → List ℤ
+startValues P = filled mostColumns (pos 0) (P .n) (λ j. startOf P j .0)
+
+abbrev pub startSmalls : Problem Limit → List ℤ
+startSmalls P = filled mostColumns (pos 0) (P .n) (λ j. startOf P j .1)
 
 -- the same from limits at hand
-abbrev pub valuesFor : Limits → ℕ → List ℤ
-valuesFor l n = filled mostColumns (pos 0) n (λ j. startValue whole (lowerOf l j) (upperOf l j))
+abbrev pub startFrom : Limits → ℕ → ℤ × ℤ
+startFrom l j = startValue pairs (lowestOf l j) (highestOf l j)
+
+abbrev pub startsFor : Limits → ℕ → Starts
+startsFor l n = record {
+  values = filled mostColumns (pos 0) n (λ j. startFrom l j .0);
+  smalls = filled mostColumns (pos 0) n (λ j. startFrom l j .1);
+}
 
 -- ---- the whole
 
-unfoldable pub startLaid : Order → Problem ℤ → Tableau
+unfoldable pub startLaid : Order → Problem Limit → Tableau
 startLaid o P = record {
   rows = P .m;
   columns = P .n;
@@ -76,9 +102,10 @@ startLaid o P = record {
   basic = startBasic (P .n);
   nonbasic = startNonbasic;
   values = startValues P;
+  smalls = startSmalls P;
   seats = startSeats (P .n) (vars P);
   limits = limitsFor P;
 }
 
-abbrev pub startTableau : Problem ℤ → Tableau
+abbrev pub startTableau : Problem Limit → Tableau
 startTableau = startLaid inUse

@@ -15,17 +15,25 @@ pub struct Seat {
     pub column: ColumnPlace,
 }
 
-// The limits of every variable: whether there is one, and which. The number of a missing limit is 0; no answer depends
-// on it.
+// A limit as it was given: whether it is there, whether it excludes its own number, and that number. Of a missing limit
+// the number is 0 and the mark is not set; no answer depends on either.
 #[repr(C)]
-pub struct Limits {
-    pub lowers: [bool; Tableau::MOST_VARIABLES],
-    pub lower: [i32; Tableau::MOST_VARIABLES],
-    pub uppers: [bool; Tableau::MOST_VARIABLES],
-    pub upper: [i32; Tableau::MOST_VARIABLES],
+pub struct Given {
+    pub there: bool,
+    pub strict: bool,
+    pub plain: i32,
 }
 
-// The entries lie flat, as the layout of the crate pivot says; a cell that is not in use is 0.
+// The limits of every variable, and whether some limit is strict.
+#[repr(C)]
+pub struct Limits {
+    pub lower: [Given; Tableau::MOST_VARIABLES],
+    pub upper: [Given; Tableau::MOST_VARIABLES],
+    pub strict: bool,
+}
+
+// The entries lie flat, as the layout of the crate pivot says; a cell that is not in use is 0. The value of a nonbasic
+// variable has a plain part in `values` and a multiple of the small amount in `smalls`.
 #[repr(C)]
 pub struct Tableau {
     pub rows: usize,
@@ -35,6 +43,7 @@ pub struct Tableau {
     pub basic: [Variable; Tableau::MOST_ROWS],
     pub nonbasic: [Variable; Tableau::MOST_COLUMNS],
     pub values: [i32; Tableau::MOST_COLUMNS],
+    pub smalls: [i32; Tableau::MOST_COLUMNS],
     pub seats: [Seat; Tableau::MOST_VARIABLES],
     pub limits: Limits,
 }
@@ -55,4 +64,5 @@ impl Tableau {
     pub const LARGEST_NUMBER: i64 = rules::LARGEST_NUMBER;
 }
 
+pub mod amount;
 pub mod read;

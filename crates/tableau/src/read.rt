@@ -1,23 +1,34 @@
 // The tableau at the start of a run, from accepted words: entries, places, limits and values.
 ghost use mathlib.Core.Path.{_≡_};
+ghost use mathlib.Core.Bool.{_||_};
 ghost use Prim.Native.Nat.{_+_, _≤_, _<_};
-ghost use Rattle.whole.specs.Values.{whole};
+ghost use Rattle.whole.specs.Values.{pairs};
 ghost use Rattle.rules.specs.Sizes.{mostColumns, mostRows, mostVariables};
-ghost use Rattle.rules.specs.Limit.{present};
-ghost use Rattle.rules.specs.Problem.{problem};
+ghost use Rattle.rules.specs.Limit.{hasLower, hasUpper, lowerPair, strictLower, strictUpper, upperPair};
+ghost use Rattle.rules.specs.Problem.{mapped, problem};
 ghost use Rattle.rules.specs.Refusal.{Accepted, problemRefusal};
 ghost use Rattle.rules.specs.Step.{startValue};
 ghost use Rattle.judge.specs.Words.{Framed};
 ghost use Rattle.pivot.specs.Layout.{lines, lineAt};
 ghost use Rattle.tableau.specs.Start.{startUpTo, startEntries, startBasic, startNonbasic, seatFor, startSeats};
-ghost use Rattle.tableau.specs.Start.{limitsFor, valuesFor, startTableau};
+ghost use Rattle.tableau.specs.Amounts.{limitIn, valueOf};
+ghost use Rattle.tableau.specs.Start.{limitsFor, startsFor, startTableau};
+use crate::Given;
 use crate::Limits;
 use crate::Seat;
 use crate::Tableau;
 use crate::Variable;
+use crate::amount;
+use crate::amount::Value;
 use pivot::ColumnPlace;
 use pivot::RowPlace;
 use pivot::layout;
+
+// The values of the problem variables: plain parts and small parts.
+pub struct Starts {
+    pub values: [i32; Tableau::MOST_COLUMNS],
+    pub smalls: [i32; Tableau::MOST_COLUMNS],
+}
 
 // One coefficient. They are handed in row by row.
 fn coefficient_at(
@@ -116,34 +127,66 @@ fn start_seats(columns: usize, variables: usize) -> [Seat; Tableau::MOST_VARIABL
     seats
 }
 
-// 0 if the limits allow 0, else the lower limit if that is above 0, else the upper limit.
-fn start_value(lowers: bool, lower: i32, uppers: bool, upper: i32) -> i32
-    ensures { λ r. ⌜ r ≡ startValue whole (present lowers lower) (present uppers upper) ⌝ }
+// A variable's limits, from its kind and the limit's word.
+fn lower_given(kind: i32, word: i32) -> Given
+    ensures { λ r. ⌜ r ≡ record { there = hasLower kind; strict = strictLower kind; plain = word } ⌝ }
 {
-    if lowers & (0 < lower) {
-        return lower;
+    Given {
+        there: judge::has_lower(kind),
+        strict: judge::strict_lower(kind),
+        plain: word,
     }
-    if uppers & (upper < 0) {
-        return upper;
-    }
-    0
 }
 
-// The values of the problem variables.
-fn start_values(limits: Limits, columns: usize) -> [i32; Tableau::MOST_COLUMNS]
+fn upper_given(kind: i32, word: i32) -> Given
+    ensures { λ r. ⌜ r ≡ record { there = hasUpper kind; strict = strictUpper kind; plain = word } ⌝ }
+{
+    Given {
+        there: judge::has_upper(kind),
+        strict: judge::strict_upper(kind),
+        plain: word,
+    }
+}
+
+// Whether one of a variable's limits is strict.
+fn some_strict(kind: i32) -> bool
+    ensures { λ r. ⌜ r ≡ (strictLower kind || strictUpper kind) ⌝ }
+{
+    judge::strict_lower(kind) | judge::strict_upper(kind)
+}
+
+// 0 if the limits allow 0, else what the lower limit stands for if that is above 0, else what the upper limit does.
+fn start_value(lower: Given, upper: Given) -> Value
+    ensures { λ r. ⌜ r
+        ≡ valueOf (startValue pairs (mapped lowerPair (limitIn lower)) (mapped upperPair (limitIn upper))) ⌝ }
+{
+    let zero = Value { plain: 0, small: 0 };
+    let least = amount::lower_value(lower);
+    let most = amount::upper_value(upper);
+    if lower.there & amount::less(amount::widened(zero), amount::widened(least)) {
+        return least;
+    }
+    if upper.there & amount::less(amount::widened(most), amount::widened(zero)) {
+        return most;
+    }
+    zero
+}
+
+// The values of so many problem variables.
+fn start_values(limits: Limits, columns: usize) -> Starts
     requires { ⌜ columns ≤ mostColumns ⌝ }
-    ensures { λ r. ⌜ r ≡ valuesFor limits columns ⌝ }
+    ensures { λ r. ⌜ r ≡ startsFor limits columns ⌝ }
 {
     let mut values = [0i32; Tableau::MOST_COLUMNS];
+    let mut smalls = [0i32; Tableau::MOST_COLUMNS];
     for j in 0..columns {
-        values[j] = start_value(
-            limits.lowers[j],
-            limits.lower[j],
-            limits.uppers[j],
-            limits.upper[j],
-        );
+        let value = start_value(limits.lower[j], limits.upper[j]);
+        let plain = value.plain;
+        let small = value.small;
+        values[j] = plain;
+        smalls[j] = small;
     }
-    values
+    Starts { values, smalls }
 }
 
 impl Tableau {
@@ -168,25 +211,23 @@ impl Tableau {
     {
         let from = 2 + rows * columns;
         let end = columns + rows;
-        let mut lowers = [false; Tableau::MOST_VARIABLES];
-        let mut lower = [0i32; Tableau::MOST_VARIABLES];
-        let mut uppers = [false; Tableau::MOST_VARIABLES];
-        let mut upper = [0i32; Tableau::MOST_VARIABLES];
+        let missing = lower_given(0, 0);
+        let mut lower = [missing; Tableau::MOST_VARIABLES];
+        let mut upper = [missing; Tableau::MOST_VARIABLES];
+        let mut strict = false;
         for v in 0..end {
             let at = from + 3 * v;
             let low = at + 1;
             let high = at + 2;
             let kind = words[at];
-            lowers[v] = judge::has_lower(kind);
-            lower[v] = words[low];
-            uppers[v] = judge::has_upper(kind);
-            upper[v] = words[high];
+            lower[v] = lower_given(kind, words[low]);
+            upper[v] = upper_given(kind, words[high]);
+            strict = strict | some_strict(kind);
         }
         Limits {
-            lowers,
             lower,
-            uppers,
             upper,
+            strict,
         }
     }
 
@@ -198,6 +239,9 @@ impl Tableau {
         let columns = judge::count_at(words, 0);
         let rows = judge::count_at(words, 1);
         let limits = Tableau::limits_of(words, columns, rows);
+        let starts = start_values(limits, columns);
+        let values = starts.values;
+        let smalls = starts.smalls;
         Tableau {
             rows,
             columns,
@@ -205,7 +249,8 @@ impl Tableau {
             entries: Tableau::start_entries(words, columns, rows),
             basic: start_basic(columns),
             nonbasic: start_nonbasic(),
-            values: start_values(limits, columns),
+            values,
+            smalls,
             seats: start_seats(columns, columns + rows),
             limits,
         }

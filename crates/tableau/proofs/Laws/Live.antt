@@ -13,7 +13,7 @@ use Rattle.tableau.specs.Stands.{Sized}
 abbrev pub end : Tableau → ℕ
 end t = live (t .rows) (t .columns)
 
-module _ {P : Problem ℤ} {t : Tableau} (Z : Sized P t) where
+module _ {P : Problem (ℤ × ℤ)} {t : Tableau} (Z : Sized P t) where
   pub live-place : (i j : ℕ) → i < P .m → j < P .n → flat (t .rows) (t .columns) i j < end t
   live-place i j h k = rw (Z .rows-is, Z .columns-is) (flat-live (P .m) (P .n) i j h k)
 

@@ -12,7 +12,7 @@ use mathlib.Core.List.{List}
 use lib.IntN.{ℤ, pos, natAbs, _*ℤ_, *ℤ-zero}
 use lib.ListN.{getD}
 use lib.Signed.{quotZ}
-use Rattle.whole.specs.Values.{whole}
+use Rattle.whole.specs.Values.{pairs}
 use Rattle.whole.proofs.Sizes.{product-nonzero}
 use Rattle.whole.proofs.Tables.{filled-in, filled-out}
 use Rattle.divisor.specs.Cells.{divisorBelow, quotients}
@@ -37,7 +37,8 @@ use Rattle.tableau.proofs.Laws.Solved.{mixed-is}
 use Rattle.tableau.proofs.Laws.Turns.{Turn, rowPlace, columnPlace, nextAt, pivot-is, pivot-nonzero}
 use Rattle.tableau.proofs.Laws.Turns.{common-nonzero, placed-next, sized-next}
 
-module _ {P : Problem ℤ} {t : Tableau} {s : State ℤ} {r : Leaving ℤ} {w : ℕ} (M : Turn P t s r w) where
+module _ {P : Problem (ℤ × ℤ)} {t : Tableau} {s : State (ℤ × ℤ)} {r : Leaving (ℤ × ℤ)} {w : ℕ}
+    (M : Turn P t s r w) where
   abbrev N : ℕ
   N = vars P
 
@@ -50,8 +51,8 @@ module _ {P : Problem ℤ} {t : Tableau} {s : State ℤ} {r : Leaving ℤ} {w : 
   abbrev next : Tableau
   next = nextAt P t r w
 
-  abbrev after : State ℤ
-  after = moved whole P s r w
+  abbrev after : State (ℤ × ℤ)
+  after = moved pairs P s r w
 
   abbrev T1 : rules.Tableau
   T1 = solved N (s .tableau) (r .variable) w
@@ -88,8 +89,8 @@ module _ {P : Problem ℤ} {t : Tableau} {s : State ℤ} {r : Leaving ℤ} {w : 
   F : Factored N T1
   F = factored N T1 solved-nonzero
 
-  pub rowed-next : Rowed whole P after
-  rowed-next = rowed-moved whole P s (M .rowed) r w (M .left) (M .entered)
+  pub rowed-next : Rowed pairs P after
+  rowed-next = rowed-moved pairs P s (M .rowed) r w (M .left) (M .entered)
 
   -- ---- the cells by place and by row and column
 

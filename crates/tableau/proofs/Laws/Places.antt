@@ -5,7 +5,7 @@
 use Prim.Native.Nat.{ℕ, _<_}
 use native.Mathlib.Omega.{arith}
 use native.Mathlib.Decide.{ℕ-discrete}
-use mathlib.Core.Path.{_≡_, refl, ap, sym, _∙_}
+use mathlib.Core.Path.{_≡_, refl, ap, ap₂, sym, _∙_}
 use mathlib.Core.Logic.{_≢_}
 use mathlib.Core.Bool.{Bool, true, false}
 use mathlib.Core.Option.{none, some}
@@ -26,8 +26,8 @@ use Rattle.tableau.specs.Stands.{InRow, InColumn, HasRow, HasColumn, Siz
 
 -- ---- other numbers in the same places
 
-module _ (P : Problem ℤ) (t : Tableau) (c : ℤ) (l : List ℤ) where
-  pub placed-with : (s : State ℤ) → Placed P t s → Placed P (withNumbers t c l) s
+module _ (P : Problem (ℤ × ℤ)) (t : Tableau) (c : ℤ) (l : List ℤ) where
+  pub placed-with : (s : State (ℤ × ℤ)) → Placed P t s → Placed P (withNumbers t c l) s
   placed-with s Q = record {
     in-row = λ i h. let a = Q .in-row i h in
         record { variable-in = a .variable-in; is-basic = a .is-basic; back = a .back };
@@ -47,22 +47,25 @@ module _ (P : Problem ℤ) (t : Tableau) (c : ℤ) (l : List ℤ) where
     basic-long = Z .basic-long;
     nonbasic-long = Z .nonbasic-long;
     values-long = Z .values-long;
+    smalls-long = Z .smalls-long;
     seats-long = Z .seats-long;
   }
 
 -- ---- the exchange
 
-module _ (t : Tableau) (p q : ℕ) (x : ℤ) where
-  pub value-here : q < length (t .values) → valueAt (swappedAt t p q x) q ≡ x
+module _ (t : Tableau) (p q : ℕ) (x : ℤ × ℤ) where
+  pub value-here : q < length (t .values) → q < length (t .smalls) → valueAt (swappedAt t p q x) q ≡ x
   unfolding swappedAt
-  value-here h = getD-set-same (t .values) q x (pos 0) h
+  value-here h k = ap₂ (λ a b. (a, b)) (getD-set-same (t .values) q (x .0) (pos 0) h)
+      (getD-set-same (t .smalls) q (x .1) (pos 0) k)
 
   pub value-other : (j : ℕ) → j ≢ q → valueAt (swappedAt t p q x) j ≡ valueAt t j
   unfolding swappedAt
-  value-other j n = getD-set-other (t .values) q j x (pos 0) n
+  value-other j n = ap₂ (λ a b. (a, b)) (getD-set-other (t .values) q j (x .0) (pos 0) n)
+      (getD-set-other (t .smalls) q j (x .1) (pos 0) n)
 
 -- the places after the swap of row place p, which holds r, and column place q, which holds w
-module _ (t : Tableau) (p q r w : ℕ) (x : ℤ) (r-there : basicAt t p ≡ r) (w-there : nonbasicAt t q ≡ w) where
+module _ (t : Tableau) (p q r w : ℕ) (x : ℤ × ℤ) (r-there : basicAt t p ≡ r) (w-there : nonbasicAt t q ≡ w) where
   abbrev next : Tableau
   next = swappedAt t p q x
 
@@ -103,8 +106,8 @@ module _ (t : Tableau) (p q r w : ℕ) (x : ℤ) (r-there : basicAt t p ≡ r) (
       ∙ getD-set-other (set (t .seats) w (sits true)) r v (sits false) nowhere m
       ∙ getD-set-other (t .seats) w v (sits true) nowhere n
 
-  module _ (P : Problem ℤ) (s s′ : State ℤ) (Z : Sized P t) (Q : Placed P t s) (W : Swap (seat s) (seat s′) r w x)
-      (p-row : p < P .m) (q-column : q < P .n) where
+  module _ (P : Problem (ℤ × ℤ)) (s s′ : State (ℤ × ℤ)) (Z : Sized P t) (Q : Placed P t s)
+      (W : Swap (seat s) (seat s′) r w x) (p-row : p < P .m) (q-column : q < P .n) where
     r-var : r < vars P
     r-var = rw r-there at (Q .in-row p p-row .variable-in)
 
@@ -122,6 +125,9 @@ module _ (t : Tableau) (p q r w : ℕ) (x : ℤ) (r-there : basicAt t p ≡ r) (
 
     q-value : q < length (t .values)
     q-value = rw (Z .values-long) (let h = Z .few-columns in omega arith)
+
+    q-small : q < length (t .smalls)
+    q-small = rw (Z .smalls-long) (let h = Z .few-columns in omega arith)
 
     r-seat : r < length (t .seats)
     r-seat = rw (Z .seats-long) (let h = Z .few-columns in let k = Z .few-rows in let l = r-var in omega arith)
@@ -160,7 +166,7 @@ module _ (t : Tableau) (p q r w : ℕ) (x : ℤ) (r-there : basicAt t p ≡ r) (
         let b : nonbasicAt next j ≡ r = rw e (nonbasic-here q-long) in
         record {
           variable-in = rw b r-var;
-          is-seated = rw b (W .set-to ∙ ap some (sym (rw e (value-here t p q x q-value))));
+          is-seated = rw b (W .set-to ∙ ap some (sym (rw e (value-here t p q x q-value q-small))));
           back = rw b (ap (λ (a : Seat). a .column .0) (seat-left r-seat) ∙ sym e);
         }
     columns-after j h (no n) =
@@ -190,7 +196,7 @@ module _ (t : Tableau) (p q r w : ℕ) (x : ℤ) (r-there : basicAt t p ≡ r) (
           holds = rw b (basic-other (rowOf t v) (λ y. n (sym (o .holds) ∙ ap (basicAt t) y ∙ r-there)) ∙ o .holds);
         }
 
-    has-column-after : (v : ℕ) (y : ℤ) → v < vars P → seat s′ v ≡ some y →
+    has-column-after : (v : ℕ) (y : ℤ × ℤ) → v < vars P → seat s′ v ≡ some y →
         Dec (v ≡ r) → Dec (v ≡ w) → HasColumn P next v
     has-column-after v y h e (yes z) d =
         let a : seatAt next v ≡ sits false = rw z (seat-left r-seat) in
@@ -226,5 +232,6 @@ module _ (t : Tableau) (p q r w : ℕ) (x : ℤ) (r-there : basicAt t p ≡ r) (
       basic-long = simp length-set (Z .basic-long);
       nonbasic-long = simp length-set (Z .nonbasic-long);
       values-long = simp length-set (Z .values-long);
+      smalls-long = simp length-set (Z .smalls-long);
       seats-long = simp length-set (Z .seats-long);
     }

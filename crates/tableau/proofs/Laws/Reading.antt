@@ -1,12 +1,13 @@
 -- What the words of a problem are read as.
 --   coefficient-in, coefficient-is   where the words have it
---   present-flag, present-number     a limit, as a flag and a number
---   lower-flag, lower-number, ..     the same of the words' limits
+--   given                            a limit as the code holds it, by its parts
+--   lower-read, upper-read           a limit as it was given, from its kind and its word
+--   marks-read                       whether one of a variable's limits is strict, from the kind
 --   lower-of, upper-of               a problem's limits, back from the arrays
 --   value-is                         the start value by the tests that the code makes
---   values-same                      the start values from the arrays are the problem's
+--   starts-same                      the start values from the arrays are the problem's
 use mathlib.Core.Path.{_≡_, refl, sym, _∙_, ap, ap₂}
-use mathlib.Core.Bool.{Bool, true, false, cond, _&&_}
+use mathlib.Core.Bool.{Bool, true, false, cond, _&&_, _||_}
 use mathlib.Core.List.{List}
 use mathlib.Core.Option.{Option, none, some}
 use Prim.Native.Nat.{ℕ, _+_, _*_, _<_}
@@ -14,19 +15,24 @@ use native.Mathlib.Omega.{arith}
 use lib.Arith.{digits-lt}
 use lib.IntN.{ℤ, pos}
 use lib.ListN.{length}
-use lib.Signed.{ltZ}
-use Rattle.whole.specs.Values.{whole}
+use Rattle.whole.specs.Tables.{filled}
+use Rattle.whole.specs.Values.{pairs}
+use Rattle.whole.proofs.Bools.{true-false}
 use Rattle.whole.proofs.Prefix.{filled-same}
 use Rattle.whole.proofs.Tables.{filled-in}
 use Rattle.rules.specs.Sizes.{mostColumns, mostRows, mostVariables}
-use Rattle.rules.specs.Limit.{hasLower, hasUpper, present}
-use Rattle.rules.specs.Problem.{Problem, problem, vars, word}
+use Rattle.rules.specs.Limit.{Limit, hasLower, hasUpper, lowerPair, present, strictLower, strictUpper, upperPair}
+use Rattle.rules.specs.Problem.{Problem, mapped, problem, vars, varsOf, word}
 use Rattle.rules.specs.Refusal.{Accepted, FineLimit}
-use Rattle.rules.specs.Step.{seated, startValue}
+use Rattle.rules.specs.Step.{startValue}
 use Rattle.judge.specs.Words.{Framed}
 use Rattle.judge.proofs.Laws.Judged.{kind-place, vars-are}
+use Rattle.tableau.specs.declared.Given.{Given}
+use Rattle.tableau.specs.declared.read.Starts.{Starts}
+use Rattle.tableau.specs.Amounts.{absent, limitIn}
 use Rattle.tableau.specs.Parts.{lowerOf, upperOf}
-use Rattle.tableau.specs.Start.{isPresent, limitsFor, startValues, valuesFor}
+use Rattle.tableau.specs.Start.{givenOf, isStrict, limitsFor, startFrom, startOf, startSmalls}
+use Rattle.tableau.specs.Start.{startValues, startsFor, strictAt}
 
 -- ---- entries
 
@@ -40,69 +46,91 @@ module _ {ws : List ℤ} {n m : ℕ} (F : Framed ws n m) where
 
 -- ---- limits
 
-pub present-flag : (b : Bool) (z : ℤ) → isPresent (present b z) ≡ b
+-- a limit as the code holds it, by its parts, and as the rules do
+abbrev pub given : Bool → Bool → ℤ → Given
+given b s z = record { there = b; strict = s; plain = z }
+
+abbrev limit : Bool → Bool → ℤ → Option Limit
+limit b s z = present b (record { plain = z; strict = s })
+
+-- of a missing limit the word is 0, and it is not marked
+given-is : (b s : Bool) (z : ℤ) → FineLimit b z → (s ≡ true → b ≡ true) → given b s z ≡ givenOf (limit b s z)
 unfolding present
-present-flag true z = refl
-present-flag false z = refl
+given-is true s z h k = refl
+given-is false true z h k = true-false (k refl) refl
+given-is false false z h k = ap (given false false) h
 
-pub present-number : (b : Bool) (z : ℤ) → FineLimit b z → seated whole (present b z) ≡ z
-unfolding present seated
-present-number true z h = refl
-present-number false z h = sym h
+mark-is : (b s : Bool) (z : ℤ) → (s ≡ true → b ≡ true) → s ≡ isStrict (limit b s z)
+unfolding present
+mark-is true s z k = refl
+mark-is false true z k = sym (k refl)
+mark-is false false z k = refl
 
-module _ {ws : List ℤ} {n m : ℕ} (F : Framed ws n m) (v : ℕ) where
+module _ {ws : List ℤ} {n m : ℕ} (F : Framed ws n m) (A : Accepted mostRows ws) (v : ℕ) (h : v < n + m) where
   abbrev place : ℕ
   place = 2 + m * n + 3 * v
 
-  pub lower-flag : hasLower (word ws place) ≡ isPresent (problem ws .lower v)
+  abbrev lower-at : ℕ → Given
+  lower-at p = given (hasLower (word ws p)) (strictLower (word ws p)) (word ws (p + 1))
+
+  abbrev upper-at : ℕ → Given
+  upper-at p = given (hasUpper (word ws p)) (strictUpper (word ws p)) (word ws (p + 2))
+
+  pub lower-read : lower-at place ≡ givenOf (problem ws .lower v)
   unfolding problem
-  lower-flag = ap (λ p. hasLower (word ws p)) (kind-place F v) ∙ sym (present-flag _ _)
+  lower-read = let k : v < varsOf ws = omega (arith, vars-are F) in
+      ap lower-at (kind-place F v) ∙ given-is _ _ _ (A .lowers v k) (A .lower-marked v k)
 
-  pub upper-flag : hasUpper (word ws place) ≡ isPresent (problem ws .upper v)
+  pub upper-read : upper-at place ≡ givenOf (problem ws .upper v)
   unfolding problem
-  upper-flag = ap (λ p. hasUpper (word ws p)) (kind-place F v) ∙ sym (present-flag _ _)
+  upper-read = let k : v < varsOf ws = omega (arith, vars-are F) in
+      ap upper-at (kind-place F v) ∙ given-is _ _ _ (A .uppers v k) (A .upper-marked v k)
 
-  module _ (A : Accepted mostRows ws) (h : v < n + m) where
-    pub lower-number : word ws (place + 1) ≡ seated whole (problem ws .lower v)
-    unfolding problem
-    lower-number =
-        ap (λ p. word ws (p + 1)) (kind-place F v) ∙ sym (present-number _ _ (A .lowers v (omega (arith, vars-are F))))
+  pub marks-read : (strictLower (word ws place) || strictUpper (word ws place)) ≡ strictAt (problem ws) v
+  unfolding problem
+  marks-read = let k : v < varsOf ws = omega (arith, vars-are F) in
+      ap (λ p. strictLower (word ws p) || strictUpper (word ws p)) (kind-place F v)
+      ∙ ap₂ _||_ (mark-is _ _ _ (A .lower-marked v k)) (mark-is _ _ _ (A .upper-marked v k))
 
-    pub upper-number : word ws (place + 2) ≡ seated whole (problem ws .upper v)
-    unfolding problem
-    upper-number =
-        ap (λ p. word ws (p + 2)) (kind-place F v) ∙ sym (present-number _ _ (A .uppers v (omega (arith, vars-are F))))
+limit-back : (o : Option Limit) → limitIn (givenOf o) ≡ o
+unfolding present
+limit-back none = refl
+limit-back (some l) = refl
 
-present-back : (o : Option ℤ) → present (isPresent o) (seated whole o) ≡ o
-unfolding present seated
-present-back none = refl
-present-back (some l) = refl
-
-module _ (P : Problem ℤ) (v : ℕ) (h : v < vars P) where
+module _ (P : Problem Limit) (v : ℕ) (h : v < vars P) where
   pub lower-of : lowerOf (limitsFor P) v ≡ P .lower v
   unfolding limitsFor
-  lower-of =
-      ap₂ present (filled-in mostVariables false (vars P) (λ u. isPresent (P .lower u)) v h)
-      (filled-in mostVariables (pos 0) (vars P) (λ u. seated whole (P .lower u)) v h) ∙ present-back (P .lower v)
+  lower-of = ap limitIn (filled-in mostVariables absent (vars P) (λ u. givenOf (P .lower u)) v h)
+      ∙ limit-back (P .lower v)
 
   pub upper-of : upperOf (limitsFor P) v ≡ P .upper v
   unfolding limitsFor
-  upper-of =
-      ap₂ present (filled-in mostVariables false (vars P) (λ u. isPresent (P .upper u)) v h)
-      (filled-in mostVariables (pos 0) (vars P) (λ u. seated whole (P .upper u)) v h) ∙ present-back (P .upper v)
+  upper-of = ap limitIn (filled-in mostVariables absent (vars P) (λ u. givenOf (P .upper u)) v h)
+      ∙ limit-back (P .upper v)
 
 -- ---- the start value
 
 -- both limits by their flags, each asked for without a branch
-pub value-is : (a b : Bool) (l u : ℤ) → startValue whole (present a l) (present b u)
-    ≡ cond (a && ltZ (pos 0) l) l (cond (b && ltZ u (pos 0)) u (pos 0))
-unfolding startValue present
+pub value-is : (a b : Bool) (l u : Limit) →
+    startValue pairs (mapped lowerPair (present a l)) (mapped upperPair (present b u))
+    ≡ cond (a && pairs .less (pairs .nil) (lowerPair l)) (lowerPair l)
+    (cond (b && pairs .less (upperPair u) (pairs .nil)) (upperPair u) (pairs .nil))
+unfolding startValue present mapped
 value-is true true l u = refl
 value-is true false l u = refl
 value-is false true l u = refl
 value-is false false l u = refl
 
-pub values-same : (P : Problem ℤ) → valuesFor (limitsFor P) (P .n) ≡ startValues P
-values-same P =
-    filled-same mostColumns (pos 0) _ (P .n) _
-    (λ j h. ap₂ (startValue whole) (lower-of P j (omega arith)) (upper-of P j (omega arith)))
+module _ (P : Problem Limit) where
+  -- one part of each value
+  part-same : (f : ℤ × ℤ → ℤ) → filled mostColumns (pos 0) (P .n) (λ j. f (startFrom (limitsFor P) j))
+      ≡ filled mostColumns (pos 0) (P .n) (λ j. f (startOf P j))
+  part-same f = filled-same mostColumns (pos 0) _ (P .n) _
+      (λ j h. ap₂ (λ o p. f (startValue pairs (mapped lowerPair o) (mapped upperPair p)))
+      (lower-of P j (omega arith)) (upper-of P j (omega arith)))
+
+  pub starts-same : startsFor (limitsFor P) (P .n) ≡ record { values = startValues P; smalls = startSmalls P }
+  starts-same = ap₂ (λ (a b : List ℤ). starts a b) (part-same (λ x. x .0)) (part-same (λ x. x .1))
+    where
+      starts : List ℤ → List ℤ → Starts
+      starts a b = record { values = a; smalls = b }

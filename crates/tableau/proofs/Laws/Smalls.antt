@@ -9,7 +9,7 @@ use mathlib.Core.Bool.{Bool, true}
 use lib.IntN.{ℤ, pos}
 use Rattle.whole.specs.Below.{allBelow}
 use Rattle.whole.specs.Numbers.{Within, within}
-use Rattle.whole.specs.Values.{whole}
+use Rattle.whole.specs.Values.{pairs}
 use Rattle.whole.proofs.Below.{all-each, all-of}
 use Rattle.whole.proofs.Bools.{and-true, and-of, same-tests}
 use Rattle.whole.proofs.Tells.{tells-within}
@@ -32,7 +32,7 @@ zero-in : inRange (pos 0) ≡ true
 unfolding within
 zero-in = refl
 
-module _ {P : Problem ℤ} {t : Tableau} {s : State ℤ} (St : Stands P t s) where
+module _ {P : Problem (ℤ × ℤ)} {t : Tableau} {s : State (ℤ × ℤ)} (St : Stands P t s) where
   abbrev N : ℕ
   N = vars P
 
@@ -57,7 +57,7 @@ module _ {P : Problem ℤ} {t : Tableau} {s : State ℤ} (St : Stands P t s) whe
   cell-used k h = ap (cell t) (sym (flat-back m n k))
       ∙ St .numbers .cell-is (rowAt m n k) (columnAt m n k) (row-used k h) (column-used k h)
 
-  pub small-is : Rowed whole P s → smallBelow (end t) (t .entries) (t .common) ≡ small N (s .tableau)
+  pub small-is : Rowed pairs P s → smallBelow (end t) (t .entries) (t .common) ≡ small N (s .tableau)
   unfolding smallBelow small
   small-is R = same-tests _ _ to back
     where

@@ -40,7 +40,8 @@ mixed-cell : (t : Tableau) (p q i j : ℕ) → mixedCell (t .rows) (t .columns) 
 unfolding mixedLaid
 mixed-cell t p q i j = refl
 
-module _ {P : Problem ℤ} {t : Tableau} {s : State ℤ} {r : Leaving ℤ} {w : ℕ} (M : Turn P t s r w) where
+module _ {P : Problem (ℤ × ℤ)} {t : Tableau} {s : State (ℤ × ℤ)} {r : Leaving (ℤ × ℤ)} {w : ℕ}
+    (M : Turn P t s r w) where
   abbrev T : rules.Tableau
   T = s .tableau
 

@@ -1,29 +1,31 @@
 -- What the code asks for before a pivot that the rules choose, and what may be asked of it afterwards.
 --   pivotable, swappable    the pivot may be made, and its two variables may change places
---   limit-is                the number that the leaving variable gets is the violated limit
---   ranged-next             a pivot that passes the range test leaves every number in range
+--   limit-is                what the leaving variable gets is the violated limit
+--   ranged-next             a pivot that passes the range test leaves every number and every value in range
 use Prim.Native.Nat.{ℕ, _<_}
 use native.Mathlib.Omega.{arith}
 use native.Mathlib.Decide.{ℕ-discrete}
-use mathlib.Core.Path.{_≡_, sym, _∙_}
+use mathlib.Core.Path.{_≡_, refl, ap, sym, subst, _∙_}
 use mathlib.Core.Bool.{Bool, true, false}
-use mathlib.Core.Option.{some}
-use lib.IntN.{ℤ, pos}
-use lib.ListN.{length, getD}
+use mathlib.Core.Option.{some, Option·none-ne-some}
+use lib.IntN.{ℤ, pos, negℤ}
+use lib.ListN.{length}
 use Rattle.whole.specs.Numbers.{Within}
-use Rattle.whole.specs.Values.{whole}
-use Rattle.whole.proofs.Bools.{zero-one}
-use Rattle.rules.specs.Limit.{present}
-use Rattle.rules.specs.Problem.{Problem, vars}
+use Rattle.whole.specs.Values.{pairs}
+use Rattle.rules.specs.Limit.{Limit, inset, lowerPair, present, upperPair}
+use Rattle.rules.specs.Problem.{Problem, mapped, vars}
 use Rattle.rules.specs.Sizes.{mostVariables, largestLimit}
 use Rattle.rules.specs.Step.{State, Side, below, above, Leaving, limitAt}
 use Rattle.rules.proofs.Leaves.{Outside, too-low, too-high}
 use Rattle.pivot.specs.Pivot.{Pivotable, smallBelow}
+use Rattle.tableau.specs.declared.Given.{Given}
 use Rattle.tableau.specs.declared.Limits.{Limits}
 use Rattle.tableau.specs.declared.Tableau.{Tableau}
-use Rattle.tableau.specs.Parts.{valueAt, basicAt, nonbasicAt}
-use Rattle.tableau.specs.Pivot.{Cells, Swappable, pivotedLaid}
+use Rattle.tableau.specs.Amounts.{givenLower, givenUpper}
+use Rattle.tableau.specs.Parts.{valueAt, basicAt, nonbasicAt, lowerGiven, upperGiven}
+use Rattle.tableau.specs.Pivot.{Cells, Swappable, pivotedLaid, swappedAt}
 use Rattle.tableau.specs.Stands.{Ranged}
+use Rattle.tableau.proofs.Laws.Fitting.{inset-within, outset-within}
 use Rattle.tableau.proofs.Laws.Moves.{stands-next}
 use Rattle.tableau.proofs.Laws.Places.{value-here, value-other}
 use Rattle.tableau.proofs.Laws.Live.{end}
@@ -32,25 +34,26 @@ use Rattle.tableau.proofs.Laws.Turns.{Turn, rowPlace, columnPlace, turn
 use Rattle.tableau.proofs.Laws.Turns.{entering-column, row-in-range, column-in-range}
 use Rattle.tableau.proofs.Laws.Turns.{pivot-nonzero, common-nonzero}
 
--- the number of a variable's limit on a side
-abbrev pub limitNumber : Side → Limits → ℕ → ℤ
-limitNumber below l v = getD (l .lower) v (pos 0)
-limitNumber above l v = getD (l .upper) v (pos 0)
+-- what a variable's limit on a side stands for
+abbrev pub limitNumber : Side → Limits → ℕ → ℤ × ℤ
+limitNumber below l v = givenLower (lowerGiven l v)
+limitNumber above l v = givenUpper (upperGiven l v)
 
-present-some : (b : Bool) (z x : ℤ) → present b z ≡ some x → z ≡ x
-unfolding present
-present-some true z x e = cc
-present-some false z x e = let y : _≡_ {A = ℕ} 0 1 = cc in zero-one y
+present-some : (f : Limit → ℤ × ℤ) (b : Bool) (l : Limit) (x : ℤ × ℤ) → mapped f (present b l) ≡ some x → f l ≡ x
+unfolding present mapped
+present-some f true l x e = cc
+present-some f false l x e = absurd (Option·none-ne-some x e)
 
-module _ {P : Problem ℤ} {t : Tableau} {s : State ℤ} {r : Leaving ℤ} {w : ℕ} (M : Turn P t s r w) where
+module _ {P : Problem (ℤ × ℤ)} {t : Tableau} {s : State (ℤ × ℤ)} {r : Leaving (ℤ × ℤ)} {w : ℕ}
+    (M : Turn P t s r w) where
   abbrev p : ℕ
   p = rowPlace t r
 
   abbrev q : ℕ
   q = columnPlace t w
 
-  abbrev x : ℤ
-  x = limitAt whole P r
+  abbrev x : ℤ × ℤ
+  x = limitAt pairs P r
 
   abbrev next : Tableau
   next = nextAt P t r w
@@ -80,38 +83,72 @@ module _ {P : Problem ℤ} {t : Tableau} {s : State ℤ} {r : Leaving ℤ} {w : 
 
   -- ---- the limit that the leaving variable gets
 
+  abbrev limit : Given → Limit
+  limit g = record { plain = g .plain; strict = g .strict }
+
   pub limit-is : limitNumber (r .side) (t .limits) (r .variable) ≡ x
   limit-is = go (M .left .outside)
     where
-      go : {σ : Side} {y : ℤ} → Outside whole P s (r .variable) σ y → limitNumber σ (t .limits) (r .variable) ≡ y
-      go {y} (too-low e h) = present-some (getD (t .limits .lowers) (r .variable) false)
-          (getD (t .limits .lower) (r .variable) (pos 0)) y
+      go : {σ : Side} {y : ℤ × ℤ} → Outside pairs P s (r .variable) σ y → limitNumber σ (t .limits) (r .variable) ≡ y
+      go {y} (too-low e h) =
+          let g : Given = lowerGiven (t .limits) (r .variable) in
+          present-some lowerPair (g .there) (limit g) y
           (sym (M .stands .serves .lower-is (r .variable) (M .left .variable)) ∙ e)
-      go {y} (too-high e h) = present-some (getD (t .limits .uppers) (r .variable) false)
-          (getD (t .limits .upper) (r .variable) (pos 0)) y
+      go {y} (too-high e h) =
+          let g : Given = upperGiven (t .limits) (r .variable) in
+          present-some upperPair (g .there) (limit g) y
           (sym (M .stands .serves .upper-is (r .variable) (M .left .variable)) ∙ e)
 
-  limit-within : Within x largestLimit
+  limit-within : Within (x .0) largestLimit
   limit-within = rw (← limit-is) (go (r .side))
     where
-      go : (σ : Side) → Within (limitNumber σ (t .limits) (r .variable)) largestLimit
+      go : (σ : Side) → Within (limitNumber σ (t .limits) (r .variable) .0) largestLimit
       go below = M .stands .serves .lowers-within (r .variable)
       go above = M .stands .serves .uppers-within (r .variable)
 
+  limit-small : Within (x .1) 1
+  limit-small = rw (← limit-is) (go (r .side))
+    where
+      go : (σ : Side) → Within (limitNumber σ (t .limits) (r .variable) .1) 1
+      go below = inset-within (lowerGiven (t .limits) (r .variable) .strict)
+      go above = outset-within (upperGiven (t .limits) (r .variable) .strict)
+
+  limit-plain : t .limits .strict ≡ false → x .1 ≡ pos 0
+  limit-plain e = rw (← limit-is) (go (r .side))
+    where
+      go : (σ : Side) → limitNumber σ (t .limits) (r .variable) .1 ≡ pos 0
+      go below = ap inset (M .stands .serves .lowers-plain e (r .variable))
+      go above = ap (λ b. negℤ (inset b)) (M .stands .serves .uppers-plain e (r .variable))
+
   -- ---- afterwards
 
-  values-next : ((j : ℕ) → Within (valueAt t j) largestLimit) → (j : ℕ) → Within (valueAt next j) largestLimit
-  values-next h j = go (ℕ-discrete j q)
+  -- what holds of every value, and of the limit, holds of every value then
+  each-next : (Q : ℤ × ℤ → Type 0) → ((j : ℕ) → Q (valueAt t j)) → Q x → (j : ℕ) → Q (valueAt next j)
+  each-next Q h k j = go (ℕ-discrete j q)
     where
       long : q < length (turnedAt t r w .values)
       long = unfold pivotedLaid in (rw (M .stands .sized .values-long) (column-in-range M))
 
-      before : (j : ℕ) → Within (valueAt (turnedAt t r w) j) largestLimit
+      small-long : q < length (turnedAt t r w .smalls)
+      small-long = unfold pivotedLaid in (rw (M .stands .sized .smalls-long) (column-in-range M))
+
+      before : (j : ℕ) → Q (valueAt (turnedAt t r w) j)
       before = unfold pivotedLaid in h
 
-      go : Dec (j ≡ q) → Within (valueAt next j) largestLimit
-      go (yes e) = rw (e, value-here (turnedAt t r w) p q x long) limit-within
-      go (no n) = rw (value-other (turnedAt t r w) p q x j n) (before j)
+      go : Dec (j ≡ q) → Q (valueAt next j)
+      go (yes e) = subst Q (sym (ap (valueAt next) e ∙ value-here (turnedAt t r w) p q x long small-long)) k
+      go (no n) = subst Q (sym (value-other (turnedAt t r w) p q x j n)) (before j)
+
+  limits-next : next .limits ≡ t .limits
+  unfolding swappedAt pivotedLaid
+  limits-next = refl
 
   pub ranged-next : Ranged t → smallBelow (end next) (next .entries) (next .common) ≡ true → Ranged next
-  ranged-next g e = record { cells = cells-small (stands-next M) e; values-within = values-next (g .values-within) }
+  ranged-next g e = record {
+    cells = cells-small (stands-next M) e;
+    values-within = each-next (λ z. Within (z .0) largestLimit) (g .values-within) limit-within;
+    smalls-within = each-next (λ z. Within (z .1) 1) (g .smalls-within) limit-small;
+    smalls-plain = λ f.
+        let h : t .limits .strict ≡ false = sym (ap (λ (l : Limits). l .strict) limits-next) ∙ f in
+        each-next (λ z. z .1 ≡ pos 0) (g .smalls-plain h) (limit-plain h);
+  }

@@ -11,7 +11,7 @@ use mathlib.Core.Path.{_≡_, sym, ap₂, _∙_}
 use mathlib.Core.Logic.{_≢_}
 use lib.IntN.{ℤ, pos}
 use lib.Signed.{<ℤ-irrefl}
-use Rattle.whole.specs.Values.{whole}
+use Rattle.whole.specs.Values.{pairs}
 use Rattle.whole.proofs.Order.{nonzero-ne}
 use Rattle.rules.specs.Problem.{Problem}
 use Rattle.rules.specs.Sizes.{mostRows, mostColumns}
@@ -30,35 +30,36 @@ use Rattle.tableau.proofs.Laws.Places.{basic-here, basic-other, nonbasi
 use Rattle.tableau.proofs.Laws.Places.{sized-after, placed-with, sized-with}
 
 -- t stands for s, whose rows hold; r leaves there and w enters
-pub record Turn (P : Problem ℤ) (t : Tableau) (s : State ℤ) (r : Leaving ℤ) (w : ℕ) : Type 0 where
+pub record Turn (P : Problem (ℤ × ℤ)) (t : Tableau) (s : State (ℤ × ℤ)) (r : Leaving (ℤ × ℤ)) (w : ℕ) : Type 0 where
   pub stands : Stands P t s
-  pub rowed : Rowed whole P s
-  pub left : Left whole P s r
-  pub entered : Entered whole P s r w
+  pub rowed : Rowed pairs P s
+  pub left : Left pairs P s r
+  pub entered : Entered pairs P s r w
 
 -- the places of the leaving and the entering variable
-abbrev pub rowPlace : Tableau → Leaving ℤ → ℕ
+abbrev pub rowPlace : Tableau → Leaving (ℤ × ℤ) → ℕ
 rowPlace t r = rowOf t (r .variable)
 
 abbrev pub columnPlace : Tableau → ℕ → ℕ
 columnPlace t w = columnOf t w
 
-abbrev pub turnedAt : Tableau → Leaving ℤ → ℕ → Tableau
+abbrev pub turnedAt : Tableau → Leaving (ℤ × ℤ) → ℕ → Tableau
 turnedAt t r w = pivotedAt t (rowPlace t r) (columnPlace t w)
 
 -- after the pivot the two variables change places, and the leaving one gets the limit that it violates
-abbrev pub nextAt : Problem ℤ → Tableau → Leaving ℤ → ℕ → Tableau
-nextAt P t r w = swappedAt (turnedAt t r w) (rowPlace t r) (columnPlace t w) (limitAt whole P r)
+abbrev pub nextAt : Problem (ℤ × ℤ) → Tableau → Leaving (ℤ × ℤ) → ℕ → Tableau
+nextAt P t r w = swappedAt (turnedAt t r w) (rowPlace t r) (columnPlace t w) (limitAt pairs P r)
 
-module _ {P : Problem ℤ} {t : Tableau} {s : State ℤ} {r : Leaving ℤ} {w : ℕ} (M : Turn P t s r w) where
+module _ {P : Problem (ℤ × ℤ)} {t : Tableau} {s : State (ℤ × ℤ)} {r : Leaving (ℤ × ℤ)} {w : ℕ}
+    (M : Turn P t s r w) where
   abbrev p : ℕ
   p = rowPlace t r
 
   abbrev q : ℕ
   q = columnPlace t w
 
-  abbrev x : ℤ
-  x = limitAt whole P r
+  abbrev x : ℤ × ℤ
+  x = limitAt pairs P r
 
   abbrev turned : Tableau
   turned = turnedAt t r w
@@ -84,7 +85,7 @@ module _ {P : Problem ℤ} {t : Tableau} {s : State ℤ} {r : Leaving ℤ} {w : 
 
   pub pivot-nonzero : cellAt t p q ≢ pos 0
   pivot-nonzero e = nonzero-ne (entry (s .tableau) (r .variable) w)
-      (pivoted.pivot-nonzero whole P (r .side) w (entry (s .tableau) (r .variable) w) (M .entered .value)
+      (pivoted.pivot-nonzero pairs P (r .side) w (entry (s .tableau) (r .variable) w) (M .entered .value)
       (M .entered .suits)) (sym pivot-is ∙ e)
 
   pub common-nonzero : t .common ≢ pos 0
@@ -108,15 +109,15 @@ module _ {P : Problem ℤ} {t : Tableau} {s : State ℤ} {r : Leaving ℤ} {w : 
   unfolding pivotedLaid
   w-there = entering-column .holds
 
-  exchange : Swap (seat s) (seat (moved whole P s r w)) (r .variable) w x
-  exchange = swap whole P s r w (M .rowed .seats-many) (M .left) (M .entered)
+  exchange : Swap (seat s) (seat (moved pairs P s r w)) (r .variable) w x
+  exchange = swap pairs P s r w (M .rowed .seats-many) (M .left) (M .entered)
 
-  pub placed-next : Placed P next (moved whole P s r w)
-  placed-next = placed-after turned p q (r .variable) w x r-there w-there P s (moved whole P s r w)
+  pub placed-next : Placed P next (moved pairs P s r w)
+  placed-next = placed-after turned p q (r .variable) w x r-there w-there P s (moved pairs P s r w)
       sized-turned placed-turned exchange (leaving-row .in-rows) (entering-column .in-columns)
 
   pub sized-next : Sized P next
-  sized-next = sized-after turned p q (r .variable) w x r-there w-there P s (moved whole P s r w)
+  sized-next = sized-after turned p q (r .variable) w x r-there w-there P s (moved pairs P s r w)
       sized-turned placed-turned exchange (leaving-row .in-rows) (entering-column .in-columns)
 
   pub basic-left : basicAt next p ≡ w

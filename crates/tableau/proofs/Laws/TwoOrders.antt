@@ -1,13 +1,13 @@
 -- Both orders of the entries stand for the same tableau at the start: `same-start`.
 use mathlib.Core.Path.{refl, sym, _∙_}
-use lib.IntN.{ℤ}
+use Rattle.rules.specs.Limit.{Limit}
 use Rattle.rules.specs.Problem.{Problem}
 use Rattle.pivot.specs.Layout.{Order}
 use Rattle.pivot.proofs.Laws.TwoOrders.{cell-filled}
 use Rattle.tableau.specs.Start.{startLaid}
 use Rattle.tableau.specs.TwoOrders.{SameTableau}
 
-pub same-start : (o u : Order) (P : Problem ℤ) → SameTableau o u (startLaid o P) (startLaid u P)
+pub same-start : (o u : Order) (P : Problem Limit) → SameTableau o u (startLaid o P) (startLaid u P)
 unfolding startLaid
 same-start o u P = record {
   same-rest = refl;

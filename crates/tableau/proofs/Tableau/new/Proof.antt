@@ -8,6 +8,7 @@ use lib.IntN.{ℤ, pos}
 use lib.Signed.{leZ-yes}
 use Rattle.whole.proofs.Order.{≤ℤ-trans}
 use Rattle.rules.specs.Sizes.{mostRows}
+use Rattle.rules.specs.Limit.{Limit}
 use Rattle.rules.specs.Problem.{Problem, problem, vars}
 use Rattle.rules.specs.Refusal.{Accepted, problemRefusal}
 use Rattle.rules.proofs.Ranges.{problem-m, problem-n}
@@ -18,9 +19,10 @@ use Rattle.tableau.specs.declared.Limits.{Limits}
 use Rattle.tableau.specs.declared.Seat.{Seat}
 use Rattle.tableau.specs.declared.Tableau.{Tableau}
 use Rattle.tableau.specs.declared.Variable.{Variable}
+use Rattle.tableau.specs.declared.read.Starts.{Starts}
 use Rattle.tableau.specs.Start.{limitsFor, startBasic, startEntries, startNonbasic, startSeats}
-use Rattle.tableau.specs.Start.{startTableau, startLaid, startValues, valuesFor}
-use Rattle.tableau.proofs.Laws.Reading.{values-same}
+use Rattle.tableau.specs.Start.{startLaid, startSmalls, startTableau, startValues, startsFor}
+use Rattle.tableau.proofs.Laws.Reading.{starts-same}
 use Rattle.tableau.proofs.Tableau.new.Statement.{statement}
 use Rattle.tableau.proofs.Tableau.new.Tie as tie
 
@@ -55,31 +57,34 @@ module _ (c : tie.After-count-at2) where
 limits-of-requires : tie.Need-limits-of-requires
 limits-of-requires c κs = (framed c, accepted (start c))
 
+start-values-requires : tie.Need-start-values-requires
+start-values-requires c κs = framed (c .before) .few-columns
+
 start-entries-requires : tie.Need-start-entries-requires
-start-entries-requires c κs = framed (c .before)
+start-entries-requires c κs = framed (c .before .before .before .before)
 
 start-basic-requires : tie.Need-start-basic-requires
-start-basic-requires c κs = framed (c .before .before) .few-columns
+start-basic-requires c κs = framed (c .before .before .before .before .before) .few-columns
 
 start-nonbasic-requires : tie.Need-start-nonbasic-requires
 start-nonbasic-requires c κs = search needs
 
-start-values-requires : tie.Need-start-values-requires
-start-values-requires c κs = framed (c .before .before .before .before) .few-columns
-
 add-start-seats : tie.Need-add-start-seats
 add-start-seats c =
-    let F = framed (c .before .before .before .before .before) in omega (arith, F .few-columns, F .few-rows)
+    let F = framed (c .before .before .before .before .before .before .before) in
+    omega (arith, F .few-columns, F .few-rows)
 
 start-seats-requires : tie.Need-start-seats-requires
 start-seats-requires c κs =
-    let F = framed (c .before .before .before .before .before) in omega (arith, F .few-columns, F .few-rows)
+    let F = framed (c .before .before .before .before .before .before .before) in
+    omega (arith, F .few-columns, F .few-rows)
 
 -- a tableau is the start's if its parts are
-joined : (P : Problem ℤ) {rows columns : ℕ} {entries values : List ℤ} {basic nonbasic : List Variable}
+joined : (P : Problem Limit) {rows columns : ℕ} {entries : List ℤ} {basic nonbasic : List Variable} {starts : Starts}
     {seats : List Seat} {limits : Limits} →
     rows ≡ P .m → columns ≡ P .n → entries ≡ startEntries P → basic ≡ startBasic (P .n) → nonbasic ≡ startNonbasic →
-    values ≡ startValues P → seats ≡ startSeats (P .n) (vars P) → limits ≡ limitsFor P →
+    starts ≡ record { values = startValues P; smalls = startSmalls P } →
+    seats ≡ startSeats (P .n) (vars P) → limits ≡ limitsFor P →
     _≡_ {A = Tableau}
     (record {
       rows = rows;
@@ -88,25 +93,27 @@ joined : (P : Problem ℤ) {rows columns : ℕ} {entries values : List ℤ} {bas
       entries = entries;
       basic = basic;
       nonbasic = nonbasic;
-      values = values;
+      values = starts .values;
+      smalls = starts .smalls;
       seats = seats;
       limits = limits;
     })
     (startTableau P)
 unfolding startLaid
-joined P rows-are columns-are entries-are basic-are nonbasic-are values-are seats-are limits-are = cc
+joined P rows-are columns-are entries-are basic-are nonbasic-are starts-are seats-are limits-are = cc
 
 returns : tie.Need-returns
 returns c =
-    let d = c .before .before .before .before .before .before in
+    let v = c .before .before .before .before .before .before in
+    let l = v .before in
+    let d = l .before in
     let P = problem (words (start d)) in
-    let limits = c .before .before .before .before .before .limits-of .ensures in
-    joined P (rows-are d) (columns-are d) (c .before .before .before .before .start-entries .ensures)
-    (c .before .before .before .start-basic .ensures ∙ ap startBasic (columns-are d))
-    (c .before .before .start-nonbasic .ensures)
-    (c .before .start-values .ensures ∙ ap₂ valuesFor limits (columns-are d) ∙ values-same P)
+    joined P (rows-are d) (columns-are d) (c .before .before .before .start-entries .ensures)
+    (c .before .before .start-basic .ensures ∙ ap startBasic (columns-are d))
+    (c .before .start-nonbasic .ensures)
+    (v .start-values .ensures ∙ ap₂ startsFor (l .limits-of .ensures) (columns-are d) ∙ starts-same P)
     (c .start-seats .ensures ∙ ap₂ (λ n m. startSeats n (n + m)) (columns-are d) (rows-are d))
-    limits
+    (l .limits-of .ensures)
 
 pub new-spec : {M : Type 1} → statement M
 new-spec =
@@ -115,10 +122,10 @@ new-spec =
     count-at-requires
     count-at-requires-2
     limits-of-requires
+    start-values-requires
     start-entries-requires
     start-basic-requires
     start-nonbasic-requires
-    start-values-requires
     add-start-seats
     start-seats-requires
     returns)

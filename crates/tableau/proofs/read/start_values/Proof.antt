@@ -1,53 +1,54 @@
 -- `tableau::read::start_values` meets its contract. The invariant: the columns passed have the definition's values, the
 -- others 0. The measure is the columns left. Assumes nothing.
-use mathlib.Core.Path.{_≡_, _∙_, ap}
+use mathlib.Core.Path.{_≡_, _∙_, ap, ap₂}
+use mathlib.Core.List.{List}
 use Prim.Native.Nat.{ℕ, _-_, _≤_}
 use native.Mathlib.Omega.{arith}
-use borrow.Author.Needs.{needs, sfits-of}
+use borrow.Author.Needs.{needs}
 use lib.IntN.{ℤ, pos}
-use lib.ListN.{getD}
 use mir.Facts.{toZ-ofZ}
 use mir.Syntax.{w32}
 use mir.Val.{SFits}
-use Rattle.whole.specs.Tables.{filled}
-use Rattle.whole.specs.Values.{whole}
 use Rattle.whole.proofs.Prefix.{filled-start, filled-more}
 use Rattle.rules.specs.Sizes.{mostColumns}
-use Rattle.rules.specs.Step.{startValue}
 use Rattle.tableau.specs.declared.Limits.{Limits}
-use Rattle.tableau.specs.Parts.{lowerOf, upperOf}
+use Rattle.tableau.specs.declared.read.Starts.{Starts}
+use Rattle.tableau.specs.Amounts.{valueOf}
+use Rattle.tableau.specs.Start.{startFrom, startsFor}
 use Rattle.tableau.proofs.read.start_values.Statement.{statement}
 use Rattle.tableau.proofs.read.start_values.Tie as tie
 
-abbrev value-of : Limits → ℕ → ℤ
-value-of l j = startValue whole (lowerOf l j) (upperOf l j)
+abbrev plain-of : Limits → ℕ → ℤ
+plain-of l j = startFrom l j .0
+
+abbrev small-of : Limits → ℕ → ℤ
+small-of l j = startFrom l j .1
 
 abbrev Inv-loop : tie.InvT-loop
-Inv-loop columns limits values₀ j₀ values j = (j ≤ columns) × (values ≡ filled mostColumns (pos 0) j (value-of limits))
+Inv-loop columns limits values₀ smalls₀ j₀ values smalls j =
+    (j ≤ columns) × (values ≡ startsFor limits j .values) × (smalls ≡ startsFor limits j .smalls)
 
 abbrev μ-loop : tie.MeasureT-loop
-μ-loop columns limits values₀ j₀ values j = columns - j
+μ-loop columns limits values₀ smalls₀ j₀ values smalls j = columns - j
 
 loop-holds : tie.Need-loop-holds Inv-loop μ-loop
-loop-holds c = (omega arith, filled-start mostColumns (pos 0) (value-of (c .args .t1)))
-
-element-copy-out-start-value : tie.Need-element-copy-out-start-value Inv-loop μ-loop
-element-copy-out-start-value c = omega arith
+loop-holds c = (
+  omega arith,
+  filled-start mostColumns (pos 0) (plain-of (c .args .t1)),
+  filled-start mostColumns (pos 0) (small-of (c .args .t1)),
+)
 
 mul-start-value : tie.Need-mul-start-value Inv-loop μ-loop
 mul-start-value c = omega arith
 
-element-copy-out-start-value-2 : tie.Need-element-copy-out-start-value-2 Inv-loop μ-loop
-element-copy-out-start-value-2 c = omega arith
-
-element-copy-out-start-value-3 : tie.Need-element-copy-out-start-value-3 Inv-loop μ-loop
-element-copy-out-start-value-3 c = omega arith
+element-copy-out-start-value : tie.Need-element-copy-out-start-value Inv-loop μ-loop
+element-copy-out-start-value c = omega arith
 
 mul-start-value-2 : tie.Need-mul-start-value-2 Inv-loop μ-loop
 mul-start-value-2 c = omega arith
 
-element-copy-out-start-value-4 : tie.Need-element-copy-out-start-value-4 Inv-loop μ-loop
-element-copy-out-start-value-4 c = omega arith
+element-copy-out-start-value-2 : tie.Need-element-copy-out-start-value-2 Inv-loop μ-loop
+element-copy-out-start-value-2 c = omega arith
 
 start-value-requires : tie.Need-start-value-requires Inv-loop μ-loop
 start-value-requires c κs = tt
@@ -58,6 +59,12 @@ mul-values c = omega arith
 array-set-from-values : tie.Need-array-set-from-values Inv-loop μ-loop
 array-set-from-values c = omega arith
 
+mul-smalls : tie.Need-mul-smalls Inv-loop μ-loop
+mul-smalls c = omega arith
+
+array-set-from-smalls : tie.Need-array-set-from-smalls Inv-loop μ-loop
+array-set-from-smalls c = omega arith
+
 add-j : tie.Need-add-j Inv-loop μ-loop
 add-j c = omega arith
 
@@ -66,7 +73,7 @@ loop-less c = omega arith
 
 module _ (c : tie.After-start-value Inv-loop μ-loop) where
   abbrev at : tie.At-loop Inv-loop μ-loop
-  at = c .before .before .before .before .before .before
+  at = c .before .before .before .before
 
   abbrev limits : Limits
   limits = at .before .args .t1
@@ -74,29 +81,35 @@ module _ (c : tie.After-start-value Inv-loop μ-loop) where
   abbrev j : ℕ
   j = at .loop .j
 
-  fit-lower : SFits w32 (getD (limits .lower) j (pos 0))
-  fit-lower = sfits-of (c .before .before .before .start-value-arg2 .given)
+  fit-plain : SFits w32 (c .start-value .result .plain)
+  fit-plain = search needs
 
-  fit-upper : SFits w32 (getD (limits .upper) j (pos 0))
-  fit-upper = sfits-of (c .before .start-value-arg4 .given)
+  fit-small : SFits w32 (c .start-value .result .small)
+  fit-small = search needs
 
-  fit-result : SFits w32 (c .start-value .result)
-  fit-result = search needs
-
-  right : c .start-value .result ≡ value-of limits j
-  right = simp (toZ-ofZ fit-lower, toZ-ofZ fit-upper) at (c .start-value .ensures)
+  right : c .start-value .result ≡ valueOf (startFrom limits j)
+  right = c .start-value .ensures
 
 loop-again : tie.Need-loop-again Inv-loop μ-loop
-loop-again c = (
-  omega arith,
-  simp (toZ-ofZ (fit-result c)) (filled-more mostColumns (pos 0) _ (j c) (omega arith) (at c .loop .inv .1) (right c)),
-)
+loop-again c =
+    let d = c .before .before in
+    simp (toZ-ofZ (fit-plain d), toZ-ofZ (fit-small d)) (
+      omega arith,
+      filled-more mostColumns (pos 0) (plain-of (limits d)) (j d) (omega arith) (at d .loop .inv .1)
+          (ap (λ x. x .plain) (right d)),
+      filled-more mostColumns (pos 0) (small-of (limits d)) (j d) (omega arith) (at d .loop .inv .2)
+          (ap (λ x. x .small) (right d)),
+    )
+
+abbrev starts : List ℤ → List ℤ → Starts
+starts a b = record { values = a; smalls = b }
 
 returns : tie.Need-returns Inv-loop μ-loop
 returns c =
     let s = c .before .before in
-    let e : c .before .loop .j ≡ s .args .columns = omega arith in
-    c .before .loop .inv .1 ∙ ap (λ k. filled mostColumns (pos 0) k (value-of (s .args .t1))) e
+    let l = c .before .loop in
+    let e : l .j ≡ s .args .columns = omega arith in
+    ap₂ starts (l .inv .1) (l .inv .2) ∙ ap (startsFor (s .args .t1)) e
 
 pub start-values-spec : {M : Type 1} → statement M
 start-values-spec =
@@ -105,15 +118,15 @@ start-values-spec =
     Inv-loop
     μ-loop
     loop-holds
-    element-copy-out-start-value
     mul-start-value
-    element-copy-out-start-value-2
-    element-copy-out-start-value-3
+    element-copy-out-start-value
     mul-start-value-2
-    element-copy-out-start-value-4
+    element-copy-out-start-value-2
     start-value-requires
     mul-values
     array-set-from-values
+    mul-smalls
+    array-set-from-smalls
     add-j
     loop-less
     loop-again

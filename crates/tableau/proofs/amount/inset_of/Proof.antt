@@ -1,0 +1,12 @@
+-- `tableau::amount::inset_of` meets its contract. Assumes nothing.
+use Rattle.tableau.proofs.amount.inset_of.Statement.{statement}
+use Rattle.tableau.proofs.amount.inset_of.Tie as tie
+
+returns : tie.Need-returns
+returns c = simp (c .if1 .taken)
+
+returns-2 : tie.Need-returns-2
+returns-2 c = simp (c .if1 .left)
+
+pub inset-of-spec : {M : Type 1} → statement M
+inset-of-spec = tie.close (tie.spec returns returns-2)

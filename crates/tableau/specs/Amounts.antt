@@ -1,0 +1,35 @@
+-- Limits, values and amounts as the code holds them, and the pairs and limits of the rules that they stand for.
+use mathlib.Core.Bool.{false}
+use mathlib.Core.Option.{Option}
+use lib.IntN.{ℤ, pos, negℤ}
+use Rattle.rules.specs.Limit.{Limit, inset, present}
+use Rattle.tableau.specs.declared.Given.{Given}
+use Rattle.tableau.specs.declared.amount.Amount.{Amount}
+use Rattle.tableau.specs.declared.amount.Value.{Value}
+
+-- a missing limit
+abbrev pub absent : Given
+absent = record { there = false; strict = false; plain = pos 0 }
+
+-- the rules' limit, which may be missing
+abbrev pub limitIn : Given → Option Limit
+limitIn g = present (g .there) (record { plain = g .plain; strict = g .strict })
+
+-- the pair that it stands for in the run, where it is there
+abbrev pub givenLower : Given → ℤ × ℤ
+givenLower g = (g .plain, inset (g .strict))
+
+abbrev pub givenUpper : Given → ℤ × ℤ
+givenUpper g = (g .plain, negℤ (inset (g .strict)))
+
+abbrev pub pairIn : Value → ℤ × ℤ
+pairIn x = (x .plain, x .small)
+
+abbrev pub valueOf : ℤ × ℤ → Value
+valueOf x = record { plain = x .0; small = x .1 }
+
+abbrev pub pairOf : Amount → ℤ × ℤ
+pairOf a = (a .plain, a .small)
+
+abbrev pub amountOf : ℤ × ℤ → Amount
+amountOf x = record { plain = x .0; small = x .1 }

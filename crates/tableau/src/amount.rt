@@ -1,0 +1,77 @@
+// Pairs of a plain part and a multiple of the small amount: docs/RULES.md, "The run". They are compared by their plain
+// parts, and where these are equal by the small ones.
+ghost use mathlib.Core.Path.{_≡_};
+ghost use Rattle.whole.specs.Values.{pairs};
+ghost use Rattle.rules.specs.Limit.{inset};
+ghost use Rattle.tableau.specs.Amounts.{amountOf, givenLower, givenUpper, pairIn, pairOf, valueOf};
+use crate::Given;
+
+// A value that a nonbasic variable may have: 0, or what a limit stands for.
+pub struct Value {
+    pub plain: i32,
+    pub small: i32,
+}
+
+// A value, or D times it.
+pub struct Amount {
+    pub plain: i64,
+    pub small: i64,
+}
+
+// How many small amounts inside its number a limit stands.
+fn inset_of(strict: bool) -> i32
+    ensures { λ r. ⌜ r ≡ inset strict ⌝ }
+{
+    if strict {
+        return 1;
+    }
+    0
+}
+
+// What a lower limit stands for: where it is strict, one small amount above its number.
+pub fn lower_value(limit: Given) -> Value
+    ensures { λ r. ⌜ r ≡ valueOf (givenLower limit) ⌝ }
+{
+    Value {
+        plain: limit.plain,
+        small: inset_of(limit.strict),
+    }
+}
+
+// What an upper limit stands for: where it is strict, one small amount below its number.
+pub fn upper_value(limit: Given) -> Value
+    ensures { λ r. ⌜ r ≡ valueOf (givenUpper limit) ⌝ }
+{
+    Value {
+        plain: limit.plain,
+        small: -inset_of(limit.strict),
+    }
+}
+
+// The same value in wider words.
+pub fn widened(value: Value) -> Amount
+    ensures { λ r. ⌜ r ≡ amountOf (pairIn value) ⌝ }
+{
+    Amount {
+        plain: value.plain as i64,
+        small: value.small as i64,
+    }
+}
+
+// D times a value.
+pub fn times(common: i32, value: Value) -> Amount
+    ensures { λ r. ⌜ r ≡ amountOf (pairs .scale common (pairIn value)) ⌝ }
+{
+    Amount {
+        plain: common as i64 * value.plain as i64,
+        small: common as i64 * value.small as i64,
+    }
+}
+
+// Whether one is less than the other.
+pub fn less(a: Amount, b: Amount) -> bool
+    ensures { λ r. ⌜ r ≡ pairs .less (pairOf a) (pairOf b) ⌝ }
+{
+    let tie = !(b.plain < a.plain) & (a.small < b.small);
+    (a.plain < b.plain) | tie
+}
