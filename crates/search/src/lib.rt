@@ -1,6 +1,7 @@
 // The search for the next pivot: the lowest-numbered basic variable outside its limits, and the lowest-numbered
 // nonbasic one that can move it.
 ghost use mathlib.Core.Path.{_≡_};
+ghost use mathlib.Core.Bool.{false};
 ghost use Prim.Native.Nat.{ℕ, _+_, _≤_, _<_};
 ghost use lib.IntN.{pos};
 ghost use lib.ListN.{getD};
@@ -8,6 +9,7 @@ ghost use Rattle.whole.specs.Numbers.{Within};
 ghost use Rattle.rules.specs.Sizes.{mostColumns, mostRows, mostVariables, largestNumber, largestLimit};
 ghost use Rattle.pivot.specs.Layout.{entryIn};
 ghost use Rattle.search.specs.Search.{rowSum, Searchable, seen, nextAt};
+use crate::sides::LimitPair;
 use pivot::ColumnPlace;
 use pivot::RowPlace;
 use pivot::layout;
@@ -15,18 +17,20 @@ use tableau::Limits;
 use tableau::Seat;
 use tableau::Tableau;
 use tableau::Variable;
+use tableau::amount::Amount;
+use tableau::amount::Value;
 
 pub mod sides;
 
-// What a step reads of a tableau beside its entries. Which variable is in which column it does not ask.
+// What a step reads of a tableau beside its entries and its limits. Which variable is in which column it does not ask.
 pub struct View {
     pub rows: usize,
     pub columns: usize,
     pub common: i32,
     pub values: [i32; Tableau::MOST_COLUMNS],
+    pub smalls: [i32; Tableau::MOST_COLUMNS],
     pub basic: [Variable; Tableau::MOST_ROWS],
     pub seats: [Seat; Tableau::MOST_VARIABLES],
-    pub limits: Limits,
 }
 
 // How many rows and columns there are.
@@ -37,20 +41,20 @@ pub struct Size {
 
 // The row and the column of a pivot. The leaving variable is the one of the row: it must rise where it is below its
 // lower limit, and fall where it is above its upper one; its shortfall is how far D times its value is from D times
-// that limit. At the first step of case A of docs/RULES.md, whose D is 1, variable 2 must rise by 2: it is 0 and its lower
-// limit is 2.
+// that limit, part by part. At the first step of case A of docs/RULES.md, whose D is 1, variable 2 must rise by 2: it
+// is 0 and its lower limit is 2.
 pub struct Choice {
     pub row: RowPlace,
     pub column: ColumnPlace,
     pub rises: bool,
-    pub shortfall: i64,
+    pub shortfall: Amount,
 }
 
 // The row of a variable outside its limits that nothing can move; side and shortfall as in a choice.
 pub struct Blocked {
     pub row: RowPlace,
     pub rises: bool,
-    pub shortfall: i64,
+    pub shortfall: Amount,
 }
 
 // What a search comes to: every variable is within its limits, one is outside and stuck, or a pivot moves it.
@@ -75,7 +79,7 @@ pub fn entry_at(
     entries[k]
 }
 
-// D times the value of the basic variable of a row.
+// D times the value of the basic variable of a row: its plain part, of the plain values.
 pub fn row_value<'a>(
     entries: &'a [i32; Tableau::MOST_ENTRIES],
     values: &'a [i32; Tableau::MOST_COLUMNS],
@@ -97,6 +101,26 @@ pub fn row_value<'a>(
     sum
 }
 
+// .. and its small part, of the small values. Where no limit is strict these are all 0, and no row is read.
+pub fn row_small<'a>(
+    entries: &'a [i32; Tableau::MOST_ENTRIES],
+    smalls: &'a [i32; Tableau::MOST_COLUMNS],
+    size: Size,
+    row: RowPlace,
+    strict: bool,
+) -> i64
+    requires { ⌜ (size .rows ≤ mostRows) × (size .columns ≤ mostColumns) × (row .0 < size .rows) ⌝ }
+    requires { ⌜ ((k : ℕ) → Within (getD (now entries) k (pos 0)) largestNumber) ⌝ }
+    requires { ⌜ ((j : ℕ) → Within (getD (now smalls) j (pos 0)) 1) ⌝ }
+    requires { ⌜ (strict ≡ false → (j : ℕ) → getD (now smalls) j (pos 0) ≡ pos 0) ⌝ }
+    ensures { λ r. ⌜ r ≡ rowSum (size .rows) (size .columns) (now (entries .entry)) (now (smalls .entry)) (row .0) ⌝ }
+{
+    if !strict {
+        return 0;
+    }
+    row_value(entries, smalls, size, row)
+}
+
 // The next variable by number.
 pub fn after(v: Variable) -> Variable
     requires { ⌜ v .0 < mostVariables ⌝ }
@@ -107,9 +131,9 @@ pub fn after(v: Variable) -> Variable
 
 // The search runs over the basic variables, and for the first one outside its limits over the nonbasic ones, both in
 // order of their numbers.
-pub fn next_step(entries: &[i32; Tableau::MOST_ENTRIES], view: View) -> Next
-    requires { ⌜ Searchable (seen (now entries) view) ⌝ }
-    ensures { λ r. ⌜ r ≡ nextAt (seen (now (entries .entry)) view) ⌝ }
+pub fn next_step(entries: &[i32; Tableau::MOST_ENTRIES], view: View, limits: Limits) -> Next
+    requires { ⌜ Searchable (seen (now entries) view limits) ⌝ }
+    ensures { λ r. ⌜ r ≡ nextAt (seen (now (entries .entry)) view limits) ⌝ }
 {
     let size = Size {
         rows: view.rows,
@@ -128,15 +152,13 @@ pub fn next_step(entries: &[i32; Tableau::MOST_ENTRIES], view: View) -> Next
             continue 'search;
         }
         let row = seat.row;
-        let value = row_value(entries, &view.values, size, row);
-        let own = sides::limits_of(
-            &view.limits.lowers,
-            &view.limits.lower,
-            &view.limits.uppers,
-            &view.limits.upper,
-            v,
-        );
-        let outside = sides::breach_of(view.common, value, own);
+        let plain = row_value(entries, &view.values, size, row);
+        let small = row_small(entries, &view.smalls, size, row, limits.strict);
+        let own = LimitPair {
+            lower: limits.lower[at],
+            upper: limits.upper[at],
+        };
+        let outside = sides::breach_of(view.common, Amount { plain, small }, own);
         if !outside.violated {
             v = after(v);
             continue 'search;
@@ -154,14 +176,15 @@ pub fn next_step(entries: &[i32; Tableau::MOST_ENTRIES], view: View) -> Next
             let column = other.column;
             let j = column.0 as usize;
             let entry = entry_at(entries, size, row, column);
-            let its = sides::limits_of(
-                &view.limits.lowers,
-                &view.limits.lower,
-                &view.limits.uppers,
-                &view.limits.upper,
-                w,
-            );
-            if sides::suits(rises, entry, view.values[j], its) {
+            let its = LimitPair {
+                lower: limits.lower[place],
+                upper: limits.upper[place],
+            };
+            let value = Value {
+                plain: view.values[j],
+                small: view.smalls[j],
+            };
+            if sides::suits(rises, entry, value, its) {
                 break 'search Next::Pivot(Choice {
                     row,
                     column,

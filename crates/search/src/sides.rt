@@ -1,16 +1,18 @@
-// Values against limits that may be missing: which side a variable is outside on, and which way one can move.
+// Values against limits that may be missing: which side a variable is outside on, and which way one can move. A limit
+// stands for a pair, and so does a value.
 ghost use mathlib.Core.Path.{_≡_};
-ghost use Prim.Native.Nat.{_<_};
 ghost use lib.IntN.{_*ℤ_};
 ghost use Rattle.whole.specs.Numbers.{Within};
-ghost use Rattle.whole.specs.Values.{whole};
-ghost use Rattle.rules.specs.Sizes.{mostVariables, largestNumber, largestLimit, largestNumerator};
-ghost use Rattle.rules.specs.Limit.{present};
+ghost use Rattle.whole.specs.Values.{pairs};
+ghost use Rattle.rules.specs.Sizes.{largestNumber, largestLimit};
 ghost use Rattle.rules.specs.Step as step;
 ghost use Rattle.rules.specs.Step.{mayRise, mayFall};
-ghost use Rattle.search.specs.Sides.{pairAt, breachOf, suitsOf};
-use tableau::Tableau;
-use tableau::Variable;
+ghost use Rattle.tableau.specs.Amounts.{amountOf, pairIn, pairOf};
+ghost use Rattle.search.specs.Sides.{Modest, leastIn, mostIn, breachOf, suitsOf};
+use tableau::Given;
+use tableau::amount;
+use tableau::amount::Amount;
+use tableau::amount::Value;
 
 // Whether a variable is outside its limits; whether it must rise to come inside, that is, whether it is below its lower
 // limit and not above its upper one; and how far D times its value is from D times that limit, which is above 0. A
@@ -18,36 +20,13 @@ use tableau::Variable;
 pub struct Breach {
     pub violated: bool,
     pub rises: bool,
-    pub shortfall: i64,
+    pub shortfall: Amount,
 }
 
-// The two limits of one variable: whether there is one, and which.
+// The two limits of one variable.
 pub struct LimitPair {
-    pub lowers: bool,
-    pub lower: i32,
-    pub uppers: bool,
-    pub upper: i32,
-}
-
-// The limits of a variable, from the four arrays of the tableau's limits.
-pub fn limits_of<'a>(
-    lowers: &'a [bool; Tableau::MOST_VARIABLES],
-    lower: &'a [i32; Tableau::MOST_VARIABLES],
-    uppers: &'a [bool; Tableau::MOST_VARIABLES],
-    upper: &'a [i32; Tableau::MOST_VARIABLES],
-    variable: Variable,
-) -> LimitPair
-    requires { ⌜ variable .0 < mostVariables ⌝ }
-    ensures { λ r. ⌜ r
-        ≡ pairAt (now (lowers .entry)) (now (lower .entry)) (now (uppers .entry)) (now (upper .entry)) (variable .0) ⌝ }
-{
-    let v = variable.0 as usize;
-    LimitPair {
-        lowers: lowers[v],
-        lower: lower[v],
-        uppers: uppers[v],
-        upper: upper[v],
-    }
+    pub lower: Given,
+    pub upper: Given,
 }
 
 // The product of two numbers of 32 bits, which 64 bits hold.
@@ -58,67 +37,82 @@ pub fn product(a: i32, b: i32) -> i64
 }
 
 // A value, as D times it, against a limit.
-fn under(common: i32, value: i64, lowers: bool, lower: i32) -> bool
-    ensures { λ r. ⌜ r ≡ step.under whole common value (present lowers lower) ⌝ }
+fn under(common: i32, value: Amount, limit: Given) -> bool
+    ensures { λ r. ⌜ r ≡ step.under pairs common (pairOf value) (leastIn limit) ⌝ }
 {
-    lowers & (value < product(common, lower))
+    limit.there & amount::less(value, amount::times(common, amount::lower_value(limit)))
 }
 
-fn over(common: i32, value: i64, uppers: bool, upper: i32) -> bool
-    ensures { λ r. ⌜ r ≡ step.over whole common value (present uppers upper) ⌝ }
+fn over(common: i32, value: Amount, limit: Given) -> bool
+    ensures { λ r. ⌜ r ≡ step.over pairs common (pairOf value) (mostIn limit) ⌝ }
 {
-    uppers & (product(common, upper) < value)
+    limit.there & amount::less(amount::times(common, amount::upper_value(limit)), value)
+}
+
+// One amount less another, part by part.
+fn gap(a: Amount, b: Amount) -> Amount
+    requires { ⌜ (Modest (pairOf a)) × (Modest (pairOf b)) ⌝ }
+    ensures { λ r. ⌜ r ≡ amountOf (step.gap pairs (pairOf a) (pairOf b)) ⌝ }
+{
+    Amount {
+        plain: a.plain - b.plain,
+        small: a.small - b.small,
+    }
 }
 
 // By which limit a value is outside, and by how much.
-pub fn breach_of(common: i32, value: i64, limits: LimitPair) -> Breach
+pub fn breach_of(common: i32, value: Amount, limits: LimitPair) -> Breach
     requires { ⌜ (Within common largestNumber)
-        × (Within (limits .lower) largestLimit) × (Within (limits .upper) largestLimit) ⌝ }
-    requires { ⌜ Within value largestNumerator ⌝ }
-    ensures { λ r. ⌜ r ≡ breachOf common value limits ⌝ }
+        × (Within (limits .lower .plain) largestLimit) × (Within (limits .upper .plain) largestLimit) ⌝ }
+    requires { ⌜ Modest (pairOf value) ⌝ }
+    ensures { λ r. ⌜ r ≡ breachOf common (pairOf value) limits ⌝ }
 {
-    let low = under(common, value, limits.lowers, limits.lower);
-    let high = over(common, value, limits.uppers, limits.upper);
+    let low = under(common, value, limits.lower);
+    let high = over(common, value, limits.upper);
     if !(low | high) {
         return Breach {
             violated: false,
             rises: false,
-            shortfall: 0,
+            shortfall: Amount { plain: 0, small: 0 },
         };
     }
     if low {
+        let least = amount::times(common, amount::lower_value(limits.lower));
         return Breach {
             violated: true,
             rises: true,
-            shortfall: product(common, limits.lower) - value,
+            shortfall: gap(least, value),
         };
     }
+    let most = amount::times(common, amount::upper_value(limits.upper));
     Breach {
         violated: true,
         rises: false,
-        shortfall: value - product(common, limits.upper),
+        shortfall: gap(value, most),
     }
 }
 
 // A nonbasic variable may increase, and may decrease.
-fn may_rise(value: i32, uppers: bool, upper: i32) -> bool
-    ensures { λ r. ⌜ r ≡ mayRise whole value (present uppers upper) ⌝ }
+fn may_rise(value: Value, limit: Given) -> bool
+    ensures { λ r. ⌜ r ≡ mayRise pairs (pairIn value) (mostIn limit) ⌝ }
 {
-    !uppers | (value < upper)
+    let most = amount::widened(amount::upper_value(limit));
+    !limit.there | amount::less(amount::widened(value), most)
 }
 
-fn may_fall(value: i32, lowers: bool, lower: i32) -> bool
-    ensures { λ r. ⌜ r ≡ mayFall whole value (present lowers lower) ⌝ }
+fn may_fall(value: Value, limit: Given) -> bool
+    ensures { λ r. ⌜ r ≡ mayFall pairs (pairIn value) (leastIn limit) ⌝ }
 {
-    !lowers | (lower < value)
+    let least = amount::widened(amount::lower_value(limit));
+    !limit.there | amount::less(least, amount::widened(value))
 }
 
 // Whether a nonbasic variable can move the right way, by its entry in the row of the variable that must rise or fall.
-pub fn suits(rises: bool, entry: i32, value: i32, limits: LimitPair) -> bool
-    ensures { λ r. ⌜ r ≡ suitsOf rises entry value limits ⌝ }
+pub fn suits(rises: bool, entry: i32, value: Value, limits: LimitPair) -> bool
+    ensures { λ r. ⌜ r ≡ suitsOf rises entry (pairIn value) limits ⌝ }
 {
     let falls = (entry < 0) == rises;
-    let down = falls & may_fall(value, limits.lowers, limits.lower);
-    let up = !falls & may_rise(value, limits.uppers, limits.upper);
+    let down = falls & may_fall(value, limits.lower);
+    let up = !falls & may_rise(value, limits.upper);
     (entry != 0) & (down | up)
 }

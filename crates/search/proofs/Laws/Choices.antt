@@ -11,7 +11,9 @@ use lib.IntN.{ℤ}
 use Rattle.whole.proofs.Bools.{true-false}
 use Rattle.rules.specs.Step.{Side, below, above, leaves}
 use Rattle.tableau.specs.declared.Tableau.{Tableau}
+use Rattle.tableau.specs.Amounts.{amountOf, pairOf}
 use Rattle.tableau.specs.Parts.{seatAt, rowOf}
+use Rattle.search.specs.declared.Choice.{Choice}
 use Rattle.search.specs.declared.Next.the-variants as variants
 use Rattle.search.specs.Sides.{sideBy, rising, asBreach}
 use Rattle.search.specs.Search.{shortAt, sideAt, tagged, brokenAt, brokenLaid, leavingAt, fitting, enteringOf}
@@ -21,7 +23,7 @@ rising-by : (b : Bool) → rising (sideBy b) ≡ b
 rising-by true = refl
 rising-by false = refl
 
-module _ (short : Side → ℤ) where
+module _ (short : Side → ℤ × ℤ) where
   pub no-breach : (o : Option Side) → asBreach o short .violated ≡ false → o ≡ none
   no-breach none e = refl
   no-breach (some σ) e = true-false refl e
@@ -32,7 +34,7 @@ module _ (short : Side → ℤ) where
   some-breach (some above) e = refl
 
   pub breach-short : (o : Option Side) → asBreach o short .violated ≡ true →
-      short (sideBy (asBreach o short .rises)) ≡ asBreach o short .shortfall
+      short (sideBy (asBreach o short .rises)) ≡ pairOf (asBreach o short .shortfall)
   breach-short none e = true-false e refl
   breach-short (some below) e = refl
   breach-short (some above) e = refl
@@ -68,19 +70,27 @@ module _ (t : Tableau) where
   unfolding nextLaid nextByLaid
   next-within e = sym (ap (nextBy t) e)
 
-  module _ (v : ℕ) (b : Bool) (x : ℤ) (e : leavingAt t ≡ some (leaves v (sideBy b) x)) where
+  -- the row and the column of a pivot, with the side as a flag
+  abbrev chosen : ℕ → ℕ → ℤ × ℤ → Bool → Choice
+  chosen v w x rises = record {
+    row = seatAt t v .row;
+    column = seatAt t w .column;
+    rises = rises;
+    shortfall = amountOf x;
+  }
+
+  module _ (v : ℕ) (b : Bool) (x : ℤ × ℤ) (e : leavingAt t ≡ some (leaves v (sideBy b) x)) where
     pub next-stuck : enteringAt t (rowOf t v) (sideBy b) ≡ none →
-        variants.Stuck (record { row = seatAt t v .row; rises = b; shortfall = x }) ≡ nextAt t
+        variants.Stuck (record { row = seatAt t v .row; rises = b; shortfall = amountOf x }) ≡ nextAt t
     unfolding nextLaid nextByLaid moveBy
     next-stuck f =
-        ap (λ a. variants.Stuck (record { row = seatAt t v .row; rises = a; shortfall = x })) (sym (rising-by b))
+        ap (λ a. variants.Stuck (record { row = seatAt t v .row; rises = a; shortfall = amountOf x }))
+        (sym (rising-by b))
         ∙ sym (ap (nextBy t) e ∙ ap (moveBy t (leaves v (sideBy b) x)) f)
 
     pub next-pivot : (w : ℕ) → enteringAt t (rowOf t v) (sideBy b) ≡ some w →
-        variants.Pivot (record { row = seatAt t v .row; column = seatAt t w .column; rises = b; shortfall = x })
-        ≡ nextAt t
+        variants.Pivot (chosen v w x b) ≡ nextAt t
     unfolding nextLaid nextByLaid moveBy
     next-pivot w f =
-        ap (λ a. variants.Pivot (record { row = seatAt t v .row; column = seatAt t w .column; rises = a; shortfall = x }))
-        (sym (rising-by b))
+        ap (λ a. variants.Pivot (chosen v w x a)) (sym (rising-by b))
         ∙ sym (ap (nextBy t) e ∙ ap (moveBy t (leaves v (sideBy b) x)) f)

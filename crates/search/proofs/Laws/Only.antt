@@ -4,8 +4,8 @@ use mathlib.Core.Path.{_≡_, sym, _∙_}
 use Rattle.search.proofs.after.Reads as after
 use Rattle.search.proofs.entry_at.Reads as entry-at
 use Rattle.search.proofs.row_value.Reads as row-value
+use Rattle.search.proofs.row_small.Reads as row-small
 use Rattle.search.proofs.next_step.Reads as next-step
-use Rattle.search.proofs.sides.limits_of.Reads as limits-of
 use Rattle.search.proofs.sides.breach_of.Reads as breach-of
 use Rattle.search.proofs.sides.product.Reads as product
 use Rattle.search.proofs.sides.suits.Reads as suits
@@ -19,11 +19,11 @@ entry-at-only κs x a b e h k = h ∙ sym k
 pub row-value-only : (κs : _) (x : _) (a b : _) (e : _) → row-value.Post κs x a e → row-value.Post κs x b e → a ≡ b
 row-value-only κs x a b e h k = h ∙ sym k
 
+pub row-small-only : (κs : _) (x : _) (a b : _) (e : _) → row-small.Post κs x a e → row-small.Post κs x b e → a ≡ b
+row-small-only κs x a b e h k = h ∙ sym k
+
 pub next-step-only : (κs : _) (x : _) (a b : _) (e : _) → next-step.Post κs x a e → next-step.Post κs x b e → a ≡ b
 next-step-only κs x a b e h k = h ∙ sym k
-
-pub limits-of-only : (κs : _) (x : _) (a b : _) (e : _) → limits-of.Post κs x a e → limits-of.Post κs x b e → a ≡ b
-limits-of-only κs x a b e h k = h ∙ sym k
 
 pub breach-of-only : (κs : _) (x : _) (a b : _) (e : _) → breach-of.Post κs x a e → breach-of.Post κs x b e → a ≡ b
 breach-of-only κs x a b e h k = h ∙ sym k

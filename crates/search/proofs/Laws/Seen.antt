@@ -22,6 +22,7 @@ seatedAs t basic nonbasic = record {
   basic = basic;
   nonbasic = nonbasic;
   values = t .values;
+  smalls = t .smalls;
   seats = t .seats;
   limits = t .limits;
 }
@@ -30,12 +31,12 @@ module _ (t : Tableau) (basic nonbasic : List Variable) where
   abbrev other : Tableau
   other = seatedAs t basic nonbasic
 
-  move-as : (r : Leaving ℤ) (o : Option ℕ) → moveBy other r o ≡ moveBy t r o
+  move-as : (r : Leaving (ℤ × ℤ)) (o : Option ℕ) → moveBy other r o ≡ moveBy t r o
   unfolding moveBy
   move-as r none = refl
   move-as r (some w) = refl
 
-  by-as : (o : Option (Leaving ℤ)) → nextBy other o ≡ nextBy t o
+  by-as : (o : Option (Leaving (ℤ × ℤ))) → nextBy other o ≡ nextBy t o
   unfolding nextByLaid enteringLaid entersLaid
   by-as none = refl
   by-as (some r) = move-as r (enteringAt t (rowOf t (r .variable)) (r .side))
@@ -50,6 +51,8 @@ module _ (t : Tableau) (basic nonbasic : List Variable) where
     few-columns = S .few-columns;
     cells = record { common-within = S .cells .common-within; cell-within = S .cells .cell-within };
     values-within = S .values-within;
+    smalls-within = S .smalls-within;
+    smalls-plain = S .smalls-plain;
     lowers-within = S .lowers-within;
     uppers-within = S .uppers-within;
     row-seats = S .row-seats;

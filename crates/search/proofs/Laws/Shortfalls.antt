@@ -1,71 +1,101 @@
 -- How far outside its limits the leaving variable is, over D.
---   scaled-within        D times a value is no more than largestNumerator, of a tableau that a search may read
---   shortfall-within     .. and the shortfall no more than largestShortfall
+--   scaled-modest        D times a value is no more than largestNumerator, and its small part than largestSmall,
+--                        of a tableau that a search may read
+--   shortfall-within     the shortfall is no more than largestShortfall, and its small part than 19,327,352,823
 --   shortfall-above      above 0, of a tableau that stands for a state
 use mathlib.Core.Bool.{Bool, cond, false, true}
 use mathlib.Core.Option.{Option, Option·none-ne-some, none, some}
-use mathlib.Core.Path.{_≡_, refl, sym, _∙_}
+use mathlib.Core.Path.{_≡_, sym, _∙_}
 use Prim.Native.Nat.{ℕ, _+_, _≤_}
 use native.Mathlib.Omega.{arith}
-use lib.IntN.{ℤ, pos}
-use lib.Signed.{_<ℤ_}
+use lib.IntN.{ℤ, _*ℤ_, _-ℤ_}
 use Rattle.whole.specs.Numbers.{Within}
-use Rattle.whole.specs.Values.{whole}
+use Rattle.whole.specs.Values.{Lt, pairs}
 use Rattle.whole.proofs.Below.{lowest-some}
-use Rattle.whole.proofs.Instances.{whole-laws}
-use Rattle.whole.proofs.Order.{true→lt}
+use Rattle.whole.proofs.Beside.{pairs-laws}
 use Rattle.whole.proofs.Sizes.{within--, within-*, within-le}
-use Rattle.rules.specs.Limit.{present}
-use Rattle.rules.specs.Problem.{Problem}
-use Rattle.rules.specs.Sizes.{largestLimit, largestNumber, largestNumerator, largestShortfall, mostColumns}
+use Rattle.rules.specs.Limit.{Limit, lowerPair, present, upperPair}
+use Rattle.rules.specs.Problem.{Problem, mapped}
+use Rattle.rules.specs.Sizes.{largestNumber, largestShortfall, largestSmall, mostColumns}
 use Rattle.rules.specs.Step.{Leaving, Side, State, above, below, leaves, seated, shortfallBy}
 use Rattle.rules.proofs.Leaves.{left}
 use Rattle.rules.proofs.Rule.{shortfall-positive}
 use Rattle.rules.proofs.Sound.{Rowed}
+use Rattle.tableau.specs.declared.Given.{Given}
 use Rattle.tableau.specs.declared.Tableau.{Tableau}
-use Rattle.tableau.specs.Parts.{rowOf, seatAt}
+use Rattle.tableau.specs.Amounts.{limitIn}
+use Rattle.tableau.specs.Parts.{lowerGiven, rowOf, seatAt, upperGiven}
 use Rattle.tableau.specs.Stands.{Stands}
 use Rattle.search.specs.Search.{Searchable, brokenAt, brokenLaid, leavingAt, leavingLaid, scaledAt, shortAt}
 use Rattle.search.specs.Search.{sideAt, tagged}
+use Rattle.search.specs.Sides.{Modest, leastIn, mostIn}
+use Rattle.search.proofs.Laws.Modest.{Near, lower-near, upper-near}
 use Rattle.search.proofs.Laws.Searches.{leaving-is}
-use Rattle.search.proofs.Laws.Sides.{gap-is}
+use Rattle.search.proofs.Laws.Sides.{gap-parts, stated}
 use Rattle.search.proofs.Laws.Sums.{row-within}
 
+-- the bounds of a shortfall
+pub record Short (x : ℤ × ℤ) : Type 0 where
+  pub plain : Within (x .0) largestShortfall
+  pub small : Within (x .1) (largestSmall + largestNumber)
+
 -- a limit that is missing counts as 0
-seated-within : (b : Bool) {z : ℤ} → Within z largestLimit → Within (seated whole (present b z)) largestLimit
-unfolding seated present
-seated-within true h = h
-seated-within false h = record { within = omega arith }
+seated-near : (f : Limit → ℤ × ℤ) (g : Given) → Near (f (stated g)) → Near (seated pairs (mapped f (limitIn g)))
+unfolding seated present mapped
+seated-near f g h = go (g .there)
+  where
+    go : (b : Bool) → Near (seated pairs (mapped f (present b (stated g))))
+    go true = h
+    go false = record { plain = record { within = omega arith }; small = record { within = omega arith } }
+
+module _ (d : ℤ) (x y : ℤ × ℤ) (c : Within d largestNumber) (h : Near x) (m : Modest y) where
+  below-short : Short (d *ℤ x .0 -ℤ y .0, d *ℤ x .1 -ℤ y .1)
+  below-short = record {
+    plain = within-- (within-* c (h .plain)) (m .plain);
+    small = within-- (within-* c (h .small)) (m .small);
+  }
+
+  above-short : Short (y .0 -ℤ d *ℤ x .0, y .1 -ℤ d *ℤ x .1)
+  above-short = record {
+    plain = within-- (m .plain) (within-* c (h .plain));
+    small = within-- (m .small) (within-* c (h .small));
+  }
 
 -- the shortfall of what is found is that of its variable and side
-tagged-short : (Q : ℤ → Type 0) (v : ℕ) (b : Bool) (o : Option Side) (short : Side → ℤ) → ((σ : Side) → Q (short σ)) →
-    (r : Leaving ℤ) → cond b (tagged v o short) none ≡ some r → Q (r .shortfall)
-tagged-short Q v false o short h r e = absurd (Option·none-ne-some r e)
-tagged-short Q v true none short h r e = absurd (Option·none-ne-some r e)
-tagged-short Q v true (some σ) short h r e = let z : _≡_ {A = Leaving ℤ} (leaves v σ (short σ)) r = cc in
-    rw (← z) (h σ)
+tagged-short : (v : ℕ) (b : Bool) (o : Option Side) (short : Side → ℤ × ℤ) → ((σ : Side) → Short (short σ)) →
+    (r : Leaving (ℤ × ℤ)) → cond b (tagged v o short) none ≡ some r → Short (r .shortfall)
+tagged-short v false o short h r e = absurd (Option·none-ne-some r e)
+tagged-short v true none short h r e = absurd (Option·none-ne-some r e)
+tagged-short v true (some σ) short h r e =
+    let z : _≡_ {A = Leaving (ℤ × ℤ)} (leaves v σ (short σ)) r = cc in rw (← z) (h σ)
 
 module _ (t : Tableau) (S : Searchable t) where
-  pub scaled-within : (v : ℕ) → Within (scaledAt t v) largestNumerator
-  scaled-within v =
-      within-le (row-within (t .rows) (t .columns) (t .entries) (t .values) (rowOf t v)
-      (S .cells .cell-within) (S .values-within) (t .columns))
-      (let h : t .columns ≤ mostColumns = S .few-columns in omega arith)
+  pub scaled-modest : (v : ℕ) → Modest (scaledAt t v)
+  scaled-modest v = let h : t .columns ≤ mostColumns = S .few-columns in record {
+    plain = within-le (row-within (t .rows) (t .columns) (t .entries) (t .values) (rowOf t v)
+        (S .cells .cell-within) (S .values-within) (t .columns)) (omega arith);
+    small = within-le (row-within (t .rows) (t .columns) (t .entries) (t .smalls) (rowOf t v)
+        (S .cells .cell-within) (S .smalls-within) (t .columns)) (omega arith);
+  }
 
-  short-within : (v : ℕ) (σ : Side) → Within (shortAt t v σ) largestShortfall
+  short-within : (v : ℕ) (σ : Side) → Short (shortAt t v σ)
   unfolding shortfallBy
-  short-within v below = rw (gap-is _ (scaledAt t v))
-      (within-- (within-* (S .cells .common-within) (seated-within _ (S .lowers-within v))) (scaled-within v))
-  short-within v above = rw (gap-is (scaledAt t v) _)
-      (within-- (scaled-within v) (within-* (S .cells .common-within) (seated-within _ (S .uppers-within v))))
+  short-within v below = let g = lowerGiven (t .limits) v in
+      rw (gap-parts (pairs .scale (t .common) (seated pairs (leastIn g))) (scaledAt t v))
+      (below-short (t .common) (seated pairs (leastIn g)) (scaledAt t v) (S .cells .common-within)
+      (seated-near lowerPair g (lower-near g (S .lowers-within v))) (scaled-modest v))
+  short-within v above = let g = upperGiven (t .limits) v in
+      rw (gap-parts (scaledAt t v) (pairs .scale (t .common) (seated pairs (mostIn g))))
+      (above-short (t .common) (seated pairs (mostIn g)) (scaledAt t v) (S .cells .common-within)
+      (seated-near upperPair g (upper-near g (S .uppers-within v))) (scaled-modest v))
 
-  pub shortfall-within : (r : Leaving ℤ) → leavingAt t ≡ some r → Within (r .shortfall) largestShortfall
+  pub shortfall-within : (r : Leaving (ℤ × ℤ)) → leavingAt t ≡ some r → Short (r .shortfall)
   unfolding leavingLaid brokenLaid
   shortfall-within r e = let f = lowest-some (t .rows + t .columns) (brokenAt t) r e in
-      tagged-short (λ z. Within z largestShortfall) (f .at) (seatAt t (f .at) .basic) (sideAt t (f .at)) (shortAt t (f .at))
-      (short-within (f .at)) r (f .is)
+      tagged-short (f .at) (seatAt t (f .at) .basic) (sideAt t (f .at)) (shortAt t (f .at)) (short-within (f .at)) r
+      (f .is)
 
-module _ (P : Problem ℤ) (t : Tableau) (s : State ℤ) (St : Stands P t s) (R : Rowed whole P s) where
-  pub shortfall-above : (r : Leaving ℤ) → leavingAt t ≡ some r → pos 0 <ℤ r .shortfall
-  shortfall-above r e = true→lt (shortfall-positive whole whole-laws P s r
-      (left whole P s r (sym (leaving-is P t s St R) ∙ e)))
+module _ (P : Problem (ℤ × ℤ)) (t : Tableau) (s : State (ℤ × ℤ)) (St : Stands P t s) (R : Rowed pairs P s) where
+  pub shortfall-above : (r : Leaving (ℤ × ℤ)) → leavingAt t ≡ some r → Lt pairs (pairs .nil) (r .shortfall)
+  shortfall-above r e = shortfall-positive pairs pairs-laws P s r
+      (left pairs P s r (sym (leaving-is P t s St R) ∙ e))

@@ -1,5 +1,6 @@
--- By which limit a value is outside, and when a variable suits, over plain numbers.
---   gap-is                           a gap of whole numbers is their difference
+-- By which limit a value is outside, and when a variable suits, over pairs.
+--   stated                           the limit of a record
+--   gap-parts                        a gap of pairs is the difference of their parts
 --   breach-under, -over, -none       the breach by the two tests
 --   under-, over-, rise-, fall-, suits-joined       the tests, joined without a branch
 use Prim.Native.Nat.{ℕ, zero, suc}
@@ -10,80 +11,119 @@ use mathlib.Core.Option.{Option, none}
 use native.Mathlib.Omega.{arith}
 use borrow.Author.Tests.{ne-eqb}
 use lib.Dec.{leb·suc-zero}
-use lib.IntN.{ℤ, pos, negsuc, _*ℤ_, _-ℤ_}
+use lib.IntN.{ℤ, pos, negsuc, _-ℤ_}
 use lib.Signed.{ltZ}
 use Rattle.whole.specs.Numbers.{eqZ}
-use Rattle.whole.specs.Values.{whole}
+use Rattle.whole.specs.Values.{pairs, whole}
 use Rattle.whole.proofs.Bools.{true-false}
 use Rattle.whole.proofs.Reify.{reify}
 use Rattle.whole.proofs.Tools.{ring-at}
-use Rattle.rules.specs.Limit.{present}
+use Rattle.rules.specs.Limit.{Limit, lowerPair, present, upperPair}
+use Rattle.rules.specs.Problem.{mapped}
 use Rattle.rules.specs.Step.{Side, above, below, gap, mayFall, mayRise, over, pull, seated, shortfallBy, suits, under}
+use Rattle.tableau.specs.declared.Given.{Given}
+use Rattle.tableau.specs.Amounts.{amountOf, givenLower, givenUpper}
 use Rattle.search.specs.declared.sides.LimitPair.{LimitPair}
-use Rattle.search.specs.Sides.{sideFrom, sideOf, asBreach, lowerIn, upperIn, breachOf, suitsOf}
+use Rattle.search.specs.Sides.{sideFrom, sideOf, asBreach, leastIn, mostIn, lowerIn, upperIn, breachOf, suitsOf}
 
-pub gap-is : (x y : ℤ) → gap whole x y ≡ x -ℤ y
+gap-is : (x y : ℤ) → gap whole x y ≡ x -ℤ y
 gap-is x y = ring-at (x ∷ y ∷ []) (search reify depth 30) refl
 
+pub gap-parts : (x y : ℤ × ℤ) → gap pairs x y ≡ (x .0 -ℤ y .0, x .1 -ℤ y .1)
+gap-parts x y = ap₂ (λ a b. (a, b)) (gap-is (x .0) (y .0)) (gap-is (x .1) (y .1))
+
+-- the limit of a record, where there is one
+abbrev pub stated : Given → Limit
+stated g = record { plain = g .plain; strict = g .strict }
+
 -- a limit that is there
-is-there : (b : Bool) (z x : ℤ) (test : Option ℤ → Bool) → test none ≡ false → test (present b z) ≡ true →
-    seated whole (present b z) ≡ z
-unfolding seated present
-is-there true z x test n e = refl
-is-there false z x test n e = true-false e n
+is-there : (f : Limit → ℤ × ℤ) (b : Bool) (l : Limit) (test : Option (ℤ × ℤ) → Bool) → test none ≡ false →
+    test (mapped f (present b l)) ≡ true → seated pairs (mapped f (present b l)) ≡ f l
+unfolding seated present mapped
+is-there f true l test n e = refl
+is-there f false l test n e = true-false e n
 
-module _ (d x : ℤ) (p : LimitPair) where
-  abbrev short : Side → ℤ
-  short = shortfallBy whole d x (lowerIn p) (upperIn p)
+module _ (d : ℤ) (x : ℤ × ℤ) (p : LimitPair) where
+  abbrev short : Side → ℤ × ℤ
+  short = shortfallBy pairs d x (lowerIn p) (upperIn p)
 
-  short-below : under whole d x (lowerIn p) ≡ true → short below ≡ d *ℤ p .lower -ℤ x
+  short-below : under pairs d x (lowerIn p) ≡ true → short below ≡ gap pairs (pairs .scale d (givenLower (p .lower))) x
   unfolding shortfallBy under
-  short-below e = gap-is (d *ℤ seated whole (lowerIn p)) x
-      ∙ ap (λ l. d *ℤ l -ℤ x) (is-there (p .lowers) (p .lower) x (under whole d x) refl e)
+  short-below e = ap (λ l. gap pairs (pairs .scale d l) x)
+      (is-there lowerPair (p .lower .there) (stated (p .lower)) (under pairs d x) refl e)
 
-  short-above : over whole d x (upperIn p) ≡ true → short above ≡ x -ℤ d *ℤ p .upper
+  short-above : over pairs d x (upperIn p) ≡ true → short above ≡ gap pairs x (pairs .scale d (givenUpper (p .upper)))
   unfolding shortfallBy over
-  short-above e = gap-is x (d *ℤ seated whole (upperIn p))
-      ∙ ap (λ u. x -ℤ d *ℤ u) (is-there (p .uppers) (p .upper) x (over whole d x) refl e)
+  short-above e = ap (λ u. gap pairs x (pairs .scale d u))
+      (is-there upperPair (p .upper .there) (stated (p .upper)) (over pairs d x) refl e)
 
-  pub breach-under : under whole d x (lowerIn p) ≡ true →
-      record { violated = true; rises = true; shortfall = d *ℤ p .lower -ℤ x } ≡ breachOf d x p
+  pub breach-under : under pairs d x (lowerIn p) ≡ true →
+      record {
+        violated = true;
+        rises = true;
+        shortfall = amountOf (gap pairs (pairs .scale d (givenLower (p .lower))) x);
+      }
+      ≡ breachOf d x p
   unfolding breachOf sideOf
-  breach-under e = ap (λ z. record { violated = true; rises = true; shortfall = z }) (sym (short-below e))
-      ∙ sym (ap (λ t. asBreach (sideFrom t (over whole d x (upperIn p))) short) e)
+  breach-under e = ap (λ z. record { violated = true; rises = true; shortfall = amountOf z }) (sym (short-below e))
+      ∙ sym (ap (λ t. asBreach (sideFrom t (over pairs d x (upperIn p))) short) e)
 
-  pub breach-over : under whole d x (lowerIn p) ≡ false → over whole d x (upperIn p) ≡ true →
-      record { violated = true; rises = false; shortfall = x -ℤ d *ℤ p .upper } ≡ breachOf d x p
+  pub breach-over : under pairs d x (lowerIn p) ≡ false → over pairs d x (upperIn p) ≡ true →
+      record {
+        violated = true;
+        rises = false;
+        shortfall = amountOf (gap pairs x (pairs .scale d (givenUpper (p .upper))));
+      }
+      ≡ breachOf d x p
   unfolding breachOf sideOf
-  breach-over e f = ap (λ z. record { violated = true; rises = false; shortfall = z }) (sym (short-above f))
+  breach-over e f = ap (λ z. record { violated = true; rises = false; shortfall = amountOf z }) (sym (short-above f))
       ∙ sym (ap₂ (λ t o. asBreach (sideFrom t o) short) e f)
 
-  pub breach-none : under whole d x (lowerIn p) ≡ false → over whole d x (upperIn p) ≡ false →
-      record { violated = false; rises = false; shortfall = pos 0 } ≡ breachOf d x p
+  pub breach-none : under pairs d x (lowerIn p) ≡ false → over pairs d x (upperIn p) ≡ false →
+      record { violated = false; rises = false; shortfall = amountOf (pairs .nil) } ≡ breachOf d x p
   unfolding breachOf sideOf
   breach-none e f = sym (ap₂ (λ t o. asBreach (sideFrom t o) short) e f)
 
 -- ---- the tests without a branch
 
-pub under-joined : (b : Bool) (l d x : ℤ) → (b && ltZ x (d *ℤ l)) ≡ under whole d x (present b l)
-unfolding under present
-under-joined true l d x = refl
-under-joined false l d x = refl
+-- .. of a limit l, which is there where b says so
+module _ (f : Limit → ℤ × ℤ) (l : Limit) where
+  under-there : (b : Bool) (d : ℤ) (x : ℤ × ℤ) →
+      (b && pairs .less x (pairs .scale d (f l))) ≡ under pairs d x (mapped f (present b l))
+  unfolding under present mapped
+  under-there true d x = refl
+  under-there false d x = refl
 
-pub over-joined : (b : Bool) (u d x : ℤ) → (b && ltZ (d *ℤ u) x) ≡ over whole d x (present b u)
-unfolding over present
-over-joined true u d x = refl
-over-joined false u d x = refl
+  over-there : (b : Bool) (d : ℤ) (x : ℤ × ℤ) →
+      (b && pairs .less (pairs .scale d (f l)) x) ≡ over pairs d x (mapped f (present b l))
+  unfolding over present mapped
+  over-there true d x = refl
+  over-there false d x = refl
 
-pub rise-joined : (b : Bool) (u x : ℤ) → (not b || ltZ x u) ≡ mayRise whole x (present b u)
-unfolding mayRise present
-rise-joined true u x = refl
-rise-joined false u x = refl
+  rise-there : (b : Bool) (x : ℤ × ℤ) → (not b || pairs .less x (f l)) ≡ mayRise pairs x (mapped f (present b l))
+  unfolding mayRise present mapped
+  rise-there true x = refl
+  rise-there false x = refl
 
-pub fall-joined : (b : Bool) (l x : ℤ) → (not b || ltZ l x) ≡ mayFall whole x (present b l)
-unfolding mayFall present
-fall-joined true l x = refl
-fall-joined false l x = refl
+  fall-there : (b : Bool) (x : ℤ × ℤ) → (not b || pairs .less (f l) x) ≡ mayFall pairs x (mapped f (present b l))
+  unfolding mayFall present mapped
+  fall-there true x = refl
+  fall-there false x = refl
+
+module _ (g : Given) where
+  pub under-joined : (d : ℤ) (x : ℤ × ℤ) →
+      (g .there && pairs .less x (pairs .scale d (givenLower g))) ≡ under pairs d x (leastIn g)
+  under-joined = under-there lowerPair (stated g) (g .there)
+
+  pub over-joined : (d : ℤ) (x : ℤ × ℤ) →
+      (g .there && pairs .less (pairs .scale d (givenUpper g)) x) ≡ over pairs d x (mostIn g)
+  over-joined = over-there upperPair (stated g) (g .there)
+
+  pub rise-joined : (x : ℤ × ℤ) → (not (g .there) || pairs .less x (givenUpper g)) ≡ mayRise pairs x (mostIn g)
+  rise-joined = rise-there upperPair (stated g) (g .there)
+
+  pub fall-joined : (x : ℤ × ℤ) → (not (g .there) || pairs .less (givenLower g) x) ≡ mayFall pairs x (leastIn g)
+  fall-joined = fall-there lowerPair (stated g) (g .there)
 
 not-below : (k : ℕ) → ltZ (pos (suc k)) (pos 0) ≡ false
 not-below k = leb·suc-zero (suc k)
@@ -93,9 +133,9 @@ first-alone true = refl
 first-alone false = refl
 
 -- the sign of the entry says which of the two tests counts
-module _ (x : ℤ) (p : LimitPair) where
+module _ (x : ℤ × ℤ) (p : LimitPair) where
   abbrev pub joined : Bool → Bool → Bool
-  joined idle falls = not idle && ((falls && mayFall whole x (lowerIn p)) || (not falls && mayRise whole x (upperIn p)))
+  joined idle falls = not idle && ((falls && mayFall pairs x (lowerIn p)) || (not falls && mayRise pairs x (upperIn p)))
 
   abbrev pub falls : Bool → ℤ → Bool
   falls rises e = Bool·beq (ltZ e (pos 0)) rises
@@ -108,6 +148,6 @@ module _ (x : ℤ) (p : LimitPair) where
       ap₂ (λ z b. joined z (Bool·beq b true)) (ne-eqb (suc k) 0 (λ e. omega arith)) (not-below k)
   suits-joined false (pos (suc k)) =
       ap₂ (λ z b. joined z (Bool·beq b false)) (ne-eqb (suc k) 0 (λ e. omega arith)) (not-below k)
-      ∙ first-alone (mayFall whole x (lowerIn p))
-  suits-joined true (negsuc k) = first-alone (mayFall whole x (lowerIn p))
+      ∙ first-alone (mayFall pairs x (lowerIn p))
+  suits-joined true (negsuc k) = first-alone (mayFall pairs x (lowerIn p))
   suits-joined false (negsuc k) = refl

@@ -5,10 +5,11 @@
 use mathlib.Core.Bool.{Bool, true, false, cond}
 use mathlib.Core.List.{List}
 use mathlib.Core.Option.{Option, none, some, Option·none-ne-some}
-use mathlib.Core.Path.{_≡_, ap, refl, _∙_}
+use mathlib.Core.Path.{_≡_, ap, ap₂, refl, _∙_}
 use Prim.Native.Nat.{ℕ, _+_, _<_}
-use lib.IntN.{ℤ, _*ℤ_}
-use Rattle.whole.specs.Values.{whole}
+use lib.IntN.{ℤ, pos, _*ℤ_}
+use lib.ListN.{getD}
+use Rattle.whole.specs.Values.{pairs}
 use Rattle.whole.proofs.Below.{lowest-some}
 use Rattle.whole.proofs.Bools.{zero-one}
 use Rattle.whole.proofs.Sums.{sum-same}
@@ -17,7 +18,7 @@ use Rattle.rules.specs.Step.{Side, Leaving, shortfallBy, pull, suits}
 use Rattle.tableau.specs.declared.Tableau.{Tableau}
 use Rattle.pivot.specs.Layout.{Order}
 use Rattle.pivot.specs.TwoOrders.{SameCells}
-use Rattle.tableau.specs.Parts.{valueAt, seatAt, rowOf, columnOf, lowerOf, upperOf}
+use Rattle.tableau.specs.Parts.{valueAt, seatAt, rowOf, columnOf, lowestOf, highestOf}
 use Rattle.tableau.specs.Pivot.{withNumbers}
 use Rattle.search.specs.declared.Choice.{Choice}
 use Rattle.search.specs.declared.Next.the-variants as variants
@@ -29,7 +30,7 @@ use Rattle.search.specs.Search.{fittingLaid, entersLaid, enteringLaid, n
 -- ---- the places that a search names
 
 module _ (o : Order) {t : Tableau} (S : Searchable t) where
-  broken-row : (v : ℕ) (r : Leaving ℤ) → v < t .rows + t .columns → brokenLaid o t v ≡ some r →
+  broken-row : (v : ℕ) (r : Leaving (ℤ × ℤ)) → v < t .rows + t .columns → brokenLaid o t v ≡ some r →
       rowOf t (r .variable) < t .rows
   unfolding brokenLaid
   broken-row v r h = go (seatAt t v .basic) (sideLaid o t v) refl
@@ -40,7 +41,7 @@ module _ (o : Order) {t : Tableau} (S : Searchable t) where
       go true none e f = absurd (Option·none-ne-some r f)
       go false x e f = absurd (Option·none-ne-some r f)
 
-  leaving-row : (r : Leaving ℤ) → leavingLaid o t ≡ some r → rowOf t (r .variable) < t .rows
+  leaving-row : (r : Leaving (ℤ × ℤ)) → leavingLaid o t ≡ some r → rowOf t (r .variable) < t .rows
   unfolding leavingLaid
   leaving-row r e = let f = lowest-some (t .rows + t .columns) (brokenLaid o t) r e in
       broken-row (f .at) r (f .in-range) (f .is)
@@ -67,14 +68,14 @@ module _ (o : Order) {t : Tableau} (S : Searchable t) where
   unfolding nextLaid nextByLaid moveBy
   pivot-places c = go (leavingLaid o t) refl
     where
-      by : (r : Leaving ℤ) (x : Option ℕ) → enteringLaid o t (rowOf t (r .variable)) (r .side) ≡ x →
+      by : (r : Leaving (ℤ × ℤ)) (x : Option ℕ) → enteringLaid o t (rowOf t (r .variable)) (r .side) ≡ x →
           rowOf t (r .variable) < t .rows → moveBy t r x ≡ variants.Pivot c →
           (c .row .0 < t .rows) × (c .column .0 < t .columns)
       by r none e h f = let z : _≡_ {A = ℕ} 0 1 = cc in zero-one z
       by r (some w) e h f = let z : choiceAt t r w ≡ c = cc in
           rw (← z) (h, entering-column (rowOf t (r .variable)) (r .side) w e)
 
-      go : (x : Option (Leaving ℤ)) → leavingLaid o t ≡ x → nextByLaid o t x ≡ variants.Pivot c →
+      go : (x : Option (Leaving (ℤ × ℤ))) → leavingLaid o t ≡ x → nextByLaid o t x ≡ variants.Pivot c →
           (c .row .0 < t .rows) × (c .column .0 < t .columns)
       go none e f = let z : _≡_ {A = ℕ} 0 1 = cc in zero-one z
       go (some r) e f = by r (enteringLaid o t (rowOf t (r .variable)) (r .side)) refl (leaving-row r e) f
@@ -87,10 +88,11 @@ module _ {o u : Order} {t : Tableau} {l : List ℤ} (C : SameCells o u (t .rows)
   abbrev s : Tableau
   s = withNumbers t (t .common) l
 
-  pub row-same : (i : ℕ) → i < t .rows → rowSumLaid o (t .rows) (t .columns) (t .entries) (t .values) i
-      ≡ rowSumLaid u (t .rows) (t .columns) l (t .values) i
+  -- plain parts or small parts
+  pub row-same : (x : List ℤ) (i : ℕ) → i < t .rows →
+      rowSumLaid o (t .rows) (t .columns) (t .entries) x i ≡ rowSumLaid u (t .rows) (t .columns) l x i
   unfolding sumLaid
-  row-same i h = sum-same (t .columns) _ _ (λ j k. ap (λ z. z *ℤ valueAt t j) (C .same-cell i j h k))
+  row-same x i h = sum-same (t .columns) _ _ (λ j k. ap (λ z. z *ℤ getD x j (pos 0)) (C .same-cell i j h k))
 
   broken-same : (v : ℕ) → v < t .rows + t .columns → brokenLaid o t v ≡ brokenLaid u s v
   unfolding brokenLaid
@@ -99,9 +101,10 @@ module _ {o u : Order} {t : Tableau} {l : List ℤ} (C : SameCells o u (t .rows)
       go : (b : Bool) → seatAt t v .basic ≡ b →
           cond b (tagged v (sideLaid o t v) (shortLaid o t v)) none
           ≡ cond b (tagged v (sideLaid u s v) (shortLaid u s v)) none
-      go true e = ap (λ z. tagged v (sideOf (t .common) z (lowerOf (t .limits) v) (upperOf (t .limits) v))
-          (shortfallBy whole (t .common) z (lowerOf (t .limits) v) (upperOf (t .limits) v)))
-          (row-same (rowOf t v) (S .row-seats v h e))
+      go true e = ap₂ (λ y z. tagged v (sideOf (t .common) (y, z) (lowestOf (t .limits) v) (highestOf (t .limits) v))
+          (shortfallBy pairs (t .common) (y, z) (lowestOf (t .limits) v) (highestOf (t .limits) v)))
+          (row-same (t .values) (rowOf t v) (S .row-seats v h e))
+          (row-same (t .smalls) (rowOf t v) (S .row-seats v h e))
       go false e = refl
 
   leaving-same : leavingLaid o t ≡ leavingLaid u s
@@ -117,14 +120,14 @@ module _ {o u : Order} {t : Tableau} {l : List ℤ} (C : SameCells o u (t .rows)
             cond b none (cond (fittingLaid o t i σ w) (some w) none)
             ≡ cond b none (cond (fittingLaid u s i σ w) (some w) none)
         go true e = refl
-        go false e = ap (λ z. cond (suits whole (pull σ z) (some (valueAt t (columnOf t w))) (lowerOf (t .limits) w)
-            (upperOf (t .limits) w)) (some w) none) (C .same-cell i (columnOf t w) h (S .column-seats w k e))
+        go false e = ap (λ z. cond (suits pairs (pull σ z) (some (valueAt t (columnOf t w))) (lowestOf (t .limits) w)
+            (highestOf (t .limits) w)) (some w) none) (C .same-cell i (columnOf t w) h (S .column-seats w k e))
 
     entering-same : enteringLaid o t i σ ≡ enteringLaid u s i σ
     unfolding enteringLaid
     entering-same = lowest-same (entersLaid o t i σ) (entersLaid u s i σ) (t .rows + t .columns) enters-same
 
-  move-same : (r : Leaving ℤ) (x : Option ℕ) → moveBy t r x ≡ moveBy s r x
+  move-same : (r : Leaving (ℤ × ℤ)) (x : Option ℕ) → moveBy t r x ≡ moveBy s r x
   unfolding moveBy
   move-same r none = refl
   move-same r (some w) = refl
@@ -133,7 +136,7 @@ module _ {o u : Order} {t : Tableau} {l : List ℤ} (C : SameCells o u (t .rows)
   unfolding nextLaid nextByLaid
   next-same = go (leavingLaid o t) refl ∙ ap (nextByLaid u s) leaving-same
     where
-      go : (x : Option (Leaving ℤ)) → leavingLaid o t ≡ x → nextByLaid o t x ≡ nextByLaid u s x
+      go : (x : Option (Leaving (ℤ × ℤ))) → leavingLaid o t ≡ x → nextByLaid o t x ≡ nextByLaid u s x
       go none e = refl
       go (some r) e = ap (moveBy t r) (entering-same (rowOf t (r .variable)) (leaving-row o S r e) (r .side))
           ∙ move-same r _

@@ -2,7 +2,7 @@
 -- variable passed enters. The measures are the variables that are left. Assumes nothing.
 use mathlib.Core.Bool.{Bool, false, true}
 use mathlib.Core.Option.{Option, none, some}
-use mathlib.Core.Path.{_≡_, ap, sym, _∙_}
+use mathlib.Core.Path.{_≡_, ap, ap₂, sym, _∙_}
 use Prim.Native.Nat.{ℕ, _+_, _-_, _<_, _≤_}
 use native.Mathlib.Omega.{arith}
 use borrow.Author.Needs.{needs, sfits-of}
@@ -13,16 +13,16 @@ use mir.Syntax.{w32, w64}
 use mir.Val.{SFits}
 use Rattle.whole.specs.Below.{lowest}
 use Rattle.whole.proofs.Turns.{lowest-start, lowest-more, lowest-here}
-use Rattle.whole.specs.Numbers.{Within}
-use Rattle.whole.specs.Values.{whole}
-use Rattle.rules.specs.Sizes.{largestNumerator, mostColumns, mostVariables}
+use Rattle.whole.specs.Values.{pairs}
+use Rattle.rules.specs.Sizes.{mostColumns, mostVariables}
 use Rattle.rules.specs.Step.{Side, leaves, pull, suits}
 use Rattle.tableau.specs.declared.Tableau.{Tableau}
-use Rattle.tableau.specs.Parts.{columnOf, lowerOf, rowOf, seatAt, upperOf, valueAt}
+use Rattle.tableau.specs.Amounts.{pairOf}
+use Rattle.tableau.specs.Parts.{columnOf, highestOf, lowestOf, plainAt, rowOf, seatAt, smallAt, valueAt}
 use Rattle.search.specs.declared.sides.Breach.{Breach}
-use Rattle.search.specs.Sides.{asBreach, breachAt, breachOf, sideBy, suitsOf}
+use Rattle.search.specs.Sides.{Modest, asBreach, breachAt, breachOf, sideBy, suitsOf}
 use Rattle.search.specs.Search.{shortAt, sideAt, fitting, brokenAt, enteringOf, leavingAt, leavingLaid}
-use Rattle.search.specs.Search.{enteringLaid, seen}
+use Rattle.search.specs.Search.{enteringLaid, scaledAt, seen}
 use Rattle.search.proofs.Laws.Choices.{
   no-breach,
   some-breach,
@@ -37,26 +37,27 @@ use Rattle.search.proofs.Laws.Choices.{
   next-stuck,
   next-pivot,
 }
-use Rattle.search.proofs.Laws.Shortfalls.{scaled-within}
+use Rattle.search.proofs.Laws.Shortfalls.{scaled-modest}
 use Rattle.search.proofs.next_step.Statement.{statement}
 use Rattle.search.proofs.next_step.Tie as tie
 
 abbrev Inv-loop : tie.InvT-loop
-Inv-loop entries view size end at row value rises shortfall w₀ w =
-    (w .0 ≤ end) × (lowest (w .0) (enteringOf (seen entries view) (row .0) (sideBy rises)) ≡ none)
+Inv-loop entries view limits size end at row plain small rises shortfall w₀ w =
+    (w .0 ≤ end) × (lowest (w .0) (enteringOf (seen entries view limits) (row .0) (sideBy rises)) ≡ none)
 
 abbrev μ-loop : tie.MeasureT-loop
-μ-loop entries view size end at row value rises shortfall w₀ w = end - w .0
+μ-loop entries view limits size end at row plain small rises shortfall w₀ w = end - w .0
 
 abbrev Inv-search : tie.InvT-search
-Inv-search entries view size end v₀ v = (lowest (v .0) (brokenAt (seen entries view)) ≡ none) × (v .0 ≤ end)
+Inv-search entries view limits size end v₀ v =
+    (lowest (v .0) (brokenAt (seen entries view limits)) ≡ none) × (v .0 ≤ end)
 
 abbrev μ-search : tie.MeasureT-search
-μ-search entries view size end v₀ v = end - v .0
+μ-search entries view limits size end v₀ v = end - v .0
 
 -- the tableau that the search reads
 abbrev read : tie.Start Inv-loop μ-loop Inv-search μ-search → Tableau
-read s = seen (s .args .entries .now) (s .args .t2)
+read s = seen (s .args .entries .now) (s .args .t2) (s .args .t3)
 
 add-end : tie.Need-add-end Inv-loop μ-loop Inv-search μ-search
 add-end c = omega arith
@@ -122,39 +123,63 @@ row-value-requires : tie.Need-row-value-requires Inv-loop μ-loop Inv-search μ-
 row-value-requires c κs = let o = c .before .before .before in let s = start (outer o) in
     ((s .pre .few-rows, s .pre .few-columns, row-small o), (s .pre .cells .cell-within, s .pre .values-within))
 
-limits-of-requires : tie.Need-limits-of-requires Inv-loop μ-loop Inv-search μ-search
-limits-of-requires c κs = few (outer (c .before .before .before .before .before .before .before .before .before))
+row-small-requires : tie.Need-row-small-requires Inv-loop μ-loop Inv-search μ-search
+row-small-requires c κs = let o = c .before .before .before .before .before .before in let s = start (outer o) in (
+  (s .pre .few-rows, s .pre .few-columns, row-small o),
+  (s .pre .cells .cell-within, (s .pre .smalls-within, s .pre .smalls-plain)),
+)
 
--- its limits
-module _ (c : tie.After-limits-of Inv-loop μ-loop Inv-search μ-search) where
+-- D times its value
+module _ (c : tie.After-row-small Inv-loop μ-loop Inv-search μ-search) where
   abbrev valued : tie.After-row-value Inv-loop μ-loop Inv-search μ-search
-  valued = c .before .before .before .before .before .before
+  valued = c .before .before .before
 
   abbrev basic-one : tie.Else2 Inv-loop μ-loop Inv-search μ-search
   basic-one = valued .before .before .before .before
 
-  fit-value : SFits w64 (valued .row-value .result)
-  fit-value = search needs
+  fit-plain : SFits w64 (valued .row-value .result)
+  fit-plain = search needs
 
-  within-value : Within (valued .row-value .result) largestNumerator
-  within-value = let o = outer basic-one in
-      rw (valued .row-value .ensures) (scaled-within _ (start o .pre) (number o))
+  fit-small : SFits w64 (c .row-small .result)
+  fit-small = search needs
+
+  abbrev value : ℤ × ℤ
+  value = (valued .row-value .result, c .row-small .result)
+
+  value-is : value ≡ scaledAt (old (outer basic-one)) (number (outer basic-one))
+  value-is = ap₂ (λ x y. (x, y)) (valued .row-value .ensures) (c .row-small .ensures)
+
+  value-modest : Modest value
+  value-modest = let o = outer basic-one in rw value-is (scaled-modest _ (start o .pre) (number o))
+
+-- its limits
+mul-t31 : tie.Need-mul-t31 Inv-loop μ-loop Inv-search μ-search
+mul-t31 c = let z = few (outer (basic-one c)) in omega arith
+
+element-copy-out-t39 : tie.Need-element-copy-out-t39 Inv-loop μ-loop Inv-search μ-search
+element-copy-out-t39 c = few (outer (basic-one c))
+
+mul-t40 : tie.Need-mul-t40 Inv-loop μ-loop Inv-search μ-search
+mul-t40 c = let z = few (outer (basic-one (c .before))) in omega arith
+
+element-copy-out-t43 : tie.Need-element-copy-out-t43 Inv-loop μ-loop Inv-search μ-search
+element-copy-out-t43 c = few (outer (basic-one (c .before)))
 
 fit-common : (s : tie.Start Inv-loop μ-loop Inv-search μ-search) → SFits w32 (read s .common)
 fit-common s = search needs
 
 breach-of-requires : tie.Need-breach-of-requires Inv-loop μ-loop Inv-search μ-search
-breach-of-requires c κs = let o = outer (basic-one (c .before)) in
+breach-of-requires c κs = let v = c .before .before .before in let o = outer (basic-one v) in
     let p = start o .pre in
-    simp (toZ-ofZ (fit-common (start o)), c .before .limits-of .ensures, toZ-ofZ (fit-value (c .before))) (
+    simp (toZ-ofZ (fit-common (start o)), toZ-ofZ (fit-plain v), toZ-ofZ (fit-small v)) (
       (p .cells .common-within, p .lowers-within (number o), p .uppers-within (number o)),
-      within-value (c .before),
+      value-modest v,
     )
 
 -- .. and by which it is outside
 module _ (c : tie.After-breach-of Inv-loop μ-loop Inv-search μ-search) where
-  abbrev bounded : tie.After-limits-of Inv-loop μ-loop Inv-search μ-search
-  bounded = c .before .before
+  abbrev bounded : tie.After-row-small Inv-loop μ-loop Inv-search μ-search
+  bounded = c .before .before .before .before
 
   abbrev here : tie.Else1 Inv-loop μ-loop Inv-search μ-search
   here = outer (basic-one bounded)
@@ -166,19 +191,16 @@ module _ (c : tie.After-breach-of Inv-loop μ-loop Inv-search μ-search) where
   abbrev side : Option Side
   side = sideAt (old here) (number here)
 
-  abbrev short : Side → ℤ
+  abbrev short : Side → ℤ × ℤ
   short = shortAt (old here) (number here)
-
-  fit-short : SFits w64 (found .shortfall)
-  fit-short = search needs
 
   breach-is : found ≡ asBreach side short
   unfolding breachOf
   breach-is = let l = old here .limits in
-      (simp (toZ-ofZ (fit-common (start here)), toZ-ofZ (fit-value bounded), bounded .limits-of .ensures)
+      (simp (toZ-ofZ (fit-common (start here)), toZ-ofZ (fit-plain bounded), toZ-ofZ (fit-small bounded))
       at (c .breach-of .ensures))
-      ∙ ap (λ x. breachAt (old here .common) x (lowerOf l (number here)) (upperOf l (number here)))
-      (valued bounded .row-value .ensures)
+      ∙ ap (λ x. breachAt (old here .common) x (lowestOf l (number here)) (highestOf l (number here)))
+      (value-is bounded)
 
   within-here : found .violated ≡ false → brokenAt (old here) (number here) ≡ none
   within-here e = broken-within (old here) (number here) (is-basic (basic-one bounded))
@@ -188,11 +210,12 @@ module _ (c : tie.After-breach-of Inv-loop μ-loop Inv-search μ-search) where
     outside-by : asBreach side short .violated ≡ true
     outside-by = sym (ap (λ b. b .violated) breach-is) ∙ e
 
-    short-here : short (sideBy (found .rises)) ≡ found .shortfall
+    short-here : short (sideBy (found .rises)) ≡ pairOf (found .shortfall)
     short-here = ap (λ b. short (sideBy (b .rises))) breach-is ∙ breach-short short side outside-by
-        ∙ ap (λ b. b .shortfall) (sym breach-is)
+        ∙ ap (λ b. pairOf (b .shortfall)) (sym breach-is)
 
-    leaving-here : leavingAt (old here) ≡ some (leaves (number here) (sideBy (found .rises)) (found .shortfall))
+    leaving-here : leavingAt (old here)
+        ≡ some (leaves (number here) (sideBy (found .rises)) (pairOf (found .shortfall)))
     unfolding leavingLaid
     leaving-here = lowest-here (brokenAt (old here)) (old here .rows + old here .columns) (number here) _
         (in-range here) (none-before here)
@@ -294,51 +317,62 @@ entry-at-requires : tie.Need-entry-at-requires Inv-loop μ-loop Inv-search μ-se
 entry-at-requires c κs = let o = c .before .before in let p = start (it o) .pre in
     (row-small (basic-one (bounded (outside (inner o)))), column-small o, p .few-rows, p .few-columns)
 
-limits-of-requires-2 : tie.Need-limits-of-requires-2 Inv-loop μ-loop Inv-search μ-search
-limits-of-requires-2 c κs = other-few (inner (c .before .before .before .before .before .before .before .before))
-
--- its entry, and its limits
-abbrev entered-by : tie.After-limits-of2 Inv-loop μ-loop Inv-search μ-search →
-    tie.After-entry-at Inv-loop μ-loop Inv-search μ-search
-entered-by c = c .before .before .before .before .before .before
-
-abbrev free-by : tie.After-limits-of2 Inv-loop μ-loop Inv-search μ-search →
+-- its limits and its value
+abbrev free-by : tie.After-entry-at Inv-loop μ-loop Inv-search μ-search →
     tie.Else5 Inv-loop μ-loop Inv-search μ-search
-free-by c = entered-by c .before .before .before
+free-by c = c .before .before .before
 
-mul-suits : tie.Need-mul-suits Inv-loop μ-loop Inv-search μ-search
-mul-suits c = let z = column-few (free-by c) in omega arith
+mul-t46 : tie.Need-mul-t46 Inv-loop μ-loop Inv-search μ-search
+mul-t46 c = let z = other-few (inner (free-by c)) in omega arith
 
-element-copy-out-suits : tie.Need-element-copy-out-suits Inv-loop μ-loop Inv-search μ-search
-element-copy-out-suits c = column-few (free-by c)
+element-copy-out-t53 : tie.Need-element-copy-out-t53 Inv-loop μ-loop Inv-search μ-search
+element-copy-out-t53 c = other-few (inner (free-by c))
+
+mul-t54 : tie.Need-mul-t54 Inv-loop μ-loop Inv-search μ-search
+mul-t54 c = let z = other-few (inner (free-by (c .before))) in omega arith
+
+element-copy-out-t57 : tie.Need-element-copy-out-t57 Inv-loop μ-loop Inv-search μ-search
+element-copy-out-t57 c = other-few (inner (free-by (c .before)))
+
+mul-t46-2 : tie.Need-mul-t46-2 Inv-loop μ-loop Inv-search μ-search
+mul-t46-2 c = let z = column-few (free-by (c .before .before)) in omega arith
+
+element-copy-out-t60 : tie.Need-element-copy-out-t60 Inv-loop μ-loop Inv-search μ-search
+element-copy-out-t60 c = column-few (free-by (c .before .before))
+
+mul-t54-2 : tie.Need-mul-t54-2 Inv-loop μ-loop Inv-search μ-search
+mul-t54-2 c = let z = column-few (free-by (c .before .before .before)) in omega arith
+
+element-copy-out-t63 : tie.Need-element-copy-out-t63 Inv-loop μ-loop Inv-search μ-search
+element-copy-out-t63 c = column-few (free-by (c .before .before .before))
 
 suits-requires : tie.Need-suits-requires Inv-loop μ-loop Inv-search μ-search
 suits-requires c κs = tt
 
 -- whether it can move the leaving one
 module _ (c : tie.After-suits Inv-loop μ-loop Inv-search μ-search) where
-  abbrev looked : tie.After-limits-of2 Inv-loop μ-loop Inv-search μ-search
-  looked = c .before .before
-
   abbrev entered : tie.After-entry-at Inv-loop μ-loop Inv-search μ-search
-  entered = entered-by looked
+  entered = c .before .before .before .before .before
 
   abbrev free-one : tie.Else5 Inv-loop μ-loop Inv-search μ-search
-  free-one = free-by looked
+  free-one = free-by entered
 
   fit-entry : SFits w32 (entered .entry-at .result)
   fit-entry = search needs
 
-  fit-seated : let o = old (it free-one) in SFits w32 (valueAt o (columnOf o (other (inner free-one))))
-  fit-seated = sfits-of (c .before .suits-arg .given)
+  fit-plain-part : let o = old (it free-one) in SFits w32 (plainAt o (columnOf o (other (inner free-one))))
+  fit-plain-part = sfits-of (c .before .before .t60 .given)
+
+  fit-small-part : let o = old (it free-one) in SFits w32 (smallAt o (columnOf o (other (inner free-one))))
+  fit-small-part = sfits-of (c .before .t63 .given)
 
   moves-is : let o = it free-one in let n = inner free-one in
       c .suits .result ≡ fitting (old o) (rowOf (old o) (number o)) (sideBy (rises n)) (other n)
   unfolding suitsOf
   moves-is = let o = old (it free-one) in let w = other (inner free-one) in
-      (simp (toZ-ofZ fit-entry, toZ-ofZ fit-seated, looked .limits-of2 .ensures) at (c .suits .ensures))
-      ∙ ap (λ e. suits whole (pull (sideBy (rises (inner free-one))) e) (some (valueAt o (columnOf o w)))
-      (lowerOf (o .limits) w) (upperOf (o .limits) w)) (entered .entry-at .ensures)
+      (simp (toZ-ofZ fit-entry, toZ-ofZ fit-plain-part, toZ-ofZ fit-small-part) at (c .suits .ensures))
+      ∙ ap (λ e. suits pairs (pull (sideBy (rises (inner free-one))) e) (some (valueAt o (columnOf o w)))
+      (lowestOf (o .limits) w) (highestOf (o .limits) w)) (entered .entry-at .ensures)
 
 after-requires-4 : tie.Need-after-requires-4 Inv-loop μ-loop Inv-search μ-search
 after-requires-4 c κs = other-few (inner (free-one (c .before)))
@@ -367,27 +401,26 @@ returns-2 : tie.Need-returns-2 Inv-loop μ-loop Inv-search μ-search
 unfolding enteringLaid
 returns-2 c = let a = free-one (c .before) in let o = it a in let n = inner a in
     let x = outside n in
-    simp (toZ-ofZ (fit-short x))
-    (next-pivot (old o) (number o) (rises n) (found x .shortfall)
+    next-pivot (old o) (number o) (rises n) (pairOf (found x .shortfall))
     (leaving-here x (not-false _ (left n .if3 .left))) (other n)
     (lowest-here (enters n) (old o .rows + old o .columns) (other n) (other n) (other-range n) (none-yet n)
     (enters-here (old o) (rowOf (old o) (number o)) (sideBy (rises n)) (other n) (is-free a)
-    (sym (moves-is (c .before)) ∙ c .if6 .taken))))
+    (sym (moves-is (c .before)) ∙ c .if6 .taken)))
 
 returns-3 : tie.Need-returns-3 Inv-loop μ-loop Inv-search μ-search
 unfolding enteringLaid
 returns-3 c = let l = c .before .before .before .before in let a = l .before .before in
     let o = here a in let b = found a .rises in
     let e : old o .rows + old o .columns ≡ c .before .before .loop .w .0 = omega arith in
-    simp (toZ-ofZ (fit-short a))
-    (next-stuck (old o) (number o) b (found a .shortfall) (leaving-here a (not-false _ (l .if3 .left)))
-    (ap (λ k. lowest k (enteringOf (old o) (rowOf (old o) (number o)) (sideBy b))) e ∙ c .before .before .loop .inv .1))
+    next-stuck (old o) (number o) b (pairOf (found a .shortfall)) (leaving-here a (not-false _ (l .if3 .left)))
+    (ap (λ k. lowest k (enteringOf (old o) (rowOf (old o) (number o)) (sideBy b))) e ∙ c .before .before .loop .inv .1)
 
 pub next-step-spec : {M : Type 1} → statement M
 next-step-spec =
     tie.close
     (tie.spec Inv-loop μ-loop Inv-search μ-search add-end search-holds cast-at mul-seat element-copy-out-seat
-    after-requires search-less search-again row-value-requires limits-of-requires breach-of-requires after-requires-2
-    search-less-2 search-again-2 loop-holds cast-if4 cast-place mul-other element-copy-out-other after-requires-3
-    loop-less loop-again cast-j entry-at-requires limits-of-requires-2 mul-suits element-copy-out-suits suits-requires
-    after-requires-4 loop-less-2 loop-again-2 returns returns-2 returns-3)
+    after-requires search-less search-again row-value-requires row-small-requires mul-t31 element-copy-out-t39 mul-t40
+    element-copy-out-t43 breach-of-requires after-requires-2 search-less-2 search-again-2 loop-holds cast-if4 cast-place
+    mul-other element-copy-out-other after-requires-3 loop-less loop-again cast-j entry-at-requires mul-t46
+    element-copy-out-t53 mul-t54 element-copy-out-t57 mul-t46-2 element-copy-out-t60 mul-t54-2 element-copy-out-t63
+    suits-requires after-requires-4 loop-less-2 loop-again-2 returns returns-2 returns-3)

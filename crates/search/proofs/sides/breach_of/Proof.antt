@@ -1,103 +1,103 @@
 -- `search::sides::breach_of` meets its contract: the lower limit is asked first. D times a limit and D times the value
 -- are so small that their difference fits. Assumes nothing.
 use mathlib.Core.Bool.{Bool, false, true, _||_}
-use mathlib.Core.Path.{_≡_, ap, refl, subst, sym, _∙_}
+use mathlib.Core.Path.{_≡_, ap, ap₂, refl, sym, _∙_}
 use borrow.Author.Needs.{needs}
 use borrow.Author.Tests.{not-false, not-true}
-use lib.IntN.{ℤ, _*ℤ_, _-ℤ_}
+use lib.IntN.{ℤ}
 use mir.Facts.{toZ-ofZ}
-use mir.Syntax.{w32, w64}
-use mir.Val.{SFits}
-use Rattle.whole.specs.Values.{whole}
+use Rattle.whole.specs.Values.{pairs}
 use Rattle.whole.proofs.Bools.{or-false, true-false}
-use Rattle.whole.proofs.Sizes.{fits-by, within-*, within--}
-use Rattle.rules.specs.Step.{under, over}
-use Rattle.search.specs.Sides.{lowerIn, upperIn}
-use Rattle.search.proofs.Laws.Sides.{breach-under, breach-over, breach-none}
+use Rattle.rules.specs.Step.{gap, over, under}
+use Rattle.tableau.specs.Amounts.{amountOf, givenLower, givenUpper, pairIn, pairOf}
+use Rattle.search.specs.Sides.{Modest, lowerIn, upperIn}
+use Rattle.search.specs.declared.sides.LimitPair.{LimitPair}
+use Rattle.search.proofs.Laws.Modest.{limit-modest, lower-near, upper-near}
+use Rattle.search.proofs.Laws.Sides.{breach-none, breach-over, breach-under}
 use Rattle.search.proofs.sides.breach_of.Statement.{statement}
 use Rattle.search.proofs.sides.breach_of.Tie as tie
 
--- the two limits fit, and how far D times them is from D times the value
 module _ (s : tie.Start) where
   abbrev d : ℤ
   d = s .args .common
 
-  abbrev x : ℤ
-  x = s .args .value
+  abbrev x : ℤ × ℤ
+  x = pairOf (s .args .value)
 
-  fit-lower : SFits w32 (s .args .limits .lower)
-  fit-lower = search needs
+  abbrev pair : LimitPair
+  pair = s .args .limits
 
-  fit-upper : SFits w32 (s .args .limits .upper)
-  fit-upper = search needs
+  -- D times what the two limits stand for
+  abbrev least : ℤ × ℤ
+  least = pairs .scale d (givenLower (pair .lower))
 
-  fit-below : SFits w64 (d *ℤ s .args .limits .lower -ℤ x)
-  fit-below = fits-by (within-- (within-* (s .pre .0 .0) (s .pre .0 .1)) (s .pre .1)) tt
+  abbrev most : ℤ × ℤ
+  most = pairs .scale d (givenUpper (pair .upper))
 
-  fit-above : SFits w64 (x -ℤ d *ℤ s .args .limits .upper)
-  fit-above = fits-by (within-- (s .pre .1) (within-* (s .pre .0 .0) (s .pre .0 .2))) tt
+  least-modest : Modest least
+  least-modest = limit-modest d (givenLower (pair .lower)) (s .pre .0 .0) (lower-near (pair .lower) (s .pre .0 .1))
+
+  most-modest : Modest most
+  most-modest = limit-modest d (givenUpper (pair .upper)) (s .pre .0 .0) (upper-near (pair .upper) (s .pre .0 .2))
 
 under-requires : tie.Need-under-requires
-under-requires c κs = tt
+under-requires c κs = search needs
 
 over-requires : tie.Need-over-requires
-over-requires c κs = tt
+over-requires c κs = search needs
 
 -- what the two tests say
 module _ (c : tie.After-over) where
   abbrev start : tie.Start
-  start = c .before .before .before .before
+  start = c .before .before
 
   abbrev low : Bool
-  low = c .before .before .under .result
+  low = c .before .under .result
 
   abbrev high : Bool
   high = c .over .result
 
-  low-is : low ≡ under whole (d start) (x start) (lowerIn (start .args .limits))
-  low-is = simp (toZ-ofZ (start .fits .common), toZ-ofZ (start .fits .value), toZ-ofZ (fit-lower start))
-      at (c .before .before .under .ensures)
+  low-is : low ≡ under pairs (d start) (x start) (lowerIn (pair start))
+  low-is = simp (toZ-ofZ (start .fits .common)) at (c .before .under .ensures)
 
-  high-is : high ≡ over whole (d start) (x start) (upperIn (start .args .limits))
-  high-is = simp (toZ-ofZ (start .fits .common), toZ-ofZ (start .fits .value), toZ-ofZ (fit-upper start))
-      at (c .over .ensures)
+  high-is : high ≡ over pairs (d start) (x start) (upperIn (pair start))
+  high-is = simp (toZ-ofZ (start .fits .common)) at (c .over .ensures)
 
 returns : tie.Need-returns
 returns c = let o = c .before in let s = start o in let h = or-false (low o) (high o) (not-true _ (c .if1 .taken)) in
-    breach-none (d s) (x s) (s .args .limits) (sym (low-is o) ∙ h .0) (sym (high-is o) ∙ h .1)
+    breach-none (d s) (x s) (pair s) (sym (low-is o) ∙ h .0) (sym (high-is o) ∙ h .1)
 
-product-requires : tie.Need-product-requires
-product-requires c κs = tt
+lower-value-requires : tie.Need-lower-value-requires
+lower-value-requires c κs = search needs
+
+times-requires : tie.Need-times-requires
+times-requires c κs = search needs
 
 -- below
-module _ (c : tie.After-product) where
+module _ (c : tie.After-times) where
   abbrev tested : tie.After-over
   tested = c .before .before .before .before
 
-  fit-low : SFits w64 (c .product .result)
-  fit-low = search needs
+  least-is : c .times .result ≡ amountOf (least (start tested))
+  least-is = c .times .ensures
+      ∙ ap₂ (λ a l. amountOf (pairs .scale a (pairIn l))) (toZ-ofZ (start tested .fits .common))
+      (c .before .lower-value .ensures)
 
-  low-product : c .product .result ≡ d (start tested) *ℤ start tested .args .limits .lower
-  low-product = simp (toZ-ofZ (start tested .fits .common), toZ-ofZ (fit-lower (start tested)))
-      at (c .product .ensures)
-
-  gap-low : let s = start tested in c .product .result -ℤ x s ≡ d s *ℤ s .args .limits .lower -ℤ x s
-  gap-low = ap (λ p. p -ℤ x (start tested)) low-product
-
-  fit-gap-low : SFits w64 (c .product .result -ℤ x (start tested))
-  fit-gap-low = subst (SFits w64) (sym gap-low) (fit-below (start tested))
+gap-requires : tie.Need-gap-requires
+gap-requires c κs = let s = start (tested c) in
+    (rw (least-is c) (least-modest s), s .pre .1)
 
 returns-2 : tie.Need-returns-2
-returns-2 c = let o = tested c in let s = start o in
-    simp (toZ-ofZ (fit-low c), toZ-ofZ (s .fits .value), toZ-ofZ (fit-gap-low c))
-    (ap (λ z. record { violated = true; rises = true; shortfall = z }) (gap-low c)
-    ∙ breach-under (d s) (x s) (s .args .limits) (sym (low-is o) ∙ c .before .before .if2 .taken))
+returns-2 c = let b = c .before in let o = tested b in let s = start o in
+    ap (λ z. record { violated = true; rises = true; shortfall = z })
+    (c .gap .ensures ∙ ap (λ l. amountOf (gap pairs (pairOf l) (x s))) (least-is b))
+    ∙ breach-under (d s) (x s) (pair s) (sym (low-is o) ∙ b .before .before .if2 .taken)
 
-sub-t9 : tie.Need-sub-t9
-sub-t9 c = simp (toZ-ofZ (fit-low c), toZ-ofZ (start (tested c) .fits .value)) (fit-gap-low c)
+upper-value-requires : tie.Need-upper-value-requires
+upper-value-requires c κs = search needs
 
-product-requires-2 : tie.Need-product-requires-2
-product-requires-2 c κs = tt
+times-requires-2 : tie.Need-times-requires-2
+times-requires-2 c κs = search needs
 
 -- the second of two tests, where one of them passes
 second : (a b : Bool) → (a || b) ≡ true → a ≡ false → b ≡ true
@@ -105,32 +105,25 @@ second true b e f = true-false refl f
 second false b e f = e
 
 -- above
-module _ (c : tie.After-product2) where
+module _ (c : tie.After-times2) where
   abbrev passed : tie.After-over
   passed = c .before .before .before .before
 
-  fit-high : SFits w64 (c .product2 .result)
-  fit-high = search needs
+  most-is : c .times2 .result ≡ amountOf (most (start passed))
+  most-is = c .times2 .ensures
+      ∙ ap₂ (λ a u. amountOf (pairs .scale a (pairIn u))) (toZ-ofZ (start passed .fits .common))
+      (c .before .upper-value .ensures)
 
-  high-product : c .product2 .result ≡ d (start passed) *ℤ start passed .args .limits .upper
-  high-product = simp (toZ-ofZ (start passed .fits .common), toZ-ofZ (fit-upper (start passed)))
-      at (c .product2 .ensures)
-
-  gap-high : let s = start passed in x s -ℤ c .product2 .result ≡ x s -ℤ d s *ℤ s .args .limits .upper
-  gap-high = ap (λ p. x (start passed) -ℤ p) high-product
-
-  fit-gap-high : SFits w64 (x (start passed) -ℤ c .product2 .result)
-  fit-gap-high = subst (SFits w64) (sym gap-high) (fit-above (start passed))
+gap-requires-2 : tie.Need-gap-requires-2
+gap-requires-2 c κs = let s = start (passed c) in
+    (s .pre .1, rw (most-is c) (most-modest s))
 
 returns-3 : tie.Need-returns-3
-returns-3 c = let o = passed c in let s = start o in let e = c .before .before .if2 .left in
-    simp (toZ-ofZ (fit-high c), toZ-ofZ (s .fits .value), toZ-ofZ (fit-gap-high c))
-    (ap (λ z. record { violated = true; rises = false; shortfall = z }) (gap-high c)
-    ∙ breach-over (d s) (x s) (s .args .limits) (sym (low-is o) ∙ e)
-    (sym (high-is o) ∙ second (low o) (high o) (not-false _ (c .before .before .before .if1 .left)) e))
-
-sub-t11 : tie.Need-sub-t11
-sub-t11 c = simp (toZ-ofZ (fit-high c), toZ-ofZ (start (passed c) .fits .value)) (fit-gap-high c)
+returns-3 c = let b = c .before in let o = passed b in let s = start o in let e = b .before .before .if2 .left in
+    ap (λ z. record { violated = true; rises = false; shortfall = z })
+    (c .gap2 .ensures ∙ ap (λ u. amountOf (gap pairs (x s) (pairOf u))) (most-is b))
+    ∙ breach-over (d s) (x s) (pair s) (sym (low-is o) ∙ e)
+    (sym (high-is o) ∙ second (low o) (high o) (not-false _ (b .before .before .before .if1 .left)) e)
 
 pub breach-of-spec : {M : Type 1} → statement M
 breach-of-spec =
@@ -139,9 +132,11 @@ breach-of-spec =
     under-requires
     over-requires
     returns
-    product-requires
-    sub-t9
+    lower-value-requires
+    times-requires
+    gap-requires
     returns-2
-    product-requires-2
-    sub-t11
+    upper-value-requires
+    times-requires-2
+    gap-requires-2
     returns-3)

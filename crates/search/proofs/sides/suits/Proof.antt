@@ -7,35 +7,31 @@ use lib.IntN.{pos}
 use mir.Facts.{toZ-ofZ}
 use mir.Syntax.{w32}
 use mir.Val.{SFits}
-use Rattle.whole.specs.Values.{whole}
+use Rattle.whole.specs.Values.{pairs}
 use Rattle.whole.proofs.Tells.{bits-eq}
 use Rattle.rules.specs.Step.{mayFall, mayRise}
+use Rattle.tableau.specs.Amounts.{pairIn}
 use Rattle.search.specs.Sides.{lowerIn, upperIn}
 use Rattle.search.proofs.Laws.Sides.{falls, joined, suits-joined}
 use Rattle.search.proofs.sides.suits.Statement.{statement}
 use Rattle.search.proofs.sides.suits.Tie as tie
 
 may-fall-requires : tie.Need-may-fall-requires
-may-fall-requires c κs = tt
+may-fall-requires c κs = search needs
 
 may-rise-requires : tie.Need-may-rise-requires
-may-rise-requires c κs = tt
+may-rise-requires c κs = search needs
 
 module _ (c : tie.After-may-rise) where
   abbrev start : tie.Start
-  start = c .before .before .before .before
+  start = c .before .before
 
-  fit-lower : SFits w32 (start .args .limits .lower)
-  fit-lower = search needs
+  fall-is : c .before .may-fall .result
+      ≡ mayFall pairs (pairIn (start .args .value)) (lowerIn (start .args .limits))
+  fall-is = c .before .may-fall .ensures
 
-  fit-upper : SFits w32 (start .args .limits .upper)
-  fit-upper = search needs
-
-  fall-is : c .before .before .may-fall .result ≡ mayFall whole (start .args .value) (lowerIn (start .args .limits))
-  fall-is = simp (toZ-ofZ (start .fits .value), toZ-ofZ fit-lower) at (c .before .before .may-fall .ensures)
-
-  rise-is : c .may-rise .result ≡ mayRise whole (start .args .value) (upperIn (start .args .limits))
-  rise-is = simp (toZ-ofZ (start .fits .value), toZ-ofZ fit-upper) at (c .may-rise .ensures)
+  rise-is : c .may-rise .result ≡ mayRise pairs (pairIn (start .args .value)) (upperIn (start .args .limits))
+  rise-is = c .may-rise .ensures
 
 zero-fits : SFits w32 (pos 0)
 zero-fits = record { sfits = lit< tt }
@@ -43,9 +39,9 @@ zero-fits = record { sfits = lit< tt }
 returns : tie.Need-returns
 returns c = let s = start c in let a = s .args in
     simp (toZ-ofZ (s .fits .entry), fall-is c, rise-is c)
-    (ap (λ z. joined (a .value) (a .limits) z (falls (a .value) (a .limits) (a .rises) (a .entry)))
+    (ap (λ z. joined (pairIn (a .value)) (a .limits) z (falls (pairIn (a .value)) (a .limits) (a .rises) (a .entry)))
     (bits-eq w32 (s .fits .entry) zero-fits)
-    ∙ suits-joined (a .value) (a .limits) (a .rises) (a .entry))
+    ∙ suits-joined (pairIn (a .value)) (a .limits) (a .rises) (a .entry))
 
 pub suits-spec : {M : Type 1} → statement M
 suits-spec = tie.close (tie.spec may-fall-requires may-rise-requires returns)

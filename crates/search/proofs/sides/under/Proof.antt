@@ -2,33 +2,37 @@
 use mathlib.Core.Bool.{_&&_}
 use mathlib.Core.Path.{_≡_, ap, _∙_}
 use borrow.Author.Needs.{needs}
-use lib.IntN.{_*ℤ_}
-use lib.Signed.{ltZ}
 use mir.Facts.{toZ-ofZ}
-use mir.Syntax.{w64}
-use mir.Val.{SFits}
+use Rattle.whole.specs.Values.{pairs}
+use Rattle.tableau.specs.Amounts.{amountOf, givenLower, pairIn, pairOf}
 use Rattle.search.proofs.Laws.Sides.{under-joined}
 use Rattle.search.proofs.sides.under.Statement.{statement}
 use Rattle.search.proofs.sides.under.Tie as tie
 
-product-requires : tie.Need-product-requires
-product-requires c κs = tt
+lower-value-requires : tie.Need-lower-value-requires
+lower-value-requires c κs = search needs
 
-module _ (c : tie.After-product) where
+times-requires : tie.Need-times-requires
+times-requires c κs = search needs
+
+less-requires : tie.Need-less-requires
+less-requires c κs = search needs
+
+module _ (c : tie.After-less) where
   abbrev s : tie.Start
-  s = c .before
+  s = c .before .before .before
 
-  fit : SFits w64 (c .product .result)
-  fit = search needs
+  times-is : c .before .times .result ≡ amountOf (pairs .scale (s .args .common) (givenLower (s .args .limit)))
+  times-is = (simp (toZ-ofZ (s .fits .common)) at (c .before .times .ensures))
+      ∙ ap (λ x. amountOf (pairs .scale (s .args .common) (pairIn x))) (c .before .before .lower-value .ensures)
 
-  product-is : c .product .result ≡ s .args .common *ℤ s .args .lower
-  product-is = simp (toZ-ofZ (s .fits .common), toZ-ofZ (s .fits .lower)) at (c .product .ensures)
+  less-is : c .less .result
+      ≡ pairs .less (pairOf (s .args .value)) (pairs .scale (s .args .common) (givenLower (s .args .limit)))
+  less-is = c .less .ensures ∙ ap (λ a. pairs .less (pairOf (s .args .value)) (pairOf a)) times-is
 
 returns : tie.Need-returns
-returns c = let a = s c .args in
-    simp (toZ-ofZ (s c .fits .value), toZ-ofZ (fit c))
-    (ap (λ p. a .lowers && ltZ (a .value) p) (product-is c)
-    ∙ under-joined (a .lowers) (a .lower) (a .common) (a .value))
+returns c = let a = s (c .before) .args in
+    ap (λ b. a .limit .there && b) (less-is (c .before)) ∙ under-joined (a .limit) (a .common) (pairOf (a .value))
 
 pub under-spec : {M : Type 1} → statement M
-under-spec = tie.close (tie.spec product-requires returns)
+under-spec = tie.close (tie.spec lower-value-requires times-requires less-requires returns)
