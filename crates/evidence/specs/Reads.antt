@@ -1,25 +1,25 @@
 -- The problem that a tableau's entries and limits hold at its start, and the checker's sums and tests over them.
-use mathlib.Core.Bool.{Bool, true, false, _&&_, not}
+use mathlib.Core.Path.{_≡_}
+use mathlib.Core.Bool.{Bool, false, _&&_, _||_}
 use mathlib.Core.List.{List}
 use mathlib.Core.Option.{Option}
 use Prim.Native.Nat.{ℕ, _+_, _*_, _≤_, _<_}
 use lib.IntN.{ℤ, pos, _+ℤ_, _-ℤ_, _*ℤ_}
-use lib.ListN.{length, getD}
-use Rattle.whole.specs.Below.{allBelow}
-use Rattle.whole.specs.Numbers.{Within, AllWithin, within, outside, eqZ}
+use lib.ListN.{length}
+use Rattle.whole.specs.Below.{allBelow, someBelow}
+use Rattle.whole.specs.Numbers.{Within, AllWithin, within, eqZ}
 use Rattle.whole.specs.Sums.{sum}
-use Rattle.whole.specs.Values.{whole}
-use Rattle.rules.specs.Sizes.{mostRows, mostColumns, largestCoefficient, largestLimit, largestNumber, largestNumerator}
+use Rattle.rules.specs.Sizes.{mostRows, mostColumns, largestCoefficient, largestLimit, largestNumber}
+use Rattle.rules.specs.Limit.{Limit}
 use Rattle.rules.specs.Problem.{Problem}
-use Rattle.rules.specs.Step.{seated}
-use Rattle.rules.specs.Evidence.{lowerPart, upperPart, atLeast, atMost}
+use Rattle.rules.specs.Evidence.{lowerPart, upperPart, pairPart, atLeast, atMost, fair, plainOf, strictNamed}
 use Rattle.pivot.specs.Layout.{entryIn}
 use Rattle.tableau.specs.declared.Limits.{Limits}
-use Rattle.tableau.specs.Parts.{lowerOf, upperOf}
+use Rattle.tableau.specs.Parts.{lowerGiven, upperGiven, lowerOf, upperOf}
 
 -- ---- the problem: at the start the entries are the coefficients
 
-unfoldable pub problemOf : List ℤ → Limits → ℕ → ℕ → Problem ℤ
+unfoldable pub problemOf : List ℤ → Limits → ℕ → ℕ → Problem Limit
 problemOf entries limits rows columns = record {
   n = columns;
   m = rows;
@@ -28,10 +28,12 @@ problemOf entries limits rows columns = record {
   upper = upperOf limits;
 }
 
--- every limit's number is within its range
+-- every limit's number is within its range, and where the flag says so none is strict
 pub record Limited (l : Limits) : Type 0 where
-  pub lowers-within : (v : ℕ) → Within (getD (l .lower) v (pos 0)) largestLimit
-  pub uppers-within : (v : ℕ) → Within (getD (l .upper) v (pos 0)) largestLimit
+  pub lowers-within : (v : ℕ) → Within (lowerGiven l v .plain) largestLimit
+  pub uppers-within : (v : ℕ) → Within (upperGiven l v .plain) largestLimit
+  pub lowers-plain : l .strict ≡ false → (v : ℕ) → lowerGiven l v .strict ≡ false
+  pub uppers-plain : l .strict ≡ false → (v : ℕ) → upperGiven l v .strict ≡ false
 
 -- entries and limits within their ranges, and an answer that is long enough
 pub record Readable (entries : List ℤ) (limits : Limits) (rows columns : ℕ) (a : List ℤ) : Type 0 where
@@ -41,13 +43,13 @@ pub record Readable (entries : List ℤ) (limits : Limits) (rows columns : ℕ) 
   pub entries-within : AllWithin entries largestCoefficient
   pub limited : Limited limits
 
--- ---- verdict 1
+-- ---- verdict 1: a half of the answer is a list that has its numbers where the answer has the numerators
 
--- the numerators of so many variables are within their range
-abbrev pub numeratorsFit : List ℤ → ℕ → Bool
-numeratorsFit a variables = allBelow variables (λ v. within largestNumerator (lowerPart a v))
+-- the numbers of so many variables are within a range
+abbrev pub numeratorsFit : ℕ → List ℤ → ℕ → Bool
+numeratorsFit largest a variables = allBelow variables (λ v. within largest (lowerPart a v))
 
--- row place i over the numerators of the first k of the problem's variables
+-- row place i over the numbers of the first k of the problem's variables
 unfoldable pub rowUpTo : List ℤ → List ℤ → ℕ → ℕ → ℕ → ℕ → ℤ
 rowUpTo entries a rows columns i k = sum k (λ j. entryIn rows columns entries i j *ℤ lowerPart a j)
 
@@ -58,28 +60,29 @@ abbrev pub rowsHold : List ℤ → List ℤ → ℕ → ℕ → Bool
 rowsHold entries a rows columns =
     allBelow rows (λ i. eqZ (lowerPart a (columns + i)) (rowSumAt entries a rows columns i))
 
--- a numerator over d against two limits that may be missing
-abbrev pub meetsBoth : Option ℤ → Option ℤ → ℤ → ℤ → Bool
+abbrev pub halfHolds : ℕ → List ℤ → List ℤ → ℕ → ℕ → Bool
+halfHolds largest entries a rows columns =
+    numeratorsFit largest a (columns + rows) && rowsHold entries a rows columns
+
+abbrev pub isZero : List ℤ → ℕ → Bool
+isZero a variables = allBelow variables (λ v. eqZ (lowerPart a v) (pos 0))
+
+-- a numerator and its small part, over d, against two limits that may be missing
+abbrev pub meetsBoth : Option Limit → Option Limit → ℤ → ℤ × ℤ → Bool
 meetsBoth lower upper d x = atLeast lower d x && atMost upper d x
 
-unfoldable pub limitsHold : Limits → List ℤ → ℕ → ℤ → Bool
-limitsHold l a variables d = allBelow variables (λ v. meetsBoth (lowerOf l v) (upperOf l v) d (lowerPart a v))
+-- the first k of so many variables meet their limits
+unfoldable pub limitsUpTo : Limits → List ℤ → ℕ → ℤ → ℕ → Bool
+limitsUpTo l a variables d k = allBelow k (λ v. meetsBoth (lowerOf l v) (upperOf l v) d (pairPart variables a v))
 
--- the second half of the answer is 0
-abbrev pub restIsZero : List ℤ → ℕ → Bool
-restIsZero a variables = allBelow variables (λ v. eqZ (upperPart variables a v) (pos 0))
+abbrev pub limitsHold : Limits → List ℤ → ℕ → ℤ → Bool
+limitsHold l a variables d = limitsUpTo l a variables d variables
 
 -- ---- verdict 2
 
--- a multiplier of a limit that is present, or missing
-unfoldable pub fairOf : Bool → ℤ → Bool
-fairOf true k = not (outside 0 largestNumber k)
-fairOf false k = eqZ k (pos 0)
-
 -- both multipliers of a variable
 abbrev pub fairAt : Limits → List ℤ → ℕ → ℕ → Bool
-fairAt l a variables v = fairOf (getD (l .lowers) v false) (lowerPart a v)
-    && fairOf (getD (l .uppers) v false) (upperPart variables a v)
+fairAt l a variables v = fair (lowerOf l v) (lowerPart a v) && fair (upperOf l v) (upperPart variables a v)
 
 unfoldable pub multipliersFair : Limits → List ℤ → ℕ → Bool
 multipliersFair l a variables = allBelow variables (fairAt l a variables)
@@ -107,7 +110,15 @@ columnsCancel entries a rows columns =
 -- lower limits times multipliers less upper limits times multipliers, of the first k variables
 unfoldable pub surplusUpTo : Limits → List ℤ → ℕ → ℕ → ℤ
 surplusUpTo l a variables k =
-    sum k (λ v. seated whole (lowerOf l v) *ℤ lowerPart a v -ℤ seated whole (upperOf l v) *ℤ upperPart variables a v)
+    sum k (λ v. plainOf (lowerOf l v) *ℤ lowerPart a v -ℤ plainOf (upperOf l v) *ℤ upperPart variables a v)
 
 abbrev pub surplusOf : Limits → List ℤ → ℕ → ℤ
 surplusOf l a variables = surplusUpTo l a variables variables
+
+-- a strict limit of a variable has a multiplier other than 0
+abbrev pub namedAt : Limits → List ℤ → ℕ → ℕ → Bool
+namedAt l a variables v =
+    strictNamed (lowerOf l v) (lowerPart a v) || strictNamed (upperOf l v) (upperPart variables a v)
+
+unfoldable pub someNamed : Limits → List ℤ → ℕ → Bool
+someNamed l a variables = someBelow variables (namedAt l a variables)

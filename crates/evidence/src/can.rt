@@ -1,101 +1,161 @@
-// Verdict 1: numerators over one denominator that meet every row and every limit. A loop asks its tests of every variable
-// and joins the answers, so that nothing in it branches.
+// Verdict 1: numerators and small parts over one denominator that meet every row and every limit. A half of the answer
+// is a slice that has one of the two from word 3 on: the answer itself, and what is left of it past one word for each
+// variable. A loop asks its tests of every variable and joins the answers, so that nothing in it branches.
 ghost use mathlib.Core.Path.{_≡_};
 ghost use Prim.Native.Nat.{ℕ, _+_, _*_, _≤_, _<_};
+ghost use lib.IntN.{pos, natAbs};
 ghost use lib.ListN.{length};
+ghost use lib.Signed.{_≤ℤ_};
 ghost use Rattle.whole.specs.Numbers.{Within, AllWithin};
-ghost use Rattle.whole.specs.Sums.{sum};
 ghost use Rattle.rules.specs.Sizes.{mostRows, mostColumns, mostVariables, largestCoefficient, largestLimit};
-ghost use Rattle.rules.specs.Sizes.{largestNumber, largestNumerator};
-ghost use Rattle.rules.specs.Limit.{present};
+ghost use Rattle.rules.specs.Sizes.{largestNumber, largestNumerator, largestSmall};
 ghost use Rattle.rules.specs.Evidence.{lowerPart, atLeast, atMost, showsCan};
+ghost use Rattle.tableau.specs.Amounts.{limitIn};
 ghost use Rattle.evidence.specs.Reads.{problemOf, Readable, Limited, rowSumAt};
-ghost use Rattle.evidence.specs.Reads.{numeratorsFit, rowsHold, limitsHold, restIsZero};
+ghost use Rattle.evidence.specs.Reads.{numeratorsFit, rowsHold, halfHolds, isZero, limitsHold};
 use crate::parts::is_outside;
 use pivot::ColumnPlace;
 use pivot::RowPlace;
 use pivot::layout;
+use tableau::Given;
 use tableau::Limits;
 use tableau::Tableau;
 
 const LARGEST_NUMERATOR: i64 = 515396075280000;
 
-// Each numerator is within its range.
-fn numerators_fit(answer: &[i64], variables: usize) -> bool
-    requires { ⌜ (variables ≤ mostVariables) × (3 + variables ≤ length (now answer)) ⌝ }
-    ensures { λ r. ⌜ r ≡ numeratorsFit (now (answer .entry)) variables ⌝ }
+const LARGEST_SMALL: i64 = 17179869176;
+
+// Each number of a half is within its range.
+fn numerators_fit(half: &[i64], variables: usize, largest: i64) -> bool
+    requires { ⌜ (variables ≤ mostVariables) × (3 + variables ≤ length (now half)) ⌝ }
+    requires { ⌜ (pos 0 ≤ℤ largest) × (Within largest largestNumerator) ⌝ }
+    ensures { λ r. ⌜ r ≡ numeratorsFit (natAbs largest) (now (half .entry)) variables ⌝ }
 {
     let mut fine = true;
     for v in 0..variables {
         let at = 3 + v;
-        fine = fine & !is_outside(answer[at], -LARGEST_NUMERATOR, LARGEST_NUMERATOR);
+        fine = fine & !is_outside(half[at], -largest, largest);
     }
     fine
 }
 
-// The sum of a row over the numerators of the problem's variables.
+// The sum of a row over the numbers of the problem's variables.
 fn row_sum(
     entries: &[i32; Tableau::MOST_ENTRIES],
-    answer: &[i64],
+    half: &[i64],
     row: RowPlace,
     rows: usize,
     columns: usize,
 ) -> i64
-    requires { ⌜ (row .0 < rows) × (rows ≤ mostRows) × (columns ≤ mostColumns) × (3 + columns ≤ length (now answer)) ⌝ }
+    requires { ⌜ (row .0 < rows) × (rows ≤ mostRows) × (columns ≤ mostColumns) × (3 + columns ≤ length (now half)) ⌝ }
     requires { ⌜ AllWithin (now entries) largestCoefficient ⌝ }
-    requires { ⌜ ((v : ℕ) → v < columns → Within (lowerPart (now answer) v) largestNumerator) ⌝ }
-    ensures { λ r. ⌜ r ≡ rowSumAt (now (entries .entry)) (now (answer .entry)) rows columns (row .0) ⌝ }
+    requires { ⌜ ((v : ℕ) → v < columns → Within (lowerPart (now half) v) largestNumerator) ⌝ }
+    ensures { λ r. ⌜ r ≡ rowSumAt (now (entries .entry)) (now (half .entry)) rows columns (row .0) ⌝ }
 {
     let mut sum = 0i64;
     for j in 0..columns {
         let k = layout::place(rows, columns, row, ColumnPlace(j as u8));
         let at = 3 + j;
         let e = entries[k];
-        let x = answer[at];
+        let x = half[at];
         sum = sum + e as i64 * x;
     }
     sum
 }
 
-// The numerator of each row's variable equals its row's sum.
+// The number of each row's variable equals its row's sum.
 fn rows_hold(
     entries: &[i32; Tableau::MOST_ENTRIES],
-    answer: &[i64],
+    half: &[i64],
     rows: usize,
     columns: usize,
 ) -> bool
-    requires { ⌜ (rows ≤ mostRows) × (columns ≤ mostColumns) × (3 + (columns + rows) ≤ length (now answer)) ⌝ }
+    requires { ⌜ (rows ≤ mostRows) × (columns ≤ mostColumns) × (3 + (columns + rows) ≤ length (now half)) ⌝ }
     requires { ⌜ AllWithin (now entries) largestCoefficient ⌝ }
-    requires { ⌜ ((v : ℕ) → v < columns → Within (lowerPart (now answer) v) largestNumerator) ⌝ }
-    ensures { λ r. ⌜ r ≡ rowsHold (now (entries .entry)) (now (answer .entry)) rows columns ⌝ }
+    requires { ⌜ ((v : ℕ) → v < columns → Within (lowerPart (now half) v) largestNumerator) ⌝ }
+    ensures { λ r. ⌜ r ≡ rowsHold (now (entries .entry)) (now (half .entry)) rows columns ⌝ }
 {
     let mut fine = true;
     for i in 0..rows {
         let at = 3 + (columns + i);
-        let x = answer[at];
-        fine = fine & (x == row_sum(entries, answer, RowPlace(i as u8), rows, columns));
+        let x = half[at];
+        fine = fine & (x == row_sum(entries, half, RowPlace(i as u8), rows, columns));
     }
     fine
 }
 
-// A numerator over a denominator against a limit that may be missing.
-fn at_least(denominator: i64, x: i64, lowers: bool, lower: i32) -> bool
-    requires { ⌜ (Within denominator largestNumber) × (Within lower largestLimit) ⌝ }
-    ensures { λ r. ⌜ r ≡ atLeast (present lowers lower) denominator x ⌝ }
+// The numbers of a half are within their range, and the rows hold of them.
+fn half_holds(
+    entries: &[i32; Tableau::MOST_ENTRIES],
+    half: &[i64],
+    rows: usize,
+    columns: usize,
+    largest: i64,
+) -> bool
+    requires { ⌜ (rows ≤ mostRows) × (columns ≤ mostColumns) × (3 + (columns + rows) ≤ length (now half)) ⌝ }
+    requires { ⌜ AllWithin (now entries) largestCoefficient ⌝ }
+    requires { ⌜ (pos 0 ≤ℤ largest) × (Within largest largestNumerator) ⌝ }
+    ensures { λ r. ⌜ r ≡ halfHolds (natAbs largest) (now (entries .entry)) (now (half .entry)) rows columns ⌝ }
 {
-    !lowers | (denominator * lower as i64 <= x)
+    if !numerators_fit(half, columns + rows, largest) {
+        return false;
+    }
+    rows_hold(entries, half, rows, columns)
 }
 
-fn at_most(denominator: i64, x: i64, uppers: bool, upper: i32) -> bool
-    requires { ⌜ (Within denominator largestNumber) × (Within upper largestLimit) ⌝ }
-    ensures { λ r. ⌜ r ≡ atMost (present uppers upper) denominator x ⌝ }
+// Each number of a half is 0.
+fn is_zero(half: &[i64], variables: usize) -> bool
+    requires { ⌜ (variables ≤ mostVariables) × (3 + variables ≤ length (now half)) ⌝ }
+    ensures { λ r. ⌜ r ≡ isZero (now (half .entry)) variables ⌝ }
 {
-    !uppers | (x <= denominator * upper as i64)
+    let mut fine = true;
+    for v in 0..variables {
+        let at = 3 + v;
+        fine = fine & (half[at] == 0);
+    }
+    fine
+}
+
+// The half of the small parts holds. Zeros do, as they mostly are.
+fn smalls_hold(
+    entries: &[i32; Tableau::MOST_ENTRIES],
+    half: &[i64],
+    rows: usize,
+    columns: usize,
+) -> bool
+    requires { ⌜ (rows ≤ mostRows) × (columns ≤ mostColumns) × (3 + (columns + rows) ≤ length (now half)) ⌝ }
+    requires { ⌜ AllWithin (now entries) largestCoefficient ⌝ }
+    ensures { λ r. ⌜ r ≡ halfHolds largestSmall (now (entries .entry)) (now (half .entry)) rows columns ⌝ }
+{
+    if is_zero(half, columns + rows) {
+        return true;
+    }
+    half_holds(entries, half, rows, columns, LARGEST_SMALL)
+}
+
+// A numerator and its small part, over a denominator, against a limit that may be missing. A strict limit wants more
+// than its own number.
+fn at_least(denominator: i64, x: i64, small: i64, limit: Given) -> bool
+    requires { ⌜ (Within denominator largestNumber) × (Within (limit .plain) largestLimit) ⌝ }
+    ensures { λ r. ⌜ r ≡ atLeast (limitIn limit) denominator (x, small) ⌝ }
+{
+    let least = denominator * limit.plain as i64;
+    let beyond = (limit.strict & (0 < small)) | (!limit.strict & !(small < 0));
+    !limit.there | ((least < x) | (!(x < least) & beyond))
+}
+
+fn at_most(denominator: i64, x: i64, small: i64, limit: Given) -> bool
+    requires { ⌜ (Within denominator largestNumber) × (Within (limit .plain) largestLimit) ⌝ }
+    ensures { λ r. ⌜ r ≡ atMost (limitIn limit) denominator (x, small) ⌝ }
+{
+    let most = denominator * limit.plain as i64;
+    let beyond = (limit.strict & (small < 0)) | (!limit.strict & !(0 < small));
+    !limit.there | ((x < most) | (!(most < x) & beyond))
 }
 
 // Every present limit holds.
 fn limits_hold(limits: Limits, answer: &[i64], variables: usize, denominator: i64) -> bool
-    requires { ⌜ (variables ≤ mostVariables) × (3 + variables ≤ length (now answer))
+    requires { ⌜ (variables ≤ mostVariables) × (3 + 2 * variables ≤ length (now answer))
         × (Within denominator largestNumber) ⌝ }
     requires { ⌜ Limited limits ⌝ }
     ensures { λ r. ⌜ r ≡ limitsHold limits (now (answer .entry)) variables denominator ⌝ }
@@ -103,23 +163,12 @@ fn limits_hold(limits: Limits, answer: &[i64], variables: usize, denominator: i6
     let mut fine = true;
     for v in 0..variables {
         let at = 3 + v;
+        let beside = 3 + variables + v;
         let x = answer[at];
-        let over = at_least(denominator, x, limits.lowers[v], limits.lower[v]);
-        let under = at_most(denominator, x, limits.uppers[v], limits.upper[v]);
+        let small = answer[beside];
+        let over = at_least(denominator, x, small, limits.lower[v]);
+        let under = at_most(denominator, x, small, limits.upper[v]);
         fine = fine & (over & under);
-    }
-    fine
-}
-
-// The second half of the answer is 0.
-fn rest_is_zero(answer: &[i64], variables: usize) -> bool
-    requires { ⌜ (variables ≤ mostVariables) × (3 + 2 * variables ≤ length (now answer)) ⌝ }
-    ensures { λ r. ⌜ r ≡ restIsZero (now (answer .entry)) variables ⌝ }
-{
-    let mut fine = true;
-    for v in 0..variables {
-        let at = 3 + variables + v;
-        fine = fine & (answer[at] == 0);
     }
     fine
 }
@@ -140,14 +189,11 @@ pub fn shows_can(
     if is_outside(denominator, 1, Tableau::LARGEST_NUMBER) {
         return false;
     }
-    if !numerators_fit(answer, variables) {
+    if !half_holds(entries, answer, rows, columns, LARGEST_NUMERATOR) {
         return false;
     }
-    if !rows_hold(entries, answer, rows, columns) {
+    if !smalls_hold(entries, &answer[variables..], rows, columns) {
         return false;
     }
-    if !limits_hold(limits, answer, variables, denominator) {
-        return false;
-    }
-    rest_is_zero(answer, variables)
+    limits_hold(limits, answer, variables, denominator)
 }

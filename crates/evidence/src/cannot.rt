@@ -4,27 +4,26 @@ ghost use Prim.Native.Nat.{_+_, _*_, _≤_, _<_};
 ghost use lib.IntN.{_*ℤ_};
 ghost use lib.ListN.{length};
 ghost use Rattle.whole.specs.Numbers.{Within, AllWithin};
-ghost use Rattle.whole.specs.Values.{whole};
 ghost use Rattle.rules.specs.Sizes.{mostRows, mostColumns, mostVariables, largestCoefficient, largestLimit};
 ghost use Rattle.rules.specs.Sizes.{largestNumber};
-ghost use Rattle.rules.specs.Limit.{present};
-ghost use Rattle.rules.specs.Step.{seated};
-ghost use Rattle.rules.specs.Evidence.{showsCannot};
+ghost use Rattle.rules.specs.Evidence.{fair, plainOf, strictNamed, showsCannot};
+ghost use Rattle.tableau.specs.Amounts.{limitIn};
 ghost use Rattle.evidence.specs.Reads.{problemOf, Readable, Limited, Multiplied, balanceAt, columnAtEntries};
-ghost use Rattle.evidence.specs.Reads.{fairOf, multipliersFair, columnsCancel, surplusOf};
+ghost use Rattle.evidence.specs.Reads.{multipliersFair, columnsCancel, surplusOf, someNamed};
 use crate::parts::is_outside;
 use pivot::ColumnPlace;
 use pivot::RowPlace;
 use pivot::layout;
+use tableau::Given;
 use tableau::Limits;
 use tableau::Tableau;
 use tableau::Variable;
 
 // A multiplier is in its range, and 0 where its limit is missing.
-fn fair(has: bool, k: i64) -> bool
-    ensures { λ r. ⌜ r ≡ fairOf has k ⌝ }
+fn fair(limit: Given, k: i64) -> bool
+    ensures { λ r. ⌜ r ≡ fair (limitIn limit) k ⌝ }
 {
-    (has & !is_outside(k, 0, Tableau::LARGEST_NUMBER)) | (k == 0)
+    (limit.there & !is_outside(k, 0, Tableau::LARGEST_NUMBER)) | (k == 0)
 }
 
 fn multipliers_fair(limits: Limits, answer: &[i64], variables: usize) -> bool
@@ -35,8 +34,8 @@ fn multipliers_fair(limits: Limits, answer: &[i64], variables: usize) -> bool
     for v in 0..variables {
         let low = 3 + v;
         let high = 3 + variables + v;
-        let first = fair(limits.lowers[v], answer[low]);
-        let second = fair(limits.uppers[v], answer[high]);
+        let first = fair(limits.lower[v], answer[low]);
+        let second = fair(limits.upper[v], answer[high]);
         fine = fine & (first & second);
     }
     fine
@@ -97,13 +96,13 @@ fn columns_cancel(
     fine
 }
 
-// A multiplier times its limit, or 0 where that is missing.
-fn weighed(has: bool, limit: i32, k: i64) -> i64
-    requires { ⌜ (Within limit largestLimit) × (Within k largestNumber) ⌝ }
-    ensures { λ r. ⌜ r ≡ seated whole (present has limit) *ℤ k ⌝ }
+// A multiplier times its limit's number, or 0 where that is missing.
+fn weighed(limit: Given, k: i64) -> i64
+    requires { ⌜ (Within (limit .plain) largestLimit) × (Within k largestNumber) ⌝ }
+    ensures { λ r. ⌜ r ≡ plainOf (limitIn limit) *ℤ k ⌝ }
 {
-    if has {
-        return limit as i64 * k;
+    if limit.there {
+        return limit.plain as i64 * k;
     }
     0
 }
@@ -119,11 +118,34 @@ fn surplus(limits: Limits, answer: &[i64], variables: usize) -> i64
     for v in 0..variables {
         let low = 3 + v;
         let high = 3 + variables + v;
-        let gain = weighed(limits.lowers[v], limits.lower[v], answer[low]);
-        let loss = weighed(limits.uppers[v], limits.upper[v], answer[high]);
+        let gain = weighed(limits.lower[v], answer[low]);
+        let loss = weighed(limits.upper[v], answer[high]);
         sum = sum + (gain - loss);
     }
     sum
+}
+
+// A strict limit has a multiplier other than 0.
+fn strict_named(limit: Given, k: i64) -> bool
+    ensures { λ r. ⌜ r ≡ strictNamed (limitIn limit) k ⌝ }
+{
+    limit.there & (limit.strict & !(k == 0))
+}
+
+// Some strict limit has.
+fn some_named(limits: Limits, answer: &[i64], variables: usize) -> bool
+    requires { ⌜ (variables ≤ mostVariables) × (3 + 2 * variables ≤ length (now answer)) ⌝ }
+    ensures { λ r. ⌜ r ≡ someNamed limits (now (answer .entry)) variables ⌝ }
+{
+    let mut found = false;
+    for v in 0..variables {
+        let low = 3 + v;
+        let high = 3 + variables + v;
+        let first = strict_named(limits.lower[v], answer[low]);
+        let second = strict_named(limits.upper[v], answer[high]);
+        found = found | (first | second);
+    }
+    found
 }
 
 // The words are right and within the ranges for verdict 2.
@@ -147,5 +169,12 @@ pub fn shows_cannot(
     if !columns_cancel(entries, answer, rows, columns) {
         return false;
     }
-    0 < surplus(limits, answer, variables)
+    let total = surplus(limits, answer, variables);
+    if total != 0 {
+        return 0 < total;
+    }
+    if !limits.strict {
+        return false;
+    }
+    some_named(limits, answer, variables)
 }

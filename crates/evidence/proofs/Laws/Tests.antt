@@ -1,26 +1,35 @@
 -- Tests without a branch: each is asked for, and the answers are joined.
---   not-not                            a test that is denied twice
---   tests-more                         a loop's answer with one test more
---   at-least-joined, at-most-joined    a limit that may be missing
---   fair-joined                        a multiplier of a limit that may be missing
-use mathlib.Core.Path.{_≡_, refl, _∙_, ap, ap₂}
+--   not-not, or-false                  a test that is denied twice, or joined with one that fails
+--   outside-largest                    a test of both sides is one of the size
+--   tests-more, finds-more             a loop's answer with one test more: all pass, or some test does
+--   at-least-joined, at-most-joined    a limit that may be missing, and may be strict
+--   fair-joined, named-joined          a multiplier of a limit that may be missing
+use mathlib.Core.Path.{_≡_, refl, _∙_, ap, ap₂, sym}
 use mathlib.Core.Bool.{Bool, true, false, not, _&&_, _||_}
 use Prim.Native.Nat.{ℕ, suc, zero, _+_}
 use native.Mathlib.Numerals.{add-one}
 use native.Mathlib.Omega.{arith}
 use borrow.Author.Tests.{ne-eqb}
-use lib.IntN.{ℤ, pos, negsuc, _*ℤ_}
-use lib.Signed.{leZ}
-use Rattle.whole.specs.Below.{allBelow}
-use Rattle.whole.specs.Numbers.{outside, eqZ}
-use Rattle.rules.specs.Limit.{present}
+use lib.IntN.{ℤ, natAbs, negsuc, negℤ, pos, _*ℤ_}
+use lib.Signed.{ltZ, _≤ℤ_}
+use Rattle.whole.specs.Below.{allBelow, someBelow}
+use Rattle.whole.specs.Numbers.{outside, eqZ, within}
+use Rattle.whole.specs.Values.{lexicographic}
+use Rattle.whole.proofs.Below.{some-more}
+use Rattle.whole.proofs.Bools.{true-false}
+use Rattle.whole.proofs.Order.{<ℤ→≤ℤ, le→false, true→lt}
+use Rattle.whole.proofs.Tells.{outside-within}
+use Rattle.rules.specs.Limit.{Limit, present}
 use Rattle.rules.specs.Sizes.{largestNumber}
-use Rattle.rules.specs.Evidence.{atLeast, atMost}
-use Rattle.evidence.specs.Reads.{fairOf}
+use Rattle.rules.specs.Evidence.{atLeast, atMost, clears, fair, strictNamed}
 
 pub not-not : (b : Bool) → not (not b) ≡ b
 not-not true = refl
 not-not false = refl
+
+pub outside-largest : (k z : ℤ) → pos 0 ≤ℤ k → (ltZ z (negℤ k) || ltZ k z) ≡ not (within (natAbs k) z)
+outside-largest (pos n) z h = outside-within n z
+outside-largest (negsuc n) z h = absurd (h .le)
 
 all-next : (k : ℕ) (f : ℕ → Bool) → (allBelow k f && f k) ≡ allBelow (suc k) f
 unfolding allBelow
@@ -33,25 +42,64 @@ all-next k f = go (allBelow k f)
 pub tests-more : (k : ℕ) (f : ℕ → Bool) {a b : Bool} → a ≡ allBelow k f → b ≡ f k → (a && b) ≡ allBelow (k + 1) f
 tests-more k f e q = rw add-one (ap₂ (λ (a b : Bool). a && b) e q ∙ all-next k f)
 
-pub at-least-joined : (b : Bool) (l d x : ℤ) → (not b || leZ (d *ℤ l) x) ≡ atLeast (present b l) d x
-unfolding atLeast present
-at-least-joined true l d x = refl
-at-least-joined false l d x = refl
+pub finds-more : (k : ℕ) (f : ℕ → Bool) {a b : Bool} → a ≡ someBelow k f → b ≡ f k → (a || b) ≡ someBelow (k + 1) f
+finds-more k f e q = rw add-one (ap₂ (λ (a b : Bool). a || b) e q ∙ sym (some-more k f))
 
-pub at-most-joined : (b : Bool) (u d x : ℤ) → (not b || leZ x (d *ℤ u)) ≡ atMost (present b u) d x
-unfolding atMost present
-at-most-joined true u d x = refl
-at-most-joined false u d x = refl
-
-or-false : (b : Bool) → (b || false) ≡ b
+pub or-false : (b : Bool) → (b || false) ≡ b
 or-false true = refl
 or-false false = refl
 
-pub fair-joined : (b : Bool) (k : ℤ) → ((b && not (outside 0 largestNumber k)) || eqZ k (pos 0)) ≡ fairOf b k
-unfolding fairOf outside
-fair-joined true (pos zero) = refl
-fair-joined true (pos (suc k)) =
+-- ---- a limit
+
+-- by both tests of the first numbers and both of the second: no branch asks whether a limit is strict
+clears-joined : (strict : Bool) (a b c d : ℤ) →
+    (ltZ a c || (not (ltZ c a) && ((strict && ltZ b d) || (not strict && not (ltZ d b))))) ≡ clears strict (a, b) (c, d)
+clears-joined true a b c d = go (ltZ a c) (ltZ c a) (ltZ b d)
+  where
+    go : (p q r : Bool) → (p || (not q && (r || false))) ≡ lexicographic p q r
+    go true q r = refl
+    go false true r = refl
+    go false false r = or-false r
+clears-joined false a b c d = go (ltZ a c) (ltZ c a) (ltZ d b) (λ e. le→false {a = a} {b = c} (<ℤ→≤ℤ (true→lt e)))
+  where
+    go : (p q r : Bool) → (p ≡ true → q ≡ false) → (p || (not q && not r)) ≡ not (lexicographic q p r)
+    go true true r h = true-false refl (h refl)
+    go true false r h = refl
+    go false true r h = refl
+    go false false r h = refl
+
+module _ (strict : Bool) (l d x y : ℤ) where
+  abbrev limit : Limit
+  limit = record { plain = l; strict = strict }
+
+  pub at-least-joined : (there : Bool) → (not there || (ltZ (d *ℤ l) x
+      || (not (ltZ x (d *ℤ l)) && ((strict && ltZ (pos 0) y) || (not strict && not (ltZ y (pos 0)))))))
+      ≡ atLeast (present there limit) d (x, y)
+  unfolding atLeast present
+  at-least-joined true = clears-joined strict (d *ℤ l) (pos 0) x y
+  at-least-joined false = refl
+
+  pub at-most-joined : (there : Bool) → (not there || (ltZ x (d *ℤ l)
+      || (not (ltZ (d *ℤ l) x) && ((strict && ltZ y (pos 0)) || (not strict && not (ltZ (pos 0) y))))))
+      ≡ atMost (present there limit) d (x, y)
+  unfolding atMost present
+  at-most-joined true = clears-joined strict x y (d *ℤ l) (pos 0)
+  at-most-joined false = refl
+
+-- ---- a multiplier
+
+pub fair-joined : (b : Bool) (l : Limit) (k : ℤ) →
+    ((b && not (outside 0 largestNumber k)) || eqZ k (pos 0)) ≡ fair (present b l) k
+unfolding fair outside present
+fair-joined true l (pos zero) = refl
+fair-joined true l (pos (suc k)) =
     ap (λ (b : Bool). not (outside 0 largestNumber (pos (suc k))) || b) (ne-eqb (suc k) 0 (λ e. omega arith))
     ∙ or-false _
-fair-joined true (negsuc k) = or-false _
-fair-joined false k = refl
+fair-joined true l (negsuc k) = or-false _
+fair-joined false l k = refl
+
+pub named-joined : (b : Bool) (l : Limit) (k : ℤ) →
+    (b && (l .strict && not (eqZ k (pos 0)))) ≡ strictNamed (present b l) k
+unfolding strictNamed present
+named-joined true l k = refl
+named-joined false l k = refl

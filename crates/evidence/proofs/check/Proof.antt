@@ -15,18 +15,13 @@ use mir.Syntax.{w64}
 use mir.Val.{SFits, ofZ, toZ}
 use Rattle.whole.proofs.Order.{≤ℤ-trans}
 use Rattle.rules.specs.Sizes.{mostRows}
-use Rattle.rules.specs.Problem.{Problem, answerLength, problem}
+use Rattle.rules.specs.Problem.{answerLength}
 use Rattle.rules.specs.Refusal.{Accepted, problemRefusal}
-use Rattle.rules.specs.Evidence.{verdictOf, showsCan, showsCannot, checked}
-use Rattle.rules.proofs.Ranges.{problem-m, problem-n}
+use Rattle.rules.specs.Evidence.{verdictOf, checked}
 use Rattle.rules.proofs.Refused.{accepted-exactly}
 use Rattle.rules.proofs.Evidence.Checked.{checked-by-problem}
-use Rattle.tableau.specs.declared.Limits.{Limits}
 use Rattle.judge.specs.Words.{Framed}
-use Rattle.tableau.proofs.Laws.Fitting.{Fitting, fitting-accepted}
 use Rattle.judge.proofs.Laws.Judged.{accepted-framed}
-use Rattle.evidence.specs.Reads.{Readable, problemOf}
-use Rattle.evidence.proofs.Laws.Read.{ReadFrom, readable, can-same, cannot-same}
 use Rattle.evidence.proofs.Laws.Checks.{long-is, too-short, can-judged, cannot-judged, other-judged}
 use Rattle.evidence.proofs.check.Statement.{statement}
 use Rattle.evidence.proofs.check.Tie as tie
@@ -94,56 +89,17 @@ returns-2 : tie.Need-returns-2
 returns-2 c = let b = c .before in
     sym (too-short (words (start b)) (answer (start b)) (fine (b .before .before)) (rw (← long-here b) (c .if2 .taken)))
 
--- ---- the answer is long enough, and entries and limits are read
+-- ---- the answer is long enough
 
-start-entries-requires : tie.Need-start-entries-requires
-start-entries-requires c κs = framed (c .before)
-
-limits-of-requires : tie.Need-limits-of-requires
-limits-of-requires c κs = (framed (c .before .before), taken (c .before .before .before .before))
-
-module _ (c : tie.After-limits-of) where
-  abbrev sizes : tie.After-count-at2
-  sizes = c .before .before .before
-
+module _ (c : tie.Else2) where
   abbrev begun : tie.Start
-  begun = start sizes
-
-  abbrev P : Problem ℤ
-  P = problem (words begun)
-
-  abbrev entries : List ℤ
-  entries = c .before .start-entries .result
-
-  abbrev limits : Limits
-  limits = c .limits-of .result
+  begun = start (c .before)
 
   not-refused : problemRefusal (words begun) ≡ 0
-  not-refused = fine (sizes .before .before)
+  not-refused = fine (c .before .before .before)
 
   long : answerLength (words begun) ≤ length (answer begun)
-  long = rw (← long-here sizes) (c .before .before .if2 .left)
-
-  fitting : Fitting P
-  fitting = fitting-accepted (words begun) (taken (sizes .before .before))
-
-  read : ReadFrom P entries limits (m sizes) (n sizes)
-  read = record {
-    entries-are = c .before .start-entries .ensures;
-    limits-are = c .limits-of .ensures;
-    rows-are = sizes .count-at2 .ensures ∙ sym (problem-m (words begun));
-    columns-are = sizes .before .count-at .ensures ∙ sym (problem-n (words begun));
-  }
-
-  ready : Readable entries limits (m sizes) (n sizes) (answer begun)
-  unfolding problem
-  ready = readable P fitting (answer begun) read long
-
-  can-is : showsCan (problemOf entries limits (m sizes) (n sizes)) (answer begun) ≡ showsCan P (answer begun)
-  can-is = can-same P fitting (answer begun) read
-
-  cannot-is : showsCannot (problemOf entries limits (m sizes) (n sizes)) (answer begun) ≡ showsCannot P (answer begun)
-  cannot-is = cannot-same P fitting (answer begun) read
+  long = rw (← long-here (c .before)) (c .if2 .left)
 
 shared-slice-copy-out-verdict : tie.Need-shared-slice-copy-out-verdict
 shared-slice-copy-out-verdict c = let h = long c in omega arith
@@ -162,14 +118,15 @@ not-one c e = c .if3 .left (ap (ofZ w64) e)
 two : (c : tie.Then5) → verdictOf (answer (begun (c .before .before .before))) ≡ pos 2
 two c = sym (toZ-ofZ (fit (c .before .before))) ∙ ap (toZ w64) (c .if5 .taken)
 
-shows-can-requires : tie.Need-shows-can-requires
-shows-can-requires c κs = ready (c .before .before .before)
+can-holds-requires : tie.Need-can-holds-requires
+can-holds-requires c κs = let l = c .before .before in
+    (framed (l .before), (taken (l .before .before .before), long l))
 
-can-answers : (c : tie.After-shows-can) → let b = begun (c .before .before .before .before) in
-    checked (words b) (answer b) ≡ cond (c .shows-can .result) 8 9
-can-answers c = let v = c .before .before in let l = v .before .before in
+can-answers : (c : tie.After-can-holds) → let b = begun (c .before .before .before) in
+    checked (words b) (answer b) ≡ cond (c .can-holds .result) 8 9
+can-answers c = let v = c .before in let l = v .before .before in
     can-judged (words (begun l)) (answer (begun l)) (not-refused l) (long l) (one v)
-    ∙ ap (λ (b : Bool). cond b 8 9) (sym (c .shows-can .ensures ∙ can-is l))
+    ∙ ap (λ (b : Bool). cond b 8 9) (sym (c .can-holds .ensures))
 
 returns-3 : tie.Need-returns-3
 returns-3 c = sym (can-answers (c .before) ∙ ap (λ (b : Bool). cond b 8 9) (c .if4 .taken))
@@ -177,14 +134,15 @@ returns-3 c = sym (can-answers (c .before) ∙ ap (λ (b : Bool). cond b 8 9) (c
 returns-4 : tie.Need-returns-4
 returns-4 c = sym (can-answers (c .before) ∙ ap (λ (b : Bool). cond b 8 9) (c .if4 .left))
 
-shows-cannot-requires : tie.Need-shows-cannot-requires
-shows-cannot-requires c κs = ready (c .before .before .before .before)
+cannot-holds-requires : tie.Need-cannot-holds-requires
+cannot-holds-requires c κs = let l = c .before .before .before in
+    (framed (l .before), (taken (l .before .before .before), long l))
 
-cannot-answers : (c : tie.After-shows-cannot) → let b = begun (c .before .before .before .before .before) in
-    checked (words b) (answer b) ≡ cond (c .shows-cannot .result) 8 9
-cannot-answers c = let v = c .before .before in let l = v .before .before .before in
+cannot-answers : (c : tie.After-cannot-holds) → let b = begun (c .before .before .before .before) in
+    checked (words b) (answer b) ≡ cond (c .cannot-holds .result) 8 9
+cannot-answers c = let v = c .before in let l = v .before .before .before in
     cannot-judged (words (begun l)) (answer (begun l)) (not-refused l) (long l) (not-one (v .before)) (two v)
-    ∙ ap (λ (b : Bool). cond b 8 9) (sym (c .shows-cannot .ensures ∙ cannot-is l))
+    ∙ ap (λ (b : Bool). cond b 8 9) (sym (c .cannot-holds .ensures))
 
 returns-5 : tie.Need-returns-5
 returns-5 c = sym (cannot-answers (c .before) ∙ ap (λ (b : Bool). cond b 8 9) (c .if6 .taken))
@@ -209,13 +167,11 @@ check-spec =
     mul-if2
     add-if2-2
     returns-2
-    start-entries-requires
-    limits-of-requires
     shared-slice-copy-out-verdict
-    shows-can-requires
+    can-holds-requires
     returns-3
     returns-4
-    shows-cannot-requires
+    cannot-holds-requires
     returns-5
     returns-6
     returns-7)

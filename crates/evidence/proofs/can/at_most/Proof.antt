@@ -1,5 +1,6 @@
 -- `evidence::can::at_most` meets its contract: the product fits, as it is within the largest number times the largest
 -- limit. Assumes nothing.
+use borrow.Author.Needs.{needs}
 use lib.IntN.{_*ℤ_}
 use mir.Facts.{toZ-ofZ, sfits-widen}
 use mir.Syntax.{w32, w64}
@@ -9,29 +10,36 @@ use Rattle.evidence.proofs.Laws.Tests.{at-most-joined}
 use Rattle.evidence.proofs.can.at_most.Statement.{statement}
 use Rattle.evidence.proofs.can.at_most.Tie as tie
 
-module _ (s : tie.Start) where
-  wide : SFits w64 (s .args .upper)
-  wide = sfits-widen {w = w32} tt (s .fits .upper)
+module _ (c : tie.After-struct-told) where
+  abbrev start : tie.Start
+  start = c .before .before
 
-  product : SFits w64 (s .args .denominator *ℤ s .args .upper)
-  product = fits-by (within-* (s .pre .0) (s .pre .1)) tt
+  fit : SFits w32 (start .args .limit .plain)
+  fit = search needs
 
-cast-result : tie.Need-cast-result
-cast-result c = simp (toZ-ofZ (c .fits .upper)) (wide c)
+  wide : SFits w64 (start .args .limit .plain)
+  wide = sfits-widen {w = w32} tt fit
 
-mul-result : tie.Need-mul-result
-mul-result c = simp (toZ-ofZ (c .fits .denominator), toZ-ofZ (c .fits .upper), toZ-ofZ (wide c)) (product c)
+  product : SFits w64 (start .args .denominator *ℤ start .args .limit .plain)
+  product = fits-by (within-* (start .pre .0) (start .pre .1)) tt
+
+cast-most : tie.Need-cast-most
+cast-most c = simp (toZ-ofZ (fit c)) (wide c)
+
+mul-most : tie.Need-mul-most
+mul-most c = simp (toZ-ofZ (start c .fits .denominator), toZ-ofZ (fit c), toZ-ofZ (wide c)) (product c)
 
 returns : tie.Need-returns
-returns c =
+returns c = let k = c .before .before .before in let s = start k in let a = s .args in
     simp (
-      toZ-ofZ (c .fits .denominator),
-      toZ-ofZ (c .fits .upper),
-      toZ-ofZ (wide c),
-      toZ-ofZ (product c),
-      toZ-ofZ (c .fits .x),
+      toZ-ofZ (s .fits .denominator),
+      toZ-ofZ (fit k),
+      toZ-ofZ (wide k),
+      toZ-ofZ (product k),
+      toZ-ofZ (s .fits .x),
+      toZ-ofZ (s .fits .small),
     )
-    (at-most-joined (c .args .uppers) (c .args .upper) (c .args .denominator) (c .args .x))
+    (at-most-joined (a .limit .strict) (a .limit .plain) (a .denominator) (a .x) (a .small) (a .limit .there))
 
 pub at-most-spec : {M : Type 1} → statement M
-at-most-spec = tie.close (tie.spec cast-result mul-result returns)
+at-most-spec = tie.close (tie.spec cast-most mul-most returns)

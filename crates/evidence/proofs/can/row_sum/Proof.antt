@@ -22,11 +22,11 @@ use Rattle.evidence.proofs.can.row_sum.Statement.{statement}
 use Rattle.evidence.proofs.can.row_sum.Tie as tie
 
 abbrev Inv-loop : tie.InvT-loop
-Inv-loop entries answer row rows columns sum₀ j₀ sum j =
-    (j ≤ columns) × (toZ w64 sum ≡ rowUpTo entries answer rows columns (row .0) j)
+Inv-loop entries half row rows columns sum₀ j₀ sum j =
+    (j ≤ columns) × (toZ w64 sum ≡ rowUpTo entries half rows columns (row .0) j)
 
 abbrev μ-loop : tie.MeasureT-loop
-μ-loop entries answer row rows columns sum₀ j₀ sum j = columns - j
+μ-loop entries half row rows columns sum₀ j₀ sum j = columns - j
 
 loop-holds : tie.Need-loop-holds Inv-loop μ-loop
 unfolding rowUpTo sumBy
@@ -70,16 +70,16 @@ module _ (c : tie.After-x Inv-loop μ-loop) where
 
   abbrev term : ℕ → ℤ
   term k = entryIn (start .args .rows) (start .args .columns) (start .args .entries .now) (start .args .row .0) k
-      *ℤ lowerPart (start .args .answer .now) k
+      *ℤ lowerPart (start .args .half .now) k
 
   abbrev upTo : ℕ → ℤ
-  upTo k = let a = start .args in rowUpTo (a .entries .now) (a .answer .now) (a .rows) (a .columns) (a .row .0) k
+  upTo k = let a = start .args in rowUpTo (a .entries .now) (a .half .now) (a .rows) (a .columns) (a .row .0) k
 
   abbrev read : ℤ
   read = getD (start .args .entries .now) (c .before .before .place .result) (pos 0)
 
   abbrev value : ℤ
-  value = lowerPart (start .args .answer .now) j
+  value = lowerPart (start .args .half .now) j
 
   fit-entry : SFits w32 read
   fit-entry = sfits-of (c .before .e .given)
@@ -153,7 +153,7 @@ all c = omega arith
 returns : tie.Need-returns Inv-loop μ-loop
 returns c = let o = c .before .before .args in
     c .before .loop .inv .1
-    ∙ ap (λ (k : ℕ). rowUpTo (o .entries .now) (o .answer .now) (o .rows) (o .columns) (o .row .0) k) (all c)
+    ∙ ap (λ (k : ℕ). rowUpTo (o .entries .now) (o .half .now) (o .rows) (o .columns) (o .row .0) k) (all c)
 
 pub row-sum-spec : {M : Type 1} → statement M
 row-sum-spec =

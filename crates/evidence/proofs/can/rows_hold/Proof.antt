@@ -19,12 +19,12 @@ use Rattle.evidence.proofs.can.rows_hold.Statement.{statement}
 use Rattle.evidence.proofs.can.rows_hold.Tie as tie
 
 abbrev Inv-loop : tie.InvT-loop
-Inv-loop entries answer rows columns fine₀ i₀ fine i =
+Inv-loop entries half rows columns fine₀ i₀ fine i =
     (i ≤ rows)
-    × (fine ≡ allBelow i (λ i. eqZ (lowerPart answer (columns + i)) (rowSumAt entries answer rows columns i)))
+    × (fine ≡ allBelow i (λ i. eqZ (lowerPart half (columns + i)) (rowSumAt entries half rows columns i)))
 
 abbrev μ-loop : tie.MeasureT-loop
-μ-loop entries answer rows columns fine₀ i₀ fine i = rows - i
+μ-loop entries half rows columns fine₀ i₀ fine i = rows - i
 
 loop-holds : tie.Need-loop-holds Inv-loop μ-loop
 loop-holds c = (omega arith, sym (all-start _))
@@ -56,7 +56,7 @@ module _ (c : tie.After-row-sum Inv-loop μ-loop) where
   place = c .before .before .before .loop .i
 
   abbrev number : ℤ
-  number = lowerPart (start .args .answer .now) (start .args .columns + place)
+  number = lowerPart (start .args .half .now) (start .args .columns + place)
 
   fit-number : SFits w64 number
   fit-number = sfits-of (c .before .x .given)
@@ -65,7 +65,7 @@ module _ (c : tie.After-row-sum Inv-loop μ-loop) where
   fit-sum = search needs
 
 told : (c : tie.After-row-sum Inv-loop μ-loop) → eqb (ofZ w64 (number c)) (ofZ w64 (c .row-sum .result))
-    ≡ eqZ (number c) (rowSumAt (start c .args .entries .now) (start c .args .answer .now) (start c .args .rows)
+    ≡ eqZ (number c) (rowSumAt (start c .args .entries .now) (start c .args .half .now) (start c .args .rows)
     (start c .args .columns) (place c))
 told c = bits-eq w64 (fit-number c) (fit-sum c) ∙ ap (eqZ (number c)) (c .row-sum .ensures)
 

@@ -1,24 +1,25 @@
 -- `evidence::can::shows_can` meets its contract: the tests of the rule one after the other, each call giving one of
--- them. Assumes nothing.
-use mathlib.Core.Path.{_≡_, sym, _∙_}
+-- them. What is lent as the second half is the answer from one word for each variable on. Assumes nothing.
+use mathlib.Core.Path.{_≡_, ap, sym, _∙_}
 use mathlib.Core.Bool.{true, false}
 use mathlib.Core.List.{List}
-use Prim.Native.Nat.{ℕ, _+_, _<_}
+use Prim.Native.Nat.{ℕ, _+_}
 use native.Mathlib.Omega.{arith}
 use borrow.Author.Needs.{needs, sfits-of}
 use lib.IntN.{ℤ}
+use lib.ListN.{drop}
 use mir.Facts.{toZ-ofZ}
 use mir.Syntax.{w64}
 use mir.Val.{SFits}
 use Rattle.whole.specs.Numbers.{Within, outside}
-use Rattle.whole.proofs.Below.{all-each}
 use Rattle.whole.proofs.Bools.{not-true, not-false}
-use Rattle.whole.proofs.Tells.{tells-outside, tells-within}
+use Rattle.whole.proofs.Tells.{tells-outside}
 use Rattle.whole.proofs.Tests.{under}
-use Rattle.rules.specs.Sizes.{largestNumber, largestNumerator}
-use Rattle.rules.specs.Evidence.{denominatorOf, lowerPart}
-use Rattle.evidence.specs.Reads.{numeratorsFit, rowsHold, limitsHold}
-use Rattle.evidence.proofs.Laws.Shown.{can-denominator, can-numerators, can-rows, can-limits, can-rest}
+use Rattle.rules.specs.Sizes.{largestNumber, largestNumerator, largestSmall}
+use Rattle.rules.specs.Evidence.{denominatorOf}
+use Rattle.evidence.specs.Reads.{halfHolds}
+use Rattle.evidence.proofs.Laws.Halves.{lent-half}
+use Rattle.evidence.proofs.Laws.Shown.{can-denominator, can-numerators, can-smalls, can-limits}
 use Rattle.evidence.proofs.can.shows_can.Statement.{statement}
 use Rattle.evidence.proofs.can.shows_can.Tie as tie
 
@@ -65,70 +66,76 @@ module _ (c : tie.Else2) where
   abbrev second : tie.Start
   second = first (c .before .before)
 
-  fits : numeratorsFit (answer second) (variables second) ≡ true
-  fits = sym (c .before .numerators-fit .ensures) ∙ not-false _ (c .if2 .left)
+  numerators : halfHolds largestNumerator (second .args .entries .now) (answer second) (second .args .rows)
+      (second .args .columns) ≡ true
+  numerators = sym (c .before .half-holds .ensures) ∙ not-false _ (c .if2 .left)
 
-  each : (v : ℕ) → v < variables second → Within (lowerPart (answer second) v) largestNumerator
-  each v h = tells-within largestNumerator _ .if-true (all-each _ _ fits v h)
+module _ (c : tie.After-smalls-hold) where
+  abbrev passed : tie.Else2
+  passed = c .before .before
 
-module _ (c : tie.Else3) where
   abbrev third : tie.Start
-  third = second (c .before .before)
+  third = second passed
 
-  hold : rowsHold (third .args .entries .now) (answer third) (third .args .rows) (third .args .columns) ≡ true
-  hold = sym (c .before .rows-hold .ensures) ∙ not-false _ (c .if3 .left)
-
-  abbrev denominator-fits : SFits w64 (denominatorOf (answer third))
-  denominator-fits = fit (c .before .before .before .before .before)
-
-module _ (c : tie.After-limits-hold) where
-  abbrev fourth : tie.Start
-  fourth = third (c .before)
-
-  limits-are : c .limits-hold .result
-      ≡ limitsHold (fourth .args .limits) (answer fourth) (variables fourth) (denominatorOf (answer fourth))
-  limits-are = simp (toZ-ofZ (denominator-fits (c .before))) at (c .limits-hold .ensures)
+  smalls-are : c .smalls-hold .result ≡ halfHolds largestSmall (third .args .entries .now)
+      (drop (variables third) (answer third)) (third .args .rows) (third .args .columns)
+  smalls-are = c .smalls-hold .ensures
+      ∙ ap (λ (half : List ℤ). halfHolds largestSmall (third .args .entries .now) half (third .args .rows)
+      (third .args .columns)) (lent-half (answer third) (variables third))
 
 -- ---- the calls and the returns
 
 returns : tie.Need-returns
 returns c = sym (can-denominator (start (c .before) .pre) (sym (outside-is (c .before)) ∙ c .if1 .taken))
 
-numerators-fit-requires : tie.Need-numerators-fit-requires
-numerators-fit-requires c κs = search needs
+half-holds-requires : tie.Need-half-holds-requires
+half-holds-requires c κs = search needs
 
 returns-2 : tie.Need-returns-2
 returns-2 c = let b = c .before in
     sym (can-numerators (first (b .before) .pre) (in-range (b .before))
-    (sym (b .numerators-fit .ensures) ∙ not-true _ (c .if2 .taken)))
+    (sym (b .half-holds .ensures) ∙ not-true _ (c .if2 .taken)))
 
-rows-hold-requires : tie.Need-rows-hold-requires
-rows-hold-requires c κs = let p = second c .pre in
-    ((p .few-rows, p .few-columns, omega arith), (p .entries-within, λ v h. each c v (omega arith)))
+mul-smalls-hold : tie.Need-mul-smalls-hold
+mul-smalls-hold c = search needs
+
+sub-smalls-hold : tie.Need-sub-smalls-hold
+sub-smalls-hold c = search needs
+
+part-smalls-hold-start : tie.Need-part-smalls-hold-start
+part-smalls-hold-start c = search needs
+
+part-smalls-hold-end : tie.Need-part-smalls-hold-end
+part-smalls-hold-end c = search needs
+
+smalls-hold-requires : tie.Need-smalls-hold-requires
+smalls-hold-requires c κs = search needs
 
 returns-3 : tie.Need-returns-3
-returns-3 c = let b = c .before in
-    sym (can-rows (second (b .before) .pre) (in-range (b .before .before .before)) (fits (b .before))
-    (sym (b .rows-hold .ensures) ∙ not-true _ (c .if3 .taken)))
+returns-3 c = let a = c .before in let b = passed a in
+    sym (can-smalls (third a .pre) (in-range (b .before .before)) (numerators b)
+    (sym (smalls-are a) ∙ not-true _ (c .if3 .taken)))
+
+module _ (c : tie.Else3) where
+  abbrev fourth : tie.Start
+  fourth = third (c .before)
+
+  abbrev ranged : tie.Else1
+  ranged = passed (c .before) .before .before
+
+  denominator-fits : SFits w64 (denominatorOf (answer fourth))
+  denominator-fits = fit (ranged .before)
 
 limits-hold-requires : tie.Need-limits-hold-requires
-limits-hold-requires c κs =
+limits-hold-requires c κs = let p = fourth c .pre in
     simp (toZ-ofZ (denominator-fits c))
-    ((omega arith, omega arith, within (c .before .before .before .before)), third c .pre .limited)
+    ((omega (arith, p .few-rows, p .few-columns), p .long, within (ranged c)), p .limited)
 
 returns-4 : tie.Need-returns-4
-returns-4 c = let b = c .before .before in
-    sym (can-limits (third b .pre) (in-range (b .before .before .before .before)) (fits (b .before .before)) (hold b)
-    (sym (limits-are (c .before)) ∙ not-true _ (c .if4 .taken)))
-
-rest-is-zero-requires : tie.Need-rest-is-zero-requires
-rest-is-zero-requires c κs = search needs
-
-returns-5 : tie.Need-returns-5
-returns-5 c = let l = c .before .before in let b = l .before in
-    c .rest-is-zero .ensures
-    ∙ sym (can-rest (third b .pre) (in-range (b .before .before .before .before)) (fits (b .before .before)) (hold b)
-    (sym (limits-are l) ∙ not-false _ (c .before .if4 .left)))
+returns-4 c = let e = c .before in let a = e .before in
+    simp (toZ-ofZ (denominator-fits e)) at (c .limits-hold .ensures)
+    ∙ sym (can-limits (fourth e .pre) (in-range (ranged e)) (numerators (passed a))
+    (sym (smalls-are a) ∙ not-false _ (e .if3 .left)))
 
 pub shows-can-spec : {M : Type 1} → statement M
 shows-can-spec =
@@ -138,11 +145,13 @@ shows-can-spec =
     shared-slice-copy-out-denominator
     is-outside-requires
     returns
-    numerators-fit-requires
+    half-holds-requires
     returns-2
-    rows-hold-requires
+    mul-smalls-hold
+    sub-smalls-hold
+    part-smalls-hold-start
+    part-smalls-hold-end
+    smalls-hold-requires
     returns-3
     limits-hold-requires
-    returns-4
-    rest-is-zero-requires
-    returns-5)
+    returns-4)

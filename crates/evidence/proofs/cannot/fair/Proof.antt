@@ -20,9 +20,10 @@ zero-fits = record { sfits = lit< tt }
 
 returns : tie.Need-returns
 unfolding outside
-returns c = let o = c .before in
-    ap₂ (λ (a b : Bool). (o .args .has && not a) || b) (simp (toZ-ofZ (o .fits .k)) at (c .is-outside .ensures))
-    (bits-eq w64 (o .fits .k) zero-fits) ∙ fair-joined (o .args .has) (o .args .k)
+returns c = let o = c .before .before in
+    ap₂ (λ (a b : Bool). (o .args .limit .there && not a) || b)
+    (simp (toZ-ofZ (o .fits .k)) at (c .before .is-outside .ensures))
+    (bits-eq w64 (o .fits .k) zero-fits) ∙ fair-joined (o .args .limit .there) _ (o .args .k)
 
 pub fair-spec : {M : Type 1} → statement M
 fair-spec = tie.close (tie.spec is-outside-requires returns)

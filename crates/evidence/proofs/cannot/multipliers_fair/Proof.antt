@@ -1,18 +1,18 @@
 -- `evidence::cannot::multipliers_fair` meets its contract. The invariant: whether the multipliers of the variables
 -- passed are fair. The measure is how many are left. Assumes nothing.
 use mathlib.Core.Path.{_≡_, ap₂, sym}
-use mathlib.Core.Bool.{Bool, false, _&&_}
+use mathlib.Core.Bool.{Bool, _&&_}
 use Prim.Native.Nat.{ℕ, _-_, _≤_}
 use native.Mathlib.Omega.{arith}
 use borrow.Author.Needs.{sfits-of}
-use lib.ListN.{getD}
 use mir.Facts.{toZ-ofZ}
 use mir.Syntax.{w64}
 use mir.Val.{SFits}
 use Rattle.whole.specs.Below.{allBelow}
 use Rattle.whole.proofs.Below.{all-start}
-use Rattle.rules.specs.Evidence.{lowerPart, upperPart}
-use Rattle.evidence.specs.Reads.{fairAt, fairOf, multipliersFair}
+use Rattle.rules.specs.Evidence.{fair, lowerPart, upperPart}
+use Rattle.tableau.specs.Parts.{lowerOf, upperOf}
+use Rattle.evidence.specs.Reads.{fairAt, multipliersFair}
 use Rattle.evidence.proofs.Laws.Tests.{tests-more}
 use Rattle.evidence.proofs.cannot.multipliers_fair.Statement.{statement}
 use Rattle.evidence.proofs.cannot.multipliers_fair.Tie as tie
@@ -36,11 +36,14 @@ add-high c = omega arith
 add-high-2 : tie.Need-add-high-2 Inv-loop μ-loop
 add-high-2 c = omega arith
 
+mul-fair : tie.Need-mul-fair Inv-loop μ-loop
+mul-fair c = omega arith
+
 element-copy-out-fair : tie.Need-element-copy-out-fair Inv-loop μ-loop
 element-copy-out-fair c = omega arith
 
-mul-fair : tie.Need-mul-fair Inv-loop μ-loop
-mul-fair c = omega arith
+mul-fair-2 : tie.Need-mul-fair-2 Inv-loop μ-loop
+mul-fair-2 c = omega arith
 
 shared-slice-copy-out-fair : tie.Need-shared-slice-copy-out-fair Inv-loop μ-loop
 shared-slice-copy-out-fair c = omega arith
@@ -48,11 +51,14 @@ shared-slice-copy-out-fair c = omega arith
 fair-requires : tie.Need-fair-requires Inv-loop μ-loop
 fair-requires c κs = tt
 
+mul-fair-3 : tie.Need-mul-fair-3 Inv-loop μ-loop
+mul-fair-3 c = omega arith
+
 element-copy-out-fair-2 : tie.Need-element-copy-out-fair-2 Inv-loop μ-loop
 element-copy-out-fair-2 c = omega arith
 
-mul-fair-2 : tie.Need-mul-fair-2 Inv-loop μ-loop
-mul-fair-2 c = omega arith
+mul-fair-4 : tie.Need-mul-fair-4 Inv-loop μ-loop
+mul-fair-4 c = omega arith
 
 shared-slice-copy-out-fair-2 : tie.Need-shared-slice-copy-out-fair-2 Inv-loop μ-loop
 shared-slice-copy-out-fair-2 c = omega arith
@@ -78,10 +84,10 @@ module _ (c : tie.After-fair2 Inv-loop μ-loop) where
   fit-high = sfits-of (c .before .fair-arg4 .given)
 
   first : c .before .before .before .fair .result
-      ≡ fairOf (getD (start .args .t1 .lowers) place false) (lowerPart (start .args .answer .now) place)
+      ≡ fair (lowerOf (start .args .t1) place) (lowerPart (start .args .answer .now) place)
   first = simp (toZ-ofZ fit-low) at (c .before .before .before .fair .ensures)
 
-  second : c .fair2 .result ≡ fairOf (getD (start .args .t1 .uppers) place false)
+  second : c .fair2 .result ≡ fair (upperOf (start .args .t1) place)
       (upperPart (start .args .variables) (start .args .answer .now) place)
   second = simp (toZ-ofZ fit-high) at (c .fair2 .ensures)
 
@@ -114,12 +120,14 @@ multipliers-fair-spec =
     add-low
     add-high
     add-high-2
-    element-copy-out-fair
     mul-fair
+    element-copy-out-fair
+    mul-fair-2
     shared-slice-copy-out-fair
     fair-requires
+    mul-fair-3
     element-copy-out-fair-2
-    mul-fair-2
+    mul-fair-4
     shared-slice-copy-out-fair-2
     fair-requires-2
     add-v

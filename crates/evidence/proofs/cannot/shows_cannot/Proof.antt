@@ -1,7 +1,7 @@
 -- `evidence::cannot::shows_cannot` meets its contract: the tests of the rule one after the other, each call giving one
 -- of them. Assumes nothing.
 use mathlib.Core.Path.{_≡_, ap, sym, _∙_}
-use mathlib.Core.Bool.{true}
+use mathlib.Core.Bool.{true, false}
 use mathlib.Core.List.{List}
 use Prim.Native.Nat.{ℕ, _+_}
 use native.Mathlib.Omega.{arith}
@@ -15,8 +15,9 @@ use Rattle.whole.specs.Numbers.{eqZ}
 use Rattle.whole.proofs.Bools.{not-true, not-false}
 use Rattle.whole.proofs.Tells.{tells-eqZ, tells-true, tells-false}
 use Rattle.rules.specs.Evidence.{denominatorOf}
-use Rattle.evidence.specs.Reads.{Multiplied, multipliersFair, columnsCancel}
+use Rattle.evidence.specs.Reads.{Multiplied, multipliersFair, columnsCancel, surplusOf}
 use Rattle.evidence.proofs.Laws.Shown.{cannot-denominator, cannot-multipliers, cannot-columns, cannot-surplus}
+use Rattle.evidence.proofs.Laws.Shown.{cannot-plain, cannot-strict}
 use Rattle.evidence.proofs.Laws.Weights.{multiplied}
 use Rattle.evidence.proofs.cannot.shows_cannot.Statement.{statement}
 use Rattle.evidence.proofs.cannot.shows_cannot.Tie as tie
@@ -86,15 +87,50 @@ surplus-requires : tie.Need-surplus-requires
 surplus-requires c κs = let p = third c .pre in
     ((omega arith, p .long), (many (c .before .before), p .limited))
 
-fit-surplus : (c : tie.After-surplus) → SFits w64 (c .surplus .result)
-fit-surplus c = search needs
+-- ---- the total, which is 0 or not
+
+module _ (c : tie.After-surplus) where
+  abbrev fourth : tie.Start
+  fourth = third (c .before)
+
+  abbrev total : ℤ
+  total = surplusOf (fourth .args .limits) (answer fourth) (variables fourth)
+
+  fit-total : SFits w64 (c .surplus .result)
+  fit-total = search needs
+
+not-zero : (c : tie.Then4) → eqZ (total (c .before)) (pos 0) ≡ false
+not-zero c = tells-false (tells-eqZ (total (c .before)) (pos 0))
+    (λ e. c .if4 .taken (ap (ofZ w64) (c .before .surplus .ensures ∙ e)))
 
 returns-4 : tie.Need-returns-4
-returns-4 c = let b = c .before in
-    simp (toZ-ofZ (fit-surplus c))
-    (ap (ltZ (pos 0)) (c .surplus .ensures)
-    ∙ sym (cannot-surplus (third b .pre) (zero (b .before .before .before .before)) (fair (b .before .before))
-    (cancel b)))
+returns-4 c = let b = c .before in let d = b .before in
+    simp (toZ-ofZ (fit-total b))
+    (ap (ltZ (pos 0)) (b .surplus .ensures)
+    ∙ sym (cannot-surplus (third d .pre) (zero (d .before .before .before .before)) (fair (d .before .before))
+    (cancel d) (not-zero c)))
+
+module _ (c : tie.Else4) where
+  abbrev cancelled : tie.Else3
+  cancelled = c .before .before
+
+  is-zero : eqZ (total (c .before)) (pos 0) ≡ true
+  is-zero = tells-true (tells-eqZ (total (c .before)) (pos 0)) (sym (c .before .surplus .ensures)
+      ∙ sym (toZ-ofZ (fit-total (c .before))) ∙ ap (toZ w64) (c .if4 .left))
+
+returns-5 : tie.Need-returns-5
+returns-5 c = let e = c .before .before in let d = cancelled e in
+    sym (cannot-plain (third d .pre) (zero (d .before .before .before .before)) (fair (d .before .before)) (cancel d)
+    (is-zero e) (not-true _ (c .if5 .taken)))
+
+some-named-requires : tie.Need-some-named-requires
+some-named-requires c κs = search needs
+
+returns-6 : tie.Need-returns-6
+returns-6 c = let e = c .before .before .before in let d = cancelled e in
+    c .some-named .ensures
+    ∙ sym (cannot-strict (third d .pre) (zero (d .before .before .before .before)) (fair (d .before .before)) (cancel d)
+    (is-zero e))
 
 pub shows-cannot-spec : {M : Type 1} → statement M
 shows-cannot-spec =
@@ -108,4 +144,7 @@ shows-cannot-spec =
     columns-cancel-requires
     returns-3
     surplus-requires
-    returns-4)
+    returns-4
+    returns-5
+    some-named-requires
+    returns-6)

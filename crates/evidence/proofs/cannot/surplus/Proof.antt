@@ -1,25 +1,21 @@
 -- `evidence::cannot::surplus` meets its contract. The invariant: the sum is that of the variables passed, each term
 -- within twice the largest limit times the largest number. The measure is how many are left. Assumes nothing.
 use mathlib.Core.Path.{_≡_, refl, ap, ap₂, sym, _∙_}
-use mathlib.Core.Bool.{false}
 use Prim.Native.Nat.{ℕ, _+_, _*_, _-_, _≤_, _<_}
 use native.Mathlib.Omega.{arith}
 use borrow.Author.Needs.{needs, sfits-of}
-use lib.IntN.{ℤ, pos, _+ℤ_, _-ℤ_, _*ℤ_}
-use lib.ListN.{getD}
+use lib.IntN.{ℤ, _+ℤ_, _-ℤ_, _*ℤ_}
 use mir.Facts.{toZ-ofZ}
-use mir.Syntax.{w32, w64}
+use mir.Syntax.{w64}
 use mir.Val.{SFits, toZ}
 use Rattle.whole.specs.Numbers.{Within}
 use Rattle.whole.specs.Sums.{sumBy}
-use Rattle.whole.specs.Values.{whole}
 use Rattle.whole.proofs.Sizes.{within-le, fits-by}
 use Rattle.whole.proofs.Sums.{sum-step, sum-within}
 use Rattle.rules.specs.Sizes.{largestLimit, largestNumber, mostVariables}
-use Rattle.rules.specs.Step.{seated}
-use Rattle.rules.specs.Evidence.{lowerPart, upperPart}
+use Rattle.rules.specs.Evidence.{lowerPart, plainOf, upperPart}
 use Rattle.tableau.specs.declared.Limits.{Limits}
-use Rattle.tableau.specs.Parts.{lowerOf, upperOf}
+use Rattle.tableau.specs.Parts.{lowerGiven, lowerOf, upperGiven, upperOf}
 use Rattle.evidence.specs.Reads.{surplusUpTo}
 use Rattle.evidence.proofs.Laws.Weights.{net-within}
 use Rattle.evidence.proofs.cannot.surplus.Statement.{statement}
@@ -44,14 +40,11 @@ add-high c = omega arith
 add-high-2 : tie.Need-add-high-2 Inv-loop μ-loop
 add-high-2 c = omega arith
 
-element-copy-out-weighed : tie.Need-element-copy-out-weighed Inv-loop μ-loop
-element-copy-out-weighed c = omega arith
-
 mul-weighed : tie.Need-mul-weighed Inv-loop μ-loop
 mul-weighed c = omega arith
 
-element-copy-out-weighed-2 : tie.Need-element-copy-out-weighed-2 Inv-loop μ-loop
-element-copy-out-weighed-2 c = omega arith
+element-copy-out-weighed : tie.Need-element-copy-out-weighed Inv-loop μ-loop
+element-copy-out-weighed c = omega arith
 
 mul-weighed-2 : tie.Need-mul-weighed-2 Inv-loop μ-loop
 mul-weighed-2 c = omega arith
@@ -60,9 +53,9 @@ shared-slice-copy-out-weighed : tie.Need-shared-slice-copy-out-weighed Inv-loop 
 shared-slice-copy-out-weighed c = omega arith
 
 -- the variable, its lower limit and the limit's multiplier
-module _ (c : tie.After-weighed-arg3 Inv-loop μ-loop) where
+module _ (c : tie.After-weighed-arg2 Inv-loop μ-loop) where
   abbrev turn : tie.At-loop Inv-loop μ-loop
-  turn = c .before .before .before .before
+  turn = c .before .before .before
 
   abbrev start : tie.Start Inv-loop μ-loop
   start = turn .before
@@ -73,25 +66,19 @@ module _ (c : tie.After-weighed-arg3 Inv-loop μ-loop) where
   abbrev limits : Limits
   limits = start .args .t1
 
-  fit-lower : SFits w32 (getD (limits .lower) v (pos 0))
-  fit-lower = sfits-of (c .before .weighed-arg2 .given)
-
   fit-low : SFits w64 (lowerPart (start .args .answer .now) v)
-  fit-low = sfits-of (c .weighed-arg3 .given)
+  fit-low = sfits-of (c .weighed-arg2 .given)
 
 weighed-requires : tie.Need-weighed-requires Inv-loop μ-loop
 weighed-requires c κs =
-    simp (toZ-ofZ (fit-lower c), toZ-ofZ (fit-low c))
+    simp (toZ-ofZ (fit-low c))
     (start c .pre .1 .1 .lowers-within (v c), start c .pre .1 .0 .lower-within (v c) (omega arith))
-
-element-copy-out-weighed-3 : tie.Need-element-copy-out-weighed-3 Inv-loop μ-loop
-element-copy-out-weighed-3 c = omega arith
 
 mul-weighed-3 : tie.Need-mul-weighed-3 Inv-loop μ-loop
 mul-weighed-3 c = omega arith
 
-element-copy-out-weighed-4 : tie.Need-element-copy-out-weighed-4 Inv-loop μ-loop
-element-copy-out-weighed-4 c = omega arith
+element-copy-out-weighed-2 : tie.Need-element-copy-out-weighed-2 Inv-loop μ-loop
+element-copy-out-weighed-2 c = omega arith
 
 mul-weighed-4 : tie.Need-mul-weighed-4 Inv-loop μ-loop
 mul-weighed-4 c = omega arith
@@ -99,25 +86,22 @@ mul-weighed-4 c = omega arith
 shared-slice-copy-out-weighed-2 : tie.Need-shared-slice-copy-out-weighed-2 Inv-loop μ-loop
 shared-slice-copy-out-weighed-2 c = omega arith
 
--- its upper limit and that one's multiplier
-module _ (c : tie.After-weighed-arg6 Inv-loop μ-loop) where
-  abbrev first : tie.After-weighed-arg3 Inv-loop μ-loop
-  first = c .before .before .before .before
-
-  fit-upper : SFits w32 (getD (limits first .upper) (v first) (pos 0))
-  fit-upper = sfits-of (c .before .weighed-arg5 .given)
+-- .. its upper limit's multiplier
+module _ (c : tie.After-weighed-arg4 Inv-loop μ-loop) where
+  abbrev first : tie.After-weighed-arg2 Inv-loop μ-loop
+  first = c .before .before .before
 
   fit-high : SFits w64 (upperPart (start first .args .variables) (start first .args .answer .now) (v first))
-  fit-high = sfits-of (c .weighed-arg6 .given)
+  fit-high = sfits-of (c .weighed-arg4 .given)
 
 weighed-requires-2 : tie.Need-weighed-requires-2 Inv-loop μ-loop
 weighed-requires-2 c κs = let s = start (first c) in
-    simp (toZ-ofZ (fit-upper c), toZ-ofZ (fit-high c))
+    simp (toZ-ofZ (fit-high c))
     (s .pre .1 .1 .uppers-within (v (first c)), s .pre .1 .0 .upper-within (v (first c)) (omega arith))
 
 -- what the two calls give, and the sum with it
 module _ (c : tie.After-weighed2 Inv-loop μ-loop) where
-  abbrev read : tie.After-weighed-arg3 Inv-loop μ-loop
+  abbrev read : tie.After-weighed-arg2 Inv-loop μ-loop
   read = first (c .before)
 
   abbrev begun : tie.Start Inv-loop μ-loop
@@ -127,18 +111,18 @@ module _ (c : tie.After-weighed2 Inv-loop μ-loop) where
   k = v read
 
   abbrev gain : ℕ → ℤ
-  gain u = seated whole (lowerOf (limits read) u) *ℤ lowerPart (begun .args .answer .now) u
+  gain u = plainOf (lowerOf (limits read) u) *ℤ lowerPart (begun .args .answer .now) u
 
   abbrev loss : ℕ → ℤ
-  loss u = seated whole (upperOf (limits read) u) *ℤ upperPart (begun .args .variables) (begun .args .answer .now) u
+  loss u = plainOf (upperOf (limits read) u) *ℤ upperPart (begun .args .variables) (begun .args .answer .now) u
 
   abbrev upTo : ℕ → ℤ
   upTo u = surplusUpTo (limits read) (begun .args .answer .now) (begun .args .variables) u
 
   abbrev given : ℤ
-  given = c .before .before .before .before .weighed .result -ℤ c .weighed2 .result
+  given = c .before .before .before .weighed .result -ℤ c .weighed2 .result
 
-  fit-gain : SFits w64 (c .before .before .before .before .weighed .result)
+  fit-gain : SFits w64 (c .before .before .before .weighed .result)
   fit-gain = search needs
 
   fit-loss : SFits w64 (c .weighed2 .result)
@@ -146,14 +130,13 @@ module _ (c : tie.After-weighed2 Inv-loop μ-loop) where
 
   told : given ≡ gain k -ℤ loss k
   told = ap₂ (λ (a b : ℤ). a -ℤ b)
-      (simp (toZ-ofZ (fit-lower read), toZ-ofZ (fit-low read)) at (c .before .before .before .before .weighed .ensures))
-      (simp (toZ-ofZ (fit-upper (c .before)), toZ-ofZ (fit-high (c .before))) at (c .weighed2 .ensures))
+      (simp (toZ-ofZ (fit-low read)) at (c .before .before .before .weighed .ensures))
+      (simp (toZ-ofZ (fit-high (c .before))) at (c .weighed2 .ensures))
 
   within-net : (u : ℕ) → u < begun .args .variables →
       Within (gain u -ℤ loss u) (largestLimit * largestNumber + largestLimit * largestNumber)
   within-net u h = let many = begun .pre .1 .0 in let l = begun .pre .1 .1 in
-      net-within (getD (limits read .lowers) u false) (getD (limits read .uppers) u false)
-      (getD (limits read .lower) u (pos 0)) (getD (limits read .upper) u (pos 0)) _ _
+      net-within (lowerGiven (limits read) u) (upperGiven (limits read) u) _ _
       (l .lowers-within u) (many .lower-within u h) (l .uppers-within u) (many .upper-within u h)
 
   fit-net : SFits w64 given
@@ -213,15 +196,13 @@ surplus-spec =
     add-low
     add-high
     add-high-2
-    element-copy-out-weighed
     mul-weighed
-    element-copy-out-weighed-2
+    element-copy-out-weighed
     mul-weighed-2
     shared-slice-copy-out-weighed
     weighed-requires
-    element-copy-out-weighed-3
     mul-weighed-3
-    element-copy-out-weighed-4
+    element-copy-out-weighed-2
     mul-weighed-4
     shared-slice-copy-out-weighed-2
     weighed-requires-2

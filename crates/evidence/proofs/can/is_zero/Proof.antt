@@ -1,4 +1,4 @@
--- `evidence::can::rest_is_zero` meets its contract. The invariant: whether the words passed are 0. The measure is how
+-- `evidence::can::is_zero` meets its contract. The invariant: whether the numbers passed are 0. The measure is how
 -- many are left. Assumes nothing.
 use mathlib.Core.Path.{_≡_, sym}
 use Prim.Native.Nat.{ℕ, _-_, _≤_}
@@ -8,30 +8,26 @@ use lib.Dec.{lit<}
 use lib.IntN.{ℤ, pos}
 use mir.Syntax.{w64}
 use mir.Val.{SFits}
-use Rattle.whole.specs.Below.{allBelow}
-use Rattle.whole.specs.Numbers.{eqZ}
 use Rattle.whole.proofs.Below.{all-start}
 use Rattle.whole.proofs.Tells.{bits-eq}
-use Rattle.rules.specs.Evidence.{upperPart}
+use Rattle.rules.specs.Evidence.{lowerPart}
+use Rattle.evidence.specs.Reads.{isZero}
 use Rattle.evidence.proofs.Laws.Tests.{tests-more}
-use Rattle.evidence.proofs.can.rest_is_zero.Statement.{statement}
-use Rattle.evidence.proofs.can.rest_is_zero.Tie as tie
+use Rattle.evidence.proofs.can.is_zero.Statement.{statement}
+use Rattle.evidence.proofs.can.is_zero.Tie as tie
 
 abbrev Inv-loop : tie.InvT-loop
-Inv-loop answer variables fine₀ v₀ fine v =
-    (v ≤ variables) × (fine ≡ allBelow v (λ v. eqZ (upperPart variables answer v) (pos 0)))
+Inv-loop half variables fine₀ v₀ fine v =
+    (v ≤ variables) × (fine ≡ isZero half v)
 
 abbrev μ-loop : tie.MeasureT-loop
-μ-loop answer variables fine₀ v₀ fine v = variables - v
+μ-loop half variables fine₀ v₀ fine v = variables - v
 
 loop-holds : tie.Need-loop-holds Inv-loop μ-loop
 loop-holds c = (omega arith, sym (all-start _))
 
 add-at : tie.Need-add-at Inv-loop μ-loop
 add-at c = omega arith
-
-add-at-2 : tie.Need-add-at-2 Inv-loop μ-loop
-add-at-2 c = omega arith
 
 mul-fine : tie.Need-mul-fine Inv-loop μ-loop
 mul-fine c = omega arith
@@ -48,7 +44,7 @@ module _ (c : tie.After-fine Inv-loop μ-loop) where
   place = c .before .before .loop .v
 
   abbrev number : ℤ
-  number = upperPart (start .args .variables) (start .args .answer .now) place
+  number = lowerPart (start .args .half .now) place
 
   fit : SFits w64 number
   fit = sfits-of (c .fine .given)
@@ -74,15 +70,14 @@ all c = omega arith
 returns : tie.Need-returns Inv-loop μ-loop
 returns c = rw (all c) at (c .before .loop .inv .1)
 
-pub rest-is-zero-spec : {M : Type 1} → statement M
-rest-is-zero-spec =
+pub is-zero-spec : {M : Type 1} → statement M
+is-zero-spec =
     tie.close
     (tie.spec
     Inv-loop
     μ-loop
     loop-holds
     add-at
-    add-at-2
     mul-fine
     shared-slice-copy-out-fine
     add-v
