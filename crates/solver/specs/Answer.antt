@@ -22,7 +22,8 @@ numberOf verdicts.Can = pos 1
 numberOf verdicts.Cannot = pos 2
 numberOf verdicts.Range = pos 3
 
--- D times the value of the variable of a seat: the sum of its row, or D times the value of its column
+-- D times the value of the variable of a seat: the sum of its row, or D times the value of its column. Values are plain
+-- parts, or small parts
 abbrev pub numeratorFrom : Bool → ℤ → ℤ → ℤ
 numeratorFrom true basic seated = basic
 numeratorFrom false basic seated = seated
@@ -46,12 +47,12 @@ numeratorIn l x seats common rows columns v = numeratorOf l x rows columns commo
 abbrev pub numeratorsIn : List ℤ → List ℤ → List Seat → ℤ → ℕ → ℕ → List ℤ
 numeratorsIn = numeratorsLaid inUse
 
--- .. and of a tableau
-abbrev pub numeratorAt : Tableau → ℕ → ℤ
-numeratorAt t v = numeratorIn (t .entries) (t .values) (t .seats) (t .common) (t .rows) (t .columns) v
+-- .. and of a tableau, from plain parts or from small parts
+abbrev pub numeratorAt : Tableau → List ℤ → ℕ → ℤ
+numeratorAt t x v = numeratorIn (t .entries) x (t .seats) (t .common) (t .rows) (t .columns) v
 
-abbrev pub numeratorsAt : Tableau → List ℤ
-numeratorsAt t = numeratorsIn (t .entries) (t .values) (t .seats) (t .common) (t .rows) (t .columns)
+abbrev pub numeratorsAt : Tableau → List ℤ → List ℤ
+numeratorsAt t x = numeratorsIn (t .entries) x (t .seats) (t .common) (t .rows) (t .columns)
 
 -- a seat that is a place, and numbers in range
 pub record Numerable (l x : List ℤ) (rows columns : ℕ) (common : ℤ) (s : Seat) : Type 0 where

@@ -3,10 +3,10 @@ use mathlib.Core.Bool.{cond}
 use mathlib.Core.Option.{Option, none, some}
 use Prim.Native.Nat.{ℕ}
 use Rattle.whole.specs.Below.{lowest}
-use Rattle.whole.specs.Values.{whole}
+use Rattle.whole.specs.Values.{pairs}
 use Rattle.rules.specs.Run.{crossed}
 use Rattle.tableau.specs.declared.Limits.{Limits}
-use Rattle.tableau.specs.Parts.{variable, lowerOf, upperOf}
+use Rattle.tableau.specs.Parts.{variable, lowestOf, highestOf}
 use Rattle.solver.specs.declared.conflict.Crossed.{Crossed}
 use Rattle.solver.specs.declared.conflict.Crossed.the-variants as variants
 
@@ -16,7 +16,7 @@ crossedFrom (some v) = variants.At (variable v)
 
 -- v, where its limits cross
 unfoldable pub crossesAt : Limits → ℕ → Option ℕ
-crossesAt l v = cond (crossed whole (lowerOf l v) (upperOf l v)) (some v) none
+crossesAt l v = cond (crossed pairs (lowestOf l v) (highestOf l v)) (some v) none
 
 -- the lowest variable below N whose limits cross
 unfoldable pub conflictAt : Limits → ℕ → Crossed

@@ -4,7 +4,7 @@ use mathlib.Core.Option.{none}
 use mathlib.Core.Path.{_≡_}
 use Prim.Native.Nat.{ℕ, zero, suc, _<_}
 use lib.IntN.{ℤ, pos}
-use Rattle.whole.specs.Values.{whole}
+use Rattle.whole.specs.Values.{pairs}
 use Rattle.rules.specs.Problem.{Problem}
 use Rattle.rules.specs.Run.{conflict}
 use Rattle.rules.specs.Step.{State}
@@ -41,7 +41,8 @@ pub record FinishedLaid (o : Order) (t : Tableau) (e : End) (k : ℕ) (u : Table
 
 unfoldable pub wordsLaid : Order → End → ℕ → Tableau → ℕ → List ℤ
 wordsLaid o ends.Can k t N = wordsAt verdicts.Can k (t .common) N
-    (numeratorsLaid o (t .entries) (t .values) (t .seats) (t .common) (t .rows) (t .columns)) noughts
+    (numeratorsLaid o (t .entries) (t .values) (t .seats) (t .common) (t .rows) (t .columns))
+    (numeratorsLaid o (t .entries) (t .smalls) (t .seats) (t .common) (t .rows) (t .columns))
 wordsLaid o (ends.Cannot b) k t N =
     let M : Multipliers = multipliersLaid o (t .entries) (t .seats) (t .common) (t .rows) (t .columns) b in
     wordsAt verdicts.Cannot k (pos 0) N (M .lower) (M .upper)
@@ -71,13 +72,13 @@ pub record Tellable (e : End) (k : ℕ) (t : Tableau) : Type 0 where
 
 -- a tableau that stands for a state from which a check may start, crossed limits or not
 pub record Begun (t : Tableau) : Type 0 where
-  pub problem : Problem ℤ
-  pub state : State ℤ
+  pub problem : Problem (ℤ × ℤ)
+  pub state : State (ℤ × ℤ)
   pub stands : Stands problem t state
-  pub ready : Ready whole problem state
+  pub ready : Ready pairs problem state
   pub ranged : Ranged t
 
 -- .. and no limits cross
 pub record Startable (t : Tableau) : Type 0 where
   pub begun : Begun t
-  pub uncrossed : conflict whole (begun .problem) ≡ none
+  pub uncrossed : conflict pairs (begun .problem) ≡ none

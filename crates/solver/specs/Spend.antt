@@ -81,7 +81,7 @@ outAt t before most out = outWhere (conflictAt (t .limits) (manyOf t)) t before 
 -- ---- what a tableau and a count stand for
 
 -- a state of the rules' run, on its way
-pub record Holds (S : Slice ℤ) (t : Tableau) (count : ℕ) : Type 0 where
+pub record Holds (S : Slice (ℤ × ℤ)) (t : Tableau) (count : ℕ) : Type 0 where
   pub stands : Stands (S .problem) t (S .state)
   pub ranged : Ranged t
   pub count-is : S .count ≡ count
@@ -89,5 +89,5 @@ pub record Holds (S : Slice ℤ) (t : Tableau) (count : ℕ) : Type 0 where
 
 -- .. some such state
 pub record Standing (t : Tableau) (count : ℕ) : Type 0 where
-  pub slice : Slice ℤ
+  pub slice : Slice (ℤ × ℤ)
   pub holds : Holds slice t count

@@ -3,16 +3,17 @@ use mathlib.Core.Bool.{Bool, true, false}
 use mathlib.Core.List.{List}
 use mathlib.Core.Path.{_≡_}
 use Prim.Native.Nat.{ℕ, _<_}
-use lib.IntN.{ℤ, pos}
-use lib.ListN.{getD}
-use Rattle.whole.specs.Values.{whole}
+use lib.IntN.{ℤ}
+use Rattle.whole.specs.Values.{pairs}
 use Rattle.rules.specs.Problem.{Problem}
 use Rattle.rules.specs.Sizes.{mostRows, mostVariables}
 use Rattle.rules.specs.Step.{State}
 use Rattle.rules.proofs.Sound.{Rowed}
+use Rattle.tableau.specs.declared.Given.{Given}
 use Rattle.tableau.specs.declared.Tableau.{Tableau}
 use Rattle.pivot.specs.Layout.{Order, inUse}
-use Rattle.tableau.specs.Parts.{basicAt}
+use Rattle.tableau.specs.Amounts.{givenLower, givenUpper, valueOf}
+use Rattle.tableau.specs.Parts.{basicAt, lowerGiven, upperGiven}
 use Rattle.pivot.specs.Pivot.{Pivotable, commonAfter, entriesAfter, entriesBy, fitsLaid}
 use Rattle.tableau.specs.Pivot.{pivotedLaid, swappedAt}
 use Rattle.tableau.specs.Stands.{Ranged, Stands}
@@ -25,17 +26,17 @@ use Rattle.solver.specs.declared.step.End.the-variants as ends
 use Rattle.solver.specs.declared.step.Outcome.{Outcome}
 use Rattle.solver.specs.declared.step.Outcome.the-variants as outcomes
 
--- the limit that a variable violates
-abbrev pub limitOf : Bool → ℤ → ℤ → ℤ
-limitOf true lower upper = lower
-limitOf false lower upper = upper
+-- what the limit stands for that a variable violates
+abbrev pub limitOf : Bool → Given → Given → ℤ × ℤ
+limitOf true lower upper = givenLower lower
+limitOf false lower upper = givenUpper upper
 
 -- .. of the chosen row
-abbrev pub valueAfter : Tableau → Choice → ℤ
+abbrev pub valueAfter : Tableau → Choice → ℤ × ℤ
 valueAfter t c = let v : ℕ = basicAt t (c .row .0) in
-    limitOf (c .rises) (getD (t .limits .lower) v (pos 0)) (getD (t .limits .upper) v (pos 0))
+    limitOf (c .rises) (lowerGiven (t .limits) v) (upperGiven (t .limits) v)
 
--- the tableau after the chosen pivot, whose leaving variable gets the limit that it violates
+-- the tableau after the chosen pivot, whose leaving variable gets what the limit stands for that it violates
 unfoldable pub movedLaid : Order → Tableau → Choice → Tableau
 movedLaid o t c = swappedAt (pivotedLaid o t (c .row .0) (c .column .0)) (c .row .0) (c .column .0) (valueAfter t c)
 
@@ -93,7 +94,7 @@ steppedAt = steppedLaid inUse
 -- ---- a step as the code makes it: its answer, and the entries that it leaves
 
 abbrev pub answerBy : Bool → Tableau → Choice → Outcome
-answerBy true t c = outcomes.Goes (c .row) (c .column) (valueAfter t c)
+answerBy true t c = outcomes.Goes (c .row) (c .column) (valueOf (valueAfter t c))
     (commonAfter (t .rows) (t .columns) (t .entries) (t .common) (c .row .0) (c .column .0))
 answerBy false t c = outcomes.Ended ends.Range
 
@@ -121,8 +122,8 @@ pub record Steppable (t : Tableau) : Type 0 where
 
 -- a tableau that stands for a state whose rows hold, its numbers in range
 pub record Held (t : Tableau) : Type 0 where
-  pub problem : Problem ℤ
-  pub state : State ℤ
+  pub problem : Problem (ℤ × ℤ)
+  pub state : State (ℤ × ℤ)
   pub stands : Stands problem t state
-  pub rowed : Rowed whole problem state
+  pub rowed : Rowed pairs problem state
   pub ranged : Ranged t

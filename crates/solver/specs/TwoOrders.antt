@@ -4,8 +4,8 @@ use mathlib.Core.Option.{none}
 use mathlib.Core.Path.{_≡_}
 use Prim.Native.Nat.{ℕ}
 use lib.IntN.{ℤ}
-use Rattle.whole.specs.Values.{whole}
-use Rattle.rules.specs.Problem.{problem, varsOf}
+use Rattle.whole.specs.Values.{pairs}
+use Rattle.rules.specs.Problem.{inner, problem, varsOf}
 use Rattle.rules.specs.Run.{conflict}
 use Rattle.tableau.specs.declared.Tableau.{Tableau}
 use Rattle.pivot.specs.Layout.{Order, byColumns, byRows}
@@ -39,6 +39,6 @@ pub record RowsAndColumns (ws : List ℤ) : Type 0 where
       FinishedLaid byRows (firstLaid byRows ws) e k (afterLaid byRows (firstLaid byRows ws) k)
   pub columns-end : (e : End) (k : ℕ) (s : Tableau) → FinishedLaid byRows (firstLaid byRows ws) e k s →
       FinishedLaid byColumns (firstLaid byColumns ws) e k (afterLaid byColumns (firstLaid byColumns ws) k)
-  pub words-told : conflict whole (problem ws) ≡ none → (e : End) (k : ℕ) (t s : Tableau) →
+  pub words-told : conflict pairs (inner (problem ws)) ≡ none → (e : End) (k : ℕ) (t s : Tableau) →
       FinishedLaid byColumns (firstLaid byColumns ws) e k t → FinishedLaid byRows (firstLaid byRows ws) e k s →
       wordsLaid byColumns e k t (varsOf ws) ≡ wordsLaid byRows e k s (varsOf ws)

@@ -37,7 +37,7 @@ fn number_of(verdict: Verdict) -> i64
     }
 }
 
-// D times the value of the variable of a seat.
+// D times the value of the variable of a seat, from plain parts or from small parts.
 fn numerator_of<'a>(
     entries: &'a [i32; Tableau::MOST_ENTRIES],
     values: &'a [i32; Tableau::MOST_COLUMNS],
@@ -58,7 +58,7 @@ fn numerator_of<'a>(
     product(common, x)
 }
 
-// The numerators of all variables, over D.
+// The numerators of all variables, over D: of the plain parts, or of the small parts.
 pub fn numerators_of<'a>(
     entries: &'a [i32; Tableau::MOST_ENTRIES],
     values: &'a [i32; Tableau::MOST_COLUMNS],

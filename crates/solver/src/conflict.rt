@@ -1,16 +1,16 @@
-// Crossed limits: some variable's lower limit exceeds its upper.
+// Crossed limits: some variable's lower limit exceeds its upper, by the pairs that they stand for.
 ghost use mathlib.Core.Path.{_≡_};
 ghost use Prim.Native.Nat.{_≤_};
-ghost use Rattle.whole.specs.Values.{whole};
+ghost use Rattle.whole.specs.Values.{pairs};
 ghost use Rattle.rules.specs.Sizes.{mostVariables};
 ghost use Rattle.rules.specs.Run.{crossed};
-ghost use Rattle.search.specs.Sides.{lowerIn, upperIn};
+ghost use Rattle.search.specs.Sides.{leastIn, mostIn};
 ghost use Rattle.solver.specs.Conflict.{conflictAt};
 use search::after;
-use search::sides;
-use search::sides::LimitPair;
+use tableau::Given;
 use tableau::Limits;
 use tableau::Variable;
+use tableau::amount;
 
 // The lowest variable whose limits cross, if there is one.
 pub enum Crossed {
@@ -19,10 +19,12 @@ pub enum Crossed {
 }
 
 // Whether both limits are present and the lower exceeds the upper.
-fn is_crossed(limits: LimitPair) -> bool
-    ensures { λ r. ⌜ r ≡ crossed whole (lowerIn limits) (upperIn limits) ⌝ }
+fn is_crossed(lower: Given, upper: Given) -> bool
+    ensures { λ r. ⌜ r ≡ crossed pairs (leastIn lower) (mostIn upper) ⌝ }
 {
-    limits.lowers & limits.uppers & (limits.upper < limits.lower)
+    let least = amount::widened(amount::lower_value(lower));
+    let most = amount::widened(amount::upper_value(upper));
+    lower.there & upper.there & amount::less(most, least)
 }
 
 // The search over the first variables.
@@ -32,14 +34,8 @@ pub fn conflict_of(limits: Limits, variables: usize) -> Crossed
 {
     let mut v = Variable(0);
     while (v.0 as usize) < variables {
-        let own = sides::limits_of(
-            &limits.lowers,
-            &limits.lower,
-            &limits.uppers,
-            &limits.upper,
-            v,
-        );
-        if is_crossed(own) {
+        let at = v.0 as usize;
+        if is_crossed(limits.lower[at], limits.upper[at]) {
             return Crossed::At(v);
         }
         v = after(v);

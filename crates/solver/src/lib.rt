@@ -8,7 +8,7 @@ use tableau::Tableau;
 pub mod answer;
 pub mod conflict;
 pub mod multipliers;
-pub mod run;
+mod run;
 pub mod spend;
 pub mod step;
 

@@ -2,7 +2,8 @@
 ghost use mathlib.Core.Path.{_≡_};
 ghost use Prim.Native.Nat.{_+_, _*_, _≤_};
 ghost use lib.ListN.{length};
-ghost use Rattle.solver.specs.Answer.{laidOver};
+ghost use Rattle.search.specs.Search.{Searchable};
+ghost use Rattle.solver.specs.Answer.{laidOver, numeratorsAt};
 ghost use Rattle.solver.specs.Run.{Tellable, endWords};
 use crate::answer::Head;
 use crate::answer::Verdict;
@@ -23,6 +24,24 @@ pub fn seated(basic: bool, row: RowPlace, column: ColumnPlace) -> Seat
     Seat { basic, row, column }
 }
 
+// The numerators of the small parts, which are all 0 where no limit is strict.
+fn smalls_of(last: Tableau) -> [i64; Tableau::MOST_VARIABLES]
+    requires { ⌜ Searchable last ⌝ }
+    ensures { λ r. ⌜ r ≡ numeratorsAt last (last .smalls) ⌝ }
+{
+    if !last.limits.strict {
+        let zeros = [0i64; Tableau::MOST_VARIABLES];
+        return zeros;
+    }
+    let size = Size {
+        rows: last.rows,
+        columns: last.columns,
+    };
+    let common = last.common;
+    let seats = last.seats;
+    numerators_of(&last.entries, &last.smalls, seats, common, size)
+}
+
 // Writes the answer of a run that ended: how, after how many pivots, and with which tableau.
 pub fn tell(last: Tableau, end: End, count: usize, out: &mut [i64])
     requires { ⌜ Tellable end count last ⌝ }
@@ -41,13 +60,14 @@ pub fn tell(last: Tableau, end: End, count: usize, out: &mut [i64])
     match end {
         End::Can => {
             let found = numerators_of(&last.entries, &last.values, seats, common, size);
+            let smalls = smalls_of(last);
             let denominator = common as i64;
             let head = Head {
                 verdict: Verdict::Can,
                 count,
                 denominator,
             };
-            write(out, head, variables, &found, &zeros);
+            write(out, head, variables, &found, &smalls);
         }
         End::Cannot(blocked) => {
             let found = multipliers_of(&last.entries, seats, common, size, blocked);

@@ -48,11 +48,11 @@ fn advance(mut t: Tableau, before: usize, most: usize, out: &mut [i64]) -> Spent
             columns: t.columns,
             common: t.common,
             values: t.values,
+            smalls: t.smalls,
             basic: t.basic,
             seats: t.seats,
-            limits: t.limits,
         };
-        let next = step(view, &mut t.entries);
+        let next = step(view, t.limits, &mut t.entries);
         match next {
             Outcome::Ended(end) => break 'run Course::Over(end),
             Outcome::Goes(row, column, value, common) => {
@@ -69,7 +69,10 @@ fn advance(mut t: Tableau, before: usize, most: usize, out: &mut [i64]) -> Spent
                 t.common = common;
                 t.basic[i] = entering;
                 t.nonbasic[j] = leaving;
-                t.values[j] = value;
+                let plain = value.plain;
+                let small = value.small;
+                t.values[j] = plain;
+                t.smalls[j] = small;
                 let entered = seated(true, row, column);
                 t.seats[w] = entered;
                 let left = seated(false, row, column);

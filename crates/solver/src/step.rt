@@ -1,5 +1,6 @@
 // One step of the run: the search for the next pivot, the pivot, and the range test.
 ghost use mathlib.Core.Path.{_≡_};
+ghost use Rattle.tableau.specs.Amounts.{valueOf};
 ghost use Rattle.search.specs.Search.{seen};
 ghost use Rattle.solver.specs.Step.{Steppable, leftAt, limitOf, outcomeAt};
 use pivot::ColumnPlace;
@@ -9,9 +10,11 @@ use pivot::layout::Spot;
 use search::Blocked;
 use search::Next;
 use search::View;
-use search::sides;
-use search::sides::LimitPair;
+use tableau::Given;
+use tableau::Limits;
 use tableau::Tableau;
+use tableau::amount;
+use tableau::amount::Value;
 
 // How a run ends: every variable is within its limits, one is outside and stuck, or a number is too large.
 pub enum End {
@@ -24,26 +27,26 @@ pub enum End {
 // that leaves, and the new common number.
 pub enum Outcome {
     Ended(End),
-    Goes(RowPlace, ColumnPlace, i32, i32),
+    Goes(RowPlace, ColumnPlace, Value, i32),
 }
 
-// Of the limits of a variable the one that it violates.
-fn violated_limit(rises: bool, limits: LimitPair) -> i32
-    ensures { λ r. ⌜ r ≡ limitOf rises (limits .lower) (limits .upper) ⌝ }
+// What the limit stands for that a variable violates.
+fn violated_limit(rises: bool, lower: Given, upper: Given) -> Value
+    ensures { λ r. ⌜ r ≡ valueOf (limitOf rises lower upper) ⌝ }
 {
     if rises {
-        return limits.lower;
+        return amount::lower_value(lower);
     }
-    limits.upper
+    amount::upper_value(upper)
 }
 
 // One step: where a pivot is chosen it is made on the entries, and where it leads out of range they stay.
-pub fn step(view: View, entries: &mut [i32; Tableau::MOST_ENTRIES]) -> Outcome
-    requires { ⌜ Steppable (seen (now entries) view) ⌝ }
-    ensures answer { λ r. ⌜ r ≡ outcomeAt (seen (now (entries .entry)) view) ⌝ }
-    ensures numbers { λ r. ⌜ now (entries .exit) ≡ leftAt (seen (now (entries .entry)) view) ⌝ }
+pub fn step(view: View, limits: Limits, entries: &mut [i32; Tableau::MOST_ENTRIES]) -> Outcome
+    requires { ⌜ Steppable (seen (now entries) view limits) ⌝ }
+    ensures answer { λ r. ⌜ r ≡ outcomeAt (seen (now (entries .entry)) view limits) ⌝ }
+    ensures numbers { λ r. ⌜ now (entries .exit) ≡ leftAt (seen (now (entries .entry)) view limits) ⌝ }
 {
-    let next = search::next_step(entries, view);
+    let next = search::next_step(entries, view, limits);
     match next {
         Next::Within => Outcome::Ended(End::Can),
         Next::Stuck(blocked) => Outcome::Ended(End::Cannot(blocked)),
@@ -52,14 +55,8 @@ pub fn step(view: View, entries: &mut [i32; Tableau::MOST_ENTRIES]) -> Outcome
             let column = choice.column;
             let i = row.0 as usize;
             let leaving = view.basic[i];
-            let own = sides::limits_of(
-                &view.limits.lowers,
-                &view.limits.lower,
-                &view.limits.uppers,
-                &view.limits.upper,
-                leaving,
-            );
-            let value = violated_limit(choice.rises, own);
+            let v = leaving.0 as usize;
+            let value = violated_limit(choice.rises, limits.lower[v], limits.upper[v]);
             let spot = Spot { row, column };
             let turned = pivot::pivot(entries, view.rows, view.columns, view.common, spot);
             match turned {

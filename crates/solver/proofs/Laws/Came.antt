@@ -6,7 +6,7 @@ use mathlib.Core.Path.{_≡_, ap, subst, sym, _∙_}
 use Prim.Native.Nat.{ℕ, zero, suc, _+_}
 use native.Mathlib.Omega.{arith}
 use lib.IntN.{ℤ}
-use Rattle.whole.specs.Values.{whole}
+use Rattle.whole.specs.Values.{pairs}
 use Rattle.rules.specs.Problem.{Problem, vars}
 use Rattle.rules.specs.Run.{Ended, Ending, run}
 use Rattle.rules.specs.Step.{Leaving, Outcome, State, can, evidence, goes, leaving, range, step}
@@ -22,33 +22,34 @@ use Rattle.solver.specs.Spend.{Ran, counted, ranAt, spentBy}
 use Rattle.solver.specs.Step.{Course, Stepped, on, over, steppedAt}
 use Rattle.solver.proofs.Laws.Steps.{StepIs, ends-can, ends-cannot, ends-range, goes-to, step-is}
 
-pub data CourseIs (P : Problem ℤ) (t : Tableau) (s : State ℤ) : Course → Outcome ℤ → Type 0 where
+pub data CourseIs (P : Problem (ℤ × ℤ)) (t : Tableau) (s : State (ℤ × ℤ)) : Course → Outcome (ℤ × ℤ) → Type 0 where
   over-can : CourseIs P t s (over ends.Can) can
-  over-cannot : (r : Leaving ℤ) → leaving whole P s ≡ some r →
+  over-cannot : (r : Leaving (ℤ × ℤ)) → leaving pairs P s ≡ some r →
       CourseIs P t s (over (ends.Cannot (blockedAt t r))) (evidence (vars P) (r .side) (relation (s .tableau) (r .variable)))
   over-range : CourseIs P t s (over ends.Range) range
-  still-on : (x : State ℤ) → CourseIs P t s on (goes x)
+  still-on : (x : State (ℤ × ℤ)) → CourseIs P t s on (goes x)
 
-pub record Came (P : Problem ℤ) (r : Ran) (e : Ending ℤ) (k : ℕ) : Type 0 where
+pub record Came (P : Problem (ℤ × ℤ)) (r : Ran) (e : Ending (ℤ × ℤ)) (k : ℕ) : Type 0 where
   pub stands : Stands P (r .tableau) (e .last)
-  pub rowed : Rowed whole P (e .last)
+  pub rowed : Rowed pairs P (e .last)
   pub ranged : Ranged (r .tableau)
   pub count-is : k + r .count ≡ e .pivots
   pub course-is : CourseIs P (r .tableau) (e .last) (r .course) (e .how)
 
-module _ {P : Problem ℤ} where
+module _ {P : Problem (ℤ × ℤ)} where
   -- it came no further
-  stays : (t : Tableau) (s : State ℤ) (k : ℕ) (w : Course) (o : Outcome ℤ) → Stands P t s → Rowed whole P s → Ranged t →
-      CourseIs P t s w o → Came P (record { tableau = t; course = w; count = 0 }) (record { how = o; pivots = k; last = s }) k
+  stays : (t : Tableau) (s : State (ℤ × ℤ)) (k : ℕ) (w : Course) (o : Outcome (ℤ × ℤ)) →
+      Stands P t s → Rowed pairs P s → Ranged t → CourseIs P t s w o →
+      Came P (record { tableau = t; course = w; count = 0 }) (record { how = o; pivots = k; last = s }) k
   stays t s k w o St R G C = record { stands = St; rowed = R; ranged = G; count-is = omega arith; course-is = C }
 
-  look-course : (t : Tableau) (s : State ℤ) → StepIs P t s → CourseIs P t s (steppedAt t .course) (step whole P s)
+  look-course : (t : Tableau) (s : State (ℤ × ℤ)) → StepIs P t s → CourseIs P t s (steppedAt t .course) (step pairs P s)
   look-course t s (ends-can q z) = rw (q, z) over-can
   look-course t s (ends-cannot r q l z) = rw (q, z) (over-cannot r l)
   look-course t s (ends-range q z) = rw (q, z) over-range
   look-course t s (goes-to u x q z st rg) = rw (q, z) (still-on x)
 
-  one-more : (r : Ran) (e : Ending ℤ) (k : ℕ) → Came P r e (suc k) → Came P (counted r) e k
+  one-more : (r : Ran) (e : Ending (ℤ × ℤ)) (k : ℕ) → Came P r e (suc k) → Came P (counted r) e k
   one-more r e k C = record {
     stands = C .stands;
     rowed = C .rowed;
@@ -57,28 +58,30 @@ module _ {P : Problem ℤ} where
     course-is = C .course-is;
   }
 
-  pub came : (b k : ℕ) (t : Tableau) (s : State ℤ) → Stands P t s → Rowed whole P s → Ranged t →
-      Came P (ranAt t b) (run whole b P s k) k
+  pub came : (b k : ℕ) (t : Tableau) (s : State (ℤ × ℤ)) → Stands P t s → Rowed pairs P s → Ranged t →
+      Came P (ranAt t b) (run pairs b P s k) k
   unfolding ranAt run
-  came zero k t s St R G = stays t s k (steppedAt t .course) (step whole P s) St R G (look-course t s (step-is St R G))
+  came zero k t s St R G = stays t s k (steppedAt t .course) (step pairs P s) St R G (look-course t s (step-is St R G))
   came (suc b) k t s St R G = go (step-is St R G) (λ u x. came b (suc k) u x)
     where
       -- over at the first step
-      ends-here : (w : _) (o : Outcome ℤ) → steppedAt t .course ≡ over w → step whole P s ≡ o → Ended o →
-          CourseIs P t s (over w) o → Came P (ranAt t (suc b)) (run whole (suc b) P s k) k
+      ends-here : (w : _) (o : Outcome (ℤ × ℤ)) → steppedAt t .course ≡ over w → step pairs P s ≡ o → Ended o →
+          CourseIs P t s (over w) o → Came P (ranAt t (suc b)) (run pairs (suc b) P s k) k
       ends-here w o q z h C =
-          subst (λ r. Came P r (run whole (suc b) P s k) k) (sym (ap (λ x. spentBy x t (ranAt (steppedAt t .tableau) b)) q))
-          (subst (λ e. Came P (record { tableau = t; course = over w; count = 0 }) e k) (sym (run-end whole (suc b) P s k o z h))
+          subst (λ r. Came P r (run pairs (suc b) P s k) k)
+          (sym (ap (λ x. spentBy x t (ranAt (steppedAt t .tableau) b)) q))
+          (subst (λ e. Came P (record { tableau = t; course = over w; count = 0 }) e k)
+          (sym (run-end pairs (suc b) P s k o z h))
           (stays t s k (over w) o St R G C))
 
-      go : StepIs P t s → ((u : Tableau) (x : State ℤ) → Stands P u x → Rowed whole P x → Ranged u →
-          Came P (ranAt u b) (run whole b P x (suc k)) (suc k)) → Came P (ranAt t (suc b)) (run whole (suc b) P s k) k
+      go : StepIs P t s → ((u : Tableau) (x : State (ℤ × ℤ)) → Stands P u x → Rowed pairs P x → Ranged u →
+          Came P (ranAt u b) (run pairs b P x (suc k)) (suc k)) → Came P (ranAt t (suc b)) (run pairs (suc b) P s k) k
       go (ends-can q z) rest = ends-here ends.Can can (ap (λ (y : Stepped). y .course) q) z tt over-can
       go (ends-cannot r q l z) rest = ends-here (ends.Cannot (blockedAt t r)) _ (ap (λ (y : Stepped). y .course) q) z
           (unfold evidence in tt) (over-cannot r l)
       go (ends-range q z) rest = ends-here ends.Range range (ap (λ (y : Stepped). y .course) q) z tt over-range
       go (goes-to u x q z st rg) rest =
-          subst (λ r. Came P r (run whole (suc b) P s k) k)
+          subst (λ r. Came P r (run pairs (suc b) P s k) k)
           (sym (ap (λ (y : Stepped). spentBy (y .course) t (ranAt (y .tableau) b)) q))
-          (subst (λ e. Came P (counted (ranAt u b)) e k) (sym (run-on whole b P s x k z))
-          (one-more (ranAt u b) (run whole b P x (suc k)) k (rest u x st (rowed-goes whole P s x R z) rg)))
+          (subst (λ e. Came P (counted (ranAt u b)) e k) (sym (run-on pairs b P s x k z))
+          (one-more (ranAt u b) (run pairs b P x (suc k)) k (rest u x st (rowed-goes pairs P s x R z) rg)))

@@ -1,22 +1,21 @@
 -- The two halves of an answer by place are those of the state: numerators, multipliers, zeros, and 1 at a variable.
 --   zeros-are, units-are                        of plain arrays
---   numerators-are, lowers-are, uppers-are      of a tableau that stands for a state
-use mathlib.Core.Bool.{Bool, cond, false, true}
-use mathlib.Core.List.{_∷_}
+--   numerators-are, smalls-are, lowers-are, uppers-are    of a tableau that stands for a state
+use mathlib.Core.Bool.{Bool, cond}
+use mathlib.Core.List.{List, _∷_}
 use mathlib.Core.Logic.{_≢_}
 use mathlib.Core.Option.{Option, none, some, Option·none-ne-some}
 use mathlib.Core.Path.{_≡_, ap, ap₂, refl, sym, _∙_}
-use Prim.Native.Nat.{ℕ, zero, suc, _+_, _<_, _≤_}
+use Prim.Native.Nat.{ℕ, zero, suc, _+_, _<_}
 use native.Mathlib.Decide.{ℕ-discrete}
-use native.Mathlib.Omega.{arith}
 use borrow.Author.Tests.{eq-eqb, ne-eqb}
 use lib.Dec.{eqb}
 use lib.IntN.{ℤ, negℤ, pos, _*ℤ_}
 use lib.ListN.{getD, length-replicate, replicate, set}
 use lib.Seq.{getD-set-other, getD-set-same}
 use Rattle.whole.specs.Tables.{table, tableFrom}
-use Rattle.whole.specs.Values.{whole}
-use Rattle.whole.proofs.Instances.{whole-laws}
+use Rattle.whole.specs.Values.{pairs}
+use Rattle.whole.proofs.Beside.{pairs-laws}
 use Rattle.whole.proofs.Tables.{filled-in, replicate-at, table-same}
 use Rattle.rules.specs.Problem.{Problem, vars}
 use Rattle.rules.specs.Sizes.{mostVariables}
@@ -26,9 +25,9 @@ use Rattle.rules.proofs.Leaves.{Left}
 use Rattle.rules.proofs.Relation.{relation-off, relation-own}
 use Rattle.rules.proofs.Sound.{Rowed, seated-scaled}
 use Rattle.tableau.specs.declared.Tableau.{Tableau}
-use Rattle.tableau.specs.Parts.{basicAt, cellAt, columnOf, rowOf, seatAt, valueAt}
+use Rattle.tableau.specs.Parts.{basicAt, cellAt, columnOf, plainAt, rowOf, seatAt, smallAt, valueAt}
 use Rattle.tableau.specs.Stands.{HasRow, Stands}
-use Rattle.search.specs.Search.{blockedAt, rowSum}
+use Rattle.search.specs.Search.{blockedAt, scaledAt}
 use Rattle.search.specs.Sides.{rising, sideBy}
 use Rattle.search.proofs.Laws.Rows.{row-is}
 use Rattle.search.proofs.Laws.Searches.{all-vars}
@@ -61,35 +60,45 @@ units-are N v h = table-same N _ (same v) (λ w k. at w (ℕ-discrete w v))
 
 -- ---- of a tableau that stands for a state
 
-module _ {P : Problem ℤ} {t : Tableau} {s : State ℤ} (St : Stands P t s) (R : Rowed whole P s) where
+module _ {P : Problem (ℤ × ℤ)} {t : Tableau} {s : State (ℤ × ℤ)} (St : Stands P t s) (R : Rowed pairs P s) where
   in-places : (v : ℕ) → v < vars P → v < t .rows + t .columns
   in-places v h = rw (all-vars P t s St R) h
 
-  numerator-is : (v : ℕ) → v < vars P → numeratorAt t v ≡ scaled whole P s v
+  -- by the seat: both parts of the sum of the row, or of D times the value of the column
+  abbrev parts-by : ℕ → Bool → ℤ × ℤ
+  parts-by v b = (
+    numeratorFrom b (scaledAt t v .0) (t .common *ℤ plainAt t (columnOf t v)),
+    numeratorFrom b (scaledAt t v .1) (t .common *ℤ smallAt t (columnOf t v)),
+  )
+
+  numerator-is : (v : ℕ) → v < vars P → (numeratorAt t (t .values) v, numeratorAt t (t .smalls) v) ≡ scaled pairs P s v
   unfolding numeratorLaid
   numerator-is v h = go (seat s v) refl
     where
-      basic : ℤ
-      basic = rowSum (t .rows) (t .columns) (t .entries) (t .values) (rowOf t v)
-
-      seated : ℤ
-      seated = t .common *ℤ valueAt t (columnOf t v)
-
-      go : (o : Option ℤ) → seat s v ≡ o → numeratorFrom (seatAt t v .basic) basic seated ≡ scaled whole P s v
-      go none e = ap (λ b. numeratorFrom b basic seated) (St .placed .has-row v h e .flag) ∙ row-is P t s St R v h e
+      go : (o : Option (ℤ × ℤ)) → seat s v ≡ o → parts-by v (seatAt t v .basic) ≡ scaled pairs P s v
+      go none e = ap (parts-by v) (St .placed .has-row v h e .flag) ∙ row-is P t s St R v h e
       go (some x) e = let a = St .placed .has-column v x h e in
           let y : some (valueAt t (columnOf t v)) ≡ some x =
           sym (St .placed .in-column (columnOf t v) (a .in-columns) .is-seated) ∙ ap (seat s) (a .holds) ∙ e in
           let z : valueAt t (columnOf t v) ≡ x = cc in
-          ap (λ b. numeratorFrom b basic seated) (a .flag)
-          ∙ ap₂ (λ d u. d *ℤ u) (St .numbers .common-is) z ∙ sym (seated-scaled whole whole-laws P s R v x h e)
+          ap (parts-by v) (a .flag)
+          ∙ ap₂ (λ d u. pairs .scale d u) (St .numbers .common-is) z
+          ∙ sym (seated-scaled pairs pairs-laws P s R v x h e)
 
-  pub numerators-are : firstOf (vars P) (numeratorsAt t) ≡ table (vars P) (scaled whole P s)
+  -- one part of every variable, from the list of that part
+  part-are : (x : List ℤ) (part : ℤ × ℤ → ℤ) → ((v : ℕ) → v < vars P → numeratorAt t x v ≡ part (scaled pairs P s v)) →
+      firstOf (vars P) (numeratorsAt t x) ≡ table (vars P) (λ v. part (scaled pairs P s v))
   unfolding numeratorsLaid
-  numerators-are = table-same (vars P) _ (scaled whole P s)
-      (λ v h. filled-in mostVariables (pos 0) (t .rows + t .columns) (numeratorAt t) v (in-places v h) ∙ numerator-is v h)
+  part-are x part each = table-same (vars P) _ (λ v. part (scaled pairs P s v))
+      (λ v h. filled-in mostVariables (pos 0) (t .rows + t .columns) (numeratorAt t x) v (in-places v h) ∙ each v h)
 
-  module _ (r : Leaving ℤ) (L : Left whole P s r) where
+  pub numerators-are : firstOf (vars P) (numeratorsAt t (t .values)) ≡ table (vars P) (λ v. scaled pairs P s v .0)
+  numerators-are = part-are (t .values) (λ y. y .0) (λ v h. ap (λ (y : ℤ × ℤ). y .0) (numerator-is v h))
+
+  pub smalls-are : firstOf (vars P) (numeratorsAt t (t .smalls)) ≡ table (vars P) (λ v. scaled pairs P s v .1)
+  smalls-are = part-are (t .smalls) (λ y. y .1) (λ v h. ap (λ (y : ℤ × ℤ). y .1) (numerator-is v h))
+
+  module _ (r : Leaving (ℤ × ℤ)) (L : Left pairs P s r) where
     side-back : (σ : Side) → sideBy (rising σ) ≡ σ
     side-back below = refl
     side-back above = refl
@@ -108,7 +117,7 @@ module _ {P : Problem ℤ} {t : Tableau} {s : State ℤ} (St : Stands P t s) (R 
         a : HasRow P t own
         a = St .placed .has-row own (L .variable) (L .was-basic)
 
-        go : (o : Option ℤ) → seat s v ≡ o → Dec (v ≡ own) →
+        go : (o : Option (ℤ × ℤ)) → seat s v ≡ o → Dec (v ≡ own) →
             relationFrom (seatAt t v .basic) (test v) (t .common) (cellAt t (rowOf t own) (columnOf t v))
             ≡ relation (s .tableau) own v
         go none e (yes z) = let f = St .placed .has-row v h e in

@@ -26,7 +26,7 @@ pub numerators-of-only : (κs : _) (x : _) (a b : _) (e : _) → numerators-of.P
 numerators-of-only κs x a b e h k = h ∙ sym k
 
 pub step-only : (κs : _) (x : _) (a b : _) (e f : _) → step.Post κs x a e → step.Post κs x b f →
-    (a ≡ b) × (e .1 .0 .now ≡ f .1 .0 .now)
+    (a ≡ b) × (e .1 .1 .0 .now ≡ f .1 .1 .0 .now)
 step-only κs x a b e f h k = (h .0 ∙ sym (k .0), h .1 ∙ sym (k .1))
 
 -- ---- the output

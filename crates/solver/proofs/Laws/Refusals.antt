@@ -11,10 +11,10 @@ use native.Mathlib.Nat.{add-comm}
 use native.Mathlib.Omega.{arith}
 use borrow.Author.Tests.{le-ltb, lt-ltb}
 use lib.IntN.{ℤ}
-use Rattle.whole.specs.Values.{whole}
-use Rattle.whole.proofs.Instances.{whole-laws}
+use Rattle.whole.specs.Values.{pairs}
+use Rattle.whole.proofs.Beside.{pairs-laws}
 use Rattle.rules.specs.Answer.{written}
-use Rattle.rules.specs.Problem.{answerLength, mOf, nOf, problem, varsOf}
+use Rattle.rules.specs.Problem.{answerLength, inner, mOf, nOf, problem, varsOf}
 use Rattle.rules.specs.Refusal.{Accepted, first, problemRefusal, problemTests, refusal, tooShort}
 use Rattle.rules.specs.Sizes.{mostRows}
 use Rattle.rules.specs.Slices.{begun, continuedBy, sliceOutput}
@@ -69,10 +69,11 @@ accepted-of ws e = accepted-exactly mostRows ws .0 e
 module _ (ws : List ℤ) (t : Tableau) (e : t ≡ startTableau (problem ws)) (f : problemRefusal ws ≡ 0) where
   abbrev pub begun-start : Begun t
   begun-start = let F = fitting-accepted ws (accepted-of ws f) in record {
-    problem = problem ws;
-    state = start whole (problem ws);
-    stands = subst (λ u. Stands (problem ws) u (start whole (problem ws))) (sym e) (stands-start (problem ws) F);
-    ready = ready-start whole whole-laws (problem ws);
+    problem = inner (problem ws);
+    state = start pairs (inner (problem ws));
+    stands = subst (λ u. Stands (inner (problem ws)) u (start pairs (inner (problem ws)))) (sym e)
+        (stands-start (problem ws) F);
+    ready = ready-start pairs pairs-laws (inner (problem ws));
     ranged = subst Ranged (sym e) (ranged-start (problem ws) F);
   }
 
@@ -80,13 +81,13 @@ module _ (ws : List ℤ) (t : Tableau) (e : t ≡ startTableau (problem ws)) (f 
   unfolding startLaid problem
   start-many = ap (λ u. u .rows + u .columns) e ∙ add-comm (mOf ws) (nOf ws)
 
-  pub holds-start : Holds (begun whole (problem ws)) t 0
+  pub holds-start : Holds (begun pairs (inner (problem ws))) t 0
   unfolding begun
   holds-start = record {
     stands = begun-start .stands;
     ranged = begun-start .ranged;
     count-is = refl;
-    on-way = on-way-start (problem ws) (start whole (problem ws)) (begun-start .ready);
+    on-way = on-way-start (inner (problem ws)) (start pairs (inner (problem ws))) (begun-start .ready);
   }
 
   -- the output with as much to spend as any run has pivots is what the rules say is written
@@ -94,5 +95,5 @@ module _ (ws : List ℤ) (t : Tableau) (e : t ≡ startTableau (problem ws)) (f 
   unfolding written begun sliceOutput problem continuedBy
   answered-is b h before = out-is holds-start b before .1
       ∙ ap (λ a. sliceOutput a (answerLength ws) before) (cut-answer ws [] b
-      (let a = sliced-words ws .below in let c = bound-small (problem ws) (begun-start .stands .sized .few-rows)
+      (let a = sliced-words ws .below in let c = bound-small (inner (problem ws)) (begun-start .stands .sized .few-rows)
       (begun-start .stands .sized .few-columns) in omega arith))

@@ -10,7 +10,7 @@ use native.Mathlib.Nat.{le-trans, mul-le-mul, one-le-pow, pow-le-pow-right, two-
 use native.Mathlib.Numerals.{add-one}
 use native.Mathlib.Omega.{arith}
 use lib.IntN.{ℤ}
-use Rattle.whole.specs.Values.{whole}
+use Rattle.whole.specs.Values.{pairs}
 use Rattle.whole.proofs.Bools.{zero-one}
 use Rattle.rules.specs.Problem.{Problem}
 use Rattle.rules.specs.Sizes.{mostColumns, mostRows, mostVariables}
@@ -25,14 +25,15 @@ use Rattle.solver.specs.Run.{Begun, GoesOn, afterAt, afterLaid}
 use Rattle.solver.specs.Step.{Held, on, steppedAt}
 use Rattle.solver.proofs.Laws.Steps.{StepIs, ends-can, ends-cannot, ends-range, goes-to, step-is}
 
-pub record Going (P : Problem ℤ) (s : State ℤ) (t : Tableau) (k : ℕ) : Type 0 where
-  pub stands : Stands P t (after whole P s k)
-  pub runs : Runs whole P s k
+pub record Going (P : Problem (ℤ × ℤ)) (s : State (ℤ × ℤ)) (t : Tableau) (k : ℕ) : Type 0 where
+  pub stands : Stands P t (after pairs P s k)
+  pub runs : Runs pairs P s k
   pub ranged : Ranged t
 
-after-goes : (P : Problem ℤ) (s : State ℤ) (k : ℕ) (u : State ℤ) → step whole P (after whole P s k) ≡ goes u → after whole P s (suc k) ≡ u
+after-goes : (P : Problem (ℤ × ℤ)) (s : State (ℤ × ℤ)) (k : ℕ) (u : State (ℤ × ℤ)) →
+    step pairs P (after pairs P s k) ≡ goes u → after pairs P s (suc k) ≡ u
 unfolding after next
-after-goes P s k u e = ap (next (after whole P s k)) e
+after-goes P s k u e = ap (next (after pairs P s k)) e
 
 abbrev pub held-begun : {t : Tableau} → Begun t → Held t
 held-begun B = record {
@@ -44,20 +45,20 @@ held-begun B = record {
 }
 
 module _ {t : Tableau} (H : Held t) where
-  abbrev P : Problem ℤ
+  abbrev P : Problem (ℤ × ℤ)
   P = H .problem
 
-  abbrev s : State ℤ
+  abbrev s : State (ℤ × ℤ)
   s = H .state
 
-  rowed-at : (k : ℕ) → Rowed whole P (after whole P s k)
-  rowed-at k = rowed-after whole P s (H .rowed) k
+  rowed-at : (k : ℕ) → Rowed pairs P (after pairs P s k)
+  rowed-at k = rowed-after pairs P s (H .rowed) k
 
   -- one step more, of any tableau that stands there
   turn : (k : ℕ) (u : Tableau) → Going P s u k → steppedAt u .course ≡ on → Going P s (steppedAt u .tableau) (suc k)
   turn k u G e = go (step-is (G .stands) (rowed-at k) (G .ranged))
     where
-      go : StepIs P u (after whole P s k) → Going P s (steppedAt u .tableau) (suc k)
+      go : StepIs P u (after pairs P s k) → Going P s (steppedAt u .tableau) (suc k)
       go (ends-can q z) = let c : _≡_ {A = ℕ} 0 1 = cc in zero-one c
       go (ends-cannot r q l z) = let c : _≡_ {A = ℕ} 0 1 = cc in zero-one c
       go (ends-range q z) = let c : _≡_ {A = ℕ} 0 1 = cc in zero-one c
@@ -67,7 +68,7 @@ module _ {t : Tableau} (H : Held t) where
         ranged = rw q rg;
       }
         where
-          one : (i : ℕ) → i < suc k → Dec (i ≡ k) → Moves (step whole P (after whole P s i))
+          one : (i : ℕ) → i < suc k → Dec (i ≡ k) → Moves (step pairs P (after pairs P s i))
           one i h (yes j) = rw (j, z) tt
           one i h (no j) = G .runs i (omega arith)
 
@@ -78,7 +79,7 @@ module _ {t : Tableau} (H : Held t) where
 
   pub held-after : (k : ℕ) → GoesOn t k → Held (afterAt t k)
   held-after k g = let G = going k g in
-      record { problem = P; state = after whole P s k; stands = G .stands; rowed = rowed-at k; ranged = G .ranged }
+      record { problem = P; state = after pairs P s k; stands = G .stands; rowed = rowed-at k; ranged = G .ranged }
 
 pub goes-more : (t : Tableau) (k : ℕ) → GoesOn t k → steppedAt (afterAt t k) .course ≡ on → GoesOn t (k + 1)
 goes-more t k g e i h = one (ℕ-discrete i k)
@@ -103,7 +104,7 @@ choose-most k zero = one-le-pow k 2 (omega arith)
 choose-most zero (suc j) = omega arith
 choose-most (suc k) (suc j) = let a = choose-most k (suc j) in let b = choose-most k j in omega (arith, two-pow-succ k)
 
-pub bound-small : (P : Problem ℤ) → P .m ≤ mostRows → P .n ≤ mostColumns → bound P ≤ mostCount
+pub bound-small : (P : Problem (ℤ × ℤ)) → P .m ≤ mostRows → P .n ≤ mostColumns → bound P ≤ mostCount
 unfolding bound
 bound-small P h k = mul-le-mul (pow-le-pow-right {n = 3} (omega arith) k)
     (le-trans (choose-most (P .n + P .m) (P .n)) (pow-le-pow-right {n = 2} (omega arith) {j = mostVariables} (omega arith)))

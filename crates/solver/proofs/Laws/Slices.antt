@@ -12,7 +12,7 @@ use Prim.Native.Nat.{ℕ, _+_, _<_, _≤_}
 use native.Mathlib.Omega.{arith}
 use lib.IntN.{ℤ, pos}
 use Rattle.whole.specs.Tables.{table}
-use Rattle.whole.specs.Values.{whole}
+use Rattle.whole.specs.Values.{pairs}
 use Rattle.rules.specs.Answer.{wordsOf}
 use Rattle.rules.specs.Problem.{Problem, vars}
 use Rattle.rules.specs.Run.{Ended, Ending, Moves, conflict, spending}
@@ -57,15 +57,15 @@ module _ (t : Tableau) (k b : ℕ) where
 
 -- ---- what stands for what
 
-pub count-few : {S : Slice ℤ} {t : Tableau} {k : ℕ} → Holds S t k → k < mostCount
+pub count-few : {S : Slice (ℤ × ℤ)} {t : Tableau} {k : ℕ} → Holds S t k → k < mostCount
 count-few {S} H = let a = on-way-below S (H .on-way) in
     let b = bound-small (S .problem) (H .stands .sized .few-rows) (H .stands .sized .few-columns) in let c = H .count-is in omega arith
 
-module _ {S : Slice ℤ} {t : Tableau} {k : ℕ} (H : Holds S t k) where
-  abbrev P : Problem ℤ
+module _ {S : Slice (ℤ × ℤ)} {t : Tableau} {k : ℕ} (H : Holds S t k) where
+  abbrev P : Problem (ℤ × ℤ)
   P = S .problem
 
-  rowed : Rowed whole P (S .state)
+  rowed : Rowed pairs P (S .state)
   rowed = on-way-rowed S (H .on-way)
 
   pub held-slice : Held t
@@ -78,13 +78,13 @@ module _ {S : Slice ℤ} {t : Tableau} {k : ℕ} (H : Holds S t k) where
   few-variables = let a = H .stands .sized .few-rows in let b = H .stands .sized .few-columns in let c = many-is in omega arith
 
   -- a continue of the rules, by what its run comes to
-  continued-by : (b : ℕ) (e : Ending ℤ) (u : Tableau) (j : ℕ) → spending whole b P (S .state) (S .count) ≡ e →
-      Stands P u (e .last) → Ranged u → e .pivots ≡ j → Holds (continued whole S b) u j
+  continued-by : (b : ℕ) (e : Ending (ℤ × ℤ)) (u : Tableau) (j : ℕ) → spending pairs b P (S .state) (S .count) ≡ e →
+      Stands P u (e .last) → Ranged u → e .pivots ≡ j → Holds (continued pairs S b) u j
   unfolding continued
   continued-by b e u j q St G n = record {
     stands = rw q St;
     ranged = G;
-    count-is = ap (λ (x : Ending ℤ). x .pivots) q ∙ n;
+    count-is = ap (λ (x : Ending (ℤ × ℤ)). x .pivots) q ∙ n;
     on-way = on-way-more S (H .on-way) b;
   }
 
@@ -94,18 +94,18 @@ module _ {S : Slice ℤ} {t : Tableau} {k : ℕ} (H : Holds S t k) where
     abbrev r : Ran
     r = ranAt t b
 
-    abbrev e : Ending ℤ
-    e = spending whole b P (S .state) (S .count)
+    abbrev e : Ending (ℤ × ℤ)
+    e = spending pairs b P (S .state) (S .count)
 
     came-slice : Came P r e (S .count)
     came-slice = subst (λ x. Came P r x (S .count))
-        (sym (spending-run whole P (crossing-none (H .stands) rowed free) b (S .state) (S .count)))
+        (sym (spending-run pairs P (crossing-none (H .stands) rowed free) b (S .state) (S .count)))
         (came b (S .count) t (S .state) (H .stands) rowed (H .ranged))
 
     total-is : S .count + r .count ≡ k + r .count
     total-is = ap (λ j. j + r .count) (H .count-is)
 
-    holds-ran : Holds (continued whole S b) (r .tableau) (k + r .count)
+    holds-ran : Holds (continued pairs S b) (r .tableau) (k + r .count)
     holds-ran = continued-by b e (r .tableau) (k + r .count) refl (came-slice .stands) (came-slice .ranged)
         (sym (came-slice .count-is) ∙ total-is)
 
@@ -149,7 +149,8 @@ module _ {S : Slice ℤ} {t : Tableau} {k : ℕ} (H : Holds S t k) where
           ap (λ c. outBy c (k + r .count) (r .tableau) before) q ∙ sym (ap (λ a. sliceOutput a (sliceLength S) before) z),
         )
 
-        go : (c : Course) (o : Outcome ℤ) → CourseIs P (r .tableau) (e .last) c o → r .course ≡ c → e .how ≡ o → Says before
+        go : (c : Course) (o : Outcome (ℤ × ℤ)) → CourseIs P (r .tableau) (e .last) c o → r .course ≡ c → e .how ≡ o →
+            Says before
         go c o over-can q z = ended-says ends.Can q (rw z tt)
         go c o (over-cannot l y) q z = ended-says (ends.Cannot (blockedAt (r .tableau) l)) q (rw z tt)
         go c o over-range q z = ended-says ends.Range q (rw z tt)
@@ -158,20 +159,20 @@ module _ {S : Slice ℤ} {t : Tableau} {k : ℕ} (H : Holds S t k) where
   -- ---- limits that cross
 
   module _ (v : Variable) (at : conflictAt (t .limits) (manyOf t) ≡ crossings.At v) (b : ℕ) where
-    crosses : conflict whole P ≡ some (v .0)
+    crosses : conflict pairs P ≡ some (v .0)
     crosses = crossing-at (H .stands) rowed v at
 
-    crossed-is : spending whole b P (S .state) (S .count)
+    crossed-is : spending pairs b P (S .state) (S .count)
         ≡ record { how = cannot (table (vars P) (same (v .0))) (table (vars P) (same (v .0))); pivots = S .count; last = S .state }
-    crossed-is = spending-crossed whole P (v .0) crosses b (S .state) (S .count)
+    crossed-is = spending-crossed pairs P (v .0) crosses b (S .state) (S .count)
 
     pub crossing-seat : v .0 < mostVariables
     crossing-seat = crossing-in (H .stands) rowed (v .0) crosses
 
-    holds-crossed : Holds (continued whole S b) t k
+    holds-crossed : Holds (continued pairs S b) t k
     holds-crossed = continued-by b _ t k crossed-is (H .stands) (H .ranged) (H .count-is)
 
-    crossed-answer : sliceAnswer S b ≡ some (wordsOf P (spending whole b P (S .state) (S .count)))
+    crossed-answer : sliceAnswer S b ≡ some (wordsOf P (spending pairs b P (S .state) (S .count)))
     unfolding sliceAnswer
     crossed-answer = ap (told P) crossed-is ∙ told-ended P _ (S .count) (S .state) tt ∙ sym (ap (λ d. some (wordsOf P d)) crossed-is)
 
@@ -189,11 +190,11 @@ module _ {S : Slice ℤ} {t : Tableau} {k : ℕ} (H : Holds S t k) where
 
   -- ---- both
 
-  pub holds-more : (b : ℕ) → Holds (continued whole S b) (spentAt t k b .tableau) (spentAt t k b .count)
+  pub holds-more : (b : ℕ) → Holds (continued pairs S b) (spentAt t k b .tableau) (spentAt t k b .count)
   holds-more b = go (conflictAt (t .limits) (manyOf t)) refl
     where
       go : (c : Crossed) → conflictAt (t .limits) (manyOf t) ≡ c →
-          Holds (continued whole S b) (spentAt t k b .tableau) (spentAt t k b .count)
+          Holds (continued pairs S b) (spentAt t k b .tableau) (spentAt t k b .count)
       go (crossings.At v) q = rw (spent-where t k b (crossings.At v) q) (holds-crossed v q b)
       go crossings.Nowhere q = rw (spent-where t k b crossings.Nowhere q) (holds-ran q b)
 

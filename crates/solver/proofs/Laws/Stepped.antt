@@ -14,6 +14,8 @@ use Rattle.pivot.specs.declared.ColumnPlace.{ColumnPlace}
 use Rattle.pivot.specs.declared.RowPlace.{RowPlace}
 use Rattle.tableau.specs.declared.Seat.{Seat}
 use Rattle.tableau.specs.declared.Tableau.{Tableau}
+use Rattle.tableau.specs.declared.amount.Value.{Value}
+use Rattle.tableau.specs.Amounts.{pairIn, valueOf}
 use Rattle.tableau.specs.Parts.{variable}
 use Rattle.pivot.specs.Pivot.{commonAfter, entriesAfter, entriesBy}
 use Rattle.tableau.specs.Pivot.{pivotedLaid, swappedAt, withNumbers}
@@ -46,7 +48,7 @@ module _ (t : Tableau) where
 -- ---- what a step reads
 
 abbrev pub readOf : Tableau → Tableau
-readOf t = seen (t .entries) (viewOf t)
+readOf t = seen (t .entries) (viewOf t) (t .limits)
 
 pub next-read : (t : Tableau) → nextAt (readOf t) ≡ nextAt t
 next-read t = next-as t (t .basic) []
@@ -54,7 +56,7 @@ next-read t = next-as t (t .basic) []
 -- ---- the step by the code's answer
 
 -- the exchange at equal arguments
-same-exchange : (t : Tableau) {x x′ : RowPlace} {y y′ : ColumnPlace} {v v′ d d′ : ℤ} {l l′ : List ℤ} →
+same-exchange : (t : Tableau) {x x′ : RowPlace} {y y′ : ColumnPlace} {v v′ : ℤ × ℤ} {d d′ : ℤ} {l l′ : List ℤ} →
     x ≡ x′ → y ≡ y′ → v ≡ v′ → d ≡ d′ → l ≡ l′ →
     swappedAt (withNumbers t d l) (x .0) (y .0) v ≡ swappedAt (withNumbers t d′ l′) (x′ .0) (y′ .0) v′
 same-exchange t a b v d l = cc
@@ -97,17 +99,20 @@ module _ (t : Tableau) where
   outcome-left e q = left-by (nextAt (readOf t)) e q
 
   -- the pivot that was chosen, and the step that it is
-  module _ (row : RowPlace) (column : ColumnPlace) (value common : ℤ) where
+  module _ (row : RowPlace) (column : ColumnPlace) (value : Value) (common : ℤ) where
     pub record Chosen (n : Next) : Type 0 where
       pub choice : Choice
       pub next-is : n ≡ nexts.Pivot choice
       pub row-is : choice .row ≡ row
       pub column-is : choice .column ≡ column
       pub in-range : fitsBy t choice ≡ true
-      pub value-is : valueAfter t choice ≡ value
+      pub value-is : valueAfter t choice ≡ pairIn value
       pub common-is : commonAfter (t .rows) (t .columns) (t .entries) (t .common) (choice .row .0) (choice .column .0) ≡ common
       pub step-is : stepBy t n
-          ≡ record { course = on; tableau = swappedAt (withNumbers t common (entriesLeft (readOf t) n)) (row .0) (column .0) value }
+          ≡ record {
+            course = on;
+            tableau = swappedAt (withNumbers t common (entriesLeft (readOf t) n)) (row .0) (column .0) (pairIn value);
+          }
 
     goes-by : (n : Next) → outcomeBy (readOf t) n ≡ outcomes.Goes row column value common → Chosen n
     unfolding outcomeBy stepLaid entriesLeft
@@ -120,7 +125,8 @@ module _ (t : Tableau) where
         go true f q =
             let a : c .row ≡ row = cc in
             let b : c .column ≡ column = cc in
-            let v : valueAfter t c ≡ value = cc in
+            let x : valueOf (valueAfter t c) ≡ value = cc in
+            let v : valueAfter t c ≡ pairIn value = ap pairIn x in
             let d : commonAfter (t .rows) (t .columns) (t .entries) (t .common) (c .row .0) (c .column .0) ≡ common = cc in
             record {
               choice = c;
@@ -133,11 +139,12 @@ module _ (t : Tableau) where
               step-is = made f a b v d;
             }
           where
-            made : fitsBy t c ≡ true → c .row ≡ row → c .column ≡ column → valueAfter t c ≡ value →
+            made : fitsBy t c ≡ true → c .row ≡ row → c .column ≡ column → valueAfter t c ≡ pairIn value →
                 commonAfter (t .rows) (t .columns) (t .entries) (t .common) (c .row .0) (c .column .0) ≡ common →
                 stepBy t (nexts.Pivot c) ≡ record {
                   course = on;
-                  tableau = swappedAt (withNumbers t common (entriesLeft (readOf t) (nexts.Pivot c))) (row .0) (column .0) value;
+                  tableau = swappedAt (withNumbers t common (entriesLeft (readOf t) (nexts.Pivot c))) (row .0) (column .0)
+                      (pairIn value);
                 }
             made f a b v d = ap (λ x. admitAt x t (movedAt t c)) f
                 ∙ ap (λ u. record { course = on; tableau = u }) (moved-parts c ∙ same-exchange t a b v d
@@ -162,7 +169,8 @@ module _ (t : Tableau) where
           entries = l;
           basic = set (t .basic) (row .0) enters;
           nonbasic = set (t .nonbasic) (column .0) leaves;
-          values = set (t .values) (column .0) value;
+          values = set (t .values) (column .0) (value .plain);
+          smalls = set (t .smalls) (column .0) (value .small);
           seats = set (set (t .seats) (enters .0) in-row) (leaves .0) in-column;
           limits = t .limits;
         } ≡ steppedAt t .tableau

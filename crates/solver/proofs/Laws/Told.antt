@@ -9,9 +9,9 @@ use native.Mathlib.Nat.{zero-add}
 use native.Mathlib.Omega.{arith}
 use lib.IntN.{ℤ, pos}
 use lib.ListN.{replicate, replicate-append-replicate}
-use Rattle.whole.specs.Values.{whole}
+use Rattle.whole.specs.Values.{pairs}
 use Rattle.whole.proofs.Bools.{zero-one}
-use Rattle.whole.proofs.Instances.{whole-laws}
+use Rattle.whole.proofs.Beside.{pairs-laws}
 use Rattle.rules.specs.Answer.{answerFrom, wordsOf}
 use Rattle.rules.specs.Problem.{Problem, vars}
 use Rattle.rules.specs.Run.{Ending, bound, ending, run}
@@ -34,18 +34,18 @@ use Rattle.solver.specs.Run.{Finished, Startable, Tellable, endWords, wo
 use Rattle.solver.specs.Spend.{Ran, manyOf, ranAt}
 use Rattle.solver.specs.Step.{Course, over}
 use Rattle.solver.proofs.Laws.Came.{Came, CourseIs, came, over-can, over-cannot, over-range, still-on}
-use Rattle.solver.proofs.Laws.Halves.{lowers-are, numerators-are, uppers-are, zeros-are}
+use Rattle.solver.proofs.Laws.Halves.{lowers-are, numerators-are, smalls-are, uppers-are, zeros-are}
 use Rattle.solver.proofs.Laws.Runs.{bound-small, going, held-begun}
 use Rattle.solver.proofs.Laws.Spends.{ran-over}
 
 twice : (N : ℕ) (a : ℤ) → replicate N a ++ replicate N a ≡ replicate (2 * N) a
 twice N a = replicate-append-replicate N N a ∙ ap (λ k. replicate k a) (let z : N + N ≡ 2 * N = omega arith in z)
 
-module _ {P : Problem ℤ} {r : Ran} {x : Ending ℤ} {k : ℕ} (C : Came P r x k) where
+module _ {P : Problem (ℤ × ℤ)} {r : Ran} {x : Ending (ℤ × ℤ)} {k : ℕ} (C : Came P r x k) where
   abbrev here : Tableau
   here = r .tableau
 
-  abbrev at-end : State ℤ
+  abbrev at-end : State (ℤ × ℤ)
   at-end = x .last
 
   pub came-many : manyOf here ≡ vars P
@@ -60,14 +60,15 @@ module _ {P : Problem ℤ} {r : Ran} {x : Ending ℤ} {k : ℕ} (C : Came P r x 
     told-came = go (r .course) (x .how) (C .course-is) is-over
         ∙ ap (λ j. wordsOf P (record { how = x .how; pivots = j; last = at-end })) (C .count-is)
       where
-        go : (c : Course) (o : Outcome ℤ) → CourseIs P here at-end c o → c ≡ over e →
+        go : (c : Course) (o : Outcome (ℤ × ℤ)) → CourseIs P here at-end c o → c ≡ over e →
             endWords e total here (vars P) ≡ wordsOf P (record { how = o; pivots = total; last = at-end })
         go c o over-can q = let z : e ≡ ends.Can = cc in ap (λ w. endWords w total here (vars P)) z
             ∙ ap₂ (λ d l. pos 1 ∷ pos total ∷ d ∷ l) (C .stands .numbers .common-is)
-            (ap₂ (λ y w. y ++ w) (numerators-are (C .stands) (C .rowed)) (zeros-are (vars P)))
+            (ap₂ (λ y w. y ++ w) (numerators-are (C .stands) (C .rowed)) (smalls-are (C .stands) (C .rowed)))
         go c o (over-cannot l y) q = let z : e ≡ ends.Cannot (blockedAt here l) = cc in ap (λ w. endWords w total here (vars P)) z
-            ∙ ap₂ (λ a b. pos 2 ∷ pos total ∷ pos 0 ∷ a ++ b) (lowers-are (C .stands) (C .rowed) l (left whole P at-end l y))
-            (uppers-are (C .stands) (C .rowed) l (left whole P at-end l y))
+            ∙ ap₂ (λ a b. pos 2 ∷ pos total ∷ pos 0 ∷ a ++ b)
+            (lowers-are (C .stands) (C .rowed) l (left pairs P at-end l y))
+            (uppers-are (C .stands) (C .rowed) l (left pairs P at-end l y))
         go c o over-range q = let z : e ≡ ends.Range = cc in ap (λ w. endWords w total here (vars P)) z
             ∙ ap (λ l. pos 3 ∷ pos total ∷ pos 0 ∷ l)
             (ap₂ (λ y w. y ++ w) (zeros-are (vars P)) (zeros-are (vars P)) ∙ twice (vars P) (pos 0))
@@ -80,10 +81,11 @@ module _ {P : Problem ℤ} {r : Ran} {x : Ending ℤ} {k : ℕ} (C : Came P r x 
       row-in = λ b g. go b g (r .course) (x .how) (C .course-is) is-over;
     }
       where
-        go : (b : Blocked) → e ≡ ends.Cannot b → (c : Course) (o : Outcome ℤ) → CourseIs P here at-end c o → c ≡ over e →
-            b .row .0 < here .rows
+        go : (b : Blocked) → e ≡ ends.Cannot b → (c : Course) (o : Outcome (ℤ × ℤ)) → CourseIs P here at-end c o →
+            c ≡ over e → b .row .0 < here .rows
         go b g c o over-can q = let z : _≡_ {A = ℕ} 0 1 = cc in zero-one z
-        go b g c o (over-cannot l y) q = let z : rowOf here (l .variable) ≡ b .row .0 = cc in let L = left whole P at-end l y in
+        go b g c o (over-cannot l y) q =
+            let z : rowOf here (l .variable) ≡ b .row .0 = cc in let L = left pairs P at-end l y in
             rw (← z, C .stands .sized .rows-is) (C .stands .placed .has-row (l .variable) (L .variable) (L .was-basic) .in-rows)
         go b g c o over-range q = let z : _≡_ {A = ℕ} 0 1 = cc in zero-one z
         go b g c o (still-on s) q = let z : _≡_ {A = ℕ} 0 1 = cc in zero-one z
@@ -91,15 +93,15 @@ module _ {P : Problem ℤ} {r : Ran} {x : Ending ℤ} {k : ℕ} (C : Came P r x 
 -- ---- a run that is finished, from a state whose limits don't cross
 
 module _ {t : Tableau} (S : Startable t) {e : End} {k : ℕ} {u : Tableau} (F : Finished t e k u) where
-  abbrev Q : Problem ℤ
+  abbrev Q : Problem (ℤ × ℤ)
   Q = S .begun .problem
 
-  abbrev s : State ℤ
+  abbrev s : State (ℤ × ℤ)
   s = S .begun .state
 
   few : k < bound Q
-  few = let A = no-conflict whole Q (S .uncrossed) in
-      below-bound whole whole-laws Q s A (ready-sound whole Q s A (S .begun .ready)) (S .begun .ready .seated-many) k
+  few = let A = no-conflict pairs Q (S .uncrossed) in
+      below-bound pairs pairs-laws Q s A (ready-sound pairs Q s A (S .begun .ready)) (S .begun .ready .seated-many) k
       (going (held-begun (S .begun)) k (F .goes-on) .runs)
 
   abbrev ran : Ran
@@ -109,8 +111,8 @@ module _ {t : Tableau} (S : Startable t) {e : End} {k : ℕ} {u : Tableau} (F : 
   ran-is = ran-over t k (bound Q) (F .goes-on) e (let h = few in omega arith) (F .ended)
       ∙ ap (λ w. record { tableau = w; course = over e; count = k }) (sym (F .last))
 
-  came-there : Came Q ran (run whole (bound Q) Q s 0) 0
-  came-there = subst (λ r. Came Q r (run whole (bound Q) Q s 0) 0) ran-is
+  came-there : Came Q ran (run pairs (bound Q) Q s 0) 0
+  came-there = subst (λ r. Came Q r (run pairs (bound Q) Q s 0) 0) ran-is
       (came (bound Q) 0 t s (S .begun .stands) (S .begun .ready .rowed) (S .begun .ranged))
 
   -- as many variables as at the start
@@ -120,7 +122,7 @@ module _ {t : Tableau} (S : Startable t) {e : End} {k : ℕ} {u : Tableau} (F : 
   pub told : endWords e k u (manyOf u) ≡ answerFrom Q s
   unfolding answerFrom ending
   told = ap₂ (λ j N. endWords e j u N) (sym (zero-add k)) (came-many came-there) ∙ told-came came-there e refl
-      ∙ ap (wordsOf Q) (sym (spending-run whole Q (S .uncrossed) (bound Q) s 0))
+      ∙ ap (wordsOf Q) (sym (spending-run pairs Q (S .uncrossed) (bound Q) s 0))
 
   pub ended-tellable : Tellable e (0 + k) u
   ended-tellable = tellable-came came-there e refl

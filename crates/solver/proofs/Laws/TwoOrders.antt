@@ -15,10 +15,11 @@ use native.Mathlib.Decide.{ℕ-discrete}
 use native.Mathlib.Omega.{arith}
 use lib.Dec.{eqb}
 use lib.IntN.{ℤ, negℤ, pos, _*ℤ_}
-use Rattle.whole.specs.Values.{whole}
+use lib.ListN.{getD}
+use Rattle.whole.specs.Values.{pairs}
 use Rattle.whole.proofs.Prefix.{filled-same}
 use Rattle.rules.specs.Answer.{answerFrom}
-use Rattle.rules.specs.Problem.{problem, varsOf}
+use Rattle.rules.specs.Problem.{inner, problem, varsOf}
 use Rattle.rules.specs.Refusal.{problemRefusal}
 use Rattle.rules.specs.Run.{conflict}
 use Rattle.rules.specs.Sizes.{mostVariables}
@@ -27,7 +28,7 @@ use Rattle.tableau.specs.declared.Tableau.{Tableau}
 use Rattle.pivot.specs.Layout.{Order, byColumns, byRows, inUse, entryLaid}
 use Rattle.pivot.specs.TwoOrders.{SameCells}
 use Rattle.tableau.specs.TwoOrders.{SameTableau}
-use Rattle.tableau.specs.Parts.{columnOf, rowOf, seatAt, valueAt}
+use Rattle.tableau.specs.Parts.{columnOf, rowOf, seatAt}
 use Rattle.pivot.specs.Pivot.{entriesLaid}
 use Rattle.tableau.specs.Pivot.{pivotedLaid, swappedAt, withNumbers}
 use Rattle.tableau.specs.Start.{startLaid, startTableau}
@@ -44,7 +45,7 @@ use Rattle.solver.specs.declared.answer.Verdict.the-variants as verdicts
 use Rattle.solver.specs.declared.multipliers.Multipliers.{Multipliers}
 use Rattle.solver.specs.declared.step.End.{End}
 use Rattle.solver.specs.declared.step.End.the-variants as ends
-use Rattle.solver.specs.Answer.{noughts, numeratorFrom, numeratorLaid, numeratorsLaid, wordsAt}
+use Rattle.solver.specs.Answer.{numeratorFrom, numeratorLaid, numeratorsLaid, wordsAt}
 use Rattle.solver.specs.Multipliers.{multipliersLaid, pullInLaid, pullLaid, relationFrom}
 use Rattle.solver.specs.TwoOrders.{RowsAndColumns, SameAfter, SameStep}
 use Rattle.solver.specs.Run.{Begun, Finished, FinishedLaid, GoesOn, GoesOnLaid, Startable}
@@ -97,18 +98,18 @@ module _ {o u : Order} {t : Tableau} {l : List ℤ} (C : SameCells o u (t .rows)
 
   -- ---- the words
 
-  numerators-same : numeratorsLaid o (t .entries) (t .values) (t .seats) (t .common) (t .rows) (t .columns)
-      ≡ numeratorsLaid u l (t .values) (t .seats) (t .common) (t .rows) (t .columns)
+  numerators-same : (x : List ℤ) → numeratorsLaid o (t .entries) x (t .seats) (t .common) (t .rows) (t .columns)
+      ≡ numeratorsLaid u l x (t .seats) (t .common) (t .rows) (t .columns)
   unfolding numeratorsLaid numeratorLaid
-  numerators-same = filled-same mostVariables (pos 0) _ (t .rows + t .columns) _
+  numerators-same x = filled-same mostVariables (pos 0) _ (t .rows + t .columns) _
       (λ v h. go v h (seatAt t v .basic) refl)
     where
       go : (v : ℕ) → v < t .rows + t .columns → (b : Bool) → seatAt t v .basic ≡ b →
-          numeratorFrom b (rowSumLaid o (t .rows) (t .columns) (t .entries) (t .values) (rowOf t v))
-          (t .common *ℤ valueAt t (columnOf t v))
-          ≡ numeratorFrom b (rowSumLaid u (t .rows) (t .columns) l (t .values) (rowOf t v))
-          (t .common *ℤ valueAt t (columnOf t v))
-      go v h true e = row-same C S (rowOf t v) (S .row-seats v h e)
+          numeratorFrom b (rowSumLaid o (t .rows) (t .columns) (t .entries) x (rowOf t v))
+          (t .common *ℤ getD x (columnOf t v) (pos 0))
+          ≡ numeratorFrom b (rowSumLaid u (t .rows) (t .columns) l x (rowOf t v))
+          (t .common *ℤ getD x (columnOf t v) (pos 0))
+      go v h true e = row-same C S x (rowOf t v) (S .row-seats v h e)
       go v h false e = refl
 
   module _ (b : Blocked) (h : b .row .0 < t .rows) where
@@ -137,7 +138,8 @@ module _ {o u : Order} {t : Tableau} {l : List ℤ} (C : SameCells o u (t .rows)
   words-here : (e : End) → ((b : Blocked) → e ≡ ends.Cannot b → b .row .0 < t .rows) → (k N : ℕ) →
       wordsLaid o e k t N ≡ wordsLaid u e k other N
   unfolding wordsLaid
-  words-here ends.Can h k N = ap (λ x. wordsAt verdicts.Can k (t .common) N x noughts) numerators-same
+  words-here ends.Can h k N = ap₂ (λ x y. wordsAt verdicts.Can k (t .common) N x y)
+      (numerators-same (t .values)) (numerators-same (t .smalls))
   words-here (ends.Cannot b) h k N = ap (λ (M : Multipliers). wordsAt verdicts.Cannot k (pos 0) N (M .lower) (M .upper))
       (multipliers-same b (h b refl))
   words-here ends.Range h k N = refl
@@ -213,9 +215,9 @@ module _ (o : Order) (ws : List ℤ) (f : problemRefusal ws ≡ 0) where
   pub same-steps : (k : ℕ) → GoesOn first k → SameAfter inUse o first (startLaid o (problem ws)) k
   same-steps = same-run begun (same-start inUse o (problem ws))
 
-  pub same-words : conflict whole (problem ws) ≡ none →
+  pub same-words : conflict pairs (inner (problem ws)) ≡ none →
       {e : End} {k : ℕ} {w : Tableau} → FinishedLaid o (startLaid o (problem ws)) e k w →
-      wordsLaid o e k w (varsOf ws) ≡ answerFrom (problem ws) (start whole (problem ws))
+      wordsLaid o e k w (varsOf ws) ≡ answerFrom (inner (problem ws)) (start pairs (inner (problem ws)))
   same-words c {e} {k} {w} F = ap (wordsLaid o e k w) (sym (start-many ws first refl f))
       ∙ answer-is (record { begun = begun; uncrossed = c }) (same-start inUse o (problem ws)) F
 

@@ -25,8 +25,20 @@ loop-holds c = (omega arith, lowest-start (crossesAt (c .args .t1)))
 cast-if1 : tie.Need-cast-if1 Inv-loop μ-loop
 cast-if1 c = search needs
 
-limits-of-requires : tie.Need-limits-of-requires Inv-loop μ-loop
-limits-of-requires c κs = omega arith
+cast-at : tie.Need-cast-at Inv-loop μ-loop
+cast-at c = search needs
+
+mul-is-crossed : tie.Need-mul-is-crossed Inv-loop μ-loop
+mul-is-crossed c = omega arith
+
+element-copy-out-is-crossed : tie.Need-element-copy-out-is-crossed Inv-loop μ-loop
+element-copy-out-is-crossed c = omega arith
+
+mul-is-crossed-2 : tie.Need-mul-is-crossed-2 Inv-loop μ-loop
+mul-is-crossed-2 c = omega arith
+
+element-copy-out-is-crossed-2 : tie.Need-element-copy-out-is-crossed-2 Inv-loop μ-loop
+element-copy-out-is-crossed-2 c = omega arith
 
 is-crossed-requires : tie.Need-is-crossed-requires Inv-loop μ-loop
 is-crossed-requires c κs = tt
@@ -34,7 +46,7 @@ is-crossed-requires c κs = tt
 -- what the test says of a variable
 module _ (c : tie.After-is-crossed Inv-loop μ-loop) where
   abbrev head : tie.At-loop Inv-loop μ-loop
-  head = c .before .before .before .before .before .before .before .before .before
+  head = c .before .before .before .before .before .before
 
   abbrev limits : Limits
   limits = head .before .args .t1
@@ -44,8 +56,7 @@ module _ (c : tie.After-is-crossed Inv-loop μ-loop) where
 
   crossed-is : crossesAt limits number ≡ cond (c .is-crossed .result) (some number) none
   unfolding crossesAt
-  crossed-is = ap (λ b. cond b (some number) none)
-      (sym (simp (c .before .limits-of .ensures) at (c .is-crossed .ensures)))
+  crossed-is = ap (λ b. cond b (some number) none) (sym (c .is-crossed .ensures))
 
   crossed-by : {b : Bool} → c .is-crossed .result ≡ b → crossesAt limits number ≡ cond b (some number) none
   crossed-by e = crossed-is ∙ ap (λ b. cond b (some number) none) e
@@ -82,7 +93,11 @@ conflict-of-spec =
     μ-loop
     loop-holds
     cast-if1
-    limits-of-requires
+    cast-at
+    mul-is-crossed
+    element-copy-out-is-crossed
+    mul-is-crossed-2
+    element-copy-out-is-crossed-2
     is-crossed-requires
     returns
     after-requires

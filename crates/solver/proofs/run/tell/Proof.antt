@@ -1,6 +1,6 @@
 -- `solver::run::tell` meets its contract: one case for each way a run ends. Assumes nothing.
 use mathlib.Core.List.{List}
-use mathlib.Core.Path.{ap, sym, _∙_}
+use mathlib.Core.Path.{ap, ap₂, sym, _∙_}
 use Prim.Native.Nat.{ℕ, _+_, _≤_}
 use native.Mathlib.Omega.{arith}
 use borrow.Author.Needs.{needs}
@@ -15,7 +15,7 @@ use Rattle.search.specs.Search.{Searchable}
 use Rattle.search.specs.declared.Blocked.{Blocked}
 use Rattle.solver.specs.declared.answer.Verdict.the-variants as verdicts
 use Rattle.solver.specs.declared.step.End.{End}
-use Rattle.solver.specs.Answer.{laidOver, noughts, wordsAt}
+use Rattle.solver.specs.Answer.{laidOver, wordsAt}
 use Rattle.solver.specs.Run.{endWords, wordsLaid}
 use Rattle.solver.proofs.Laws.Readable.{blockable, numerable}
 use Rattle.solver.proofs.run.tell.Statement.{statement}
@@ -63,11 +63,15 @@ numerators-of-requires : tie.Need-numerators-of-requires
 numerators-of-requires c κs = let s = start (c .before .before .before) in
     simp (toZ-ofZ (fit-common s)) ((readable s .few-rows, readable s .few-columns), numerable (readable s))
 
+smalls-of-requires : tie.Need-smalls-of-requires
+smalls-of-requires c κs = readable (start (c .before .before .before .before))
+
 cast-denominator : tie.Need-cast-denominator
-cast-denominator c = let s = start (c .before .before .before .before) in simp (toZ-ofZ (fit-common s)) (wide-common s)
+cast-denominator c = let s = start (c .before .before .before .before .before) in
+    simp (toZ-ofZ (fit-common s)) (wide-common s)
 
 write-requires : tie.Need-write-requires
-write-requires c κs = let s = start (c .before .before .before .before .before .before .before) in
+write-requires c κs = let s = start (c .before .before .before .before .before .before .before .before) in
     (s .pre .1, few s, s .pre .0 .counted)
 
 same-length : tie.Need-same-length
@@ -75,10 +79,11 @@ same-length c = search needs
 
 returns : tie.Need-returns
 unfolding wordsLaid
-returns c = let o = c .before .before .before .before .before .before .before .before .before in let s = start o in
+returns c = let d = c .before .before .before .before .before in
+    let o = d .before .before .before .before .before in let s = start o in
     (simp (toZ-ofZ (fit-common s), toZ-ofZ (wide-common s)) at (c .before .write .ensures))
-    ∙ ap (λ l. over s (wordsAt verdicts.Can (s .args .count) (last s .common) (many s) l noughts))
-    (simp (toZ-ofZ (fit-common s)) at (c .before .before .before .before .before .numerators-of .ensures))
+    ∙ ap₂ (λ l x. over s (wordsAt verdicts.Can (s .args .count) (last s .common) (many s) l x))
+    (simp (toZ-ofZ (fit-common s)) at (d .before .numerators-of .ensures)) (d .smalls-of .ensures)
     ∙ sym (ap (told s) (o .enum-told .given .1))
 
 -- ---- one is outside and stuck
@@ -139,6 +144,7 @@ tell-spec =
     add-variables
     enum-told
     numerators-of-requires
+    smalls-of-requires
     cast-denominator
     write-requires
     enum-known-end

@@ -15,6 +15,7 @@ use Rattle.whole.proofs.Sizes.{fits-by}
 use Rattle.pivot.specs.declared.ColumnPlace.{ColumnPlace}
 use Rattle.pivot.specs.declared.RowPlace.{RowPlace}
 use Rattle.tableau.specs.declared.Tableau.{Tableau}
+use Rattle.tableau.specs.declared.amount.Value.{Value}
 use Rattle.tableau.specs.Pivot.{Swappable, withNumbers}
 use Rattle.search.specs.Search.{nextAt}
 use Rattle.solver.specs.declared.spend.Course as code
@@ -30,7 +31,7 @@ use Rattle.solver.proofs.Laws.Slices.{held-slice, many-same, tellable-s
 use Rattle.solver.proofs.Laws.Spends.{ran-over, ran-spent}
 use Rattle.solver.proofs.Laws.Runs.{after-more, after-none, goes-more, held-after}
 use Rattle.solver.proofs.Laws.Stepped.{Chosen, exchanged, going, outcome-ended, outcome-goes, outcome-left, readOf}
-use Rattle.solver.proofs.Laws.Steps.{common-held, places-held, steppable-held, value-held}
+use Rattle.solver.proofs.Laws.Steps.{common-held, places-held, small-held, steppable-held, value-held}
 use Rattle.solver.proofs.spend.advance.Statement.{statement}
 use Rattle.solver.proofs.spend.advance.Tie as tie
 
@@ -70,16 +71,16 @@ fit-common : (c : tie.At-run Inv-run μ-run) → SFits w32 (here c .common)
 fit-common c = fits-by (held c .ranged .cells .common-within) tt
 
 step-requires : tie.Need-step-requires Inv-run μ-run
-step-requires c κs = let a = c .before .before .before .before .before .before in
+step-requires c κs = let a = c .before .before .before .before .before .before .before in
     simp (toZ-ofZ (fit-common a)) (steppable-held (held a))
 
 -- the step from there
 module _ (c : tie.After-step Inv-run μ-run) where
   abbrev at : tie.At-run Inv-run μ-run
-  at = c .before .before .before .before .before .before .before
+  at = c .before .before .before .before .before .before .before .before
 
   abbrev left : List ℤ
-  left = c .step .last .1 .0
+  left = c .step .last .1 .1 .0
 
   step-is : (c .step .result ≡ outcomeAt (readOf (here at))) × (left ≡ leftAt (readOf (here at)))
   step-is = simp (toZ-ofZ (fit-common at)) at (c .step .ensures)
@@ -104,7 +105,7 @@ module _ (c : tie.After-next2 Inv-run μ-run) where
   abbrev column : ColumnPlace
   column = c .next2 .given .0 .1 .0
 
-  abbrev value : ℤ
+  abbrev value : Value
   value = c .next2 .given .0 .1 .1 .0
 
   abbrev common : ℤ
@@ -119,8 +120,11 @@ module _ (c : tie.After-next2 Inv-run μ-run) where
   fit-new : SFits w32 common
   fit-new = common-held (held turn) chosen
 
-  fit-value : SFits w32 value
-  fit-value = value-held (held turn) chosen
+  fit-plain : SFits w32 (value .plain)
+  fit-plain = value-held (held turn) chosen
+
+  fit-small : SFits w32 (value .small)
+  fit-small = small-held (held turn) chosen
 
 cast-i : tie.Need-cast-i Inv-run μ-run
 cast-i c = search needs
@@ -150,43 +154,52 @@ element-set-from-entering c = places (made c) .in-rows
 element-set-from-leaving : tie.Need-element-set-from-leaving Inv-run μ-run
 element-set-from-leaving c = places (made c) .in-columns
 
-mul-value : tie.Need-mul-value Inv-run μ-run
-mul-value c = omega (arith, places (made c) .in-columns)
+mul-plain : tie.Need-mul-plain Inv-run μ-run
+mul-plain c = omega (arith, places (made (c .before .before)) .in-columns)
 
-element-set-from-value : tie.Need-element-set-from-value Inv-run μ-run
-element-set-from-value c = places (made c) .in-columns
+element-set-from-plain : tie.Need-element-set-from-plain Inv-run μ-run
+element-set-from-plain c = places (made (c .before .before)) .in-columns
+
+mul-small : tie.Need-mul-small Inv-run μ-run
+mul-small c = omega (arith, places (made (c .before .before)) .in-columns)
+
+element-set-from-small : tie.Need-element-set-from-small Inv-run μ-run
+element-set-from-small c = places (made (c .before .before)) .in-columns
 
 seated-requires : tie.Need-seated-requires Inv-run μ-run
 seated-requires c κs = search needs
 
 mul-entered : tie.Need-mul-entered Inv-run μ-run
-mul-entered c = omega (arith, places (made (c .before)) .entering-seat)
+mul-entered c = omega (arith, places (made (c .before .before .before)) .entering-seat)
 
 element-set-from-entered : tie.Need-element-set-from-entered Inv-run μ-run
-element-set-from-entered c = places (made (c .before)) .entering-seat
+element-set-from-entered c = places (made (c .before .before .before)) .entering-seat
 
 seated-requires-2 : tie.Need-seated-requires-2 Inv-run μ-run
 seated-requires-2 c κs = search needs
 
 mul-left : tie.Need-mul-left Inv-run μ-run
-mul-left c = omega (arith, places (made (c .before .before)) .leaving-seat)
+mul-left c = omega (arith, places (made (c .before .before .before .before)) .leaving-seat)
 
 element-set-from-left : tie.Need-element-set-from-left Inv-run μ-run
-element-set-from-left c = places (made (c .before .before)) .leaving-seat
+element-set-from-left c = places (made (c .before .before .before .before)) .leaving-seat
 
--- some pivots are left to spend
+-- some pivots are left to spend, and so the exchange is made
+abbrev to-exchange : tie.After-seated2 Inv-run μ-run → tie.Else1 Inv-run μ-run
+to-exchange c = c .before .before .before .before .before .before .before .before .before .before
+
 left-to-spend : (c : tie.Else1 Inv-run μ-run) →
     count (turn (c .before .before)) < turn (c .before .before) .before .before .args .most
 left-to-spend c = let e = c .if1 .left in let i = turn (c .before .before) .run .inv .0 in omega (arith, e, i)
 
 add-count : tie.Need-add-count Inv-run μ-run
-add-count c = let h = left-to-spend (c .before .before .before .before .before .before .before .before) in
-    let z = turn (c .before .before .before .before .before .before .before .before .before .before) .before .before .fits .most in omega (arith, h, z)
+add-count c = let o = to-exchange c in let h = left-to-spend o in
+    let z = turn (o .before .before) .before .before .fits .most in omega (arith, h, z)
 
 -- after the exchange
 module _ (c : tie.After-seated2 Inv-run μ-run) where
   abbrev gone : tie.After-next2 Inv-run μ-run
-  gone = made (c .before .before)
+  gone = made (c .before .before .before .before)
 
   abbrev from : tie.At-run Inv-run μ-run
   from = turn gone
@@ -197,12 +210,12 @@ module _ (c : tie.After-seated2 Inv-run μ-run) where
       ∙ going (here from) (row gone) (column gone) (value gone) (common gone) (chosen gone))
 
 run-less : tie.Need-run-less Inv-run μ-run
-run-less c = let h = left-to-spend (c .before .before .before .before .before .before .before .before .before .before) in omega (arith, h)
+run-less c = let h = left-to-spend (to-exchange (c .before .before)) in omega (arith, h)
 
 run-again : tie.Need-run-again Inv-run μ-run
 run-again c = let q = c .before .before in let o = gone q in let a = from q in (
-  let h = left-to-spend (c .before .before .before .before .before .before .before .before .before .before) in omega (arith, h),
-  simp (toZ-ofZ (fit-new o), toZ-ofZ (fit-value o))
+  let h = left-to-spend (to-exchange q) in omega (arith, h),
+  simp (toZ-ofZ (fit-new o), toZ-ofZ (fit-plain o), toZ-ofZ (fit-small o))
       (exchanged (here a) (row o) (column o) (value o) (common o) (chosen o) (step-is (step-made o) .1)
       (q .before .seated .ensures) (q .seated2 .ensures) ∙ ap (λ u. steppedAt u .tableau) (a .run .inv .1) ∙ after-more (first a) (count a)),
   further q,
@@ -210,12 +223,12 @@ run-again c = let q = c .before .before in let o = gone q in let a = from q in (
 )
 
 run-less-2 : tie.Need-run-less-2 Inv-run μ-run
-run-less-2 c = let h = left-to-spend (c .before .before .before .before .before .before .before .before .before) in omega (arith, h)
+run-less-2 c = let h = left-to-spend (to-exchange (c .before)) in omega (arith, h)
 
 run-again-2 : tie.Need-run-again-2 Inv-run μ-run
 run-again-2 c = let q = c .before in let o = gone q in let a = from q in (
-  let h = left-to-spend (c .before .before .before .before .before .before .before .before .before) in omega (arith, h),
-  simp (toZ-ofZ (fit-new o), toZ-ofZ (fit-value o))
+  let h = left-to-spend (to-exchange q) in omega (arith, h),
+  simp (toZ-ofZ (fit-new o), toZ-ofZ (fit-plain o), toZ-ofZ (fit-small o))
       (exchanged (here a) (row o) (column o) (value o) (common o) (chosen o) (step-is (step-made o) .1)
       (q .before .seated .ensures) (q .seated2 .ensures) ∙ ap (λ u. steppedAt u .tableau) (a .run .inv .1) ∙ after-more (first a) (count a)),
   further q,
@@ -348,8 +361,10 @@ advance-spec =
     cast-w
     element-set-from-entering
     element-set-from-leaving
-    mul-value
-    element-set-from-value
+    mul-plain
+    element-set-from-plain
+    mul-small
+    element-set-from-small
     seated-requires
     mul-entered
     element-set-from-entered

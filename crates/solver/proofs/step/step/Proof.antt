@@ -12,6 +12,7 @@ use Rattle.whole.proofs.Bools.{zero-one}
 use Rattle.whole.proofs.Sizes.{fits-by}
 use Rattle.pivot.specs.declared.Pivoted.the-variants as pivots
 use Rattle.tableau.specs.declared.Tableau.{Tableau}
+use Rattle.tableau.specs.Amounts.{valueOf}
 use Rattle.pivot.specs.Pivot.{commonAfter, entriesAfter, entriesBy, pivotedBy}
 use Rattle.pivot.proofs.Laws.Reductions.{fits-common}
 use Rattle.search.specs.declared.Choice.{Choice}
@@ -24,7 +25,7 @@ use Rattle.solver.proofs.step.step.Tie as tie
 
 -- the tableau that is read
 abbrev old : tie.Start → Tableau
-old s = seen (s .args .entries .now) (s .args .t1)
+old s = seen (s .args .entries .now) (s .args .t1) (s .args .t2)
 
 fit-common : (s : tie.Start) → SFits w32 (old s .common)
 fit-common s = search needs
@@ -65,16 +66,28 @@ cast-i c = search needs
 element-copy-out-leaving : tie.Need-element-copy-out-leaving
 element-copy-out-leaving c = movable (c .before .before .before .before) .row-place
 
-limits-of-requires : tie.Need-limits-of-requires
-limits-of-requires c κs = let o = c .before .before .before .before .before in
-    movable (o .before .before .before .before .before) .leaving-seat
+cast-v : tie.Need-cast-v
+cast-v c = search needs
+
+mul-violated-limit : tie.Need-mul-violated-limit
+mul-violated-limit c = search needs
+
+element-copy-out-violated-limit : tie.Need-element-copy-out-violated-limit
+element-copy-out-violated-limit c = movable (c .before .before .before .before .before .before) .leaving-seat
+
+mul-violated-limit-2 : tie.Need-mul-violated-limit-2
+mul-violated-limit-2 c = search needs
+
+element-copy-out-violated-limit-2 : tie.Need-element-copy-out-violated-limit-2
+element-copy-out-violated-limit-2 c =
+    movable (c .before .before .before .before .before .before .before) .leaving-seat
 
 violated-limit-requires : tie.Need-violated-limit-requires
 violated-limit-requires c κs = search needs
 
 -- the choice that the value belongs to
 abbrev choosing : tie.After-violated-limit → tie.After-next2
-choosing c = let o = c .before .before .before .before .before .before in o .before .before .before .before .before .before
+choosing c = c .before .before .before .before .before .before .before .before .before
 
 pivot-requires : tie.Need-pivot-requires
 pivot-requires c κs = let o = choosing (c .before .before) in
@@ -122,11 +135,8 @@ module _ (c : tie.After-pivot) where
   abbrev valued : tie.After-violated-limit
   valued = c .before .before .before
 
-  fit-value : SFits w32 (valued .violated-limit .result)
-  fit-value = search needs
-
-  value-is : valued .violated-limit .result ≡ valueAfter t (choice chosen)
-  value-is = simp (valued .before .limits-of .ensures) at (valued .violated-limit .ensures)
+  value-is : valued .violated-limit .result ≡ valueOf (valueAfter t (choice chosen))
+  value-is = valued .violated-limit .ensures
 
 returns : tie.Need-returns
 unfolding outcomeBy entriesLeft
@@ -148,7 +158,7 @@ returns-3 c =
     let f = common-told (fitsBy (t d) w) (common d) (x .0 .0) (sym (turned-is d .0) ∙ x .1) in
     let fit : SFits w32 (x .0 .0) =
     subst (SFits w32) (f .1) (fits-by (fits-common (movable (chosen d) .pivotable) (f .0)) tt) in (
-      ap₂ (λ v z. outcomes.Goes (w .row) (w .column) v z) (toZ-ofZ (fit-value d) ∙ value-is d) (toZ-ofZ fit ∙ sym (f .1))
+      ap₂ (λ v z. outcomes.Goes (w .row) (w .column) v z) (value-is d) (toZ-ofZ fit ∙ sym (f .1))
           ∙ answer-is d true (f .0),
       left-is d,
     )
@@ -169,7 +179,11 @@ step-spec =
     enum-known-next-2
     cast-i
     element-copy-out-leaving
-    limits-of-requires
+    cast-v
+    mul-violated-limit
+    element-copy-out-violated-limit
+    mul-violated-limit-2
+    element-copy-out-violated-limit-2
     violated-limit-requires
     pivot-requires
     enum-known-turned

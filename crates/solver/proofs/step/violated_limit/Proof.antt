@@ -1,22 +1,23 @@
 -- `solver::step::violated_limit` meets its contract. Assumes nothing.
-use borrow.Author.Needs.{needs}
-use mir.Facts.{toZ-ofZ}
-use mir.Syntax.{w32}
-use mir.Val.{SFits}
+use mathlib.Core.Path.{ap, sym, _∙_}
+use Rattle.tableau.specs.Amounts.{valueOf}
+use Rattle.solver.specs.Step.{limitOf}
 use Rattle.solver.proofs.step.violated_limit.Statement.{statement}
 use Rattle.solver.proofs.step.violated_limit.Tie as tie
 
-fit-lower : (s : tie.Start) → SFits w32 (s .args .limits .lower)
-fit-lower s = search needs
+lower-value-requires : tie.Need-lower-value-requires
+lower-value-requires c κs = tt
 
-fit-upper : (s : tie.Start) → SFits w32 (s .args .limits .upper)
-fit-upper s = search needs
+upper-value-requires : tie.Need-upper-value-requires
+upper-value-requires c κs = tt
 
 returns : tie.Need-returns
-returns c = let o = c .before in simp (toZ-ofZ (fit-lower (o .before)), o .if1 .taken)
+returns c = let o = c .before in let a = o .before .args in
+    c .lower-value .ensures ∙ sym (ap (λ b. valueOf (limitOf b (a .lower) (a .upper))) (o .if1 .taken))
 
 returns-2 : tie.Need-returns-2
-returns-2 c = let o = c .before in simp (toZ-ofZ (fit-upper (o .before)), o .if1 .left)
+returns-2 c = let o = c .before in let a = o .before .args in
+    c .upper-value .ensures ∙ sym (ap (λ b. valueOf (limitOf b (a .lower) (a .upper))) (o .if1 .left))
 
 pub violated-limit-spec : {M : Type 1} → statement M
-violated-limit-spec = tie.close (tie.spec returns returns-2)
+violated-limit-spec = tie.close (tie.spec lower-value-requires returns upper-value-requires returns-2)
