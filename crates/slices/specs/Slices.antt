@@ -8,8 +8,9 @@ use Prim.Native.Nat.{ℕ, zero, suc, _*_, _+_}
 use lib.Dec.{ltb}
 use lib.IntN.{ℤ, pos}
 use lib.ListN.{length}
-use Rattle.whole.specs.Values.{whole}
-use Rattle.rules.specs.Problem.{Problem, problem}
+use Rattle.whole.specs.Values.{pairs}
+use Rattle.rules.specs.Limit.{Limit}
+use Rattle.rules.specs.Problem.{Problem, inner, problem}
 use Rattle.rules.specs.Refusal.{problemRefusal}
 use Rattle.rules.specs.Slices.{begun, continued, isAnswer, sliceAnswer, sliceLength, sliceOutput, sliceRefusal}
 use Rattle.rules.specs.Slices as rules
@@ -23,7 +24,7 @@ use Rattle.slices.specs.declared.Slice.{Slice}
 
 -- ---- what a struct stands for
 
-abbrev pub Holds : rules.Slice ℤ → Slice → Type 0
+abbrev pub Holds : rules.Slice (ℤ × ℤ) → Slice → Type 0
 Holds S s = solver.Holds S (s .tableau) (s .count)
 
 abbrev pub Standing : Slice → Type 0
@@ -39,7 +40,7 @@ abbrev pub startedWords : ℕ → List ℤ → List ℤ
 startedWords zero ws = ws
 startedWords (suc k) ws = idle
 
-abbrev pub startedProblem : List ℤ → Problem ℤ
+abbrev pub startedProblem : List ℤ → Problem Limit
 startedProblem ws = problem (startedWords (problemRefusal ws) ws)
 
 unfoldable pub begunAt : List ℤ → Begun
@@ -50,7 +51,7 @@ begunAt ws = record {
 
 pub record StartsAs (ws : List ℤ) (r : Begun) : Type 0 where
   pub number : r .refused ≡ problemRefusal ws
-  pub state : Holds (begun whole (startedProblem ws)) (r .slice)
+  pub state : Holds (begun pairs (inner (startedProblem ws))) (r .slice)
   pub standing : Standing (r .slice)
 
 -- ---- a continue
@@ -77,16 +78,16 @@ unfoldable pub outputAt : Slice → ℕ → List ℤ → List ℤ
 outputAt s b before = outputWhere (isShort s (length before)) s b before
 
 -- .. by the rules: refused, the state stays and there is no answer
-abbrev pub stateBy : ℕ → rules.Slice ℤ → ℕ → rules.Slice ℤ
-stateBy zero S b = continued whole S b
+abbrev pub stateBy : ℕ → rules.Slice (ℤ × ℤ) → ℕ → rules.Slice (ℤ × ℤ)
+stateBy zero S b = continued pairs S b
 stateBy (suc k) S b = S
 
-abbrev pub answerBy : ℕ → rules.Slice ℤ → ℕ → Option (List ℤ)
+abbrev pub answerBy : ℕ → rules.Slice (ℤ × ℤ) → ℕ → Option (List ℤ)
 answerBy zero S b = sliceAnswer S b
 answerBy (suc k) S b = none
 
 -- what a continue means for a state that the struct stands for
-pub record Means (S : rules.Slice ℤ) (b : ℕ) (before : List ℤ) (r : Continued) (after : List ℤ) : Type 0 where
+pub record Means (S : rules.Slice (ℤ × ℤ)) (b : ℕ) (before : List ℤ) (r : Continued) (after : List ℤ) : Type 0 where
   pub number : r .refused ≡ sliceRefusal S (length before)
   pub answered : r .answered ≡ isAnswer (answerBy (r .refused) S b)
   pub output : after ≡ sliceOutput (answerBy (r .refused) S b) (sliceLength S) before
@@ -94,5 +95,5 @@ pub record Means (S : rules.Slice ℤ) (b : ℕ) (before : List ℤ) (r : Contin
 
 -- .. for every such state; and what comes back stands for one
 pub record GoesOnAs (s : Slice) (b : ℕ) (before : List ℤ) (r : Continued) (after : List ℤ) : Type 0 where
-  pub means : (S : rules.Slice ℤ) → Holds S s → Means S b before r after
+  pub means : (S : rules.Slice (ℤ × ℤ)) → Holds S s → Means S b before r after
   pub standing : Standing (r .slice)

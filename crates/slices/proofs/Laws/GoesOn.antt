@@ -36,7 +36,7 @@ module _ (s : Slice) (b : ℕ) (before : List ℤ) where
       × (outAt (s .tableau) (s .count) b before ≡ outputAt s b before)
   long-is h = by-room false (le-ltb (length before) (3 + 2 * manyOf (s .tableau)) h)
 
-  module _ (S : rules.Slice ℤ) (H : Holds S s) where
+  module _ (S : rules.Slice (ℤ × ℤ)) (H : Holds S s) where
     room-is : (x : Bool) → isShort s (length before) ≡ x → ltb (length before) (sliceLength S) ≡ x
     room-is x q = ap (λ N. ltb (length before) (3 + 2 * N)) (sym (many-is H)) ∙ q
 
@@ -63,5 +63,5 @@ module _ (s : Slice) (b : ℕ) (before : List ℤ) where
     standing = record { slice = _; holds = meant (T .slice) (T .holds) .state };
   }
     where
-      meant : (S : rules.Slice ℤ) → Holds S s → Means S b before r after
+      meant : (S : rules.Slice (ℤ × ℤ)) → Holds S s → Means S b before r after
       meant S H = subst₂ (Means S b before) (sym e) (sym f) (means-at S H)

@@ -7,7 +7,7 @@ use Prim.Native.Nat.{ℕ, _<_}
 use native.Mathlib.Decide.{ℕ-discrete}
 use native.Mathlib.Omega.{arith}
 use lib.IntN.{ℤ}
-use Rattle.whole.specs.Values.{whole}
+use Rattle.whole.specs.Values.{pairs}
 use Rattle.whole.proofs.Bools.{true-false}
 use Rattle.rules.specs.Problem.{Problem, vars}
 use Rattle.rules.specs.Slices as rules
@@ -23,15 +23,15 @@ use Rattle.slices.specs.declared.Slice.{Slice}
 use Rattle.slices.specs.Slices.{Holds}
 
 -- one problem, up to what its sizes leave open
-pub record SameProblem (P Q : Problem ℤ) : Type 0 where
+pub record SameProblem (P Q : Problem (ℤ × ℤ)) : Type 0 where
   pub columns-same : P .n ≡ Q .n
   pub rows-same : P .m ≡ Q .m
   pub coefficients : (i j : ℕ) → i < P .m → j < P .n → P .coefficient i j ≡ Q .coefficient i j
   pub lowers : (v : ℕ) → v < vars P → P .lower v ≡ Q .lower v
   pub uppers : (v : ℕ) → v < vars P → P .upper v ≡ Q .upper v
 
-module _ {P Q : Problem ℤ} {t : Tableau} {s x : State ℤ} (A : Stands P t s) (B : Stands Q t x)
-    (R : Rowed whole P s) (S : Rowed whole Q x) where
+module _ {P Q : Problem (ℤ × ℤ)} {t : Tableau} {s x : State (ℤ × ℤ)} (A : Stands P t s) (B : Stands Q t x)
+    (R : Rowed pairs P s) (S : Rowed pairs Q x) where
   columns-are : P .n ≡ Q .n
   columns-are = sym (A .sized .columns-is) ∙ B .sized .columns-is
 
@@ -48,21 +48,21 @@ module _ {P Q : Problem ℤ} {t : Tableau} {s x : State ℤ} (A : Stands P t s) 
   basic-too : (v : ℕ) → v < vars P → seat s v ≡ none → seat x v ≡ none
   basic-too v h e = go (seat x v) refl
     where
-      go : (o : Option ℤ) → seat x v ≡ o → seat x v ≡ none
+      go : (o : Option (ℤ × ℤ)) → seat x v ≡ o → seat x v ≡ none
       go none q = q
       go (some y) q = true-false (A .placed .has-row v h e .flag) (B .placed .has-column v y (in-both h) q .flag)
 
-  seated-too : (v : ℕ) (y : ℤ) → v < vars P → seat s v ≡ some y → (z : ℤ) × (seat x v ≡ some z)
+  seated-too : (v : ℕ) (y : ℤ × ℤ) → v < vars P → seat s v ≡ some y → (z : ℤ × ℤ) × (seat x v ≡ some z)
   seated-too v y h e = go (seat x v) refl
     where
-      go : (o : Option ℤ) → seat x v ≡ o → (z : ℤ) × (seat x v ≡ some z)
+      go : (o : Option (ℤ × ℤ)) → seat x v ≡ o → (z : ℤ × ℤ) × (seat x v ≡ some z)
       go (some z) q = (z, q)
       go none q = true-false (B .placed .has-row v (in-both h) q .flag) (A .placed .has-column v y h e .flag)
 
   entries-same : (v w : ℕ) → v < vars P → w < vars P → entry (s .tableau) v w ≡ entry (x .tableau) v w
   entries-same v w h k = by-row (seat s v) refl (seat s w) refl
     where
-      at-cell : (y : ℤ) → seat s v ≡ none → seat s w ≡ some y → entry (s .tableau) v w ≡ entry (x .tableau) v w
+      at-cell : (y : ℤ × ℤ) → seat s v ≡ none → seat s w ≡ some y → entry (s .tableau) v w ≡ entry (x .tableau) v w
       at-cell y e f =
           let i = rowOf t v in let j = columnOf t w in
           let a = A .placed .has-row v h e in let b = A .placed .has-column w y k f in
@@ -71,31 +71,33 @@ module _ {P Q : Problem ℤ} {t : Tableau} {s x : State ℤ} (A : Stands P t s) 
           ∙ B .numbers .cell-is i j (rw (← rows-are) (a .in-rows)) (rw (← columns-are) (b .in-columns))
           ∙ ap₂ (λ p q. entry (x .tableau) p q) (a .holds) (b .holds)
 
-      own-row : (y : ℤ) → seat s v ≡ some y → Dec (w ≡ v) → entry (s .tableau) v w ≡ entry (x .tableau) v w
+      own-row : (y : ℤ × ℤ) → seat s v ≡ some y → Dec (w ≡ v) → entry (s .tableau) v w ≡ entry (x .tableau) v w
       own-row y e (yes q) = let (z, f) = seated-too v y h e in
           rw q (R .own v y h e ∙ common-same ∙ sym (S .own v z (in-both h) f))
       own-row y e (no q) = let (z, f) = seated-too v y h e in
           R .own-zero v w y h k e q ∙ sym (S .own-zero v w z (in-both h) (in-both k) f q)
 
-      by-row : (o : Option ℤ) → seat s v ≡ o → (p : Option ℤ) → seat s w ≡ p → entry (s .tableau) v w ≡ entry (x .tableau) v w
+      by-row : (o : Option (ℤ × ℤ)) → seat s v ≡ o → (p : Option (ℤ × ℤ)) → seat s w ≡ p →
+          entry (s .tableau) v w ≡ entry (x .tableau) v w
       by-row (some y) e p f = own-row y e (ℕ-discrete w v)
       by-row none e (some y) f = at-cell y e f
       by-row none e none f = R .basic-zero v w h k f ∙ sym (S .basic-zero v w (in-both h) (in-both k) (basic-too w k f))
 
-  abbrev sized-as : ℕ → ℕ → Problem ℤ
+  abbrev sized-as : ℕ → ℕ → Problem (ℤ × ℤ)
   sized-as n m = record { n = n; m = m; coefficient = Q .coefficient; lower = Q .lower; upper = Q .upper }
 
   same-problem : SameProblem P Q
   same-problem = record {
     columns-same = columns-are;
     rows-same = rows-are;
-    coefficients = λ i j h k. rows-only whole (P .n) (P .m) (P .coefficient) (Q .coefficient) (P .lower) (P .upper) (Q .lower)
-        (Q .upper) s x entries-same R (subst₂ (λ n m. Rowed whole (sized-as n m) x) (sym columns-are) (sym rows-are) S) i j h k;
+    coefficients = λ i j h k. rows-only pairs (P .n) (P .m) (P .coefficient) (Q .coefficient) (P .lower) (P .upper)
+        (Q .lower) (Q .upper) s x entries-same R
+        (subst₂ (λ n m. Rowed pairs (sized-as n m) x) (sym columns-are) (sym rows-are) S) i j h k;
     lowers = λ v h. A .serves .lower-is v h ∙ sym (B .serves .lower-is v (in-both h));
     uppers = λ v h. A .serves .upper-is v h ∙ sym (B .serves .upper-is v (in-both h));
   }
 
-pub problem-only : {S T : rules.Slice ℤ} {s : Slice} → Holds S s → Holds T s →
+pub problem-only : {S T : rules.Slice (ℤ × ℤ)} {s : Slice} → Holds S s → Holds T s →
     SameProblem (S .problem) (T .problem) × (S .count ≡ T .count)
 problem-only {S} {T} A B = (
   same-problem (A .stands) (B .stands) (on-way-rowed S (A .on-way)) (on-way-rowed T (B .on-way)),

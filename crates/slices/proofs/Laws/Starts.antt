@@ -10,9 +10,9 @@ use native.Mathlib.Omega.{arith}
 use lib.IntN.{ℤ}
 use Rattle.whole.specs.Below.{allBelow, someBelow}
 use Rattle.whole.specs.Numbers.{outside, within}
-use Rattle.whole.specs.Values.{whole}
-use Rattle.rules.specs.Limit.{badLimitWord, bit}
-use Rattle.rules.specs.Problem.{problem}
+use Rattle.whole.specs.Values.{pairs}
+use Rattle.rules.specs.Limit.{badKindWord, badLimitWord, bit}
+use Rattle.rules.specs.Problem.{inner, problem}
 use Rattle.rules.specs.Refusal.{badCoefficient, badKind, badLength, badLimit, badSize, blankRow, first, problemRefusal}
 use Rattle.rules.specs.Refusal.{problemTests, someBlank, tooFew}
 use Rattle.rules.specs.Slices.{begun}
@@ -24,7 +24,7 @@ use Rattle.slices.specs.Slices.{Holds, StartsAs, begunAt, idle, startedP
 
 pub idle-fine : problemRefusal idle ≡ 0
 unfolding problemRefusal problemTests first tooFew badSize badLength badCoefficient badKind badLimit someBlank blankRow
-    badLimitWord bit someBelow allBelow outside within
+    badKindWord badLimitWord bit someBelow allBelow outside within
 idle-fine = refl
 
 module _ (ws : List ℤ) where
@@ -35,7 +35,7 @@ module _ (ws : List ℤ) where
       go zero e = e
       go (suc k) e = idle-fine
 
-  begun-holds : Holds (begun whole (startedProblem ws)) (begunAt ws .slice)
+  begun-holds : Holds (begun pairs (inner (startedProblem ws))) (begunAt ws .slice)
   unfolding begunAt
   begun-holds = holds-start (startedWords (problemRefusal ws) ws) (startTableau (startedProblem ws)) refl started-fine
 
