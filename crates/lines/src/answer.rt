@@ -12,14 +12,14 @@ ghost use Rattle.put.specs.Put.{PutShort};
 
 // The numerators, by variable.
 fn put_values(out: &mut [u8], at: usize, answer: &[i64], variables: usize) -> usize
-    requires { ⌜ (variables ≤ mostVariables) × (3 + variables ≤ length (now answer)) × (at ≤ mostText) ⌝ }
+    requires { ⌜ (variables ≤ mostVariables) × (3 + 2 * variables ≤ length (now answer)) × (at ≤ mostText) ⌝ }
     ensures { λ r.
         ⌜ PutShort (mostValueLine * variables) (now (out .entry)) at
-        (linesBelow variables (valueLine (now (answer .entry)))) (now (out .exit)) r ⌝ }
+        (linesBelow variables (valueLine (now (answer .entry)) variables)) (now (out .exit)) r ⌝ }
 {
     let mut next = at;
     for v in 0..variables {
-        next = put_value(out, next, answer, v);
+        next = put_value(out, next, answer, variables, v);
     }
     next
 }

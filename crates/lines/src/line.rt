@@ -6,7 +6,9 @@ use put::put_text;
 ghost use Prim.Native.Nat.{_+_, _^_, _<_};
 ghost use lib.ListN.{length};
 ghost use Rattle.rules.specs.Sizes.{mostVariables, mostValueLine, mostMultiplierLines};
-ghost use Rattle.rules.specs.Text.{line, variableLine, multiplierLine, valueLine, multiplierLines};
+ghost use mathlib.Core.List.{_++_};
+ghost use Rattle.rules.specs.Text.{ascii, decimal, digits, line, variableLine, multiplierLine, smallEnd};
+ghost use Rattle.rules.specs.Text.{valueLine, multiplierLines};
 ghost use Rattle.put.specs.Put.{Put, PutShort, Room};
 
 // A name and a number.
@@ -40,15 +42,45 @@ fn put_multiplier(out: &mut [u8], at: usize, variable: usize, between: &[u8], n:
     put_variable(out, at, variable, between, n)
 }
 
-// The numerator of a variable.
-pub fn put_value(out: &mut [u8], at: usize, answer: &[i64], variable: usize) -> usize
-    requires { ⌜ (3 + variable < length (now answer)) × (variable < mostVariables) × (at + mostValueLine < 2 ^ 64) ⌝ }
+// A variable and its numerator.
+fn put_numerator(out: &mut [u8], at: usize, variable: usize, n: i64) -> usize
+    requires { ⌜ Room at (digits variable ++ ascii " " ++ decimal n) ⌝ }
+    ensures { λ r. ⌜ Put (now (out .entry)) at (digits variable ++ ascii " " ++ decimal n) (now (out .exit)) r ⌝ }
+{
+    let named = put_digits(out, at, variable as u64);
+    let next = put_byte(out, named, b' ');
+    put_number(out, next, n)
+}
+
+// The end of a value's line: its small part, where that is not 0.
+fn put_small(out: &mut [u8], at: usize, n: i64) -> usize
+    requires { ⌜ Room at (smallEnd n) ⌝ }
+    ensures { λ r. ⌜ Put (now (out .entry)) at (smallEnd n) (now (out .exit)) r ⌝ }
+{
+    if n == 0 {
+        return put_byte(out, at, b'\n');
+    }
+    put_line(out, at, b" ", n)
+}
+
+// The numerator of a variable, and its small part's.
+pub fn put_value(
+    out: &mut [u8],
+    at: usize,
+    answer: &[i64],
+    variables: usize,
+    variable: usize,
+) -> usize
+    requires { ⌜ (3 + variables + variable < length (now answer)) × (variable < mostVariables)
+        × (at + mostValueLine < 2 ^ 64) ⌝ }
     ensures { λ r.
         ⌜ PutShort mostValueLine (now (out .entry)) at
-        (valueLine (now (answer .entry)) variable) (now (out .exit)) r ⌝ }
+        (valueLine (now (answer .entry)) variables variable) (now (out .exit)) r ⌝ }
 {
-    let n = answer[3 + variable];
-    put_variable(out, at, variable, b" ", n)
+    let plain = answer[3 + variable];
+    let small = answer[3 + variables + variable];
+    let next = put_numerator(out, at, variable, plain);
+    put_small(out, next, small)
 }
 
 // The two multipliers of a variable, the lower limit's first.

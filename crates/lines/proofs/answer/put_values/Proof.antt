@@ -14,7 +14,7 @@ use Rattle.lines.proofs.answer.put_values.Tie as tie
 
 abbrev Inv-loop : tie.InvT-loop
 Inv-loop out₀ at answer variables next₀ v₀ out next v =
-    (v ≤ variables) × PutShort (mostValueLine * v) out₀ at (linesBelow v (valueLine answer)) out next
+    (v ≤ variables) × PutShort (mostValueLine * v) out₀ at (linesBelow v (valueLine answer variables)) out next
 
 abbrev μ-loop : tie.MeasureT-loop
 μ-loop out₀ at answer variables next₀ v₀ out next v = variables - v
@@ -22,7 +22,7 @@ abbrev μ-loop : tie.MeasureT-loop
 -- the line of a variable
 module _ (c : tie.Start Inv-loop μ-loop) where
   abbrev entry : ℕ → List ℕ
-  entry = valueLine (c .args .answer .now)
+  entry = valueLine (c .args .answer .now) (c .args .variables)
 
 loop-holds : tie.Need-loop-holds Inv-loop μ-loop
 loop-holds c =
