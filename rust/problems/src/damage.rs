@@ -3,7 +3,7 @@
 use crate::random::Random;
 
 /// Words at and beside every edge of the rules, and the extremes of the type.
-const EDGES: [i32; 26] = [
+const EDGES: [i32; 33] = [
     -30_001,
     -30_000,
     30_000,
@@ -19,8 +19,15 @@ const EDGES: [i32; 26] = [
     3,
     4,
     5,
+    6,
+    7,
     8,
     9,
+    10,
+    11,
+    12,
+    14,
+    15,
     16,
     17,
     64,
@@ -80,8 +87,16 @@ fn garbage_word(random: &mut Random) -> i32 {
     }
 }
 
+/// The kinds that say which limits there are, and which are strict.
+const KINDS: [i32; 9] = [0, 1, 2, 3, 5, 7, 10, 11, 15];
+
 fn garbage_limit(random: &mut Random) -> [i32; 3] {
-    let kind = if random.percent(3) { garbage_word(random) } else { random.within(0, 3) };
+    let kind = match random.below(100) {
+        0..=2 => garbage_word(random),
+        3 | 4 => random.within(0, 15),
+        5..=49 => random.within(0, 3),
+        _ => random.pick(&KINDS),
+    };
     let limit = |random: &mut Random, present: bool| {
         if present != random.percent(4) {
             garbage_word(random) % 30_005
@@ -89,7 +104,7 @@ fn garbage_limit(random: &mut Random) -> [i32; 3] {
             0
         }
     };
-    let lower = limit(random, kind == 1 || kind == 3);
-    let upper = limit(random, kind == 2 || kind == 3);
+    let lower = limit(random, kind & 1 != 0);
+    let upper = limit(random, kind & 2 != 0);
     [kind, lower, upper]
 }

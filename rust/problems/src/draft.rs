@@ -18,6 +18,29 @@ pub const fn between(lower: i32, upper: i32) -> [i32; 3] {
     [3, lower, upper]
 }
 
+/// A variable that has to be above a number.
+pub const fn above(lower: i32) -> [i32; 3] {
+    [5, lower, 0]
+}
+
+/// A variable that has to be below a number.
+pub const fn below(upper: i32) -> [i32; 3] {
+    [10, 0, upper]
+}
+
+/// A variable that has to be above one number and below another.
+pub const fn inside(lower: i32, upper: i32) -> [i32; 3] {
+    [15, lower, upper]
+}
+
+/// The same limits, the present ones strict where that is asked for.
+pub const fn marked(limits: [i32; 3], lower: bool, upper: bool) -> [i32; 3] {
+    let [kind, _, _] = limits;
+    let lower = if lower { 4 * (kind & 1) } else { 0 };
+    let upper = if upper { 4 * (kind & 2) } else { 0 };
+    [kind | lower | upper, limits[1], limits[2]]
+}
+
 /// The rows and limits of a problem.
 #[derive(Debug, Clone, PartialEq, Eq)]
 pub struct Draft {

@@ -1,12 +1,13 @@
 //! Problems to test and measure with.
 //!
 //! - `draft`: a limit problem in parts, and its words
-//! - `worked`: the worked cases A to L of docs/RULES.md
+//! - `worked`: the worked cases of docs/RULES.md
 //! - `published`: problems of special interest, with their answers
 //! - `random`: the random numbers that everything below is made of
 //! - `limits`: random limit problems, by family
 //! - `division`: which pivots are settled by division
 //! - `oven`: sparse ones that look like the zones of an oven
+//! - `strict`: strict marks, and limits that touch
 //! - `damage`: words that are nearly right, and words that are not
 //! - `evidence`: answers that are nearly right
 //! - `times`: random time rows, by family
@@ -19,5 +20,6 @@ pub mod limits;
 mod oven;
 pub mod published;
 pub mod random;
+pub mod strict;
 pub mod times;
 pub mod worked;

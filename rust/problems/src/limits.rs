@@ -9,6 +9,7 @@ use crate::damage;
 use crate::draft::{at_least, at_most, between, Draft, FREE};
 use crate::oven;
 use crate::random::Random;
+use crate::strict;
 
 /// A family of limit problems.
 #[derive(Debug, Clone, Copy, PartialEq, Eq)]
@@ -34,6 +35,10 @@ pub enum Family {
     Edge,
     /// A variable whose limits may be crossed.
     Crossed,
+    /// Problems of the families above, each present limit strict or not.
+    Strict,
+    /// Limits that one point touches, some of them strict: ties decide.
+    Touching,
     /// Words of another family with the coefficients of some rows all 0, and
     /// of a third of those with something else wrong besides.
     BlankRows,
@@ -45,7 +50,7 @@ pub enum Family {
 
 impl Family {
     /// Every family.
-    pub const ALL: [Family; 13] = [
+    pub const ALL: [Family; 15] = [
         Family::Tiny,
         Family::Medium,
         Family::Full,
@@ -56,13 +61,31 @@ impl Family {
         Family::Range,
         Family::Edge,
         Family::Crossed,
+        Family::Strict,
+        Family::Touching,
         Family::BlankRows,
         Family::Damaged,
         Family::Garbage,
     ];
 
     /// The families whose words are never refused.
-    pub const ACCEPTED: [Family; 10] = [
+    pub const ACCEPTED: [Family; 12] = [
+        Family::Tiny,
+        Family::Medium,
+        Family::Full,
+        Family::Oven,
+        Family::AnySize,
+        Family::Equalities,
+        Family::Degenerate,
+        Family::Range,
+        Family::Edge,
+        Family::Crossed,
+        Family::Strict,
+        Family::Touching,
+    ];
+
+    /// Those of them in which no limit is strict.
+    pub const UNMARKED: [Family; 10] = [
         Family::Tiny,
         Family::Medium,
         Family::Full,
@@ -88,6 +111,8 @@ impl Family {
             Family::Range => "range",
             Family::Edge => "edge",
             Family::Crossed => "crossed",
+            Family::Strict => "strict",
+            Family::Touching => "touching",
             Family::BlankRows => "blank rows",
             Family::Damaged => "damaged",
             Family::Garbage => "garbage",
@@ -122,6 +147,11 @@ impl Family {
             Family::Degenerate => degenerate(random),
             Family::Range => range(random),
             Family::Edge => edge(random),
+            Family::Strict => {
+                let unmarked = random.pick(&Family::UNMARKED).draft(random);
+                strict::marked_draft(random, unmarked)
+            }
+            Family::Touching => strict::touching(random),
             _ => crossed(random),
         }
     }
@@ -244,7 +274,7 @@ fn degenerate(random: &mut Random) -> Draft {
 }
 
 /// An earlier row, its opposite or its double.
-fn repeated(random: &mut Random, rows: &[Vec<i32>]) -> Vec<i32> {
+pub fn repeated(random: &mut Random, rows: &[Vec<i32>]) -> Vec<i32> {
     let factor = random.pick(&[1, 1, -1, 2]);
     rows[random.below(rows.len())].iter().map(|coefficient| factor * coefficient).collect()
 }

@@ -1,6 +1,7 @@
-//! The worked cases A to L of docs/RULES.md, and those with strict time rows.
+//! The worked cases A to L of docs/RULES.md, those with strict limits, and those
+//! with strict time rows.
 
-use crate::draft::{at_least, at_most, between, Draft, FREE};
+use crate::draft::{above, at_least, at_most, below, between, inside, Draft, FREE};
 
 /// A limit problem with the words of its answer.
 pub struct Limits {
@@ -14,7 +15,7 @@ pub struct Limits {
 
 /// A limit problem that is refused.
 pub struct Refused {
-    /// The case's letter.
+    /// The case's letter or title.
     pub name: &'static str,
     /// The words.
     pub words: Vec<i32>,
@@ -46,10 +47,18 @@ pub enum TimesAnswer {
 }
 
 fn can(name: &'static str, draft: Draft, pivots: i64, over: i64, numerators: &[i64]) -> Limits {
-    let mut answer = vec![1, pivots, over];
-    answer.extend(numerators);
-    answer.extend(vec![0; numerators.len()]);
-    Limits { name, words: draft.words(), answer }
+    can_by_pairs(name, draft, [pivots, over], numerators, &vec![0; numerators.len()])
+}
+
+/// Of pivots and denominator, numerators, and the small parts' numerators.
+fn can_by_pairs(
+    name: &'static str,
+    draft: Draft,
+    head: [i64; 2],
+    plain: &[i64],
+    small: &[i64],
+) -> Limits {
+    Limits { name, words: draft.words(), answer: [&[1], &head[..], plain, small].concat() }
 }
 
 fn cannot(name: &'static str, draft: Draft, pivots: i64, lower: &[i64], upper: &[i64]) -> Limits {
@@ -59,9 +68,42 @@ fn cannot(name: &'static str, draft: Draft, pivots: i64, lower: &[i64], upper: &
     Limits { name, words: draft.words(), answer }
 }
 
-/// Cases A to H.
+/// Cases A to H, then those with strict limits.
 pub fn limits() -> Vec<Limits> {
+    lettered().into_iter().chain(strict()).collect()
+}
+
+/// Cases A to H.
+pub fn lettered() -> Vec<Limits> {
     vec![case_a(), case_b(), case_c(), case_d(), case_e(), case_f(), case_g(), case_h()]
+}
+
+/// Strict limits: a start beside 0, a start conflict, pairs that are taken and
+/// left, a contradiction with a total of 0, and small parts over 2.
+pub fn strict() -> Vec<Limits> {
+    let sum: [&[i32]; 1] = [&[1, 1]];
+    let turned: [&[i32]; 2] = [&[2, 3], &[3, -2]];
+    let touching = Draft::new(1, &[], &[[7, 5, 5]]);
+    let pushed = Draft::new(2, &sum, &[above(0), below(3), above(3)]);
+    let held = Draft::new(2, &sum, &[at_most(0), below(3), at_least(3)]);
+    let narrow = Draft::new(2, &turned, &[FREE, FREE, inside(0, 1), above(0)]);
+    vec![
+        can_by_pairs("x > 0", Draft::new(1, &[], &[above(0)]), [0, 1], &[0], &[1]),
+        cannot("5 < x <= 5", touching, 0, &[1], &[1]),
+        can_by_pairs("x > 0, y < 3, x+y > 3", pushed, [1, 1], &[3, 0, 3], &[1, 0, 1]),
+        cannot("x <= 0, y < 3, x+y >= 3", held, 1, &[0, 0, 1], &[1, 1, 0]),
+        can_by_pairs("0 < 2x+3y < 1, 3x-2y > 0", narrow, [1, 2], &[0; 4], &[1, 0, 2, 3]),
+    ]
+}
+
+/// Kinds that are none: a mark on a missing limit, and a number past 15.
+pub fn bad_kinds() -> Vec<Refused> {
+    [("kind 4", 4), ("kind 9", 9), ("kind 14", 14), ("kind 16", 16)]
+        .map(|(name, kind)| {
+            let words = Draft::new(1, &[], &[[kind, 0, 0]]).words();
+            Refused { name, words, number: 5 }
+        })
+        .into()
 }
 
 /// Case I: a row of zeros.

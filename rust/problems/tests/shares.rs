@@ -91,6 +91,46 @@ fn limit_families() {
     }
 }
 
+/// Lower limits times multipliers less upper limits times multipliers.
+fn total(words: &[i32], answer: &[i64]) -> i64 {
+    let variables = (words[0] + words[1]) as usize;
+    let limits = words[2 + (words[0] * words[1]) as usize..].chunks_exact(3).enumerate();
+    limits
+        .map(|(v, three)| {
+            let (lower, upper) = (i64::from(three[1]), i64::from(three[2]));
+            lower * answer[3 + v] - upper * answer[3 + variables + v]
+        })
+        .sum()
+}
+
+/// Small parts come up, and contradictions by a strict limit alone, after a
+/// pivot too.
+#[test]
+fn small_amounts_decide() {
+    let seed = seed();
+    println!("SEED={seed}");
+    let least = [(limits::Family::Strict, [15, 5, 1]), (limits::Family::Touching, [20, 20, 10])];
+    for (family, least) in least {
+        let [mut small, mut even, mut later] = [0; 3];
+        for problem in 0..1_000 {
+            let words = family.words(&mut Random::of_problem(seed, problem));
+            let mut out = [0; 51];
+            assert_eq!(reference::solve(&words, &mut out), 0);
+            let half = 3 + (words[0] + words[1]) as usize;
+            small += usize::from(out[0] == 1 && out[half..].iter().any(|&word| word != 0));
+            let is_even = out[0] == 2 && total(&words, &out) == 0;
+            even += usize::from(is_even);
+            later += usize::from(is_even && out[1] > 0);
+        }
+        let found = [small, even, later];
+        println!(
+            "{:11} {found:?} with small parts, a total of 0, and after a pivot",
+            family.name()
+        );
+        assert!(found.iter().zip(least).all(|(&found, least)| found >= 10 * least), "SEED={seed}");
+    }
+}
+
 #[test]
 fn accepted_families_are_accepted() {
     let seed = seed();

@@ -19,8 +19,9 @@ impl Multipliers {
 
 #[derive(Debug, Clone, PartialEq, Eq)]
 pub enum Verdict {
-    /// Every limit holds at these numerators over the denominator.
-    Can { over: i128, numerators: Vec<i128> },
+    /// Every limit holds at these numerators over the denominator, a plain one
+    /// and that of the small part for each variable.
+    Can { over: i128, plain: Vec<i128>, small: Vec<i128> },
     /// The limits contradict each other, as these multipliers show.
     Cannot(Multipliers),
     /// The next tableau holds a number that is too large.
@@ -39,7 +40,7 @@ impl Answer {
     pub fn words(&self, variables: usize) -> Vec<i64> {
         let zeros = vec![0; variables];
         let (number, over, first, second) = match &self.verdict {
-            Verdict::Can { over, numerators } => (1, *over, numerators, &zeros),
+            Verdict::Can { over, plain, small } => (1, *over, plain, small),
             Verdict::Cannot(multipliers) => (2, 0, &multipliers.lower, &multipliers.upper),
             Verdict::Range => (3, 0, &zeros, &zeros),
         };

@@ -1,5 +1,6 @@
 //! Exact fractions, always in lowest terms and with a bottom above 0.
 
+use std::cmp::Ordering;
 use std::ops::{Add, Div, Mul, Neg};
 
 /// `top / bottom`; two equal fractions have the same top and bottom.
@@ -29,17 +30,21 @@ impl Fraction {
         self.top.signum()
     }
 
-    pub fn below(self, number: i128) -> bool {
-        self.top < number * self.bottom
-    }
-
-    pub fn above(self, number: i128) -> bool {
-        self.top > number * self.bottom
-    }
-
     /// This fraction times a multiple of its bottom, a whole number.
     pub fn times_multiple(self, multiple: i128) -> i128 {
         self.top * (multiple / self.bottom)
+    }
+}
+
+impl Ord for Fraction {
+    fn cmp(&self, other: &Fraction) -> Ordering {
+        (self.top * other.bottom).cmp(&(other.top * self.bottom))
+    }
+}
+
+impl PartialOrd for Fraction {
+    fn partial_cmp(&self, other: &Fraction) -> Option<Ordering> {
+        Some(self.cmp(other))
     }
 }
 
@@ -119,11 +124,11 @@ mod tests {
     }
 
     #[test]
-    fn comparing_with_a_whole_number() {
+    fn comparing() {
         let number = Fraction::new(-7, 2);
-        assert!(number.below(-3) && !number.below(-4));
-        assert!(number.above(-4) && !number.above(-3));
-        assert!(!Fraction::whole(5).above(5) && !Fraction::whole(5).below(5));
+        assert!(number < Fraction::whole(-3) && number > Fraction::whole(-4));
+        assert!(number < Fraction::new(-10, 3) && number > Fraction::new(-11, 3));
+        assert_eq!(Fraction::new(10, 2).cmp(&Fraction::whole(5)), Ordering::Equal);
     }
 
     #[test]

@@ -7,17 +7,21 @@
 //!
 //! - `problem`: the words of a limit problem, and refusals 1 to 6 and 10
 //! - `fraction`: exact fractions
+//! - `pair`: values, of a plain part and a small one
 //! - `tableau`: basic variables as sums over nonbasic ones, and the exchange
 //! - `run`: the limit solver
 //! - `slices`: the same run, some pivots at a time
 //! - `answer`: how a run ended, and the words that say so
 //! - `evidence`: the checker, which uses nothing of the run
+//! - `actual`: the fractions that an answer stands for
 //! - `times`: time rows, and a judge of anybody's answer to them
 //! - `program`: the text that the program prints
 
+mod actual;
 mod answer;
 mod evidence;
 mod fraction;
+mod pair;
 mod problem;
 mod program;
 mod run;
@@ -25,6 +29,7 @@ mod slices;
 mod tableau;
 mod times;
 
+pub use actual::meets;
 pub use evidence::check;
 pub use program::respond;
 pub use run::{pivots, solve, violations, Violation};

@@ -3,6 +3,7 @@
 //! Renders "The limit problem as words" and "Refusal numbers and their order"
 //! of docs/RULES.md.
 
+use crate::pair::Pair;
 use std::ops::RangeInclusive;
 
 /// The number of problem variables, n.
@@ -10,7 +11,9 @@ const VARIABLES: RangeInclusive<i32> = 1..=8;
 /// The number of rows, m.
 const ROWS: RangeInclusive<i32> = 0..=16;
 const COEFFICIENTS: RangeInclusive<i32> = -1_000..=1_000;
-const KINDS: RangeInclusive<i32> = 0..=3;
+/// 1 is for a lower limit and 2 for an upper one, 4 and 8 make them strict. A
+/// sum that makes a missing limit strict is not among them.
+const KINDS: [i32; 9] = [0, 1, 2, 3, 5, 7, 10, 11, 15];
 const LIMITS: RangeInclusive<i32> = -30_000..=30_000;
 
 /// The largest size of a tableau number, and of a multiplier.
@@ -33,8 +36,15 @@ pub struct Problem {
 /// The limits of one variable. `None` is a missing limit.
 #[derive(Debug, Clone, Copy, PartialEq, Eq)]
 pub struct Limits {
-    pub lower: Option<i128>,
-    pub upper: Option<i128>,
+    pub lower: Option<Limit>,
+    pub upper: Option<Limit>,
+}
+
+/// A limit's number, and whether a value that equals it breaks it.
+#[derive(Debug, Clone, Copy, PartialEq, Eq)]
+pub struct Limit {
+    pub plain: i128,
+    pub strict: bool,
 }
 
 impl Problem {
@@ -106,11 +116,19 @@ fn limit_words_pass(three: &[i32]) -> bool {
 }
 
 fn has_lower(kind: i32) -> bool {
-    kind == 1 || kind == 3
+    [1, 3, 5, 7, 11, 15].contains(&kind)
 }
 
 fn has_upper(kind: i32) -> bool {
-    kind == 2 || kind == 3
+    [2, 3, 7, 10, 11, 15].contains(&kind)
+}
+
+fn is_strict_below(kind: i32) -> bool {
+    [5, 7, 15].contains(&kind)
+}
+
+fn is_strict_above(kind: i32) -> bool {
+    [10, 11, 15].contains(&kind)
 }
 
 fn row(words: &[i32]) -> Vec<i128> {
@@ -119,14 +137,25 @@ fn row(words: &[i32]) -> Vec<i128> {
 
 impl Limits {
     fn of(three: &[i32]) -> Limits {
-        Limits {
-            lower: has_lower(three[0]).then_some(i128::from(three[1])),
-            upper: has_upper(three[0]).then_some(i128::from(three[2])),
-        }
+        let [kind, lower, upper] = [three[0], three[1], three[2]];
+        let lower = Limit { plain: lower.into(), strict: is_strict_below(kind) };
+        let upper = Limit { plain: upper.into(), strict: is_strict_above(kind) };
+        Limits { lower: has_lower(kind).then_some(lower), upper: has_upper(kind).then_some(upper) }
     }
 
-    /// Whether the lower limit is above the upper one.
+    /// The least pair that the run lets the variable have, if there is one: a
+    /// strict limit is one small amount farther in.
+    pub fn least(&self) -> Option<Pair> {
+        self.lower.map(|lower| Pair::whole(lower.plain, i128::from(lower.strict)))
+    }
+
+    /// The greatest such pair.
+    pub fn most(&self) -> Option<Pair> {
+        self.upper.map(|upper| Pair::whole(upper.plain, -i128::from(upper.strict)))
+    }
+
+    /// Whether no pair is within both limits.
     pub fn crossed(&self) -> bool {
-        matches!((self.lower, self.upper), (Some(lower), Some(upper)) if lower > upper)
+        matches!((self.least(), self.most()), (Some(least), Some(most)) if least > most)
     }
 }

@@ -34,9 +34,9 @@ fn read(input: &[u8]) -> Result<Problem, u32> {
 fn answer_lines(answer: &Answer) -> Vec<String> {
     let pivots = format!("pivots {}", answer.pivots);
     match &answer.verdict {
-        Verdict::Can { over, numerators } => {
+        Verdict::Can { over, plain, small } => {
             let mut lines = vec!["can".to_string(), pivots, format!("over {over}")];
-            lines.extend(numerators.iter().enumerate().map(|(v, number)| format!("{v} {number}")));
+            lines.extend(plain.iter().zip(small).enumerate().map(value_line));
             lines
         }
         Verdict::Cannot(multipliers) => {
@@ -45,6 +45,14 @@ fn answer_lines(answer: &Answer) -> Vec<String> {
             lines
         }
         Verdict::Range => vec!["range".to_string(), pivots],
+    }
+}
+
+/// The small part's numerator stands after the plain one where it is not 0.
+fn value_line((variable, (plain, small)): (usize, (&i128, &i128))) -> String {
+    match small {
+        0 => format!("{variable} {plain}"),
+        _ => format!("{variable} {plain} {small}"),
     }
 }
 

@@ -2,8 +2,10 @@
 //!
 //! Renders "The run" of docs/RULES.md.
 
+use crate::actual;
 use crate::answer::{Answer, Multipliers, Verdict};
 use crate::fraction::Fraction;
+use crate::pair::Pair;
 use crate::problem::{Limits, Problem, Variable};
 use crate::tableau::{Pivot, Tableau};
 use std::collections::BTreeMap;
@@ -86,7 +88,7 @@ pub fn run(problem: &Problem) -> Answer {
     }
 }
 
-/// A variable whose lower limit is above its upper one refutes both.
+/// A variable whose limits are crossed refutes both.
 pub fn conflict_of_one(problem: &Problem, crossed: Variable) -> Multipliers {
     let mut multipliers = Multipliers::none(problem.variables());
     multipliers.lower[crossed] = 1;
@@ -110,8 +112,8 @@ pub struct Violation {
     pub below: bool,
     /// D.
     pub over: i128,
-    /// D times how far its value is from that limit.
-    pub shortfall: i128,
+    /// D times how far its value is from that limit: plain part, small part.
+    pub shortfall: (i128, i128),
 }
 
 /// A basic variable outside its limits.
@@ -119,7 +121,7 @@ pub struct Violation {
 struct Violated {
     variable: Variable,
     way: Way,
-    limit: i128,
+    limit: Pair,
 }
 
 /// What comes after a state.
@@ -132,7 +134,7 @@ pub enum Step<'a> {
 pub struct State<'a> {
     pub problem: &'a Problem,
     pub tableau: Tableau,
-    pub values: BTreeMap<Variable, i128>,
+    pub values: BTreeMap<Variable, Pair>,
 }
 
 impl<'a> State<'a> {
@@ -168,11 +170,11 @@ impl<'a> State<'a> {
 
     fn violation(&self, variable: Variable) -> Option<Violated> {
         let value = self.value(variable);
-        let Limits { lower, upper } = self.problem.limits[variable];
+        let limits = &self.problem.limits[variable];
         let violated = |way, limit| Some(Violated { variable, way, limit });
-        match (lower, upper) {
-            (Some(lower), _) if value.below(lower) => violated(Way::Up, lower),
-            (_, Some(upper)) if value.above(upper) => violated(Way::Down, upper),
+        match (limits.least(), limits.most()) {
+            (Some(least), _) if value < least => violated(Way::Up, least),
+            (_, Some(most)) if value > most => violated(Way::Down, most),
             _ => None,
         }
     }
@@ -181,8 +183,8 @@ impl<'a> State<'a> {
         let over = self.tableau.common();
         let value = self.value(violated.variable);
         let missing = match violated.way {
-            Way::Up => Fraction::whole(violated.limit) + -value,
-            Way::Down => value + -Fraction::whole(violated.limit),
+            Way::Up => violated.limit + -value,
+            Way::Down => value + -violated.limit,
         };
         Violation {
             variable: violated.variable,
@@ -204,28 +206,32 @@ impl<'a> State<'a> {
     /// Whether a nonbasic variable may still move that way.
     fn free(&self, variable: Variable, way: Way) -> bool {
         let value = self.values[&variable];
-        let Limits { lower, upper } = self.problem.limits[variable];
+        let limits = &self.problem.limits[variable];
         match way {
-            Way::Up => upper.is_none_or(|upper| value < upper),
-            Way::Down => lower.is_none_or(|lower| value > lower),
+            Way::Up => limits.most().is_none_or(|most| value < most),
+            Way::Down => limits.least().is_none_or(|least| value > least),
         }
     }
 
     /// A nonbasic variable's value, or the one that a basic variable's row gives.
-    fn value(&self, variable: Variable) -> Fraction {
+    fn value(&self, variable: Variable) -> Pair {
         match self.tableau.rows.get(&variable) {
-            None => Fraction::whole(self.values[&variable]),
+            None => self.values[&variable],
             Some(row) => row
                 .iter()
-                .map(|(other, &entry)| entry * Fraction::whole(self.values[other]))
-                .fold(Fraction::whole(0), |sum, term| sum + term),
+                .map(|(other, &entry)| self.values[other].times(entry))
+                .fold(Pair::whole(0, 0), |sum, term| sum + term),
         }
     }
 
     fn can(&self) -> Verdict {
         let over = self.tableau.common();
-        let numerator = |variable| self.value(variable).times_multiple(over);
-        Verdict::Can { over, numerators: (0..self.problem.variables()).map(numerator).collect() }
+        let numerators = |variable| self.value(variable).times_multiple(over);
+        let (plain, small): (Vec<i128>, Vec<i128>) =
+            (0..self.problem.variables()).map(numerators).unzip();
+        let is_met = actual::holds(self.problem, over, &plain, &small);
+        assert!(is_met, "a small amount of 1 / 17,179,869,177 meets every limit");
+        Verdict::Can { over, plain, small }
     }
 
     /// The evidence when nothing suits: the violated limit against the limits
@@ -249,12 +255,13 @@ impl<'a> State<'a> {
     }
 }
 
-/// 0 where the limits allow it, else the limit that is nearest to 0.
-fn start_value(limits: &Limits) -> i128 {
-    match (limits.lower, limits.upper) {
-        (Some(lower), _) if lower > 0 => lower,
-        (_, Some(upper)) if upper < 0 => upper,
-        _ => 0,
+/// 0 where the limits allow it, else the pair within them that is nearest to 0.
+fn start_value(limits: &Limits) -> Pair {
+    let nil = Pair::whole(0, 0);
+    match (limits.least(), limits.most()) {
+        (Some(least), _) if least > nil => least,
+        (_, Some(most)) if most < nil => most,
+        _ => nil,
     }
 }
 

@@ -3,6 +3,7 @@
 //! Renders "The run in slices" of docs/RULES.md.
 
 use crate::answer::{Answer, Verdict};
+use crate::pair::Pair;
 use crate::problem::{Limits, Problem, Variable};
 use crate::run::{conflict_of_one, State, Step};
 use crate::tableau::Tableau;
@@ -14,7 +15,7 @@ use std::collections::BTreeMap;
 pub struct Slice {
     problem: Problem,
     tableau: Tableau,
-    values: BTreeMap<Variable, i128>,
+    values: BTreeMap<Variable, Pair>,
     pivots: u64,
 }
 

@@ -1,6 +1,6 @@
 //! What the program prints, byte for byte.
 
-use problems::draft::{at_least, at_most, between, Draft, FREE};
+use problems::draft::{at_least, at_most, below, between, Draft, FREE};
 use problems::published::published;
 use problems::worked;
 use reference::respond;
@@ -41,6 +41,22 @@ fn cannot_prints_nonzero_multipliers_by_variable_lower_first() {
 fn numbers_below_zero_have_a_minus() {
     let words = Draft::new(1, &[&[2]], &[FREE, at_most(-3)]).words();
     assert_eq!(printed_words(&words), "can\npivots 1\nover 2\n0 -3\n1 -6\n");
+}
+
+#[test]
+fn a_small_part_is_printed_where_it_is_not_zero() {
+    let printed: Vec<String> =
+        worked::strict().iter().map(|case| printed_words(&case.words)).collect();
+    let expected = [
+        "can\npivots 0\nover 1\n0 0 1\n",
+        "cannot\npivots 0\n0 lower 1\n0 upper 1\n",
+        "can\npivots 1\nover 1\n0 3 1\n1 0\n2 3 1\n",
+        "cannot\npivots 1\n0 upper 1\n1 upper 1\n2 lower 1\n",
+        "can\npivots 1\nover 2\n0 0 1\n1 0\n2 0 2\n3 0 3\n",
+    ];
+    assert_eq!(printed, expected);
+    let words = Draft::new(1, &[&[-4]], &[below(0), FREE]).words();
+    assert_eq!(printed_words(&words), "can\npivots 0\nover 1\n0 0 -1\n1 0 4\n");
 }
 
 #[test]

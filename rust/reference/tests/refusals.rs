@@ -1,7 +1,8 @@
 //! Each refusal of the limit solver and the checker, beside the nearest words
 //! that pass.
 
-use problems::draft::{at_least, at_most, between, Draft, FREE};
+use problems::draft::{above, at_least, at_most, below, between, Draft, FREE};
+use problems::worked;
 use reference::{check, solve};
 
 /// What the solver returns. Refused, it keeps the output; answered, it writes
@@ -76,13 +77,43 @@ fn coefficients() {
 
 #[test]
 fn kinds() {
-    for kind in 0..=3 {
-        assert_eq!(one_row(1, [kind, 0, 0], [kind, 0, 0]), 0);
+    let pass = [0, 1, 2, 3, 5, 7, 10, 11, 15];
+    for kind in (-1..=16).chain([31, 32, i32::MIN, i32::MAX]) {
+        let number = if pass.contains(&kind) { 0 } else { 5 };
+        assert_eq!(one_row(1, [kind, 0, 0], FREE), number, "kind {kind}");
+        assert_eq!(one_row(1, FREE, [kind, 0, 0]), number, "kind {kind}");
+        assert_eq!(one_row(1, [kind, 0, 0], [kind, 0, 0]), number, "kind {kind}");
     }
-    for kind in [-1, 4, 7, i32::MIN, i32::MAX] {
-        assert_eq!(one_row(1, [kind, 0, 0], FREE), 5);
-        assert_eq!(one_row(1, FREE, [kind, 0, 0]), 5);
+    for case in worked::bad_kinds() {
+        assert_eq!(returned(&case.words), case.number, "{}", case.name);
     }
+}
+
+/// The word of a limit is not looked at before all kinds are.
+#[test]
+fn a_mark_on_a_missing_limit_comes_before_any_limit() {
+    for kind in [4, 6, 8, 9, 12, 13, 14] {
+        assert_eq!(one_row(1, [kind, 30_001, 30_001], FREE), 5);
+        assert_eq!(one_row(1, [1, 30_001, 0], [kind, 0, 0]), 5);
+        assert_eq!(one_row(1_001, [kind, 0, 0], FREE), 4);
+        assert_eq!(one_row(0, [kind, 0, 0], FREE), 5);
+    }
+}
+
+#[test]
+fn strict_limits_have_the_range_of_all() {
+    for number in [30_000, -30_000] {
+        assert_eq!(one_row(1, FREE, above(number)), 0);
+        assert_eq!(one_row(1, FREE, below(number)), 0);
+    }
+    for number in [30_001, -30_001] {
+        assert_eq!(one_row(1, FREE, above(number)), 6);
+        assert_eq!(one_row(1, FREE, below(number)), 6);
+        assert_eq!(one_row(1, FREE, [15, 0, number]), 6);
+        assert_eq!(one_row(1, FREE, [15, number, 0]), 6);
+    }
+    assert_eq!(one_row(1, [5, 3, 1], FREE), 6);
+    assert_eq!(one_row(1, [10, 1, 3], FREE), 6);
 }
 
 #[test]
@@ -133,7 +164,7 @@ fn a_row_of_zeros() {
 
 #[test]
 fn a_row_of_zeros_comes_after_limits_and_before_room() {
-    assert_eq!(one_row(0, [7, 0, 0], FREE), 5);
+    assert_eq!(one_row(0, [6, 0, 0], FREE), 5);
     assert_eq!(one_row(0, [1, 30_001, 0], FREE), 6);
     assert_eq!(one_row(0, [1, 0, 5], FREE), 6);
     let words = Draft::new(2, &[&[0, 0], &[1_001, 0]], &[FREE; 4]).words();
@@ -147,7 +178,8 @@ fn a_row_of_zeros_comes_after_limits_and_before_room() {
 #[test]
 fn an_earlier_refusal_wins_wherever_it_stands() {
     assert_eq!(one_row(1_001, [7, 0, 0], FREE), 4);
-    assert_eq!(one_row(1, [1, 30_001, 0], [7, 0, 0]), 5);
+    assert_eq!(one_row(1_001, [8, 0, 0], FREE), 4);
+    assert_eq!(one_row(1, [1, 30_001, 0], [8, 0, 0]), 5);
     assert_eq!(returned(&[9, 0, 0]), 2);
     assert_eq!(returned(&[1, 1, 1_001]), 3);
 }

@@ -6,11 +6,11 @@ use problems::worked;
 use reference::{violations, Violation};
 
 fn below(variable: usize, shortfall: i128, over: i128) -> Violation {
-    Violation { variable, below: true, over, shortfall }
+    Violation { variable, below: true, over, shortfall: (shortfall, 0) }
 }
 
 fn above(variable: usize, shortfall: i128, over: i128) -> Violation {
-    Violation { variable, below: false, over, shortfall }
+    Violation { variable, below: false, over, shortfall: (shortfall, 0) }
 }
 
 fn of_case(letter: &str) -> Vec<Violation> {
@@ -33,6 +33,25 @@ fn a_shortfall_is_not_divided_by_d() {
     let rows: [&[i32]; 2] = [&[2, 1], &[1, 0]];
     let words = Draft::new(2, &rows, &[FREE, at_most(0), between(5, 5), at_most(2)]).words();
     assert_eq!(violations(&words), [below(2, 5, 1), above(3, 1, 2)]);
+}
+
+/// By a plain part and a small one, or by a small one alone.
+#[test]
+fn a_shortfall_has_two_parts() {
+    let shortfalls = |name| -> Vec<(usize, bool, (i128, i128))> {
+        let told = of_case(name).into_iter();
+        told.map(|told| (told.variable, told.below, told.shortfall)).collect()
+    };
+    assert_eq!(shortfalls("x > 0"), []);
+    assert_eq!(shortfalls("5 < x <= 5"), []);
+    assert_eq!(shortfalls("x > 0, y < 3, x+y > 3"), [(2, true, (3, 0))]);
+    assert_eq!(shortfalls("x <= 0, y < 3, x+y >= 3"), [(2, true, (3, 0)), (1, false, (0, 1))]);
+    assert_eq!(shortfalls("0 < 2x+3y < 1, 3x-2y > 0"), [(2, true, (0, 1))]);
+    let rows: [&[i32]; 2] = [&[2, 1], &[1, 0]];
+    let words = Draft::new(2, &rows, &[FREE, at_most(0), [7, 5, 9], [10, 0, 2]]).words();
+    let over_two = Violation { variable: 3, below: false, over: 2, shortfall: (1, 3) };
+    let first = Violation { variable: 2, below: true, over: 1, shortfall: (5, 1) };
+    assert_eq!(violations(&words)[..2], [first, over_two]);
 }
 
 #[test]

@@ -1,4 +1,4 @@
-//! The worked cases A to L and the published problems, word for word.
+//! The worked cases and the published problems, word for word.
 
 use problems::published::published;
 use problems::worked;
@@ -16,9 +16,9 @@ fn solved(words: &[i32], length: usize) -> Vec<i64> {
 }
 
 #[test]
-fn cases_a_to_h_and_the_published_problems() {
+fn cases_a_to_h_those_with_strict_limits_and_the_published_problems() {
     let cases: Vec<_> = worked::limits().into_iter().chain(published()).collect();
-    assert_eq!(cases.len(), 8 + 6);
+    assert_eq!(cases.len(), 8 + 5 + 6);
     for case in cases {
         assert_eq!(solved(&case.words, case.answer.len()), case.answer, "{}", case.name);
         let accepted = if case.answer[0] == 3 { 9 } else { 8 };
@@ -33,6 +33,15 @@ fn case_i_is_refused() {
     assert_eq!(solve(&case.words, &mut out), case.number);
     assert_eq!(out, [UNTOUCHED; 7]);
     assert_eq!(check(&case.words, &[2, 0, 0, 0, 1, 0, 0]), case.number);
+}
+
+#[test]
+fn bad_kinds_are_refused() {
+    for case in worked::bad_kinds() {
+        let mut out = [UNTOUCHED; 5];
+        assert_eq!(solve(&case.words, &mut out), case.number, "{}", case.name);
+        assert_eq!(out, [UNTOUCHED; 5]);
+    }
 }
 
 #[test]
