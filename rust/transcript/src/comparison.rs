@@ -4,6 +4,7 @@ use crate::evidence::checked;
 use crate::problem::refusal;
 use crate::run::{answer, leavings};
 use crate::step::{Leaving, Side};
+use crate::value::PAIRS;
 use problems::evidence::bent;
 use problems::limits::Family;
 use problems::random::Random;
@@ -59,10 +60,10 @@ fn compare_one(random: &mut Random, words: &[i32], shares: &mut Shares) -> Resul
     Ok(())
 }
 
-/// Variable, side, D and shortfall at every step of the run. A shortfall is
-/// above 0.
+/// Variable, side, D and shortfall at every step of the run. A shortfall is a
+/// pair above 0.
 fn compare_violations(words: &[i32], wide: &[i128], shares: &mut Shares) -> Result<(), String> {
-    let told = |(r, over): (Leaving<i128>, i128)| Violation {
+    let told = |(r, over): (Leaving<(i128, i128)>, i128)| Violation {
         variable: r.variable,
         below: r.side == Side::Below,
         over,
@@ -70,7 +71,8 @@ fn compare_violations(words: &[i32], wide: &[i128], shares: &mut Shares) -> Resu
     };
     let found: Vec<Violation> = leavings(wide).into_iter().map(told).collect();
     shares.violations += found.len() as u64;
-    if let Some(none) = found.iter().find(|violation| violation.shortfall <= 0) {
+    let is_none = |violation: &&Violation| !(PAIRS.less)(PAIRS.nil, violation.shortfall);
+    if let Some(none) = found.iter().find(is_none) {
         return Err(format!("the shortfall of {none:?} is not above 0, which"));
     }
     same("a violation", found, violations(words))

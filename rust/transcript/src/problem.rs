@@ -49,12 +49,32 @@ pub fn upper_word(ws: &[i128], v: usize) -> i128 {
     word(ws, kind_place(ws, v) + 2)
 }
 
-pub fn has_lower(k: i128) -> bool {
-    k == 1 || k == 3
+/// Bit b of a kind.
+pub fn bit(b: u32, kind: i128) -> bool {
+    kind.unsigned_abs() / 2_u128.pow(b) % 2 == 1
 }
 
-pub fn has_upper(k: i128) -> bool {
-    k == 2 || k == 3
+pub fn has_lower(kind: i128) -> bool {
+    bit(0, kind)
+}
+
+pub fn has_upper(kind: i128) -> bool {
+    bit(1, kind)
+}
+
+pub fn strict_lower(kind: i128) -> bool {
+    bit(2, kind)
+}
+
+pub fn strict_upper(kind: i128) -> bool {
+    bit(3, kind)
+}
+
+/// Outside 0 to 15, or a strict mark on a missing limit.
+pub fn bad_kind_word(kind: i128) -> bool {
+    outside(kind, 0, 15)
+        || (strict_lower(kind) && !has_lower(kind))
+        || (strict_upper(kind) && !has_upper(kind))
 }
 
 pub fn outside(z: i128, lo: i128, hi: i128) -> bool {
@@ -86,7 +106,7 @@ pub fn bad_coefficient(ws: &[i128]) -> bool {
 }
 
 pub fn bad_kind(ws: &[i128]) -> bool {
-    some_below(vars_of(ws), |v| outside(kind(ws, v), 0, 3))
+    some_below(vars_of(ws), |v| bad_kind_word(kind(ws, v)))
 }
 
 pub fn bad_limit(ws: &[i128]) -> bool {
@@ -148,20 +168,59 @@ pub fn vars<X>(p: &Problem<X>) -> usize {
     p.n + p.m
 }
 
-pub fn present(is: bool, z: i128) -> Option<i128> {
+pub fn present<X>(is: bool, x: X) -> Option<X> {
     if is {
-        Some(z)
+        Some(x)
     } else {
         None
     }
 }
 
-pub fn problem(ws: &[i128]) -> Problem<'_, i128> {
+/// A limit's number, and whether it is strict.
+#[derive(Debug, Clone, Copy, PartialEq, Eq)]
+pub struct Limit {
+    pub plain: i128,
+    pub strict: bool,
+}
+
+/// How many small amounts inside.
+pub fn inset(strict: bool) -> i128 {
+    if strict {
+        1
+    } else {
+        0
+    }
+}
+
+/// The pair that a limit stands for in the run.
+pub fn lower_pair(l: Limit) -> (i128, i128) {
+    (l.plain, inset(l.strict))
+}
+
+pub fn upper_pair(u: Limit) -> (i128, i128) {
+    (u.plain, -inset(u.strict))
+}
+
+pub fn problem(ws: &[i128]) -> Problem<'_, Limit> {
+    let lower = |v| Limit { plain: lower_word(ws, v), strict: strict_lower(kind(ws, v)) };
+    let upper = |v| Limit { plain: upper_word(ws, v), strict: strict_upper(kind(ws, v)) };
     Problem {
         n: n_of(ws),
         m: m_of(ws),
         coefficient: Box::new(|i, j| coefficient_word(ws, i, j)),
-        lower: Box::new(|v| present(has_lower(kind(ws, v)), lower_word(ws, v))),
-        upper: Box::new(|v| present(has_upper(kind(ws, v)), upper_word(ws, v))),
+        lower: Box::new(move |v| present(has_lower(kind(ws, v)), lower(v))),
+        upper: Box::new(move |v| present(has_upper(kind(ws, v)), upper(v))),
+    }
+}
+
+/// As the run reads it: a strict limit stands for a pair one small amount
+/// inside.
+pub fn inner<'a>(p: &'a Problem<'a, Limit>) -> Problem<'a, (i128, i128)> {
+    Problem {
+        n: p.n,
+        m: p.m,
+        coefficient: Box::new(|i, j| (p.coefficient)(i, j)),
+        lower: Box::new(|v| (p.lower)(v).map(lower_pair)),
+        upper: Box::new(|v| (p.upper)(v).map(upper_pair)),
     }
 }

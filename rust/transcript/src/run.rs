@@ -1,9 +1,9 @@
 //! The run, and the answer's words.
 
 use crate::base::{lowest, table};
-use crate::problem::{problem, vars, Problem};
+use crate::problem::{inner, problem, vars, Problem};
 use crate::step::{den, leaving, same, scaled, start, step, Leaving, Outcome, State};
-use crate::value::{Values, WHOLE};
+use crate::value::{Values, PAIRS};
 
 /// In how many ways j can be chosen of k: 1 where j is 0, 0 where only k is,
 /// else the choices of one less with and without the last.
@@ -65,13 +65,14 @@ pub fn ending<X: Copy>(values: &Values<X>, p: &Problem<X>, s: State<X>) -> Endin
     }
 }
 
-pub fn words_of(p: &Problem<i128>, e: &Ending<i128>) -> Vec<i128> {
+pub fn words_of(p: &Problem<(i128, i128)>, e: &Ending<(i128, i128)>) -> Vec<i128> {
     let n = vars(p);
     let zeros = vec![0; 2 * n];
     match &e.how {
         Outcome::Can => {
-            let values = table(n, |v| scaled(&WHOLE, p, &e.last, v));
-            [&[1, e.pivots, den(&e.last)], &values[..], &zeros[..n]].concat()
+            let plain = table(n, |v| scaled(&PAIRS, p, &e.last, v).0);
+            let small = table(n, |v| scaled(&PAIRS, p, &e.last, v).1);
+            [&[1, e.pivots, den(&e.last)], &plain[..], &small[..]].concat()
         }
         Outcome::Cannot(lowers, uppers) => [&[2, e.pivots, 0], &lowers[..], &uppers[..]].concat(),
         Outcome::Range => [&[3, e.pivots, 0], &zeros[..]].concat(),
@@ -80,21 +81,23 @@ pub fn words_of(p: &Problem<i128>, e: &Ending<i128>) -> Vec<i128> {
 }
 
 pub fn answer(ws: &[i128]) -> Vec<i128> {
-    let p = problem(ws);
-    words_of(&p, &ending(&WHOLE, &p, start(&WHOLE, &p)))
+    let given = problem(ws);
+    let p = inner(&given);
+    words_of(&p, &ending(&PAIRS, &p, start(&PAIRS, &p)))
 }
 
 /// Who leaves at each step of the run, with den.
-pub fn leavings(ws: &[i128]) -> Vec<(Leaving<i128>, i128)> {
-    let p = problem(ws);
-    let mut s = start(&WHOLE, &p);
+pub fn leavings(ws: &[i128]) -> Vec<(Leaving<(i128, i128)>, i128)> {
+    let given = problem(ws);
+    let p = inner(&given);
+    let mut s = start(&PAIRS, &p);
     let mut all = Vec::new();
-    if conflict(&WHOLE, &p).is_some() {
+    if conflict(&PAIRS, &p).is_some() {
         return all;
     }
-    while let Some(r) = leaving(&WHOLE, &p, &s) {
+    while let Some(r) = leaving(&PAIRS, &p, &s) {
         all.push((r, den(&s)));
-        match step(&WHOLE, &p, &s) {
+        match step(&PAIRS, &p, &s) {
             Outcome::Goes(t) => s = t,
             _ => break,
         }

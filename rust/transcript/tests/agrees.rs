@@ -14,7 +14,7 @@ fn wide<T: Copy + Into<i128>>(words: &[T]) -> Vec<i128> {
 }
 
 #[test]
-fn cases_a_to_h_and_the_published_problems() {
+fn worked_cases_and_the_published_problems() {
     for case in worked::limits().into_iter().chain(published()) {
         let (words, expected) = (wide(&case.words), wide(&case.answer));
         assert_eq!(refusal(&words, expected.len()), 0, "{}", case.name);
@@ -30,6 +30,14 @@ fn case_i_is_refused() {
     let case = worked::case_i();
     assert_eq!(refusal(&wide(&case.words), 7), case.number);
     assert_eq!(checked(&wide(&case.words), &[2, 0, 0, 0, 1, 0, 0]), case.number);
+}
+
+#[test]
+fn bad_kinds_are_refused() {
+    for case in worked::bad_kinds() {
+        assert_eq!(refusal(&wide(&case.words), 5), case.number, "{}", case.name);
+        assert_eq!(checked(&wide(&case.words), &[1, 0, 1, 0, 0]), case.number, "{}", case.name);
+    }
 }
 
 #[test]
