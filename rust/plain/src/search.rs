@@ -1,6 +1,6 @@
 //! Which variable leaves, which enters: both in the order of the variables.
 
-use crate::tableau::{Seat, Tableau};
+use crate::tableau::{Amount, Seat, Tableau};
 
 /// A basic variable outside its limits.
 #[derive(Clone, Copy)]
@@ -9,7 +9,7 @@ pub struct Violated {
     pub row: usize,
     /// Below its lower limit, so it must rise; else it must fall.
     pub rises: bool,
-    pub limit: i64,
+    pub limit: Amount,
 }
 
 /// The lowest basic variable outside its limits.
@@ -21,12 +21,13 @@ pub fn leaving(tableau: &Tableau) -> Option<Violated> {
         };
         let row = usize::from(row);
         let scaled = tableau.scaled(row);
-        let (lower, upper) = (limits.lower[variable], limits.upper[variable]);
-        if limits.has_lower[variable] && scaled < lower * tableau.common {
-            return Some(Violated { variable, row, rises: true, limit: lower });
+        if limits.has_lower[variable] && scaled < limits.least(variable, tableau.common) {
+            let limit = limits.least(variable, 1);
+            return Some(Violated { variable, row, rises: true, limit });
         }
-        if limits.has_upper[variable] && scaled > upper * tableau.common {
-            return Some(Violated { variable, row, rises: false, limit: upper });
+        if limits.has_upper[variable] && scaled > limits.most(variable, tableau.common) {
+            let limit = limits.most(variable, 1);
+            return Some(Violated { variable, row, rises: false, limit });
         }
     }
     None
@@ -45,11 +46,11 @@ pub fn entering(tableau: &Tableau, violated: Violated) -> Option<usize> {
         if entry == 0 {
             continue;
         }
-        let value = tableau.values[column];
+        let value = Amount { plain: tableau.values[column], small: tableau.smalls[column] };
         let free = if (entry > 0) == violated.rises {
-            !limits.has_upper[variable] || value < limits.upper[variable]
+            !limits.has_upper[variable] || value < limits.most(variable, 1)
         } else {
-            !limits.has_lower[variable] || value > limits.lower[variable]
+            !limits.has_lower[variable] || value > limits.least(variable, 1)
         };
         if free {
             return Some(column);

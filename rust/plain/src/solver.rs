@@ -51,11 +51,14 @@ fn run(start: Tableau, out: &mut [i64]) {
 fn write_point(tableau: &Tableau, out: &mut [i64]) {
     let variables = tableau.n + tableau.m;
     out[2] = tableau.common;
-    for (word, seat) in out[3..3 + variables].iter_mut().zip(&tableau.seats) {
-        *word = match *seat {
+    let (plains, smalls) = out[3..].split_at_mut(variables);
+    for (variable, seat) in tableau.seats[..variables].iter().enumerate() {
+        let scaled = match *seat {
             Seat::Row(row) => tableau.scaled(usize::from(row)),
-            Seat::Column(column) => tableau.common * tableau.values[usize::from(column)],
+            Seat::Column(column) => tableau.scaled_column(usize::from(column)),
         };
+        plains[variable] = scaled.plain;
+        smalls[variable] = scaled.small;
     }
 }
 

@@ -18,6 +18,14 @@ pub enum Seat {
     Column(u8),
 }
 
+/// A value, or a number of times a value: a plain part, and a part that counts
+/// small amounts. The plain part is compared first.
+#[derive(Clone, Copy, PartialEq, Eq, PartialOrd, Ord)]
+pub struct Amount {
+    pub plain: i64,
+    pub small: i64,
+}
+
 /// The limits of all variables. A missing limit's number is not looked at.
 #[derive(Clone, Copy)]
 pub struct Limits {
@@ -25,6 +33,10 @@ pub struct Limits {
     pub has_upper: [bool; MOST_VARIABLES],
     pub lower: [i64; MOST_VARIABLES],
     pub upper: [i64; MOST_VARIABLES],
+    pub is_lower_strict: [bool; MOST_VARIABLES],
+    pub is_upper_strict: [bool; MOST_VARIABLES],
+    /// Whether some limit is strict. If none is, no value has a small part.
+    pub some_strict: bool,
 }
 
 #[derive(Clone, Copy)]
@@ -40,8 +52,10 @@ pub struct Tableau {
     pub nonbasic: [usize; MOST_COLUMNS],
     /// The place of each variable.
     pub seats: [Seat; MOST_VARIABLES],
-    /// The value of the variable at each column place.
+    /// The value of the variable at each column place: plain parts.
     pub values: [i64; MOST_COLUMNS],
+    /// .. and small parts.
+    pub smalls: [i64; MOST_COLUMNS],
     pub limits: Limits,
 }
 
@@ -52,33 +66,53 @@ impl Limits {
             has_upper: [false; MOST_VARIABLES],
             lower: [0; MOST_VARIABLES],
             upper: [0; MOST_VARIABLES],
+            is_lower_strict: [false; MOST_VARIABLES],
+            is_upper_strict: [false; MOST_VARIABLES],
+            some_strict: false,
         };
         for (variable, &[kind, lower, upper]) in words.iter().enumerate().take(MOST_VARIABLES) {
             limits.has_lower[variable] = kind & 1 != 0;
             limits.has_upper[variable] = kind & 2 != 0;
             limits.lower[variable] = i64::from(lower);
             limits.upper[variable] = i64::from(upper);
+            limits.is_lower_strict[variable] = kind & 4 != 0;
+            limits.is_upper_strict[variable] = kind & 8 != 0;
+            limits.some_strict |= kind > 3;
         }
         limits
     }
 
-    /// 0 where the limits allow it, else the limit that is nearest to 0.
-    fn start_value(&self, variable: usize) -> i64 {
-        if self.has_lower[variable] && self.lower[variable] > 0 {
-            self.lower[variable]
-        } else if self.has_upper[variable] && self.upper[variable] < 0 {
-            self.upper[variable]
+    /// A number of times the least that the lower limit allows: a strict one is
+    /// a small amount farther in.
+    pub fn least(&self, variable: usize, times: i64) -> Amount {
+        let small = if self.is_lower_strict[variable] { times } else { 0 };
+        Amount { plain: self.lower[variable] * times, small }
+    }
+
+    /// A number of times the most that the upper limit allows.
+    pub fn most(&self, variable: usize, times: i64) -> Amount {
+        let small = if self.is_upper_strict[variable] { -times } else { 0 };
+        Amount { plain: self.upper[variable] * times, small }
+    }
+
+    /// 0 where the limits allow it, else what they allow that is nearest to 0.
+    fn start_value(&self, variable: usize) -> Amount {
+        let nil = Amount { plain: 0, small: 0 };
+        if self.has_lower[variable] && self.least(variable, 1) > nil {
+            self.least(variable, 1)
+        } else if self.has_upper[variable] && self.most(variable, 1) < nil {
+            self.most(variable, 1)
         } else {
-            0
+            nil
         }
     }
 
-    /// The lowest variable whose lower limit is above its upper one.
+    /// The lowest variable whose limits leave it nothing.
     pub fn crossed(&self, variables: usize) -> Option<usize> {
         (0..variables).find(|&variable| {
             self.has_lower[variable]
                 && self.has_upper[variable]
-                && self.lower[variable] > self.upper[variable]
+                && self.least(variable, 1) > self.most(variable, 1)
         })
     }
 }
@@ -97,6 +131,7 @@ impl Tableau {
             nonbasic: [0; MOST_COLUMNS],
             seats: [Seat::Column(0); MOST_VARIABLES],
             values: [0; MOST_COLUMNS],
+            smalls: [0; MOST_COLUMNS],
             limits,
         };
         for (entry, &coefficient) in tableau.entries.iter_mut().zip(parts.coefficients) {
@@ -105,7 +140,9 @@ impl Tableau {
         for column in 0..n {
             tableau.nonbasic[column] = column;
             tableau.seats[column] = Seat::Column(column as u8);
-            tableau.values[column] = limits.start_value(column);
+            let start = limits.start_value(column);
+            tableau.values[column] = start.plain;
+            tableau.smalls[column] = start.small;
         }
         for row in 0..m {
             tableau.basic[row] = n + row;
@@ -120,13 +157,21 @@ impl Tableau {
     }
 
     /// `common` times the value of the variable at a row place.
-    pub fn scaled(&self, row: usize) -> i64 {
-        self.row(row).iter().zip(&self.values).map(|(entry, value)| entry * value).sum()
+    pub fn scaled(&self, row: usize) -> Amount {
+        let row = self.row(row);
+        let small = if self.limits.some_strict { sum(row, &self.smalls) } else { 0 };
+        Amount { plain: sum(row, &self.values), small }
+    }
+
+    /// `common` times the value of the variable at a column place.
+    pub fn scaled_column(&self, column: usize) -> Amount {
+        let Tableau { common, values, smalls, .. } = self;
+        Amount { plain: common * values[column], small: common * smalls[column] }
     }
 
     /// The tableau after the row's variable and the column's changed places,
     /// in lowest common form. The leaving variable takes the value `limit`.
-    pub fn pivoted(mut self, row: usize, column: usize, limit: i64) -> Tableau {
+    pub fn pivoted(mut self, row: usize, column: usize, limit: Amount) -> Tableau {
         self.solve(row, column);
         self.reduce();
         self.exchange(row, column, limit);
@@ -175,13 +220,14 @@ impl Tableau {
         }
     }
 
-    fn exchange(&mut self, row: usize, column: usize, limit: i64) {
+    fn exchange(&mut self, row: usize, column: usize, limit: Amount) {
         let (leaving, entering) = (self.basic[row], self.nonbasic[column]);
         self.basic[row] = entering;
         self.nonbasic[column] = leaving;
         self.seats[entering] = Seat::Row(row as u8);
         self.seats[leaving] = Seat::Column(column as u8);
-        self.values[column] = limit;
+        self.values[column] = limit.plain;
+        self.smalls[column] = limit.small;
     }
 
     /// Whether no number is too large.
@@ -190,6 +236,11 @@ impl Tableau {
         self.common.unsigned_abs() <= LARGEST_NUMBER
             && every(cells, |cell| cell.unsigned_abs() <= LARGEST_NUMBER)
     }
+}
+
+/// A row's entries times the values of its columns.
+fn sum(row: &[i64], values: &[i64; MOST_COLUMNS]) -> i64 {
+    row.iter().zip(values).map(|(entry, value)| entry * value).sum()
 }
 
 /// Euclid's. The second number is not 0, and mostly divides the first.

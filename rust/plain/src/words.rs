@@ -28,7 +28,7 @@ pub fn judged(words: &[i32]) -> Result<Parts<'_>, u32> {
     if !every(coefficients, |word| (-1_000..=1_000).contains(word)) {
         return Err(4);
     }
-    if !every(limits, |[kind, _, _]| (0..=3).contains(kind)) {
+    if !every(limits, |[kind, _, _]| (0..=15).contains(kind) & (kind >> 2 & !kind == 0)) {
         return Err(5);
     }
     if !every(limits, limit_passes) {
@@ -40,7 +40,8 @@ pub fn judged(words: &[i32]) -> Result<Parts<'_>, u32> {
     Ok(Parts { n, m, coefficients, limits })
 }
 
-/// Bit 0 of the kind stands for the lower limit, bit 1 for the upper.
+/// Bit 0 of the kind stands for the lower limit, bit 1 for the upper. Bits 2
+/// and 3 mark them strict, and those that are marked are there.
 fn limit_passes(&[kind, lower, upper]: &[i32; 3]) -> bool {
     let lower_most = if kind & 1 != 0 { 30_000 } else { 0 };
     let upper_most = if kind & 2 != 0 { 30_000 } else { 0 };

@@ -18,7 +18,7 @@ fn lent(function: fn(&[i32], &mut [i64]) -> u32, words: &[i32], length: usize) -
 }
 
 #[test]
-fn cases_a_to_h_and_the_published_problems() {
+fn worked_cases_and_the_published_problems() {
     for case in worked::limits().into_iter().chain(published()) {
         let (number, out) = lent(plain::solve, &case.words, case.answer.len());
         assert_eq!((number, out), (0, case.answer.clone()), "{}", case.name);
@@ -33,6 +33,20 @@ fn case_i_is_refused() {
     let kept = (0..7).map(|place| -1_000 - place).collect();
     assert_eq!(lent(plain::solve, &case.words, 7), (case.number, kept));
     assert_eq!(plain::check(&case.words, &[2, 0, 0, 0, 1, 0, 0]), case.number);
+}
+
+#[test]
+fn bad_kinds_are_refused() {
+    let kept: Vec<i64> = (0..5).map(|place| -1_000 - place).collect();
+    for case in worked::bad_kinds() {
+        assert_eq!(
+            lent(plain::solve, &case.words, 5),
+            (case.number, kept.clone()),
+            "{}",
+            case.name
+        );
+        assert_eq!(plain::check(&case.words, &[1, 0, 1, 0, 0]), case.number, "{}", case.name);
+    }
 }
 
 #[test]
