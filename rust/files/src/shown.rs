@@ -31,7 +31,7 @@ impl Shown {
 /// All of them.
 pub fn all() -> Vec<Shown> {
     let blank = worked::case_i();
-    let cases = worked::limits()
+    let cases = worked::lettered()
         .into_iter()
         .map(|case| (case.name, case.words))
         .chain([(blank.name, blank.words)])

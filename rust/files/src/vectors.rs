@@ -12,6 +12,8 @@
 mod evidence;
 mod limits;
 mod slices;
+mod small;
+mod strict;
 mod taught;
 mod times;
 
@@ -45,10 +47,14 @@ pub const KEPT: i64 = -77;
 
 /// All calls, in the order of the lines.
 pub fn all() -> Vec<Vector> {
-    [limits::all(), taught::all(), evidence::all(), times::all(), slices::all()]
-        .into_iter()
-        .flatten()
-        .collect()
+    let mut vectors = limits::all();
+    vectors.extend(taught::all());
+    vectors.extend(evidence::all());
+    vectors.extend(times::all());
+    vectors.extend(slices::all());
+    vectors.extend(strict::all());
+    vectors.extend(small::all());
+    vectors
 }
 
 /// The bytes of the program's standard input.

@@ -34,8 +34,8 @@ fn roomy(name: impl Into<String>, words: Vec<i32>) -> Vector {
     solve(name, words, 52)
 }
 
-/// Cases A to I and the published problems: room exactly enough, one word too
-/// little, and two too many.
+/// The worked cases and the published problems: room exactly enough, one word
+/// too little, and two too many.
 fn cases() -> Vec<Vector> {
     let answered = |case: worked::Limits| (case.name, case.words, case.answer.len());
     let blank = worked::case_i();
