@@ -1,6 +1,5 @@
 //! The archive against `reference`: solver, checker, slices and time rows, on
-//! random
-//! problems of every family, every word compared.
+//! random problems of every family, every word compared.
 //!
 //! - [`archive`]: the archive's functions, linked or served
 //! - `lent`: lends an output with guards around it and looks at all of it

@@ -16,6 +16,8 @@ pub struct Outcome {
     pub number: u32,
     /// 1 to 3, or 0 where the problem was refused.
     pub verdict: i64,
+    /// Whether the answer is a "can" with a small part that is not 0.
+    pub has_small: bool,
     /// The checker's numbers.
     pub checks: Vec<u32>,
 }
@@ -45,7 +47,14 @@ fn compare_words(random: &mut Random, words: &[i32]) -> Result<Outcome, String> 
     if (verdict == 1 || verdict == 2) && checks[0] != 8 {
         return Err(format!("the checker does not accept the solver's {out:?}"));
     }
-    Ok(Outcome { number, verdict, checks })
+    let smalls = (verdict == 1).then(|| &out[needed(words) - variables(words)..needed(words)]);
+    let has_small = smalls.is_some_and(|smalls| smalls.iter().any(|&small| small != 0));
+    Ok(Outcome { number, verdict, has_small, checks })
+}
+
+/// The variables of an answered problem, rows' variables included.
+fn variables(words: &[i32]) -> usize {
+    (words[0] + words[1]) as usize
 }
 
 /// The words that an answer needs; of words without a meaning, some number.
@@ -65,6 +74,11 @@ fn compare_check(words: &[i32], answer: &[i64]) -> Result<u32, String> {
     let expected = reference::check(words, answer);
     if found != expected {
         return Err(format!("check gives {found}, the reference {expected}, answer {answer:?}"));
+    }
+    if found == 8 && answer[0] == 1 && !reference::meets(words, answer) {
+        return Err(format!(
+            "no fraction for the small amount meets all limits, answer {answer:?}"
+        ));
     }
     Ok(found)
 }

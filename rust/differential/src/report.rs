@@ -14,6 +14,8 @@ pub struct Report {
     pub outcomes: BTreeMap<String, u64>,
     /// By what further calls returned: the checker, or continues.
     pub calls: BTreeMap<u32, u64>,
+    /// How many answers have small parts.
+    pub with_small: u64,
 }
 
 /// Compares so many limit problems, the families in turn. An error says which
@@ -26,6 +28,7 @@ pub fn limits(seed: u64, problems: u64) -> Result<Report, String> {
             .map_err(|what| format!("SEED={seed}, problem {problem}, {family:?}: {what}"))?;
         report.count(outcome.number, ["", "can", "cannot", "range"], outcome.verdict);
         report.count_calls(&outcome.checks);
+        report.with_small += u64::from(outcome.has_small);
     }
     Ok(report)
 }
@@ -86,6 +89,9 @@ impl fmt::Display for Report {
         write!(to, "{} problems, no difference: {:?}", self.problems, self.outcomes)?;
         if !self.calls.is_empty() {
             write!(to, ", calls {:?}", self.calls)?;
+        }
+        if self.with_small > 0 {
+            write!(to, ", {} with small parts", self.with_small)?;
         }
         Ok(())
     }

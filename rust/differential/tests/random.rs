@@ -19,6 +19,7 @@ fn limit_problems() {
         assert!(report.of(outcome) > LIMIT_PROBLEMS / 5, "{outcome}, SEED={seed}");
     }
     assert!(report.of("range") > LIMIT_PROBLEMS / 100, "range, SEED={seed}");
+    assert!(report.with_small > LIMIT_PROBLEMS / 50, "small parts, SEED={seed}");
     for number in (1..=7).chain([10]) {
         let refused = report.of(&format!("refused {number}"));
         assert!(refused > LIMIT_PROBLEMS / 1_000, "{number}, SEED={seed}");

@@ -8,18 +8,20 @@ use problems::worked;
 const KEPT: i64 = -123_456_789;
 
 #[test]
-fn case_i_is_refused() {
-    let case = worked::case_i();
-    for length in 0..10 {
-        let mut out = vec![KEPT; length];
-        let number = archive::solve(&case.words, &mut out);
-        assert_eq!((number, out), (case.number, vec![KEPT; length]));
-        assert_eq!(archive::check(&case.words, &vec![0; length]), case.number);
+fn case_i_and_bad_kinds_are_refused() {
+    for case in worked::bad_kinds().into_iter().chain([worked::case_i()]) {
+        for length in 0..10 {
+            let mut out = vec![KEPT; length];
+            let number = archive::solve(&case.words, &mut out);
+            assert_eq!((number, out), (case.number, vec![KEPT; length]), "{}", case.name);
+            let checked = archive::check(&case.words, &vec![0; length]);
+            assert_eq!(checked, case.number, "{}", case.name);
+        }
     }
 }
 
 #[test]
-fn cases_a_to_h_and_the_published_problems() {
+fn worked_cases_and_the_published_problems() {
     for case in worked::limits().into_iter().chain(published()) {
         let needed = case.answer.len();
         for length in 0..needed + 3 {
