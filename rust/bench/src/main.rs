@@ -37,11 +37,11 @@ fn print(to: &mut impl Write) -> io::Result<()> {
     writeln!(to, "{}", table::heading(CONTENDERS))?;
     for set in sets::limits(seed) {
         let times = measure::solve(CONTENDERS, &set);
-        writeln!(to, "{}", table::line("solve", set.name, &times, &set.pivots()))?;
+        writeln!(to, "{}", table::line("solve", &set.name, &times, &set.pivots()))?;
     }
     for set in sets::limits(seed) {
         let times = measure::check(CONTENDERS, &set);
-        writeln!(to, "{}", table::line("check", set.name, &times, ""))?;
+        writeln!(to, "{}", table::line("check", &set.name, &times, ""))?;
     }
     for set in sets::times(seed) {
         let times = measure::times(CONTENDERS, &set);

@@ -1,6 +1,7 @@
 //! The problems that are measured.
 
 use problems::random::Random;
+use problems::strict::with_marks;
 use problems::{limits, times};
 
 const SIZE: u64 = 600;
@@ -9,7 +10,7 @@ pub const ANSWER: usize = 51;
 
 /// Limit problems with their answers.
 pub struct LimitSet {
-    pub name: &'static str,
+    pub name: String,
     pub problems: Vec<Vec<i32>>,
     pub answers: Vec<[i64; ANSWER]>,
 }
@@ -20,12 +21,22 @@ pub struct TimeSet {
     pub problems: Vec<Vec<i32>>,
 }
 
-/// Tiny, medium, full and oven-like problems, each of mixed verdicts.
+/// Tiny, medium, full and oven-like problems, each of mixed verdicts; then the
+/// same problems again, about every other limit strict.
 pub fn limits(seed: u64) -> Vec<LimitSet> {
     use limits::Family::{Full, Medium, Oven, Tiny};
-    [Tiny, Medium, Full, Oven]
-        .map(|family| LimitSet::new(family.name(), drawn(seed, |random| family.words(random))))
-        .into()
+    let families = [Tiny, Medium, Full, Oven];
+    let unmarked = families.map(|family| {
+        LimitSet::new(family.name().to_string(), drawn(seed, |random| family.words(random)))
+    });
+    let marked = families.map(|family| {
+        let words = |random: &mut Random| {
+            let words = family.words(random);
+            with_marks(random, &words)
+        };
+        LimitSet::new(format!("{}, strict", family.name()), drawn(seed, words))
+    });
+    unmarked.into_iter().chain(marked).collect()
 }
 
 /// Random rows of either verdict, chains listed either way, and bad rings.
@@ -44,7 +55,7 @@ fn drawn(seed: u64, words: impl Fn(&mut Random) -> Vec<i32>) -> Vec<Vec<i32>> {
 }
 
 impl LimitSet {
-    fn new(name: &'static str, problems: Vec<Vec<i32>>) -> LimitSet {
+    fn new(name: String, problems: Vec<Vec<i32>>) -> LimitSet {
         let answer = |words: &Vec<i32>| {
             let mut out = [0; ANSWER];
             assert_eq!(plain::solve(words, &mut out), 0);
