@@ -73,7 +73,8 @@ fn move_point(random: &mut Random, words: &[i32], answer: &mut [i64]) {
 /// be, or one more.
 fn move_small(random: &mut Random, words: &[i32], answer: &mut [i64]) {
     let half = (answer.len() - 3) / 2;
-    let by = random.pick(&[-1, 1, -3, 3, -17_179_869_176, 17_179_869_176, 17_179_869_177]);
+    let most = 17_179_869_176;
+    let by = random.pick(&[-1, 1, -3, 3, -most, most, -most - 1, most + 1]);
     move_part(random, words, &mut answer[3 + half..], by);
 }
 
