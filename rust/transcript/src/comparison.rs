@@ -1,7 +1,8 @@
 //! The definitions against `reference`, on random problems of every family.
 
 use crate::evidence::checked;
-use crate::problem::refusal;
+use crate::fractions::met_with;
+use crate::problem::{problem, refusal};
 use crate::run::{answer, leavings};
 use crate::step::{Leaving, Side};
 use crate::value::PAIRS;
@@ -78,6 +79,12 @@ fn compare_violations(words: &[i32], wide: &[i128], shares: &mut Shares) -> Resu
     same("a violation", found, violations(words))
 }
 
+/// Fractions e / k for the small amount: the largest there may be, and others.
+const SMALL_AMOUNTS: [(i128, i128); 3] =
+    [(1, 17_179_869_177), (3, 3 * 17_179_869_177 + 1), (1, i64::MAX as i128)];
+
+/// The checker's number. Of a point that it accepts, each fraction for the small
+/// amount meets the problem.
 fn compare_check(
     words: &[i32],
     wide: &[i128],
@@ -87,7 +94,13 @@ fn compare_check(
     let wide_answer: Vec<i128> = answer.iter().map(|&word| i128::from(word)).collect();
     let number = reference::check(words, answer);
     *shares.checks.entry(number).or_default() += 1;
-    same("the check", checked(wide, &wide_answer), number)
+    same("the check", checked(wide, &wide_answer), number)?;
+    let is_point = number == 8 && answer[0] == 1;
+    let meets = |&(e, k): &(i128, i128)| met_with(&problem(wide), &wide_answer, e, k);
+    match SMALL_AMOUNTS.iter().find(|amount| is_point && !meets(amount)) {
+        Some((e, k)) => Err(format!("with {e} / {k} the point {answer:?} does not hold, which")),
+        None => Ok(()),
+    }
 }
 
 fn same<T: PartialEq + std::fmt::Debug>(what: &str, one: T, other: T) -> Result<(), String> {

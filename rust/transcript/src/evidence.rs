@@ -26,6 +26,11 @@ pub fn upper_part(n: usize, a: &[i128], v: usize) -> i128 {
     word(a, 3 + n + v)
 }
 
+/// A numerator and its small part's.
+pub fn pair_part(n: usize, a: &[i128], v: usize) -> (i128, i128) {
+    (lower_part(a, v), upper_part(n, a, v))
+}
+
 /// Row i, of any values x for the variables.
 pub fn row_sum<X, Y: Copy>(
     values: &Values<Y>,

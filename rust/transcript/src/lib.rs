@@ -17,11 +17,13 @@
 //! - `step`: start, leaving, entering, one step
 //! - `run`: the run and the answer
 //! - `evidence`: the checker
+//! - `fractions`: what evidence means
 //! - `comparison`: all of it against `reference`
 
 pub mod base;
 pub mod comparison;
 pub mod evidence;
+pub mod fractions;
 pub mod problem;
 pub mod run;
 pub mod step;
