@@ -67,6 +67,17 @@ fn the_leaving_variable_takes_the_pair() {
     assert_eq!(out, [1, 2, 2, 2, 6, 8, -4, 0, 2, 2, -2]);
 }
 
+/// With the first row at its limit x is half a small amount inside its own, and
+/// has to be a whole one.
+#[test]
+fn a_small_amount_over_d_is_compared_with_d_of_them() {
+    let rows: [&[i32]; 2] = [&[2, 3], &[1, 0]];
+    let out = answer(2, &rows, &[FREE, FREE, above(0), above(0)]);
+    assert_eq!(out, [1, 2, 3, 0, 0, 0, 0, 3, -1, 3, 3]);
+    let out = answer(2, &rows, &[FREE, FREE, below(0), below(0)]);
+    assert_eq!(out, [1, 2, 3, 0, 0, 0, 0, -3, 1, -3, -3]);
+}
+
 #[test]
 fn what_touches_is_a_contradiction_where_one_limit_is_strict() {
     let told = |limits: [[i32; 3]; 3]| answer(2, &[&[1, 1]], &limits);

@@ -107,6 +107,7 @@ fn ties() -> Vec<Vector> {
     let sum: [&[i32]; 1] = [&[1, 1]];
     let turned: [&[i32]; 2] = [&[1, 1], &[1, -1]];
     let told = |name: &str, limits: [[i32; 3]; 3]| solve(name, &Draft::new(2, &sum, &limits));
+    let half = |limits| Draft::new(2, &[&[2, 3], &[1, 0]], &[FREE, FREE, limits, limits]);
     vec![
         told("x >= 2, y >= 2, x+y <= 4", [at_least(2), at_least(2), at_most(4)]),
         told("x >= 2, y >= 2, x+y < 4", [at_least(2), at_least(2), below(4)]),
@@ -122,6 +123,8 @@ fn ties() -> Vec<Vector> {
             "x+y > 0, x-y > 0, x < 0",
             &Draft::new(2, &turned, &[below(0), FREE, above(0), above(0)]),
         ),
+        solve("2x+3y > 0, x > 0, as rows", &half(above(0))),
+        solve("2x+3y < 0, x < 0, as rows", &half(below(0))),
     ]
 }
 
