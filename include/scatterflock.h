@@ -68,13 +68,22 @@ enum {
     SCATTERFLOCK_MOST_TIMES = 130,  /* words of an answer to time rows */
     SCATTERFLOCK_SLICE_WORDS = 113  /* of 64 bits, beside the count, in the state of a run */
 };
+#define SCATTERFLOCK_LARGEST_SMALL INT64_C(17179869176) /* small part of a numerator */
 
-/* The kind of a variable's limits, in a limit problem. */
+/*
+ * The kind of a variable's limits, in a limit problem. For a strict limit, one
+ * that leaves its own number out, STRICT_LOWER or STRICT_UPPER is added:
+ * BETWEEN + STRICT_UPPER is from the lower limit on and below the upper one.
+ */
 enum {
     SCATTERFLOCK_FREE = 0,
     SCATTERFLOCK_AT_LEAST = 1,
     SCATTERFLOCK_AT_MOST = 2,
-    SCATTERFLOCK_BETWEEN = 3
+    SCATTERFLOCK_BETWEEN = 3,
+    SCATTERFLOCK_STRICT_LOWER = 4,
+    SCATTERFLOCK_STRICT_UPPER = 8,
+    SCATTERFLOCK_ABOVE = 5,  /* AT_LEAST + STRICT_LOWER */
+    SCATTERFLOCK_BELOW = 10  /* AT_MOST + STRICT_UPPER */
 };
 
 /* Word 0 of an answer to a limit problem. */
@@ -117,17 +126,25 @@ enum {
  *
  * Returns 0 when it is answered. Then out[0] is 1 (can), 2 (cannot) or 3 (out
  * of range), out[1] the number of pivots, and the first 3 + 2 (n + m) words
- * are the answer of the rules: for "can" a denominator and numerators that
- * meet every row and limit, for "cannot" multipliers that show that no
- * fractions do, for "out of range" zeros, which say nothing about the limits.
- * Words past those keep what they had.
+ * are the answer of the rules: for "can" a denominator, numerators and their
+ * small parts that meet every row and limit, for "cannot" multipliers that show
+ * that no fractions do, for "out of range" zeros, which say nothing about the
+ * limits. Words past those keep what they had.
+ *
+ * The value of variable v is out[3 + v] over out[2] and, out[3 + n + m + v]
+ * over out[2] times, an amount above 0 that is as small as one likes. Where no
+ * limit is strict these small parts are 0. Else any fraction up to
+ * 1 / 17,179,869,177 may be put for the amount: with K for 17,179,869,177 the
+ * value is (K * out[3 + v] + out[3 + n + m + v]) / (K * out[2]), which takes
+ * more than 64 bits.
  *
  * Returns another number when the words or the room for the answer are
  * refused: 1 fewer than two words, 2 n or m out of range, 3 another count of
- * words, 4 a coefficient out of range, 5 a kind that is none, 6 a limit out of
- * range or a number where a limit is missing, 10 a row whose coefficients are
- * all 0, 7 out_count below 3 + 2 (n + m). It is the first that applies, in
- * this order, and every word of out keeps what it had.
+ * words, 4 a coefficient out of range, 5 a kind that is none or that marks a
+ * missing limit as strict, 6 a limit out of range or a number where a limit is
+ * missing, 10 a row whose coefficients are all 0, 7 out_count below
+ * 3 + 2 (n + m). It is the first that applies, in this order, and every word of
+ * out keeps what it had.
  *
  * The number returned follows from the words and out_count, and every word of
  * out from these and from what out held before: the promise allows no other.
@@ -143,11 +160,13 @@ uint32_t scatterflock_solve(const int32_t *words, size_t word_count,
  * (not). 8 comes exactly if
  *
  *   - answer[0] is 1, answer[2] is from 1 to 2,147,483,647, the next N words
- *     are at most 515,396,075,280,000 in size, over answer[2] they meet every
- *     row and every limit, and the N words after them are 0; or
+ *     are at most 515,396,075,280,000 in size, the N small parts after them at
+ *     most 17,179,869,176, and over answer[2] they meet every row, each half by
+ *     itself, and every limit, a strict one by a small part at least; or
  *   - answer[0] is 2, answer[2] is 0, the next 2 N words are from 0 to
  *     2,147,483,647 and 0 where the limit is missing, and as multipliers of
- *     the lower and of the upper limits they add up to a contradiction.
+ *     the lower and of the upper limits they add up to a contradiction: to more
+ *     than 0, or to 0 where one of a strict limit is not 0.
  *
  * So 8 means that fractions meet the problem, or that none do, as answer[0]
  * says. 9 says nothing about the problem, and does not tell which test failed:

@@ -1,7 +1,7 @@
 //! `scatterflock check`: an answer, anybody's, before the proved checker.
 
 use crate::input::{self, any_text, bad};
-use crate::problem::{all_limits, place, problem, refused_words, spare};
+use crate::problem::{all_limits, place, problem, refused_words, Values};
 use crate::table::table;
 use crate::{json, Ended, Failure, CAN, CANNOT};
 use scatterflock::{Judgement, Refusal};
@@ -11,6 +11,8 @@ use text::limits::Limits;
 
 /// The largest numerator that the checker takes.
 const LARGEST_NUMERATOR: u64 = 515_396_075_280_000;
+/// The largest small part.
+const LARGEST_SMALL: u64 = scatterflock::sizes::LARGEST_SMALL.unsigned_abs();
 
 pub fn run(
     file: &OsStr,
@@ -59,19 +61,23 @@ fn said(problem: &Limits, words: &[i64], is_accepted: bool) -> String {
 fn broken(problem: &Limits, words: &[i64]) -> Vec<Vec<String>> {
     let count = problem.limits.len();
     let &[1, _, over @ 1..=2_147_483_647, ref rest @ ..] = words else { return vec![] };
-    let numerators = &rest[..count];
-    if numerators.iter().any(|value| value.unsigned_abs() > LARGEST_NUMERATOR) {
+    let (plain, small) = rest[..2 * count].split_at(count);
+    let beyond = |part: &[i64], most| part.iter().any(|value| value.unsigned_abs() > most);
+    if beyond(plain, LARGEST_NUMERATOR) || beyond(small, LARGEST_SMALL) {
         return vec![];
     }
-    let far = |&(variable, side): &(usize, _)| {
-        spare(problem, (variable, side), over, numerators[variable])
-    };
-    let all = all_limits(problem).into_iter().filter(|limit| far(limit).numerator < 0);
-    all.map(|(variable, side)| {
-        let line = place(problem, variable, side);
-        let by = far(&(variable, side)).to_string();
+    let values = Values { over, plain, small };
+    let told = all_limits(problem).into_iter().filter_map(|(variable, side)| {
+        let is_strict = problem.limits[variable][side as usize]?.is_strict;
+        let spare = values.spare(problem, (variable, side));
+        let by = match (spare.sign(), spare.plain.numerator) {
+            (0, _) if is_strict => "met exactly, and it is strict".to_string(),
+            (-1, 0) => "by a small amount".to_string(),
+            (-1, _) => format!("by {}", spare.turned()),
+            _ => return None,
+        };
         let limit = problem.limit_text(variable, side).unwrap_or_default();
-        line.into_iter().chain([limit, format!("by {}", by.trim_start_matches('-'))]).collect()
-    })
-    .collect()
+        Some(place(problem, variable, side).into_iter().chain([limit, by]).collect())
+    });
+    told.collect()
 }

@@ -1,6 +1,7 @@
-//! Fractions in lowest terms, and decimals to read.
+//! Fractions in lowest terms, with small amounts, and decimals to read.
 
 use std::fmt;
+use text::answer::SMALL;
 
 /// How many digits a decimal has behind the point at most.
 const DIGITS: u32 = 6;
@@ -51,6 +52,64 @@ impl fmt::Display for Fraction {
     }
 }
 
+/// A fraction, and how many small amounts there are beside it.
+#[derive(Debug, Clone, Copy, PartialEq, Eq)]
+pub struct Pair {
+    pub plain: Fraction,
+    pub small: Fraction,
+}
+
+impl Pair {
+    /// `over` is above 0.
+    pub fn new([plain, small]: [i64; 2], over: i64) -> Pair {
+        Pair { plain: Fraction::new(plain, over), small: Fraction::new(small, over) }
+    }
+
+    /// Below 0, 0 or above it: the plain part decides, and where it is 0 the
+    /// small one.
+    pub fn sign(self) -> i64 {
+        match (self.plain.numerator, self.small.numerator) {
+            (0, small) => small.signum(),
+            (plain, _) => plain.signum(),
+        }
+    }
+
+    /// The same on the other side of 0.
+    pub fn turned(self) -> Pair {
+        let Pair { plain, small } = self;
+        Pair {
+            plain: Fraction { numerator: -plain.numerator, ..plain },
+            small: Fraction { numerator: -small.numerator, ..small },
+        }
+    }
+
+    /// What can be read beside it: the decimal, and on which side of the
+    /// plain part it lies.
+    pub fn read_as(self) -> Option<String> {
+        let side = match self.small.numerator.signum() {
+            0 => return self.plain.read_as(),
+            1 => "above",
+            _ => "below",
+        };
+        let read = self.plain.read_as().map_or(String::new(), |read| format!(", {read}"));
+        Some(format!("just {side} {}{read}", self.plain))
+    }
+}
+
+/// As an answer has it: `7/2`, or `7/2 - 3/4 small`.
+impl fmt::Display for Pair {
+    fn fmt(&self, to: &mut fmt::Formatter) -> fmt::Result {
+        let Fraction { numerator, denominator } = self.small;
+        let sign = if numerator < 0 { '-' } else { '+' };
+        let times = Fraction { numerator: numerator.abs(), denominator };
+        match (numerator.abs(), denominator) {
+            (0, _) => write!(to, "{}", self.plain),
+            (1, 1) => write!(to, "{} {sign} {SMALL}", self.plain),
+            _ => write!(to, "{} {sign} {times} {SMALL}", self.plain),
+        }
+    }
+}
+
 fn divisor(a: u64, b: u64) -> u64 {
     if b == 0 {
         a.max(1)
@@ -78,6 +137,24 @@ mod tests {
             let fraction = Fraction::new(numerator, denominator);
             assert_eq!(fraction.to_string(), text);
             assert_eq!(fraction.read_as().as_deref(), read, "{text}");
+        }
+    }
+
+    #[test]
+    fn small_amounts() {
+        for (parts, over, text, read, sign) in [
+            ([6, 0], 3, "2", None, 1),
+            ([0, 0], 1, "0", None, 0),
+            ([0, 1], 1, "0 + small", Some("just above 0"), 1),
+            ([0, -4], 2, "0 - 2 small", Some("just below 0"), -1),
+            ([-434, -2], 2, "-217 - small", Some("just below -217"), -1),
+            ([7, -3], 2, "7/2 - 3/2 small", Some("just below 7/2, 3.5"), 1),
+            ([1, 1], 3, "1/3 + 1/3 small", Some("just above 1/3, about 0.333333"), 1),
+        ] {
+            let pair = Pair::new(parts, over);
+            assert_eq!(pair.to_string(), text);
+            assert_eq!(pair.read_as().as_deref(), read, "{text}");
+            assert_eq!(pair.sign(), sign, "{text}");
         }
     }
 }

@@ -1,6 +1,6 @@
 //! Values as JSON: one line, made by hand.
 
-use crate::fraction::Fraction;
+use crate::fraction::{Fraction, Pair};
 
 /// An object, with a newline behind it.
 pub fn object(fields: &[(&str, String)]) -> String {
@@ -40,13 +40,18 @@ pub fn line(line: Option<usize>) -> String {
     line.map_or("null".to_string(), |line| line.to_string())
 }
 
-/// A fraction's parts, and a decimal to read.
+/// A fraction's parts, and a decimal to read; then how many small amounts are
+/// beside it.
+pub fn pair(pair: Pair) -> Vec<(&'static str, String)> {
+    let (decimal, is_exact) = pair.plain.decimal();
+    let mut fields = fraction(pair.plain);
+    fields.extend([("decimal", text(&decimal)), ("exact", is_exact.to_string())]);
+    fields.push(("small", inner(&fraction(pair.small))));
+    fields
+}
+
+/// A fraction's parts.
 pub fn fraction(fraction: Fraction) -> Vec<(&'static str, String)> {
-    let (decimal, is_exact) = fraction.decimal();
-    vec![
-        ("numerator", fraction.numerator.to_string()),
-        ("denominator", fraction.denominator.to_string()),
-        ("decimal", text(&decimal)),
-        ("exact", is_exact.to_string()),
-    ]
+    let Fraction { numerator, denominator } = fraction;
+    vec![("numerator", numerator.to_string()), ("denominator", denominator.to_string())]
 }

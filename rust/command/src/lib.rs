@@ -4,7 +4,8 @@
 //! - `options`: the words of the command line
 //! - `input`: files as words or as text
 //! - `problem`: a limit problem of a file
-//! - `fraction`: fractions in lowest terms, and decimals to read
+//! - `fraction`: fractions in lowest terms, with small amounts, and decimals to
+//!   read
 //! - `json`, `table`: values as JSON, lines of cells
 //! - `solve`, `check`, `times`, `words`: what the command does
 

@@ -22,6 +22,7 @@ A FILE is a text with one limit a line,
     zone1 >= 20
     3 zone1 - 2 zone2 <= 400      # a comment
     zone2 = zone1 + 45
+    solder < 217                  # strict: 217 itself is left out
 
 or a file .words, or a text of bare numbers; - is standard input.
 

@@ -1,6 +1,6 @@
 //! A limit problem of a file, and what can be said of its limits.
 
-use crate::fraction::Fraction;
+use crate::fraction::Pair;
 use crate::input::{self, bad, Content, Input};
 use crate::Failure;
 use scatterflock::sizes::MOST_WORDS;
@@ -73,17 +73,40 @@ pub fn all_limits(problem: &Limits) -> Vec<(usize, Side)> {
     all
 }
 
-/// Whether both limits are the same, and set in one line.
+/// Whether both limits are the same, not strict, and set in one line.
 pub fn is_one_value(problem: &Limits, variable: usize) -> bool {
     let [lower, upper] = problem.limits[variable];
-    lower.is_some() && lower == upper
+    lower.is_some_and(|limit| !limit.is_strict) && lower == upper
 }
 
-/// How far a value is inside of a limit; below 0 where it breaks it.
-pub fn spare(problem: &Limits, (variable, side): (usize, Side), over: i64, value: i64) -> Fraction {
-    let limit = problem.limits[variable][side as usize].map_or(0, |limit| i64::from(limit.number));
-    match side {
-        Side::Lower => Fraction::new(value - limit * over, over),
-        Side::Upper => Fraction::new(limit * over - value, over),
+/// Numerators over one denominator, and their small parts, for each variable.
+#[derive(Clone, Copy)]
+pub struct Values<'a> {
+    pub over: i64,
+    pub plain: &'a [i64],
+    pub small: &'a [i64],
+}
+
+impl Values<'_> {
+    /// The value of a variable.
+    pub fn at(self, variable: usize) -> Pair {
+        Pair::new([self.plain[variable], self.small[variable]], self.over)
+    }
+
+    /// How far it is inside of a limit, over the denominator; below 0 where it
+    /// breaks it.
+    pub fn room(self, problem: &Limits, (variable, side): (usize, Side)) -> [i64; 2] {
+        let limit = problem.limits[variable][side as usize];
+        let limit = limit.map_or(0, |limit| i64::from(limit.number));
+        let (plain, small) = (self.plain[variable] - limit * self.over, self.small[variable]);
+        match side {
+            Side::Lower => [plain, small],
+            Side::Upper => [-plain, -small],
+        }
+    }
+
+    /// The same as a fraction.
+    pub fn spare(self, problem: &Limits, limit: (usize, Side)) -> Pair {
+        Pair::new(self.room(problem, limit), self.over)
     }
 }

@@ -3,7 +3,8 @@
 mod as_json;
 mod as_text;
 
-use crate::problem::{all_limits, problem, refused_words};
+use crate::fraction::Fraction;
+use crate::problem::{all_limits, problem, refused_words, Values};
 use crate::{input, Ended, Failure};
 use scatterflock::{Answer, Judgement, Verdict};
 use std::ffi::OsStr;
@@ -15,8 +16,14 @@ pub fn run(file: &OsStr, is_json: bool, stdin: &mut dyn Read) -> Result<Ended, F
     let answer = solved(&problem)?;
     let shown = Shown { file, problem, answer };
     Ok(match (&shown.answer.verdict, is_json) {
-        (Verdict::Can { over, numerators }, false) => shown.can(*over, numerators),
-        (Verdict::Can { over, numerators }, true) => shown.can_json(*over, numerators),
+        (Verdict::Can { over, numerators, small }, _) => {
+            let values = Values { over: *over, plain: numerators, small };
+            if is_json {
+                shown.can_json(values)
+            } else {
+                shown.can(values)
+            }
+        }
         (Verdict::Cannot { lower, upper }, false) => shown.cannot([lower, upper]),
         (Verdict::Cannot { lower, upper }, true) => shown.cannot_json([lower, upper]),
         (_, false) => shown.range(),
@@ -42,7 +49,27 @@ struct Shown {
     answer: Answer,
 }
 
+/// A limit as "at least", so many times: a sum, a sign and a number.
+struct AtLeast {
+    left: String,
+    sign: &'static str,
+    right: i64,
+}
+
 impl Shown {
+    /// The least amount that is too large for the small one, where there is any:
+    /// with each that is less all limits hold.
+    fn small_below(&self, values: Values) -> Option<Fraction> {
+        let rooms = all_limits(&self.problem).into_iter().map(|at| values.room(&self.problem, at));
+        let ends = rooms.filter(|&[_, small]| small < 0).map(|[plain, small]| (plain, -small));
+        let wide = |(plain, small)| (i128::from(plain), i128::from(small));
+        let least = ends.min_by(|&one, &other| {
+            let ((plain, small), (others_plain, others_small)) = (wide(one), wide(other));
+            (plain * others_small).cmp(&(others_plain * small))
+        });
+        least.map(|(plain, small)| Fraction::new(plain, small))
+    }
+
     /// The limits that count, with their multipliers.
     fn counted(&self, multipliers: [&Vec<i64>; 2]) -> Vec<(usize, Side, i64)> {
         all_limits(&self.problem)
@@ -52,13 +79,26 @@ impl Shown {
             .collect()
     }
 
-    /// A limit as "at least", so many times.
-    fn at_least(&self, (variable, side, times): (usize, Side, i64)) -> (String, i64) {
+    /// Each limit as "at least", so many times, and what they come to.
+    fn added_up(&self, counted: &[(usize, Side, i64)]) -> (Vec<AtLeast>, AtLeast) {
+        let each: Vec<AtLeast> = counted.iter().map(|&limit| self.at_least(limit)).collect();
+        let is_strict = each.iter().any(|limit| limit.sign == ">");
+        let sum = AtLeast {
+            left: self.problem.sum(&self.left_sum(counted)),
+            sign: if is_strict { ">" } else { ">=" },
+            right: each.iter().map(|limit| limit.right).sum(),
+        };
+        (each, sum)
+    }
+
+    fn at_least(&self, (variable, side, times): (usize, Side, i64)) -> AtLeast {
         let problem = &self.problem;
-        let limit = problem.limits[variable][side as usize].map_or(0, |limit| limit.number);
-        let left = self.left_sum(&[(variable, side, times)]);
+        let limit = problem.limits[variable][side as usize];
+        let number = limit.map_or(0, |limit| limit.number);
+        let left = problem.sum(&self.left_sum(&[(variable, side, times)]));
         let signed = if side == Side::Lower { times } else { -times };
-        (problem.sum(&left), signed * i64::from(limit))
+        let sign = limit.map_or(">=", |limit| limit.sign(Side::Lower));
+        AtLeast { left, sign, right: signed * i64::from(number) }
     }
 
     /// What the left sides come to, as "at least" and so many times each.
@@ -71,5 +111,45 @@ impl Shown {
             }
         }
         sum
+    }
+}
+
+#[cfg(test)]
+mod tests {
+    use super::*;
+    use problems::limits::Family;
+    use problems::random::{seed, Random};
+
+    #[test]
+    fn each_amount_below_will_do() {
+        let seed = seed();
+        println!("SEED={seed}");
+        let mut count = 0;
+        for number in 0..5_000 {
+            let mut random = Random::of_problem(seed, number);
+            let family = Family::ACCEPTED[random.below(Family::ACCEPTED.len())];
+            let Some(mut problem) = Limits::from_words(&family.words(&mut random)) else {
+                continue;
+            };
+            for limit in problem.limits.iter_mut().flatten().flatten() {
+                limit.is_strict |= random.percent(50);
+            }
+            let Ok(answer) = solved(&problem) else { panic!("it is answered, SEED={seed}") };
+            let Verdict::Can { over, numerators, small } = &answer.verdict else { continue };
+            let values = Values { over: *over, plain: numerators, small };
+            let shown = Shown { file: String::new(), problem, answer: answer.clone() };
+            let Some(end) = shown.small_below(values) else { continue };
+            let [end, over] = [end.numerator, end.denominator].map(i128::from);
+            for part in 1..8 {
+                for at in all_limits(&shown.problem) {
+                    let [plain, small] = values.room(&shown.problem, at).map(i128::from);
+                    assert!(plain * 8 * over + small * part * end >= 0, "SEED={seed}");
+                    let is_strict = shown.problem.limits[at.0][at.1 as usize].unwrap().is_strict;
+                    assert!(!is_strict || plain * 8 * over + small * part * end > 0, "SEED={seed}");
+                }
+            }
+            count += 1;
+        }
+        assert!(count > 100, "{count} have an end, SEED={seed}");
     }
 }

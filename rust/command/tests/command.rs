@@ -2,6 +2,7 @@
 
 mod json;
 
+use problems::limits::Family;
 use problems::published::published;
 use problems::random::{seed, Random};
 use problems::worked;
@@ -33,6 +34,9 @@ fn verdicts_and_statuses() {
     for (words, input, first, status) in [
         (&["solve", "-"][..], "x >= 1", "can", 0),
         (&["solve", "-"], "x >= 1\nx <= 0", "cannot", 1),
+        (&["solve", "-"], "0 < x < 1", "can", 0),
+        (&["solve", "-"], "5 < x <= 5", "cannot", 1),
+        (&["solve", "-"], "1 0 9 0 0", "refused 5", 3),
         (&["solve", "-"], "0 x >= 1", "refused 10", 3),
         (&["solve", "-"], "9 0", "refused 2", 3),
         (&["solve", "-"], "1", "refused 1", 3),
@@ -44,6 +48,7 @@ fn verdicts_and_statuses() {
         (&["times", "-"], "65 0", "refused 12", 3),
         (&["words", "-"], "x >= 1", "1 0 1 1 0", 0),
         (&["words", "-"], "1 0 1 1 0", "x0 >= 1", 0),
+        (&["words", "-"], "1 0 7 1 2", "1 < x0 <= 2", 0),
         (&["words", "--times", "-"], "a - b <= 1", "2 1 0 1 0 1", 0),
         (&["--help"], "", "usage: scatterflock [--json] solve FILE", 0),
         (&["solve", "-", "--json"], "", "{\"error\":\"there is no limit in this text\",\"file\":\"standard input\",\"line\":1,\"column\":1}", 4),
@@ -95,6 +100,101 @@ fn bytes_are_refused_as_the_program_does() {
     }
 }
 
+/// What `solve` prints, and whether `check` accepts it.
+fn solved(problem: &str) -> (String, bool) {
+    let (said, errors, _) = ran(&["solve", "-"], problem.as_bytes());
+    assert_eq!(errors, "", "{problem}");
+    let name = format!("strict-{:?}.txt", std::thread::current().id());
+    let path = PathBuf::from(env!("CARGO_TARGET_TMPDIR")).join(name);
+    fs::write(&path, problem).unwrap();
+    let accepted = ran(&["check", path.to_str().unwrap(), "-"], said.as_bytes()).2 == 0;
+    (said, accepted)
+}
+
+#[test]
+fn strict_limits() {
+    for (problem, lines) in [
+        ("x > 0", "x = 0 + small   # just above 0\n# Put any amount above 0 for small, the"),
+        (
+            "0 < x < 1",
+            "#   line 1   x > 0   a small amount to spare\n#   line 1   x < 1   1 - small to",
+        ),
+        (
+            "0 < x < 1\nrow 3 x",
+            "#   3 x = 0 + 3 small, just above 0\n# Put any amount above 0 and below 1 ",
+        ),
+        ("x > 0\ny < 3\nx + y > 3", "x = 3 + small   # just above 3\ny = 0"),
+        ("5 < x <= 5", "1 times line 1 lower   # x > 5\n#    x >  5\n#   -x >= -5\n#    0 >  0"),
+        ("x <= 0\ny < 3\nx + y >= 3", "1 times line 2   # y < 3\n#      -y >  -3\n#       0 >  0"),
+    ] {
+        let (said, accepted) = solved(problem);
+        assert!(accepted, "{problem}: {said}");
+        for line in lines.split('\n') {
+            let is_there = said.lines().any(|other| other.starts_with(line));
+            assert!(is_there, "{problem}: no {line} in\n{said}");
+        }
+    }
+}
+
+#[test]
+fn strict_answers_are_read_back() {
+    let seed = seed();
+    println!("SEED={seed}");
+    let mut small = 0;
+    for problem in 0..500 {
+        let mut random = Random::of_problem(seed, problem);
+        let family = Family::ACCEPTED[random.below(Family::ACCEPTED.len())];
+        let mut words = family.words(&mut random);
+        let start = (2 + words[0] * words[1]) as usize;
+        for kind in words[start..].iter_mut().step_by(3).filter(|kind| **kind < 4) {
+            *kind |= (*kind * 4) & random.below(16) as i32;
+        }
+        let words: Vec<String> = words.iter().map(i32::to_string).collect();
+        let (said, accepted) = solved(&words.join(" "));
+        assert!(accepted || said.starts_with("range"), "SEED={seed}: {words:?} {said}");
+        small += usize::from(said.contains(" small "));
+    }
+    println!("{small} with small parts");
+    assert!(small > 20, "{small} with small parts, SEED={seed}");
+}
+
+#[test]
+fn strict_limits_as_json() {
+    let (said, _, status) = ran(&["--json", "solve", "-"], b"2 < x < 7");
+    assert_eq!(status, 0);
+    assert!(json::is_one_line(&said));
+    let small = "\"decimal\":\"2\",\"exact\":true,\"small\":{\"numerator\":1,\"denominator\":1}";
+    assert!(said.contains(small), "{said}");
+    assert!(said.contains("\"small_below\":{\"numerator\":5,\"denominator\":1}"), "{said}");
+    let (said, _, _) = ran(&["--json", "solve", "-"], b"2 < x < 2");
+    assert!(said.contains("\"sum\":\"0 > 0\""), "{said}");
+}
+
+#[test]
+fn what_breaks_strict_limits() {
+    let path = PathBuf::from(env!("CARGO_TARGET_TMPDIR")).join("melting.txt");
+    fs::write(&path, "20 <= solder < 217\n").unwrap();
+    for (value, what) in [
+        ("217", "#   line 1   solder < 217   met exactly, and it is strict"),
+        ("217 + 1/2 small", "#   line 1   solder < 217   by a small amount"),
+        ("218 - 2 small", "#   line 1   solder < 217   by 1 - 2 small"),
+        ("20 - small", "#   line 1   solder >= 20   by a small amount"),
+        ("39/2", "#   line 1   solder >= 20   by 1/2"),
+    ] {
+        let answer = format!("can\nsolder = {value}\n");
+        let (said, _, status) = ran(&["check", path.to_str().unwrap(), "-"], answer.as_bytes());
+        assert_eq!((said.lines().last(), status), (Some(what), 1), "{value}");
+    }
+    for value in ["217 - small", "217 - 1/2147483647 small", "216 + 17179869176 small", "20"] {
+        let answer = format!("can\nsolder = {value}\n");
+        assert_eq!(ran(&["check", path.to_str().unwrap(), "-"], answer.as_bytes()).2, 0, "{value}");
+    }
+    let beyond = b"can\nsolder = 216 + 17179869177 small\n";
+    let (said, _, status) = ran(&["check", path.to_str().unwrap(), "-"], beyond);
+    assert_eq!(status, 1);
+    assert!(!said.contains("break"), "{said}");
+}
+
 #[test]
 fn what_solve_prints_check_accepts() {
     for case in worked::limits().into_iter().chain(published()) {
@@ -134,11 +234,13 @@ fn the_texts_come_round() {
 
 /// A text with something changed in it.
 fn damaged(random: &mut Random, text: &str) -> Vec<u8> {
-    const PIECES: [&str; 24] = [
+    const PIECES: [&str; 26] = [
         "<=",
         ">=",
         "=",
         "<",
+        ">",
+        "small",
         "-",
         "+",
         "*",
@@ -183,7 +285,8 @@ fn damaged_texts_never_panic() {
     let seed = seed();
     println!("SEED={seed}");
     let mut texts: Vec<String> = files::shown::all().iter().map(|shown| shown.text()).collect();
-    for name in ["problems/oven.txt", "problems/starts.txt", "problems/stamps.txt"] {
+    let names = ["oven", "solder", "starts", "stamps"].map(|name| format!("problems/{name}.txt"));
+    for name in names {
         texts.push(fs::read_to_string(files::top().join(name)).unwrap());
     }
     let mut statuses = [0; 7];

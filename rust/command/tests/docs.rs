@@ -59,6 +59,7 @@ fn quoted_texts_are_the_files() {
         blocks(page).iter().any(|block| block.trim_end() == text.trim_end())
     };
     assert!(quotes(&page, "problems/oven.txt"));
+    assert!(quotes(&page, "problems/solder.txt"));
     assert!(quotes(&page, "problems/starts.txt"));
     assert!(quotes(&page, "problems/stamps.txt"));
     assert!(quotes(&readme, "problems/oven.txt"));

@@ -18,7 +18,7 @@ pub fn main() -> Result<(), BuildError> {
 
     let answer = problem.solve();
     match &answer.verdict {
-        Verdict::Can { over, numerators } => {
+        Verdict::Can { over, numerators, .. } => {
             for (zone, numerator) in numerators[..4].iter().enumerate() {
                 println!("zone {zone}: {numerator}/{over} degrees");
             }

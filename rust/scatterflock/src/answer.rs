@@ -1,8 +1,9 @@
 //! Limit problems: answers, their words and their judgement.
 
+use crate::fractions::Fractions;
 use crate::raw;
 use crate::refusal::Refusal;
-use crate::sizes::MOST_ANSWER;
+use crate::sizes::{LARGEST_SMALL, MOST_ANSWER};
 use std::fmt;
 
 /// The answer to a limit problem.
@@ -19,12 +20,17 @@ pub struct Answer {
 #[derive(Debug, Clone, PartialEq, Eq, Hash)]
 #[non_exhaustive]
 pub enum Verdict {
-    /// All limits hold at these values: each numerator over `over`.
+    /// All limits hold at these values: each numerator over `over`, and so
+    /// many small amounts over `over` more. [`Answer::fractions`] puts a number
+    /// for the small amount.
     Can {
         /// The denominator of every value, above 0.
         over: i64,
         /// The numerator of each variable's value.
         numerators: Vec<i64>,
+        /// How often each numerator has the small amount beside it. All of them
+        /// are 0 where no limit is strict.
+        small: Vec<i64>,
     },
     /// No values meet all limits: the limits, each so many times, contradict
     /// each other.
@@ -108,7 +114,9 @@ impl Answer {
     pub(crate) fn read(words: &[i64]) -> Answer {
         let (first, second) = words[3..].split_at((words.len() - 3) / 2);
         let verdict = match words[0] {
-            1 => Verdict::Can { over: words[2], numerators: first.to_vec() },
+            1 => {
+                Verdict::Can { over: words[2], numerators: first.to_vec(), small: second.to_vec() }
+            }
             2 => Verdict::Cannot { lower: first.to_vec(), upper: second.to_vec() },
             _ => Verdict::OutOfRange,
         };
@@ -121,14 +129,41 @@ impl Answer {
     pub fn evidence(&self) -> Option<Vec<i64>> {
         let pivots = self.pivots as i64;
         match &self.verdict {
-            Verdict::Can { over, numerators } => {
-                Some([&[1, pivots, *over], &numerators[..], &vec![0; numerators.len()]].concat())
+            Verdict::Can { over, numerators, small } => {
+                Some([&[1, pivots, *over], &numerators[..], &small[..]].concat())
             }
             Verdict::Cannot { lower, upper } => {
                 Some([&[2, pivots, 0], &lower[..], &upper[..]].concat())
             }
             Verdict::OutOfRange => None,
         }
+    }
+
+    /// Values that meet all rows and limits, strict limits strictly, as
+    /// numbers: 1 / 17,179,869,177 is put for the small amount, which is always
+    /// small enough. Where no value has a small part, the denominator is that of
+    /// the answer. They take more than 64 bits.
+    ///
+    /// ```
+    /// use scatterflock::Problem;
+    ///
+    /// // y is less than 3, and x + y more than that
+    /// let problem = Problem::new(2)?.above(0, 0)?.below(1, 3)?.row(&[1, 1])?.above(2, 3)?;
+    /// let fractions = problem.solve().fractions().unwrap();
+    /// assert_eq!(fractions.numerators, [51_539_607_532, 0, 51_539_607_532]);
+    /// assert_eq!(fractions.over, 17_179_869_177);
+    /// # Ok::<(), scatterflock::BuildError>(())
+    /// ```
+    #[must_use]
+    pub fn fractions(&self) -> Option<Fractions<i128>> {
+        let Verdict::Can { over, numerators, small } = &self.verdict else { return None };
+        let is_plain = small.iter().all(|&small| small == 0);
+        let parts = if is_plain { 1 } else { i128::from(LARGEST_SMALL) + 1 };
+        let mixed = |(plain, small): (&i64, &i64)| parts * i128::from(*plain) + i128::from(*small);
+        Some(Fractions {
+            numerators: numerators.iter().zip(small).map(mixed).collect(),
+            over: parts * i128::from(*over),
+        })
     }
 }
 
@@ -152,9 +187,12 @@ impl fmt::Display for Answer {
             pivots => format!("{pivots} pivots"),
         };
         match &self.verdict {
-            Verdict::Can { over, numerators } => {
-                let values: Vec<String> =
-                    numerators.iter().map(|number| format!("{number}/{over}")).collect();
+            Verdict::Can { over, numerators, small } => {
+                let values = numerators.iter().zip(small).map(|(number, small)| match small {
+                    0 => format!("{number}/{over}"),
+                    small => format!("{number}/{over} and {small}/{over} small"),
+                });
+                let values: Vec<String> = values.collect();
                 write!(to, "can, after {pivots}: {}", values.join(", "))
             }
             Verdict::Cannot { lower, upper } => {

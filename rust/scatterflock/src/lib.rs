@@ -19,7 +19,8 @@
 //!     .at_least(4, 1)?;
 //! let answer = problem.solve();
 //! assert_eq!(answer.pivots, 2);
-//! assert_eq!(answer.verdict, Verdict::Can { over: 3, numerators: vec![3, 3, 6, 3, 3] });
+//! let (numerators, small) = (vec![3, 3, 6, 3, 3], vec![0; 5]);
+//! assert_eq!(answer.verdict, Verdict::Can { over: 3, numerators, small });
 //!
 //! // Both x and y are 3/3. An answer is evidence that can be checked alone.
 //! let evidence = answer.evidence().expect("it is not out of range");
@@ -49,6 +50,7 @@
 //!
 //! - [`Problem`], [`solve()`], [`check`]: limit problems, answers and their
 //!   judgement
+//! - [`Fractions`]: values as numbers over one denominator
 //! - [`Slice`]: a run that is made some pivots at a time
 //! - [`TimeRows`], [`times()`]: time rows
 //! - [`Refusal`], [`TimesRefusal`]: why words are refused
@@ -60,6 +62,7 @@
 
 mod answer;
 mod build_error;
+mod fractions;
 mod problem;
 pub mod raw;
 mod refusal;
@@ -70,8 +73,9 @@ mod times;
 
 pub use answer::{check, solve, Answer, Judgement, Verdict};
 pub use build_error::BuildError;
-pub use problem::Problem;
+pub use fractions::Fractions;
+pub use problem::{Limit, Problem};
 pub use refusal::{Refusal, TimesRefusal};
 pub use rows::TimeRows;
 pub use slice::Slice;
-pub use times::{times, Fractions, Schedule, Time};
+pub use times::{times, Schedule, Time};

@@ -6,6 +6,15 @@ use crate::raw;
 use crate::refusal::Refusal;
 use crate::sizes::{LARGEST_COEFFICIENT, LARGEST_LIMIT, MOST_ROWS, MOST_VARIABLES};
 
+/// A limit: how far a value may go.
+#[derive(Debug, Clone, Copy, PartialEq, Eq, Hash)]
+pub struct Limit {
+    /// The number that no value passes.
+    pub number: i32,
+    /// Whether the number itself is left out too.
+    pub is_strict: bool,
+}
+
 /// A limit problem. What is wrong with it is told while it is built, so a
 /// problem that is there is never refused.
 ///
@@ -27,12 +36,29 @@ use crate::sizes::{LARGEST_COEFFICIENT, LARGEST_LIMIT, MOST_ROWS, MOST_VARIABLES
 /// assert_eq!((lower, upper), (vec![1, 1, 0], vec![0, 0, 1]));
 /// # Ok::<(), scatterflock::BuildError>(())
 /// ```
+///
+/// A strict limit leaves its own number out. The answer stays a small amount
+/// inside, and [`Answer::fractions`] puts a number for that amount:
+///
+/// ```
+/// use scatterflock::Problem;
+///
+/// // solder stays below 217 degrees, and comes to 216 or more
+/// let answer = Problem::new(1)?.at_least(0, 216)?.below(0, 217)?.solve();
+/// assert_eq!(answer.to_string(), "can, after 0 pivots: 216/1");
+///
+/// let answer = Problem::new(1)?.above(0, 0)?.solve();
+/// assert_eq!(answer.to_string(), "can, after 0 pivots: 0/1 and 1/1 small");
+/// let fractions = answer.fractions().unwrap();
+/// assert_eq!((fractions.numerators, fractions.over), (vec![1], 17_179_869_177));
+/// # Ok::<(), scatterflock::BuildError>(())
+/// ```
 #[derive(Debug, Clone, PartialEq, Eq, Hash)]
 pub struct Problem {
     variables: usize,
     rows: Vec<Vec<i32>>,
     /// Lower and upper limit of each variable, then of each row.
-    limits: Vec<[Option<i32>; 2]>,
+    limits: Vec<[Option<Limit>; 2]>,
 }
 
 impl Problem {
@@ -71,12 +97,7 @@ impl Problem {
             rows: coefficients.chunks_exact(variables).map(<[i32]>::to_vec).collect(),
             limits: limits
                 .chunks_exact(3)
-                .map(|three| {
-                    [
-                        (three[0] & 1 != 0).then_some(three[1]),
-                        (three[0] & 2 != 0).then_some(three[2]),
-                    ]
-                })
+                .map(|three| [0, 1].map(|side| Limit::read(three, side)))
                 .collect(),
         }
     }
@@ -116,7 +137,17 @@ impl Problem {
     /// The variable is one of the problem's and has no lower limit yet, and
     /// the limit is from -30,000 to 30,000.
     pub fn at_least(self, variable: usize, limit: i32) -> Result<Problem, BuildError> {
-        self.limit(variable, 0, limit)
+        self.limit(variable, 0, Limit { number: limit, is_strict: false })
+    }
+
+    /// Gives a variable, or the sum of a row, a strict lower limit: the value
+    /// is more than that.
+    ///
+    /// # Errors
+    ///
+    /// As for [`at_least`](Problem::at_least).
+    pub fn above(self, variable: usize, limit: i32) -> Result<Problem, BuildError> {
+        self.limit(variable, 0, Limit { number: limit, is_strict: true })
     }
 
     /// Gives a variable, or the sum of a row, an upper limit.
@@ -125,7 +156,17 @@ impl Problem {
     ///
     /// As for [`at_least`](Problem::at_least).
     pub fn at_most(self, variable: usize, limit: i32) -> Result<Problem, BuildError> {
-        self.limit(variable, 1, limit)
+        self.limit(variable, 1, Limit { number: limit, is_strict: false })
+    }
+
+    /// Gives a variable, or the sum of a row, a strict upper limit: the value
+    /// is less than that.
+    ///
+    /// # Errors
+    ///
+    /// As for [`at_least`](Problem::at_least).
+    pub fn below(self, variable: usize, limit: i32) -> Result<Problem, BuildError> {
+        self.limit(variable, 1, Limit { number: limit, is_strict: true })
     }
 
     /// Gives both limits.
@@ -147,12 +188,12 @@ impl Problem {
         self.between(variable, value, value)
     }
 
-    fn limit(mut self, variable: usize, side: usize, limit: i32) -> Result<Problem, BuildError> {
+    fn limit(mut self, variable: usize, side: usize, limit: Limit) -> Result<Problem, BuildError> {
         let Some(limits) = self.limits.get_mut(variable) else {
             return Err(BuildError::NoVariable(variable));
         };
-        if !(-LARGEST_LIMIT..=LARGEST_LIMIT).contains(&limit) {
-            return Err(BuildError::Limit(limit));
+        if !(-LARGEST_LIMIT..=LARGEST_LIMIT).contains(&limit.number) {
+            return Err(BuildError::Limit(limit.number));
         }
         if limits[side].is_some() {
             return Err(BuildError::LimitTwice(variable));
@@ -176,7 +217,7 @@ impl Problem {
     /// The lower and the upper limit of a variable, or of a row's sum. There
     /// is neither for a number that is no variable.
     #[must_use]
-    pub fn limits(&self, variable: usize) -> [Option<i32>; 2] {
+    pub fn limits(&self, variable: usize) -> [Option<Limit>; 2] {
         self.limits.get(variable).copied().unwrap_or_default()
     }
 
@@ -185,9 +226,10 @@ impl Problem {
     pub fn words(&self) -> Vec<i32> {
         let mut words = vec![self.variables as i32, self.rows.len() as i32];
         words.extend(self.rows.iter().flatten());
-        for [lower, upper] in &self.limits {
-            let kind = i32::from(lower.is_some()) + 2 * i32::from(upper.is_some());
-            words.extend([kind, lower.unwrap_or(0), upper.unwrap_or(0)]);
+        for limits in &self.limits {
+            let kind = [0, 1].map(|side| limits[side].map_or(0, |limit| limit.kind(side)));
+            let number = limits.map(|limit| limit.map_or(0, |limit| limit.number));
+            words.extend([kind[0] + kind[1], number[0], number[1]]);
         }
         words
     }
@@ -207,3 +249,21 @@ impl Problem {
         check(&self.words(), answer)
     }
 }
+
+impl Limit {
+    /// The limit on one side of a variable: of its kind, lower and upper word.
+    fn read(three: &[i32], side: usize) -> Option<Limit> {
+        let is_strict = three[0] & STRICT[side] != 0;
+        (three[0] & PRESENT[side] != 0).then_some(Limit { number: three[1 + side], is_strict })
+    }
+
+    /// What it adds to the kind of its variable.
+    fn kind(self, side: usize) -> i32 {
+        PRESENT[side] + if self.is_strict { STRICT[side] } else { 0 }
+    }
+}
+
+/// The bit of a kind that says that there is a lower, an upper limit.
+const PRESENT: [i32; 2] = [1, 2];
+/// The bit that marks it as strict.
+const STRICT: [i32; 2] = [4, 8];

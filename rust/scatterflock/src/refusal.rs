@@ -24,7 +24,7 @@ pub enum Refusal {
     Length = 3,
     /// 4: a coefficient is out of its range.
     Coefficient = 4,
-    /// 5: a kind is out of its range.
+    /// 5: a kind is out of its range, or marks a missing limit as strict.
     Kind = 5,
     /// 6: a limit is out of its range, or a missing one has a number.
     Limit = 6,
@@ -71,7 +71,9 @@ impl fmt::Display for Refusal {
             Refusal::Sizes => "there must be 1 to 8 variables and 0 to 16 rows",
             Refusal::Length => "the sizes ask for another number of words",
             Refusal::Coefficient => "a coefficient is not from -1,000 to 1,000",
-            Refusal::Kind => "a kind of limit is not from 0 to 3",
+            Refusal::Kind => {
+                "a kind of limit is not from 0 to 15, or marks a missing limit as strict"
+            }
             Refusal::Limit => {
                 "a limit is not from -30,000 to 30,000, or a missing one is not written as 0"
             }

@@ -11,6 +11,9 @@ pub const LARGEST_COEFFICIENT: i32 = 1_000;
 pub const LARGEST_LIMIT: i32 = 30_000;
 /// The largest number of a tableau, the largest denominator and multiplier.
 pub const LARGEST_NUMBER: i64 = 2_147_483_647;
+/// The largest small part of a numerator; the least is its opposite. So any
+/// fraction up to 1 / 17,179,869,177 may be put for the small amount.
+pub const LARGEST_SMALL: i64 = MOST_VARIABLES as i64 * LARGEST_NUMBER;
 /// The most words of a limit problem.
 pub const MOST_WORDS: usize = 2 + MOST_ROWS * MOST_VARIABLES + 3 * (MOST_VARIABLES + MOST_ROWS);
 /// The most words of an answer to one.

@@ -1,5 +1,6 @@
 //! Time rows: times that meet all of them, or rows that cannot be met.
 
+use crate::fractions::Fractions;
 use crate::raw;
 use crate::refusal::TimesRefusal;
 use crate::sizes::MOST_TIMES;
@@ -23,15 +24,6 @@ pub struct Time {
     pub minutes: i64,
     /// Small amounts: from 0 on, and fewer than there are vertices.
     pub small: i64,
-}
-
-/// Times as fractions of a minute over one denominator.
-#[derive(Debug, Clone, PartialEq, Eq, Hash)]
-pub struct Fractions {
-    /// The numerator of each vertex's time.
-    pub numerators: Vec<i64>,
-    /// The denominator, above 0.
-    pub over: i64,
 }
 
 /// Answers the time rows of these words.

@@ -5,7 +5,7 @@ use problems::limits::Family;
 use problems::random::{seed, Random};
 use problems::worked::{self, TimesAnswer};
 use scatterflock::sizes::{MOST_ROWS, MOST_TIME_ROWS};
-use scatterflock::{solve, BuildError, Problem, Refusal, Schedule, Time, TimeRows, Verdict};
+use scatterflock::{solve, BuildError, Limit, Problem, Refusal, Schedule, Time, TimeRows, Verdict};
 
 #[test]
 fn words_and_back() {
@@ -35,14 +35,45 @@ fn rebuilt(words: &[i32]) -> Problem {
     }
     for variable in 0..given.variables() + given.rows().len() {
         let [lower, upper] = given.limits(variable);
-        if let Some(limit) = lower {
-            problem = problem.at_least(variable, limit).unwrap();
-        }
-        if let Some(limit) = upper {
-            problem = problem.at_most(variable, limit).unwrap();
-        }
+        problem = match lower {
+            None => problem,
+            Some(Limit { number, is_strict: false }) => problem.at_least(variable, number).unwrap(),
+            Some(Limit { number, is_strict: true }) => problem.above(variable, number).unwrap(),
+        };
+        problem = match upper {
+            None => problem,
+            Some(Limit { number, is_strict: false }) => problem.at_most(variable, number).unwrap(),
+            Some(Limit { number, is_strict: true }) => problem.below(variable, number).unwrap(),
+        };
     }
     problem
+}
+
+#[test]
+fn every_kind_is_built() {
+    for (problem, limits) in [
+        (free(), [0, 0, 0]),
+        (free().at_least(0, -7).unwrap(), [1, -7, 0]),
+        (free().at_most(0, 7).unwrap(), [2, 0, 7]),
+        (free().between(0, -7, 7).unwrap(), [3, -7, 7]),
+        (free().above(0, -7).unwrap(), [5, -7, 0]),
+        (free().above(0, -7).unwrap().at_most(0, 7).unwrap(), [7, -7, 7]),
+        (free().below(0, 7).unwrap(), [10, 0, 7]),
+        (free().at_least(0, -7).unwrap().below(0, 7).unwrap(), [11, -7, 7]),
+        (free().above(0, -7).unwrap().below(0, 7).unwrap(), [15, -7, 7]),
+    ] {
+        let words = [&[1, 0], &limits[..]].concat();
+        assert_eq!(problem.words(), words);
+        assert_eq!(Problem::from_words(&words), Ok(problem));
+    }
+    for kind in [-1, 4, 6, 8, 9, 12, 13, 14, 16] {
+        assert_eq!(Problem::from_words(&[1, 0, kind, 0, 0]), Err(Refusal::Kind), "{kind}");
+    }
+}
+
+/// One variable, which nothing limits.
+fn free() -> Problem {
+    Problem::new(1).unwrap()
 }
 
 #[test]
@@ -84,7 +115,9 @@ fn what_cannot_be_built() {
     assert_eq!(problem().at_least(1, -30_001), Err(BuildError::Limit(-30_001)));
     let limited = problem().at_least(1, 5).unwrap();
     assert_eq!(limited.clone().at_least(1, 5), Err(BuildError::LimitTwice(1)));
+    assert_eq!(limited.clone().above(1, 4), Err(BuildError::LimitTwice(1)));
     assert_eq!(limited.exactly(1, 5), Err(BuildError::LimitTwice(1)));
+    assert_eq!(problem().below(1, 30_001), Err(BuildError::Limit(30_001)));
     let full = (0..MOST_ROWS).fold(problem(), |full, _| full.row(&[1_000, -1_000]).unwrap());
     assert_eq!(full.clone().row(&[1, 1]), Err(BuildError::Rows));
     assert_eq!(full.check(&[]), Err(Refusal::Short));

@@ -1,11 +1,15 @@
 //! The typed face over the archive: every verdict, every refusal, every text.
 
 use problems::draft::{at_least, Draft, FREE};
+use problems::limits::Family;
 use problems::published::published;
+use problems::random::{seed, Random};
 use problems::worked::{self, time_words, TimesAnswer};
-use scatterflock::sizes::{MOST_ANSWER, MOST_TIMES, MOST_WORDS};
+use scatterflock::sizes::{LARGEST_NUMBER, LARGEST_SMALL, MOST_ANSWER, MOST_TIMES, MOST_WORDS};
 use scatterflock::{check, solve, times};
-use scatterflock::{Judgement, Refusal, Schedule, Time, TimesRefusal, Verdict};
+use scatterflock::{
+    Fractions, Judgement, Limit, Problem, Refusal, Schedule, Time, TimesRefusal, Verdict,
+};
 
 #[test]
 fn worked_cases_and_published_problems() {
@@ -39,7 +43,8 @@ fn answers_of_every_length() {
     for (n, m) in (1..=8).flat_map(|n| (0..=16).map(move |m| (n, m))) {
         let rows = vec![&[1; 8][..n]; m];
         let answer = solve(&Draft::new(n, &rows, &vec![FREE; n + m]).words()).unwrap();
-        assert_eq!(answer.verdict, Verdict::Can { over: 1, numerators: vec![0; n + m] });
+        let (numerators, small) = (vec![0; n + m], vec![0; n + m]);
+        assert_eq!(answer.verdict, Verdict::Can { over: 1, numerators, small });
     }
     for n in 1..=64 {
         let mut rows: Vec<[i32; 4]> = (1..n).map(|vertex| [vertex - 1, vertex, 0, -1]).collect();
@@ -91,7 +96,10 @@ fn numbers_and_texts_of_refusals() {
     }
     assert_eq!([0, 8, 9, 11].map(Refusal::try_from), [Err(0), Err(8), Err(9), Err(11)]);
     assert_eq!([10, 18].map(TimesRefusal::try_from), [Err(10), Err(18)]);
-    assert_eq!(Refusal::Kind.to_string(), "a kind of limit is not from 0 to 3");
+    assert_eq!(
+        Refusal::Kind.to_string(),
+        "a kind of limit is not from 0 to 15, or marks a missing limit as strict"
+    );
     assert_eq!(TimesRefusal::Short.to_string(), "there is no room for a whole answer");
 }
 
@@ -148,6 +156,8 @@ fn texts_of_answers() {
     assert_eq!(text(&[1, 0, 3, 1, 0]), "cannot, after 0 pivots: 1 x lower 0, 1 x upper 0");
     let range = published().into_iter().find(|case| case.answer[0] == 3).unwrap();
     assert_eq!(text(&range.words), "out of range, after 2 pivots");
+    assert_eq!(text(&[1, 0, 10, 0, 0]), "can, after 0 pivots: 0/1 and -1/1 small");
+    assert_eq!(text(&[1, 0, 7, 5, 5]), "cannot, after 0 pivots: 1 x lower 0, 1 x upper 0");
     let cycle = times(&time_words(1, &[[0, 0, 1, 0]])).unwrap();
     assert_eq!(cycle.to_string(), "no times: rows 0 go round below 0");
     assert_eq!(Judgement::Rejected.to_string(), "not accepted");
@@ -176,7 +186,70 @@ fn fractions_meet_strict_rows() {
     assert_eq!(times(&time_words(1, &[[0, 0, 1, 0]])).unwrap().fractions(), None);
 }
 
+/// Whether the fractions meet a problem, its strict limits strictly.
+fn are_met(problem: &Problem, fractions: &Fractions<i128>) -> bool {
+    let Fractions { numerators, over } = fractions;
+    let sums = problem.rows().iter().map(|row| {
+        row.iter().zip(numerators).map(|(&coefficient, value)| i128::from(coefficient) * value)
+    });
+    let sums: Vec<i128> = sums.map(Iterator::sum).collect();
+    let met = |limit: Option<Limit>, far: i128| {
+        limit.is_none_or(|limit| if limit.is_strict { far > 0 } else { far >= 0 })
+    };
+    numerators[problem.variables()..] == sums
+        && numerators.iter().enumerate().all(|(variable, value)| {
+            let limits = problem.limits(variable);
+            let far = limits.map(|limit| limit.map_or(0, |l| value - over * i128::from(l.number)));
+            met(limits[0], far[0]) && met(limits[1], -far[1])
+        })
+}
+
+#[test]
+fn fractions_meet_strict_limits() {
+    let seed = seed();
+    println!("SEED={seed}");
+    let mut small = 0;
+    for problem in 0..20_000 {
+        let mut random = Random::of_problem(seed, problem);
+        let family = Family::ALL[random.below(Family::ALL.len())];
+        let mut words = family.words(&mut random);
+        marked(&mut random, &mut words);
+        let Ok(problem) = Problem::from_words(&words) else { continue };
+        let answer = problem.solve();
+        let Some(fractions) = answer.fractions() else { continue };
+        assert!(are_met(&problem, &fractions), "SEED={seed}: {words:?}, {answer}");
+        small += usize::from(fractions.over > i128::from(LARGEST_NUMBER));
+    }
+    println!("{small} with small parts");
+    assert!(small > 500, "{small} with small parts, SEED={seed}");
+}
+
+/// Marks some of the limits as strict.
+fn marked(random: &mut Random, words: &mut [i32]) {
+    let [n @ 1..=8, m @ 0..=16, ..] = *words else { return };
+    let start = (2 + m * n) as usize;
+    for kind in words.iter_mut().skip(start).step_by(3) {
+        if (0..=3).contains(kind) {
+            *kind |= (*kind * 4) & random.below(16) as i32;
+        }
+    }
+}
+
+#[test]
+fn fractions_of_worked_cases() {
+    let fractions = |words: &[i32]| solve(words).unwrap().fractions().unwrap();
+    let plain = fractions(&worked::case_a().words);
+    assert_eq!((plain.numerators, plain.over), (vec![3, 3, 6, 3, 3], 3));
+    // 0 < 2x + 3y < 1 and 3x - 2y > 0: small parts 1 0 2 3 over 2
+    let rows: [&[i32]; 2] = [&[2, 3], &[3, -2]];
+    let words = Draft::new(2, &rows, &[FREE, FREE, [15, 0, 1], [5, 0, 0]]).words();
+    let small = fractions(&words);
+    assert_eq!((small.numerators, small.over), (vec![1, 0, 2, 3], 2 * 17_179_869_177));
+    assert_eq!(solve(&[1, 0, 3, 1, 0]).unwrap().fractions(), None);
+}
+
 #[test]
 fn sizes_are_those_of_the_rules() {
+    assert_eq!(LARGEST_SMALL, 17_179_869_176);
     assert_eq!([MOST_WORDS, MOST_ANSWER, MOST_TIMES], [202, 51, 130]);
 }

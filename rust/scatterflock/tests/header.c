@@ -1,8 +1,9 @@
 /*
  * Calls the archive through include/scatterflock.h and compares what it gives:
- * cases A, C and J of docs/RULES.md, case A in slices, answers that are right
- * and wrong, and refusals. It is C and C++ at once, and header.rs compiles it as both. Each
- * difference is a line, and any makes the program fail.
+ * cases A, C and J of docs/RULES.md, case A in slices, strict limits, answers
+ * that are right and wrong, and refusals. It is C and C++ at once, and header.rs
+ * compiles it as both. Each difference is a line, and any makes the program
+ * fail.
  */
 #include "scatterflock.h"
 
@@ -18,6 +19,18 @@ static const int64_t A_WRONG[] = {1, 2, 3, 3, 3, 6, 3, 4, 0, 0, 0, 0, 0};
 static const int32_t C[] = {2, 3, 1, 1, -1, -2, -1, 1, 0, 0, 0, 0, 0, 0, 1, 0, 0, 1, 2, 0, 1, 1, 0};
 static const int64_t C_ANSWER[] = {2, 2, 0, 0, 0, 3, 2, 1, 0, 0, 0, 0, 0};
 static const int64_t C_WRONG[] = {2, 2, 0, 0, 0, 3, 2, 2, 0, 0, 0, 0, 0};
+
+/* x > 0, y < 3, x + y > 3 */
+static const int32_t STRICT[] = {2, 1, 1, 1,
+                                 SCATTERFLOCK_ABOVE, 0, 0,
+                                 SCATTERFLOCK_BELOW, 0, 3,
+                                 SCATTERFLOCK_AT_LEAST + SCATTERFLOCK_STRICT_LOWER, 3, 0};
+static const int64_t STRICT_ANSWER[] = {1, 1, 1, 3, 0, 3, 1, 0, 1};
+static const int64_t STRICT_WRONG[] = {1, 1, 1, 3, 0, 3, 0, 0, 0};
+#define MOST SCATTERFLOCK_LARGEST_SMALL
+static const int64_t STRICT_FAR[] = {1, 1, 1, 4, 0, 4, -MOST, 0, -MOST};
+static const int64_t STRICT_BEYOND[] = {1, 1, 1, 4, 0, 4, MOST + 1, 0, MOST + 1};
+static const int32_t STRICT_MISSING[] = {1, 0, SCATTERFLOCK_AT_LEAST + SCATTERFLOCK_STRICT_UPPER, 0, 0};
 
 static const int32_t J[] = {4, 6, 0, 1, 0, 5, 1, 0, 0, -5, 1, 2, 0, -2,
                             0, 2, 0, -3, 3, 0, 0, 2, 0, 3, 0, -2};
@@ -103,6 +116,10 @@ int main(void)
     number("solve C", scatterflock_solve(C, COUNT(C), out, ROOM), 0);
     words("solve C", out, C_ANSWER, COUNT(C_ANSWER));
     out = fresh();
+    number("solve strict", scatterflock_solve(STRICT, COUNT(STRICT), out, ROOM), 0);
+    words("solve strict", out, STRICT_ANSWER, COUNT(STRICT_ANSWER));
+    out = fresh();
+    number("solve missing", scatterflock_solve(STRICT_MISSING, COUNT(STRICT_MISSING), out, ROOM), SCATTERFLOCK_KIND);
     number("solve nine", scatterflock_solve(NINE_VARIABLES, COUNT(NINE_VARIABLES), out, ROOM), 2);
     words("solve nine", out, NULL, 0);
     number("solve A short", scatterflock_solve(A, COUNT(A), out, COUNT(A_ANSWER) - 1), 7);
@@ -113,6 +130,11 @@ int main(void)
     number("check A short", scatterflock_check(A, COUNT(A), A_ANSWER, COUNT(A_ANSWER) - 1), 7);
     number("check C", scatterflock_check(C, COUNT(C), C_ANSWER, COUNT(C_ANSWER)), 8);
     number("check C wrong", scatterflock_check(C, COUNT(C), C_WRONG, COUNT(C_WRONG)), SCATTERFLOCK_REJECTED);
+
+    number("check strict", scatterflock_check(STRICT, COUNT(STRICT), STRICT_ANSWER, COUNT(STRICT_ANSWER)), 8);
+    number("check strict wrong", scatterflock_check(STRICT, COUNT(STRICT), STRICT_WRONG, COUNT(STRICT_WRONG)), 9);
+    number("check strict far", scatterflock_check(STRICT, COUNT(STRICT), STRICT_FAR, COUNT(STRICT_FAR)), 8);
+    number("check strict beyond", scatterflock_check(STRICT, COUNT(STRICT), STRICT_BEYOND, COUNT(STRICT_BEYOND)), 9);
 
     number("times J", scatterflock_times(J, COUNT(J), out, ROOM), 0);
     words("times J", out, J_TIMES, COUNT(J_TIMES));

@@ -80,6 +80,8 @@ fn the_names_of_the_header_are_those_of_the_crate() {
     ] {
         assert_eq!(named[name] as usize, size, "{name}");
     }
+    let small = format!("#define SCATTERFLOCK_LARGEST_SMALL INT64_C({})", sizes::LARGEST_SMALL);
+    assert!(header.lines().any(|line| line.starts_with(&small)), "{small}");
 }
 
 #[test]

@@ -8,6 +8,9 @@ use crate::tokens::{lines, Kind, Line, Sign, Token};
 /// The largest denominator and multiplier that the checker takes.
 const LARGEST: i128 = 2_147_483_647;
 
+/// The word for the small amount, in a value.
+pub const SMALL: &str = "small";
+
 /// Reads an answer to this problem: bare numbers, or `can` with a value for
 /// each name, or `cannot` with multipliers. What comes back are the words that
 /// the checker takes.
@@ -38,7 +41,7 @@ pub fn read(text: &str, problem: &Limits) -> Result<Vec<i64>, Fault> {
 }
 
 fn can(lines: &[Line], end: &Line, problem: &Limits) -> Result<Vec<i64>, Fault> {
-    let mut values: Vec<Option<(i128, i128)>> = vec![None; problem.names.len()];
+    let mut values: Vec<Option<Value>> = vec![None; problem.names.len()];
     let mut over: i128 = 1;
     for line in lines {
         let [Token { kind: Kind::Name(name), column }, Token { kind: Kind::Sign(Sign::Equal), .. }, value @ ..] =
@@ -53,32 +56,65 @@ fn can(lines: &[Line], end: &Line, problem: &Limits) -> Result<Vec<i64>, Fault> 
         if values[number].is_some() {
             return Err(line.fault(*column, format!("{name} has a value already")));
         }
-        let (numerator, denominator) = fraction(line, value)?;
-        over = over / divisor(over, denominator) * denominator;
-        if over > LARGEST {
-            let what = "over one denominator these fractions are too large for the checker";
-            return Err(line.fault(*column, what));
+        let value = self::value(line, value)?;
+        for (_, denominator) in value {
+            over = over / divisor(over, denominator) * denominator;
+            if over > LARGEST {
+                let what = "over one denominator these fractions are too large for the checker";
+                return Err(line.fault(*column, what));
+            }
         }
-        values[number] = Some((numerator, denominator));
+        values[number] = Some(value);
     }
-    let mut numerators = Vec::new();
+    let mut parts = [Vec::new(), Vec::new()];
     for (name, value) in problem.names.iter().zip(values) {
-        let Some((numerator, denominator)) = value else {
+        let Some(value) = value else {
             return Err(end.fault(end.end, format!("{name} has no value")));
         };
-        numerators.push(numerator * (over / denominator));
-    }
-    for row in &problem.rows {
-        let terms = row.iter().zip(&numerators);
-        numerators.push(terms.map(|(coefficient, value)| i128::from(*coefficient) * value).sum());
+        for (part, (numerator, denominator)) in parts.iter_mut().zip(value) {
+            part.push(numerator * (over / denominator));
+        }
     }
     let mut words = vec![1, 0, over as i64];
-    for numerator in &numerators {
-        let word = i64::try_from(*numerator);
-        words.push(word.map_err(|_| end.fault(end.end, "a value is too large for the checker"))?);
+    for mut part in parts {
+        for row in &problem.rows {
+            let terms = row.iter().zip(&part);
+            part.push(terms.map(|(coefficient, value)| i128::from(*coefficient) * value).sum());
+        }
+        for numerator in part {
+            let word = i64::try_from(numerator);
+            let what = "a value is too large for the checker";
+            words.push(word.map_err(|_| end.fault(end.end, what))?);
+        }
     }
-    words.extend(vec![0; numerators.len()]);
     Ok(words)
+}
+
+/// The plain part of a value, and how often it has the small amount: each a
+/// numerator and a denominator.
+type Value = [(i128, i128); 2];
+
+const VALUE: &str = "a value is a whole number or a fraction: 7/2, or 7/2 - 3/4 small";
+
+/// A fraction, and behind a sign how many small amounts there are.
+fn value(line: &Line, tokens: &[Token]) -> Result<Value, Fault> {
+    let is_sign = |token: &Token| matches!(token.kind, Kind::Plus | Kind::Minus);
+    let Some(at) = tokens.iter().skip(1).position(is_sign).map(|at| at + 1) else {
+        return Ok([fraction(line, tokens)?, (0, 1)]);
+    };
+    let plain = fraction(line, &tokens[..at])?;
+    let (sign, amounts) = (&tokens[at], &tokens[at + 1..]);
+    let small = match amounts.split_last() {
+        Some((Token { kind: Kind::Name(name), .. }, times)) if name == SMALL => times,
+        _ => return Err(line.fault(tokens[0].column, VALUE)),
+    };
+    let (numerator, denominator) = match small {
+        [] => (1, 1),
+        times if is_sign(&times[0]) => return Err(line.fault(times[0].column, VALUE)),
+        times => fraction(line, times)?,
+    };
+    let signed = if sign.kind == Kind::Minus { -numerator } else { numerator };
+    Ok([plain, (signed, denominator)])
 }
 
 /// A whole number, or one over another that is above 0.
@@ -95,7 +131,7 @@ fn fraction(line: &Line, tokens: &[Token]) -> Result<(i128, i128), Fault> {
         }
         _ => {
             let column = tokens.first().map_or(line.end, |token| token.column);
-            return Err(line.fault(column, "a value is a whole number or a fraction: 7/2"));
+            return Err(line.fault(column, VALUE));
         }
     };
     let numerator = i128::from(if is_negative { -numerator } else { numerator });

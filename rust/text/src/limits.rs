@@ -35,6 +35,8 @@ pub struct Limits {
 pub struct Limit {
     /// The limit.
     pub number: i32,
+    /// Whether the number itself is left out.
+    pub is_strict: bool,
     /// The line, where there is a text.
     pub line: Option<usize>,
 }
@@ -60,6 +62,25 @@ impl Side {
             Side::Upper => "upper",
         }
     }
+
+    /// The bit of a kind that says that there is such a limit. That of a strict
+    /// one is four times as much.
+    fn bit(self) -> i32 {
+        1 << self as i32
+    }
+}
+
+impl Limit {
+    /// The sign between what is limited and the number.
+    #[must_use]
+    pub fn sign(self, side: Side) -> &'static str {
+        match (side, self.is_strict) {
+            (Side::Lower, false) => ">=",
+            (Side::Lower, true) => ">",
+            (Side::Upper, false) => "<=",
+            (Side::Upper, true) => "<",
+        }
+    }
 }
 
 impl Limits {
@@ -77,15 +98,18 @@ impl Limits {
             return None;
         }
         let limits = limits.chunks_exact(3).map(|three| {
-            let [kind @ 0..=3, numbers @ ..] = three else { return None };
+            let [kind @ 0..=15, numbers @ ..] = three else { return None };
             let mut found = [None; 2];
             for side in Side::BOTH {
                 let number = numbers[side as usize];
-                let is_there = kind >> side as usize & 1 == 1;
-                if !is_there && number != 0 || number.unsigned_abs() > LARGEST_LIMIT as u32 {
+                let is_there = kind & side.bit() != 0;
+                let is_strict = kind & (4 * side.bit()) != 0;
+                let is_empty = number == 0 && !is_strict;
+                if !is_there && !is_empty || number.unsigned_abs() > LARGEST_LIMIT as u32 {
                     return None;
                 }
-                found[side as usize] = is_there.then_some(Limit { number, line: None });
+                let limit = Limit { number, is_strict, line: None };
+                found[side as usize] = is_there.then_some(limit);
             }
             Some(found)
         });
@@ -101,10 +125,13 @@ impl Limits {
     pub fn words(&self) -> Vec<i32> {
         let mut words = vec![self.names.len() as i32, self.rows.len() as i32];
         words.extend(self.rows.iter().flatten());
-        for [lower, upper] in &self.limits {
-            let kind = i32::from(lower.is_some()) + 2 * i32::from(upper.is_some());
-            let number = |limit: &Option<Limit>| limit.map_or(0, |limit| limit.number);
-            words.extend([kind, number(lower), number(upper)]);
+        for limits in &self.limits {
+            let kinds = Side::BOTH.map(|side| {
+                let bits = |limit: Limit| side.bit() * if limit.is_strict { 5 } else { 1 };
+                limits[side as usize].map_or(0, bits)
+            });
+            let numbers = limits.map(|limit| limit.map_or(0, |limit| limit.number));
+            words.extend([kinds[0] + kinds[1], numbers[0], numbers[1]]);
         }
         words
     }

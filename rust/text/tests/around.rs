@@ -35,6 +35,18 @@ fn lines_and_their_words() {
         ("row x <= 4\nx >= 1", vec![1, 1, 1, 1, 1, 0, 2, 0, 4]),
         ("row 2 x\n2 x <= 4", vec![1, 2, 2, 2, 0, 0, 0, 0, 0, 0, 2, 0, 4]),
         ("5 <= x <= 1", vec![1, 0, 3, 5, 1]),
+        ("solder < 217", vec![1, 0, 10, 0, 217]),
+        ("217 > solder", vec![1, 0, 10, 0, 217]),
+        ("x > 0", vec![1, 0, 5, 0, 0]),
+        ("-x < 0", vec![1, 0, 5, 0, 0]),
+        ("0 < x <= 3", vec![1, 0, 7, 0, 3]),
+        ("3 > x >= 0", vec![1, 0, 11, 0, 3]),
+        ("0 < x < 3", vec![1, 0, 15, 0, 3]),
+        ("5 < x < 5", vec![1, 0, 15, 5, 5]),
+        ("5 < x <= 5", vec![1, 0, 7, 5, 5]),
+        ("x > 1\nx <= 3", vec![1, 0, 7, 1, 3]),
+        ("x - y < 5\ny - x <= 4", vec![2, 1, 1, -1, 0, 0, 0, 0, 0, 0, 11, -4, 5]),
+        ("x - y <= 5\ny < x + 4", vec![2, 1, 1, -1, 0, 0, 0, 0, 0, 0, 7, -4, 5]),
     ] {
         assert_eq!(words(text), expected, "{text}");
     }
@@ -53,6 +65,31 @@ fn lines_and_their_words() {
 }
 
 #[test]
+fn every_kind_comes_round() {
+    for kind in -1..=16 {
+        let numbers = [kind & 1, (kind & 2) / 2].map(|is_there| 7 * is_there);
+        let words = [1, 0, kind, numbers[0], numbers[1]];
+        let shown = Limits::from_words(&words).map(|shown| shown.text());
+        let expected = match kind {
+            0 => Some("free x0\n"),
+            1 => Some("x0 >= 7\n"),
+            2 => Some("x0 <= 7\n"),
+            3 => Some("x0 = 7\n"),
+            5 => Some("x0 > 7\n"),
+            7 => Some("7 < x0 <= 7\n"),
+            10 => Some("x0 < 7\n"),
+            11 => Some("7 <= x0 < 7\n"),
+            15 => Some("7 < x0 < 7\n"),
+            _ => None,
+        };
+        assert_eq!(shown.as_deref(), expected, "{kind}");
+        if let Some(text) = shown {
+            assert_eq!(self::words(&text), words);
+        }
+    }
+}
+
+#[test]
 fn every_limit_problem_comes_round() {
     let seed = seed();
     println!("SEED={seed}");
@@ -60,7 +97,8 @@ fn every_limit_problem_comes_round() {
     for problem in 0..5_000 {
         let mut random = Random::of_problem(seed, problem);
         let family = Family::ALL[random.below(Family::ALL.len())];
-        let given = family.words(&mut random);
+        let mut given = family.words(&mut random);
+        marked(&mut random, &mut given);
         let Some(shown) = Limits::from_words(&given) else { continue };
         let text = shown.text();
         let read =
@@ -72,6 +110,17 @@ fn every_limit_problem_comes_round() {
     assert!(come > 2_500, "{come} came round");
     for case in worked::limits() {
         assert_eq!(words(&Limits::from_words(&case.words).unwrap().text()), case.words);
+    }
+}
+
+/// Marks some of the limits as strict.
+fn marked(random: &mut Random, words: &mut [i32]) {
+    let [n @ 1..=8, m @ 0..=16, ..] = *words else { return };
+    let start = (2 + m * n) as usize;
+    for kind in words.iter_mut().skip(start).step_by(3) {
+        if (0..=3).contains(kind) {
+            *kind |= (*kind * 4) & random.below(16) as i32;
+        }
     }
 }
 
@@ -103,6 +152,9 @@ fn words_that_are_refused_are_no_text() {
         &[9, 0],
         &[1, 0],
         &[1, 0, 4, 0, 0],
+        &[1, 0, 9, 0, 0],
+        &[1, 0, 16, 0, 0],
+        &[1, 0, 5, 0, 1],
         &[1, 0, 0, 1, 0],
         &[1, 0, 1, 30_001, 0],
         &[1, 1, 1_001, 0, 0, 0, 0, 0, 0],

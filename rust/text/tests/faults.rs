@@ -13,7 +13,6 @@ fn time_fault(text: &str) -> String {
 
 #[test]
 fn of_limits() {
-    let strict = "strict limits are not there yet: write <= or >=";
     let missing = "a number or a name is missing here";
     let glued = "is not a whole number; between a number and a name stands a space or *";
     for (text, fault) in [
@@ -38,9 +37,10 @@ fn of_limits() {
         ("3 * 4 >= 5", "1:3: only a number and a name can be multiplied: 3 * x".to_string()),
         ("x + y - x >= 5", "1:9: x comes twice in this line".to_string()),
         ("x >= x", "1:6: x comes twice in this line".to_string()),
-        ("x < 5", format!("1:3: {strict}")),
-        ("x >= 1\n3 x - y > 5", format!("2:9: {strict}")),
-        ("1 < x <= 5", format!("1:3: {strict}")),
+        ("x > 1\nx >= 2", "2:3: x has its lower limit already, in line 1".to_string()),
+        ("x <= 1\n1 < x < 2", "2:7: x has its upper limit already, in line 1".to_string()),
+        ("1 < x > 5", "1:7: the two signs of a line must point the same way".to_string()),
+        ("x <> 5", "1:3: there is no sign for \"other than\"".to_string()),
         ("x == 5", "1:3: write = in place of ==".to_string()),
         ("x => 5", "1:3: write >= in place of =>".to_string()),
         ("x =< 5", "1:3: write <= in place of =<".to_string()),
@@ -50,7 +50,7 @@ fn of_limits() {
         ("x >= 5 %", "1:8: the character % has no meaning here".to_string()),
         ("x >= 5\u{7}", "1:7: the character \\u{7} has no meaning".to_string()),
         ("3 >= 2", "1:1: there is no name in this line".to_string()),
-        ("x", "1:2: a sign is missing: <=, >= or = says what the limit is".to_string()),
+        ("x", "1:2: a sign is missing: <=, <, >=, > or = says what the limit is".to_string()),
         ("1 <= x <= 5 <= y", "1:13: a line has one sign or two: 20 <= x <= 40".to_string()),
         ("1 <= x >= 5", "1:8: the two signs of a line must point the same way".to_string()),
         ("1 = x = 1", "1:7: the two signs of a line must point the same way".to_string()),
@@ -139,8 +139,6 @@ fn of_answers() {
         ("can\nx = 2\nx = 3", "3:1: x has a value already"),
         ("can\nz = 2", "2:1: z is no name of the problem"),
         ("can\nx = 2.5", "2:5: 2.5 is not a whole number"),
-        ("can\nx = 2/0", "2:5: a value is a whole number or a fraction: 7/2"),
-        ("can\nx =", "2:4: a value is a whole number or a fraction: 7/2"),
         ("can\nx 2", "2:1: here stands a name, =, and its value: x = 7/2"),
         ("cannot\n2 times line 7", "2:9: line 7 of the problem sets no such limit"),
         (
@@ -154,10 +152,30 @@ fn of_answers() {
     ] {
         assert_eq!(fault(text), Err(what.to_string()), "{text}");
     }
+    for (value, column) in [
+        ("", 4),
+        ("2/0", 5),
+        ("2 +", 5),
+        ("2 + 3", 5),
+        ("small", 5),
+        ("2 small", 5),
+        ("2 + large", 5),
+        ("2 + -3 small", 9),
+        ("2 + 3/0 small", 9),
+        ("2 + small small", 9),
+    ] {
+        let what = "a value is a whole number or a fraction: 7/2, or 7/2 - 3/4 small";
+        let expected = format!("2:{column}: {what}");
+        assert_eq!(fault(&format!("can\nx = {value}")), Err(expected), "{value}");
+    }
     let huge = "can\nx = 1/2147483647\ny = 1/2147483646\n";
     let what = "3:1: over one denominator these fractions are too large for the checker";
     assert_eq!(fault(huge), Err(what.to_string()));
+    let huge = "can\nx = 0 + 1/9223372036854775807 small\ny = 1/9223372036854775807\n";
+    assert_eq!(fault(huge), Err(format!("2:1{}", &what[3..])));
     assert_eq!(fault("can\ny = 3/2 # a comment\nx = -10/4"), Ok(vec![1, 0, 2, -5, 3, -2, 0, 0, 0]));
+    let small = "can\nx = -1/2 + small\ny = 3 - 5/3 small";
+    assert_eq!(fault(small), Ok(vec![1, 0, 6, -3, 18, 15, 6, -10, -4]));
     let cannot = "cannot\n2 times line 1 upper\n3 times line 2\n5 times lower 0\n";
     assert_eq!(fault(cannot), Ok(vec![2, 0, 0, 5, 0, 3, 2, 0, 0]));
     assert_eq!(fault("1 2\n-3 # 4"), Ok(vec![1, 2, -3]));

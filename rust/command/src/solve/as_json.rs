@@ -1,26 +1,28 @@
 //! An answer as JSON.
 
 use super::Shown;
-use crate::fraction::Fraction;
-use crate::problem::{all_limits, spare};
+use crate::problem::{all_limits, Values};
 use crate::{json, Ended, CAN, CANNOT, RANGE};
 use text::limits::Side;
 
 impl Shown {
-    pub(super) fn can_json(&self, over: i64, numerators: &[i64]) -> Ended {
+    pub(super) fn can_json(&self, values: Values) -> Ended {
         let problem = &self.problem;
-        let values = problem.names.iter().zip(numerators).map(|(name, &numerator)| {
+        let named = problem.names.iter().enumerate().map(|(variable, name)| {
             let mut fields = vec![("name", json::text(name))];
-            fields.extend(json::fraction(Fraction::new(numerator, over)));
+            fields.extend(json::pair(values.at(variable)));
             json::inner(&fields)
         });
         let limits = all_limits(problem).into_iter().map(|(variable, side)| {
-            let spare = spare(problem, (variable, side), over, numerators[variable]);
+            let spare = values.spare(problem, (variable, side));
             let mut fields = self.limit_json(variable, side);
-            fields.push(("spare", json::inner(&json::fraction(spare))));
+            fields.push(("spare", json::inner(&json::pair(spare))));
             json::inner(&fields)
         });
-        let fields = [("values", json::list(values)), ("limits", json::list(limits))];
+        let below = self.small_below(values);
+        let below = below.map_or("null".to_string(), |end| json::inner(&json::fraction(end)));
+        let fields =
+            [("values", json::list(named)), ("small_below", below), ("limits", json::list(limits))];
         self.json("can", &fields, CAN)
     }
 
@@ -48,13 +50,13 @@ impl Shown {
 
     pub(super) fn cannot_json(&self, multipliers: [&Vec<i64>; 2]) -> Ended {
         let counted = self.counted(multipliers);
-        let right: i64 = counted.iter().map(|&limit| self.at_least(limit).1).sum();
+        let (_, sum) = self.added_up(&counted);
         let limits = counted.iter().map(|&(variable, side, times)| {
             let mut fields = self.limit_json(variable, side);
             fields.push(("times", times.to_string()));
             json::inner(&fields)
         });
-        let sum = json::text(&format!("{} >= {right}", self.problem.sum(&self.left_sum(&counted))));
+        let sum = json::text(&format!("{} {} {}", sum.left, sum.sign, sum.right));
         self.json("cannot", &[("limits", json::list(limits)), ("sum", sum)], CANNOT)
     }
 

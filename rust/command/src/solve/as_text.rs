@@ -1,8 +1,7 @@
 //! An answer in the reader's words.
 
-use super::Shown;
-use crate::fraction::Fraction;
-use crate::problem::{all_limits, is_one_value, place, spare};
+use super::{AtLeast, Shown};
+use crate::problem::{all_limits, is_one_value, place, Values};
 use crate::table::table;
 use crate::{Ended, CAN, CANNOT, RANGE};
 use text::limits::Side;
@@ -13,39 +12,52 @@ impl Shown {
         format!("# The proved checker has accepted this answer. It took {pivots}.\n")
     }
 
-    pub(super) fn can(&self, over: i64, numerators: &[i64]) -> Ended {
-        let mut said = format!("can\n\n{}\n", self.values(over, numerators));
+    pub(super) fn can(&self, values: Values) -> Ended {
+        let mut said = format!("can\n\n{}\n", self.values(values));
         for (title, rows) in [
-            ("How far each limit is from being broken", self.spares(over, numerators)),
-            ("Rows without limits", self.free_rows(over, numerators)),
+            ("How far each limit is from being broken", self.spares(values)),
+            ("Rows without limits", self.free_rows(values)),
         ] {
             if !rows.is_empty() {
                 said += &format!("# {title}:\n{}#\n", table("#   ", &rows));
             }
         }
-        Ended::saying(said + &self.accepted(), CAN)
+        Ended::saying(said + &self.small(values) + &self.accepted(), CAN)
     }
 
-    fn values(&self, over: i64, numerators: &[i64]) -> String {
-        let values = self.problem.names.iter().zip(numerators).map(|(name, &numerator)| {
-            let value = Fraction::new(numerator, over);
+    fn values(&self, values: Values) -> String {
+        let named = self.problem.names.iter().enumerate().map(|(variable, name)| {
+            let value = values.at(variable);
             let said = format!("{name} = {value}");
             let read = value.read_as().map(|read| format!("# {read}"));
             [Some(said), read].into_iter().flatten().collect()
         });
-        table("", &values.collect::<Vec<Vec<String>>>())
+        table("", &named.collect::<Vec<Vec<String>>>())
+    }
+
+    /// What the small amount may be, where there is one.
+    fn small(&self, values: Values) -> String {
+        if values.small.iter().all(|&small| small == 0) {
+            return String::new();
+        }
+        let end = self.small_below(values).map(|end| format!(" and below {end}"));
+        let end = end.unwrap_or_default();
+        format!(
+            "# Put any amount above 0{end} for small, the same one everywhere: all limits hold.\n"
+        )
     }
 
     /// Each limit, with what is left.
-    fn spares(&self, over: i64, numerators: &[i64]) -> Vec<Vec<String>> {
+    fn spares(&self, values: Values) -> Vec<Vec<String>> {
         let problem = &self.problem;
         let limits = all_limits(problem).into_iter();
         let told = limits
             .filter(|&(variable, side)| side == Side::Lower || !is_one_value(problem, variable));
         told.map(|(variable, side)| {
-            let spare = spare(problem, (variable, side), over, numerators[variable]);
-            let far = match (spare.numerator, spare.read_as()) {
-                (0, _) => "met exactly".to_string(),
+            let spare = values.spare(problem, (variable, side));
+            let far = match (spare.plain.numerator, spare.plain.read_as()) {
+                (0, _) if spare.sign() == 0 => "met exactly".to_string(),
+                (0, _) => "a small amount to spare".to_string(),
                 (_, None) => format!("{spare} to spare"),
                 (_, Some(read)) => format!("{spare} to spare, {read}"),
             };
@@ -59,12 +71,12 @@ impl Shown {
     }
 
     /// What the rows without limits come to.
-    fn free_rows(&self, over: i64, numerators: &[i64]) -> Vec<Vec<String>> {
+    fn free_rows(&self, values: Values) -> Vec<Vec<String>> {
         let problem = &self.problem;
         let sums = problem.names.len()..problem.limits.len();
         let free = sums.filter(|&sum| problem.limits[sum] == [None; 2]);
         free.map(|sum| {
-            let value = Fraction::new(numerators[sum], over);
+            let value = values.at(sum);
             let read = value.read_as().map_or(String::new(), |read| format!(", {read}"));
             vec![format!("{} = {value}{read}", problem.left(sum))]
         })
@@ -82,25 +94,23 @@ impl Shown {
             "cannot\n\n{}\n# Each as \"at least\", so many times, and all of them added up:\n{}#\n\
              # No values meet these limits together.\n{}",
             table("", &named.collect::<Vec<Vec<String>>>()),
-            self.added_up(&counted),
+            self.sum(&counted),
             self.accepted()
         );
         Ended::saying(said, CANNOT)
     }
 
     /// Each limit as "at least", and below a rule what they come to.
-    fn added_up(&self, counted: &[(usize, Side, i64)]) -> String {
-        let each: Vec<(String, i64)> = counted.iter().map(|&limit| self.at_least(limit)).collect();
-        let left = self.problem.sum(&self.left_sum(counted));
-        let right: i64 = each.iter().map(|(_, right)| right).sum();
-        let lefts = each.iter().map(|(left, _)| left).chain([&left]);
-        let wide = lefts.map(|left| left.chars().count()).max().unwrap_or(0);
-        let line = |left: &str, right: i64| format!("#   {left:>wide$} >= {right}\n");
-        let lines: String = each.iter().map(|(left, right)| line(left, *right)).collect();
-        let rights = each.iter().map(|(_, right)| right).chain([&right]);
-        let rule =
-            "-".repeat(wide + 4 + rights.map(|right| right.to_string().len()).max().unwrap_or(0));
-        format!("{lines}#   {rule}\n{}", line(&left, right))
+    fn sum(&self, counted: &[(usize, Side, i64)]) -> String {
+        let (each, sum) = self.added_up(counted);
+        let all = || each.iter().chain([&sum]);
+        let wide = all().map(|limit| limit.left.chars().count()).max().unwrap_or(0);
+        let right_wide = all().map(|limit| limit.right.to_string().len()).max().unwrap_or(0);
+        let line = |AtLeast { left, sign, right }: &AtLeast| {
+            format!("#   {left:>wide$} {sign:<2} {right}\n")
+        };
+        let lines: String = each.iter().map(line).collect();
+        format!("{lines}#   {}\n{}", "-".repeat(wide + 4 + right_wide), line(&sum))
     }
 
     /// How an answer names a limit.

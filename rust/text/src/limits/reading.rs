@@ -48,7 +48,7 @@ pub fn read(text: &str) -> Result<Limits, Fault> {
         } else {
             let said = statement(&line, 0)?;
             if said.lower.is_none() && said.upper.is_none() {
-                let what = "a sign is missing: <=, >= or = says what the limit is";
+                let what = "a sign is missing: <=, <, >=, > or = says what the limit is";
                 return Err(line.fault(line.end, what));
             }
             reading.say(&line, said, false)?;
@@ -87,10 +87,6 @@ impl Reading {
 
     fn say(&mut self, line: &Line, said: Statement, is_alone: bool) -> Result<(), Fault> {
         let limits = [said.lower, said.upper];
-        if let Some(limit) = limits.into_iter().flatten().find(|limit| limit.is_strict) {
-            let what = "strict limits are not there yet: write <= or >=";
-            return Err(line.fault(limit.column, what));
-        }
         let row = self.row(line, &said)?;
         match &said.terms[..] {
             [term] if term.coefficient.abs() == 1 && !is_alone => {
@@ -181,7 +177,8 @@ fn limited(
                 format!("{name} has its {} limit already, {}", side.name(), place(before.line));
             return Err(line.fault(limit.column, what));
         }
-        to.limits[side as usize] = Some(Limit { number, line: Some(line.number) });
+        let is_strict = limit.is_strict;
+        to.limits[side as usize] = Some(Limit { number, is_strict, line: Some(line.number) });
     }
     Ok(())
 }

@@ -1,6 +1,6 @@
 //! A limit problem, shown as text.
 
-use super::{read, Limits, Side};
+use super::{read, Limit, Limits, Side};
 use crate::statement::sum_text;
 
 impl Limits {
@@ -52,8 +52,7 @@ impl Limits {
     #[must_use]
     pub fn limit_text(&self, variable: usize, side: Side) -> Option<String> {
         let limit = self.limits.get(variable)?[side as usize]?;
-        let sign = if side == Side::Lower { ">=" } else { "<=" };
-        Some(format!("{} {sign} {}", self.left(variable), limit.number))
+        Some(format!("{} {} {}", self.left(variable), limit.sign(side), limit.number))
     }
 
     /// The whole problem as text, a line for each variable or row that is
@@ -78,11 +77,16 @@ impl Limits {
                 true => self.left_in_order(variable),
                 false => self.left(variable),
             };
-            let said = match limits.map(|limit| limit.map(|limit| limit.number)) {
-                [Some(low), Some(high)] if low == high => format!("{left} = {low}"),
-                [Some(low), Some(high)] => format!("{low} <= {left} <= {high}"),
-                [Some(low), None] => format!("{left} >= {low}"),
-                [None, Some(high)] => format!("{left} <= {high}"),
+            let said = match *limits {
+                [Some(low), Some(high)] if is_one_value(low, high) => {
+                    format!("{left} = {}", low.number)
+                }
+                [Some(low), Some(high)] => {
+                    let [first, second] = [low, high].map(|limit| limit.sign(Side::Upper));
+                    format!("{} {first} {left} {second} {}", low.number, high.number)
+                }
+                [Some(low), None] => format!("{left} {} {}", low.sign(Side::Lower), low.number),
+                [None, Some(high)] => format!("{left} {} {}", high.sign(Side::Upper), high.number),
                 [None, None] if variable >= n => left,
                 [None, None] if tells_free => format!("free {left}"),
                 [None, None] => continue,
@@ -102,4 +106,9 @@ impl Limits {
             || self.rows[..place].iter().any(|other| other == row || *other == turned)
             || self.limits[self.names.len() + place] == [None; 2]
     }
+}
+
+/// Whether a lower and an upper limit leave one value, as `=` does.
+fn is_one_value(low: Limit, high: Limit) -> bool {
+    low.number == high.number && !low.is_strict && !high.is_strict
 }
