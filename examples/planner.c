@@ -21,6 +21,7 @@ static const int32_t problem[] = {
     SCATTERFLOCK_AT_MOST, 0, 50,    // the row, variable 2, is at most 50
 };
 
+// No limit above is strict, so no value has a small part.
 static void print_values(const int64_t *answer)
 {
     for (int zone = 0; zone < problem[0]; zone++)
