@@ -66,7 +66,7 @@ enum {
     SCATTERFLOCK_MOST_TIME_ROWS = 256,
     SCATTERFLOCK_MOST_TIME_WORDS = 1026,
     SCATTERFLOCK_MOST_TIMES = 130,  /* words of an answer to time rows */
-    SCATTERFLOCK_SLICE_WORDS = 113  /* of 64 bits, beside the count, in the state of a run */
+    SCATTERFLOCK_SLICE_WORDS = 135  /* of 64 bits, beside the count, in the state of a run */
 };
 #define SCATTERFLOCK_LARGEST_SMALL INT64_C(17179869176) /* small part of a numerator */
 

@@ -47,7 +47,7 @@ pub struct Slice {
 }
 
 /// The words of 64 bits that the archive keeps in a slice, beside the count.
-const SLICE_WORDS: usize = 113;
+const SLICE_WORDS: usize = 135;
 
 impl Slice {
     /// How many pivots are completed.
