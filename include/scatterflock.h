@@ -133,7 +133,7 @@ enum {
  *
  * The value of variable v is out[3 + v] over out[2] and, out[3 + n + m + v]
  * over out[2] times, an amount above 0 that is as small as one likes. Where no
- * limit is strict these small parts are 0. Else any fraction up to
+ * limit is strict these small parts are 0. Else any fraction above 0 and up to
  * 1 / 17,179,869,177 may be put for the amount: with K for 17,179,869,177 the
  * value is (K * out[3 + v] + out[3 + n + m + v]) / (K * out[2]), which takes
  * more than 64 bits.

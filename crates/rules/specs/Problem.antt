@@ -64,7 +64,7 @@ unfoldable pub mapped : {X Y : Type 0} → (X → Y) → Option X → Option Y
 mapped f none = none
 mapped f (some x) = some (f x)
 
--- as the run reads it: a strict limit stands for a pair one small amount inside
+-- as the run reads it: each limit is the pair that it stands for
 abbrev pub inner : Problem Limit → Problem (ℤ × ℤ)
 inner P = record {
   n = P .n;

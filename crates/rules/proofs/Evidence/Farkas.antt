@@ -1,5 +1,5 @@
 -- What multipliers mean: where they cancel in every column, none is below 0 and none at a missing limit, and the
--- surplus is above 0, or is 0 and a strict limit has one other than 0, no fractions meet rows and limits (Farkas).
+-- surplus is above 0, or comes to 0 while a strict limit is named, no fractions meet rows and limits (Farkas).
 --   rows-balance       a sum over all variables, of a solution of the rows, is a sum over the columns
 --   farkas             any multipliers of that kind: `Unsatisfied`
 use mathlib.Core.Bool.{Bool, false, true}

@@ -50,8 +50,8 @@ pub record Multiplier (limit : Option Limit) (k : ℤ) : Type 0 where
 abbrev pub StrictNamed : Option Limit → ℤ → Type 0
 StrictNamed o k = (l : Limit) × (o ≡ some l) × (l .strict ≡ true) × (k ≢ pos 0)
 
--- lo and up are the multipliers of the lower and upper limits: what they give in all is above 0, or is 0 and a strict
--- limit has a multiplier other than 0
+-- lo and up are the multipliers of the lower and upper limits: what they give in all is above 0; or it comes to 0, and
+-- of the limits that they name one is strict
 abbrev pub Contradiction : Problem Limit → (lo up : ℕ → ℤ) → Type 0
 Contradiction P lo up = (pos 0 <ℤ surplus P lo up)
     ⊎ ((surplus P lo up ≡ pos 0)
