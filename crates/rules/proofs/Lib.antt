@@ -34,6 +34,8 @@ pub mod Through
 pub mod Plain
 pub mod Slices
 pub mod Holds
+pub mod AllNamed
+pub mod Idle
 pub mod Rule
 pub mod Only
 pub mod Range

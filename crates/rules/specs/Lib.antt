@@ -10,6 +10,8 @@ pub mod Answer
 pub mod Plain
 pub mod Slices
 pub mod Evidence
+pub mod Keeping
+pub mod Idle
 pub mod Walks
 pub mod Passes
 pub mod Cycle
