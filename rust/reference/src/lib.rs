@@ -14,13 +14,18 @@
 //! - `answer`: how a run ended, and the words that say so
 //! - `evidence`: the checker, which uses nothing of the run
 //! - `actual`: the fractions that an answer stands for
+//! - `decision`: whether fractions meet a problem, however large the numbers
+//! - `wide`: the one division that this takes
+//! - `idle`: whether a "cannot" names a limit for nothing
 //! - `times`: time rows, and a judge of anybody's answer to them
 //! - `program`: the text that the program prints
 
 mod actual;
 mod answer;
+mod decision;
 mod evidence;
 mod fraction;
+mod idle;
 mod pair;
 mod problem;
 mod program;
@@ -28,9 +33,12 @@ mod run;
 mod slices;
 mod tableau;
 mod times;
+mod wide;
 
 pub use actual::meets;
+pub use decision::can_be_met;
 pub use evidence::check;
+pub use idle::{idle, named, Named};
 pub use program::respond;
 pub use run::{pivots, solve, violations, Violation};
 pub use slices::{Continued, Slice};
