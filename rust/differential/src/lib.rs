@@ -3,7 +3,8 @@
 //!
 //! - [`archive`]: the archive's functions, linked or served
 //! - `lent`: lends an output with guards around it and looks at all of it
-//! - `limits`: one limit problem through the solver and the checker
+//! - `limits`: one limit problem through the solver and the checker, and each
+//!   limit that a "cannot" names left out in turn
 //! - `slices`: one limit problem through a start and continues
 //! - `times`: time rows through the time solver
 //! - `report`: many of them, counted

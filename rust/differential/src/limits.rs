@@ -47,6 +47,11 @@ fn compare_words(random: &mut Random, words: &[i32]) -> Result<Outcome, String> 
     if (verdict == 1 || verdict == 2) && checks[0] != 8 {
         return Err(format!("the checker does not accept the solver's {out:?}"));
     }
+    if verdict == 2 {
+        if let Some(limit) = reference::idle(words, &out) {
+            return Err(format!("{limit:?} is named for nothing in {out:?}"));
+        }
+    }
     let smalls = (verdict == 1).then(|| &out[needed(words) - variables(words)..needed(words)]);
     let has_small = smalls.is_some_and(|smalls| smalls.iter().any(|&small| small != 0));
     Ok(Outcome { number, verdict, has_small, checks })
