@@ -2,9 +2,10 @@
 
 use crate::evidence::checked;
 use crate::fractions::met_with;
-use crate::problem::{problem, refusal};
-use crate::run::{answer, leavings};
-use crate::step::{Leaving, Side};
+use crate::idle::{is_named, named, without};
+use crate::problem::{inner, problem, refusal, vars};
+use crate::run::{answer, ending, leavings};
+use crate::step::{start, Leaving, Outcome, Side};
 use crate::value::PAIRS;
 use problems::evidence::bent;
 use problems::limits::Family;
@@ -13,13 +14,14 @@ use reference::{violations, Violation};
 use std::collections::BTreeMap;
 
 /// How many problems had each refusal or verdict, how many right and bent
-/// answers the checker met with each number, and how many violations were
-/// compared.
+/// answers the checker met with each number, how many violations were compared,
+/// and how many problems could be met with one named limit less.
 #[derive(Debug, Default)]
 pub struct Shares {
     pub outcomes: BTreeMap<String, u64>,
     pub checks: BTreeMap<u32, u64>,
     pub violations: u64,
+    pub met_again: u64,
 }
 
 /// Compares every word of so many problems. A difference is an error that
@@ -53,6 +55,9 @@ fn compare_one(random: &mut Random, words: &[i32], shares: &mut Shares) -> Resul
     let written: Vec<i128> = out.iter().map(|&word| i128::from(word)).collect();
     same("the answer", &expected[..], &written[..expected.len()])?;
     compare_violations(words, &wide, shares)?;
+    if out[0] == 2 {
+        drop_one(random, &wide, &expected, shares)?;
+    }
     compare_check(words, &wide, &out, shares)?;
     for _ in 0..3 {
         let bent = bent(random, words, &out[..expected.len()]);
@@ -77,6 +82,31 @@ fn compare_violations(words: &[i32], wide: &[i128], shares: &mut Shares) -> Resu
         return Err(format!("the shortfall of {none:?} is not above 0, which"));
     }
     same("a violation", found, violations(words))
+}
+
+/// Keeps the limits that a "cannot" names, but for one of them. The run of what
+/// is left comes to no "cannot".
+fn drop_one(
+    random: &mut Random,
+    wide: &[i128],
+    told: &[i128],
+    shares: &mut Shares,
+) -> Result<(), String> {
+    let p = problem(wide);
+    let sides = (0..vars(&p)).flat_map(|v| [(Side::Below, v), (Side::Above, v)]);
+    let all: Vec<(Side, usize)> =
+        sides.filter(|&(side, v)| is_named(vars(&p), told, side, v)).collect();
+    let (side, v) = random.pick(&all);
+    let named = named(told, &p);
+    let less = without(side, v, &named);
+    let less = inner(&less);
+    match ending(&PAIRS, &less, start(&PAIRS, &less)).how {
+        Outcome::Cannot(..) => Err(format!("{v} {side:?} is named for nothing, which")),
+        how => {
+            shares.met_again += u64::from(matches!(how, Outcome::Can));
+            Ok(())
+        }
+    }
 }
 
 /// Fractions e / k for the small amount: the largest there may be, and others.

@@ -18,12 +18,14 @@
 //! - `run`: the run and the answer
 //! - `evidence`: the checker
 //! - `fractions`: what evidence means
+//! - `idle`: the limits that a "cannot" names, and one less
 //! - `comparison`: all of it against `reference`
 
 pub mod base;
 pub mod comparison;
 pub mod evidence;
 pub mod fractions;
+pub mod idle;
 pub mod problem;
 pub mod run;
 pub mod step;

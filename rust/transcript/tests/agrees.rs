@@ -56,10 +56,12 @@ fn random_problems() {
     let shares = compare(seed, PROBLEMS).unwrap_or_else(|difference| panic!("{difference}"));
     println!("{PROBLEMS} problems: {:?}", shares.outcomes);
     println!("checks: {:?}, violations: {}", shares.checks, shares.violations);
+    println!("met with one limit less: {}", shares.met_again);
     assert!(shares.violations > PROBLEMS, "SEED={seed}");
     for (what, least) in [("can", 20), ("cannot", 20), ("range", 1)] {
         assert!(shares.outcomes[what] >= PROBLEMS * least / 100, "{what}, SEED={seed}");
     }
+    assert!(shares.met_again > shares.outcomes["cannot"] * 9 / 10, "SEED={seed}");
     for number in 1..=10 {
         assert!(shares.checks[&number] > 0, "check {number}, SEED={seed}");
     }
