@@ -81,7 +81,7 @@ pub fn run(words: &[OsString], stdin: &mut dyn Read) -> Ended {
         Action::Version => {
             Ok(Ended::saying(format!("scatterflock {}\n", env!("CARGO_PKG_VERSION")), CAN))
         }
-        Action::Solve(file) => solve::run(file, options.json, stdin),
+        Action::Solve(file) => solve::run(file, &options, stdin),
         Action::Check(file, answer) => check::run(file, answer, options.json, stdin),
         Action::Times(file) => times::run(file, options.json, stdin),
         Action::Words(file) => words::run(file, &options, stdin),

@@ -3,7 +3,7 @@
 use std::ffi::OsString;
 
 pub const HELP: &str = "\
-usage: scatterflock [--json] solve FILE
+usage: scatterflock [--json] solve [--each] FILE
        scatterflock [--json] check FILE ANSWER
        scatterflock [--json] times FILE
        scatterflock words [--times] [--bytes] FILE
@@ -14,6 +14,7 @@ usage: scatterflock [--json] solve FILE
   words   a text as words, or words as a text
 
   --json    the answer as one line of JSON
+  --each    for each limit of a clash, values that meet the others
   --times   FILE has time rows, not limits
   --bytes   words as bytes, four each, as a file .words has them
 
@@ -44,13 +45,14 @@ pub enum Action {
 pub struct Options {
     pub action: Action,
     pub json: bool,
+    pub each: bool,
     pub times: bool,
     pub bytes: bool,
 }
 
 impl Options {
     pub fn read(words: &[OsString]) -> Result<Options, String> {
-        let (mut json, mut times, mut bytes) = (false, false, false);
+        let [mut json, mut each, mut times, mut bytes] = [false; 4];
         let mut is_over = false;
         let mut files = Vec::new();
         let mut asked = None;
@@ -60,6 +62,7 @@ impl Options {
                 Some("--help" | "-h") if !is_over => asked = asked.or(Some(Action::Help)),
                 Some("--version" | "-V") if !is_over => asked = asked.or(Some(Action::Version)),
                 Some("--json") if !is_over => json = true,
+                Some("--each") if !is_over => each = true,
                 Some("--times") if !is_over => times = true,
                 Some("--bytes") if !is_over => bytes = true,
                 Some(option) if !is_over && option.starts_with('-') && option != "-" => {
@@ -69,7 +72,7 @@ impl Options {
             }
         }
         if let Some(action) = asked {
-            return Ok(Options { action, json, times, bytes });
+            return Ok(Options { action, json, each, times, bytes });
         }
         if files.is_empty() {
             return Err("there is no command".to_string());
@@ -86,6 +89,9 @@ impl Options {
             ("check", _) => return Err("check takes two files".to_string()),
             _ => return Err(format!("there is no command {name}")),
         };
+        if each && !matches!(action, Action::Solve(_)) {
+            return Err("--each is an option of solve".to_string());
+        }
         if (times || bytes) && !matches!(action, Action::Words(_)) {
             return Err("--times and --bytes are options of words".to_string());
         }
@@ -95,6 +101,6 @@ impl Options {
         if matches!(&action, Action::Check(a, b) if a == "-" && b == "-") {
             return Err("one of the two files can be standard input, not both".to_string());
         }
-        Ok(Options { action, json, times, bytes })
+        Ok(Options { action, json, each, times, bytes })
     }
 }

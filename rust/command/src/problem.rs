@@ -4,7 +4,7 @@ use crate::fraction::Pair;
 use crate::input::{self, bad, Content, Input};
 use crate::Failure;
 use scatterflock::sizes::MOST_WORDS;
-use scatterflock::Refusal;
+use scatterflock::{Refusal, Verdict};
 use text::limits::{self, Limits, Side};
 
 /// The problem of a file. Its words are not refused, but for a row of zeros.
@@ -88,6 +88,12 @@ pub struct Values<'a> {
 }
 
 impl Values<'_> {
+    /// The values of a verdict, where it has any.
+    pub fn of(verdict: &Verdict) -> Option<Values<'_>> {
+        let Verdict::Can { over, numerators, small } = verdict else { return None };
+        Some(Values { over: *over, plain: numerators, small })
+    }
+
     /// The value of a variable.
     pub fn at(self, variable: usize) -> Pair {
         Pair::new([self.plain[variable], self.small[variable]], self.over)

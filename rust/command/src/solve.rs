@@ -4,28 +4,31 @@ mod as_json;
 mod as_text;
 
 use crate::fraction::Fraction;
+use crate::options::Options;
 use crate::problem::{all_limits, problem, refused_words, Values};
 use crate::{input, Ended, Failure};
-use scatterflock::{Answer, Judgement, Verdict};
+use scatterflock::{Answer, Judgement, Problem, Verdict};
 use std::ffi::OsStr;
 use std::io::Read;
 use text::limits::{Limits, Side};
 
-pub fn run(file: &OsStr, is_json: bool, stdin: &mut dyn Read) -> Result<Ended, Failure> {
+pub fn run(file: &OsStr, options: &Options, stdin: &mut dyn Read) -> Result<Ended, Failure> {
     let (file, problem) = problem(input::problem(file, stdin)?)?;
     let answer = solved(&problem)?;
     let shown = Shown { file, problem, answer };
-    Ok(match (&shown.answer.verdict, is_json) {
-        (Verdict::Can { over, numerators, small }, _) => {
-            let values = Values { over: *over, plain: numerators, small };
+    if let Some(values) = Values::of(&shown.answer.verdict) {
+        return Ok(if options.json { shown.can_json(values) } else { shown.can(values) });
+    }
+    Ok(match (&shown.answer.verdict, options.json) {
+        (Verdict::Cannot { lower, upper }, is_json) => {
+            let counted = shown.counted([lower, upper]);
+            let each = if options.each { Some(shown.each(&counted)?) } else { None };
             if is_json {
-                shown.can_json(values)
+                shown.cannot_json(&counted, each)
             } else {
-                shown.can(values)
+                shown.cannot(&counted, each)
             }
         }
-        (Verdict::Cannot { lower, upper }, false) => shown.cannot([lower, upper]),
-        (Verdict::Cannot { lower, upper }, true) => shown.cannot_json([lower, upper]),
         (_, false) => shown.range(),
         (_, true) => shown.range_json(),
     })
@@ -48,6 +51,9 @@ struct Shown {
     problem: Limits,
     answer: Answer,
 }
+
+/// For each limit of a clash the answer to the others, if they are alone.
+type Each = Vec<Answer>;
 
 /// A limit as "at least", so many times: a sum, a sign and a number.
 struct AtLeast {
@@ -77,6 +83,23 @@ impl Shown {
             .map(|(variable, side)| (variable, side, multipliers[side as usize][variable]))
             .filter(|(_, _, times)| *times != 0)
             .collect()
+    }
+
+    /// For each limit that counts, the answer to the others that do. It is no
+    /// "cannot".
+    fn each(&self, counted: &[(usize, Side, i64)]) -> Result<Each, Failure> {
+        let problem =
+            Problem::from_words(&self.problem.words()).map_err(|_| Failure::Contradicted)?;
+        let each = counted.iter().map(|&(variable, side, _)| {
+            let side = match side {
+                Side::Lower => scatterflock::Side::Lower,
+                Side::Upper => scatterflock::Side::Upper,
+            };
+            let answer = problem.without(&self.answer, variable, side);
+            let others = answer.filter(|answer| !matches!(answer.verdict, Verdict::Cannot { .. }));
+            others.ok_or(Failure::Contradicted)
+        });
+        each.collect()
     }
 
     /// Each limit as "at least", so many times, and what they come to.
@@ -135,8 +158,7 @@ mod tests {
                 limit.is_strict |= random.percent(50);
             }
             let Ok(answer) = solved(&problem) else { panic!("it is answered, SEED={seed}") };
-            let Verdict::Can { over, numerators, small } = &answer.verdict else { continue };
-            let values = Values { over: *over, plain: numerators, small };
+            let Some(values) = Values::of(&answer.verdict) else { continue };
             let shown = Shown { file: String::new(), problem, answer: answer.clone() };
             let Some(end) = shown.small_below(values) else { continue };
             let [end, over] = [end.numerator, end.denominator].map(i128::from);

@@ -50,7 +50,7 @@ fn verdicts_and_statuses() {
         (&["words", "-"], "1 0 1 1 0", "x0 >= 1", 0),
         (&["words", "-"], "1 0 7 1 2", "1 < x0 <= 2", 0),
         (&["words", "--times", "-"], "a - b <= 1", "2 1 0 1 0 1", 0),
-        (&["--help"], "", "usage: scatterflock [--json] solve FILE", 0),
+        (&["--help"], "", "usage: scatterflock [--json] solve [--each] FILE", 0),
         (&["solve", "-", "--json"], "", "{\"error\":\"there is no limit in this text\",\"file\":\"standard input\",\"line\":1,\"column\":1}", 4),
     ] {
         let (output, _, found) = ran(words, input.as_bytes());
@@ -73,6 +73,7 @@ fn usage_and_files() {
         (&["check", "-", "-"], 4, "not both"),
         (&["solve", "--fast", "-"], 4, "there is no option --fast"),
         (&["solve", "--bytes", "-"], 4, "options of words"),
+        (&["times", "--each", "-"], 4, "--each is an option of solve"),
         (&["solve", "no-such-file"], 5, "it cannot be read"),
         (&["solve", "."], 5, "it cannot be read"),
         (&["solve", "--", "--json"], 5, "it cannot be read"),
@@ -156,6 +157,27 @@ fn strict_answers_are_read_back() {
     }
     println!("{small} with small parts");
     assert!(small > 20, "{small} with small parts, SEED={seed}");
+}
+
+#[test]
+fn values_without_each_limit() {
+    let (said, _, status) = ran(&["solve", "--each", "-"], b"x > 2\ny >= 2\nx + y <= 4\nx <= 9");
+    assert_eq!(status, 1);
+    for line in [
+        "#   without line 1   x = 0, y = 2",
+        "#   without line 2   x = 2 + small, y = 0",
+        "#   without line 3   x = 2 + small, y = 2",
+    ] {
+        assert!(said.lines().any(|other| other == line), "no {line} in\n{said}");
+    }
+    assert!(!said.contains("line 4"), "{said}");
+    let (said, _, _) = ran(&["--json", "solve", "--each", "-"], b"5 < x <= 5");
+    assert!(
+        json::is_one_line(&said) && said.matches("\"without\":[{\"name\":").count() == 2,
+        "{said}"
+    );
+    let (can, _, status) = ran(&["solve", "--each", "-"], b"x > 2");
+    assert_eq!((can, status), (ran(&["solve", "-"], b"x > 2").0, 0));
 }
 
 #[test]
@@ -308,6 +330,7 @@ fn damaged_texts_never_panic() {
                 statuses[status as usize] += 1;
                 continue;
             }
+            _ if random.percent(50) => &["solve", "--each", json, "-"],
             _ => &["solve", json, "-"],
         };
         let (output, errors, status) = ran(words, &text);

@@ -33,7 +33,9 @@ pub enum Verdict {
         small: Vec<i64>,
     },
     /// No values meet all limits: the limits, each so many times, contradict
-    /// each other.
+    /// each other. Of those that the solver names, the ones that are not 0, each
+    /// is needed for that; [`Problem::without`](crate::Problem::without) gives
+    /// values that meet the others.
     Cannot {
         /// How many times each lower limit counts.
         lower: Vec<i64>,

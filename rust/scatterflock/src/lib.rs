@@ -74,7 +74,7 @@ mod times;
 pub use answer::{check, solve, Answer, Judgement, Verdict};
 pub use build_error::BuildError;
 pub use fractions::Fractions;
-pub use problem::{Limit, Problem};
+pub use problem::{Limit, Problem, Side};
 pub use refusal::{Refusal, TimesRefusal};
 pub use rows::TimeRows;
 pub use slice::Slice;

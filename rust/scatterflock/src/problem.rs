@@ -1,6 +1,6 @@
 //! A limit problem that is built step by step, and checked at each.
 
-use crate::answer::{check, solve, Answer, Judgement};
+use crate::answer::{check, solve, Answer, Judgement, Verdict};
 use crate::build_error::BuildError;
 use crate::raw;
 use crate::refusal::Refusal;
@@ -13,6 +13,15 @@ pub struct Limit {
     pub number: i32,
     /// Whether the number itself is left out too.
     pub is_strict: bool,
+}
+
+/// Which of a variable's two limits is meant.
+#[derive(Debug, Clone, Copy, PartialEq, Eq, Hash)]
+pub enum Side {
+    /// The lower one.
+    Lower = 0,
+    /// The upper one.
+    Upper = 1,
 }
 
 /// A limit problem. What is wrong with it is told while it is built, so a
@@ -247,6 +256,60 @@ impl Problem {
     /// [`Refusal::Short`], of an answer that has too few words.
     pub fn check(&self, answer: &[i64]) -> Result<Judgement, Refusal> {
         check(&self.words(), answer)
+    }
+
+    /// The answer to a smaller problem: of the limits that a "cannot" names,
+    /// those with a multiplier other than 0, all are kept but one, and the rest
+    /// is dropped. There is none where that one is not named.
+    ///
+    /// No limit of the solver's own "cannot" is named for nothing, so the others
+    /// can be met: the answer is a "can" with values for it, or out of range
+    /// where numbers grow too large on the way. The checker has accepted it.
+    ///
+    /// ```
+    /// use scatterflock::{Problem, Side};
+    ///
+    /// // x and y are at least 2, and their sum is at most 3
+    /// let problem =
+    ///     Problem::new(2)?.at_least(0, 2)?.at_least(1, 2)?.row(&[1, 1])?.at_most(2, 3)?;
+    /// let cannot = problem.solve();
+    /// let without = |variable, side| problem.without(&cannot, variable, side);
+    ///
+    /// let sum = without(2, Side::Upper).unwrap();
+    /// assert_eq!(sum.to_string(), "can, after 0 pivots: 2/1, 2/1, 4/1");
+    /// let x = without(0, Side::Lower).unwrap();
+    /// assert_eq!(x.to_string(), "can, after 0 pivots: 0/1, 2/1, 2/1");
+    /// assert_eq!(without(2, Side::Lower), None);
+    /// # Ok::<(), scatterflock::BuildError>(())
+    /// ```
+    ///
+    /// # Panics
+    ///
+    /// If the checker did not accept what the solver answers: that it always
+    /// does is proved.
+    #[must_use]
+    pub fn without(&self, cannot: &Answer, variable: usize, side: Side) -> Option<Answer> {
+        let Verdict::Cannot { lower, upper } = &cannot.verdict else { return None };
+        let named = [lower, upper];
+        let is_named = |variable: usize, side: usize| {
+            named[side].get(variable).is_some_and(|&multiplier| multiplier != 0)
+        };
+        if !is_named(variable, side as usize) {
+            return None;
+        }
+        let mut smaller = self.clone();
+        for (other, limits) in smaller.limits.iter_mut().enumerate() {
+            for (at, limit) in limits.iter_mut().enumerate() {
+                if !is_named(other, at) || (other, at) == (variable, side as usize) {
+                    *limit = None;
+                }
+            }
+        }
+        let answer = smaller.solve();
+        if let Some(evidence) = answer.evidence() {
+            assert_eq!(smaller.check(&evidence), Ok(Judgement::Accepted));
+        }
+        Some(answer)
     }
 }
 

@@ -5,7 +5,9 @@ use problems::limits::Family;
 use problems::random::{seed, Random};
 use problems::worked::{self, TimesAnswer};
 use scatterflock::sizes::{MOST_ROWS, MOST_TIME_ROWS};
-use scatterflock::{solve, BuildError, Limit, Problem, Refusal, Schedule, Time, TimeRows, Verdict};
+use scatterflock::{
+    solve, BuildError, Limit, Problem, Refusal, Schedule, Side, Time, TimeRows, Verdict,
+};
 
 #[test]
 fn words_and_back() {
@@ -69,6 +71,34 @@ fn every_kind_is_built() {
     for kind in [-1, 4, 6, 8, 9, 12, 13, 14, 16] {
         assert_eq!(Problem::from_words(&[1, 0, kind, 0, 0]), Err(Refusal::Kind), "{kind}");
     }
+}
+
+#[test]
+fn nothing_is_named_for_nothing() {
+    let seed = seed();
+    println!("SEED={seed}");
+    let [mut dropped, mut out_of_range] = [0; 2];
+    for number in 0..20_000 {
+        let mut random = Random::of_problem(seed, number);
+        let family = Family::ALL[random.below(Family::ALL.len())];
+        let Ok(problem) = Problem::from_words(&family.words(&mut random)) else { continue };
+        let answer = problem.solve();
+        let Verdict::Cannot { lower, upper } = &answer.verdict else { continue };
+        for (side, multipliers) in [(Side::Lower, lower), (Side::Upper, upper)] {
+            for (variable, &multiplier) in multipliers.iter().enumerate() {
+                let told = problem.without(&answer, variable, side).map(|answer| answer.verdict);
+                match (multiplier, told) {
+                    (0, None) => {}
+                    (1.., Some(Verdict::Can { .. })) => dropped += 1,
+                    (1.., Some(Verdict::OutOfRange)) => out_of_range += 1,
+                    (_, told) => panic!("{told:?}, SEED={seed}: {problem:?} {variable} {side:?}"),
+                }
+            }
+        }
+    }
+    println!("{dropped} dropped, {out_of_range} out of range");
+    assert!(dropped > 1_000 && out_of_range < dropped / 10, "{dropped} {out_of_range} SEED={seed}");
+    assert_eq!(free().without(&free().solve(), 0, Side::Lower), None);
 }
 
 /// One variable, which nothing limits.

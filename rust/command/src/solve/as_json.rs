@@ -1,6 +1,6 @@
 //! An answer as JSON.
 
-use super::Shown;
+use super::{Each, Shown};
 use crate::problem::{all_limits, Values};
 use crate::{json, Ended, CAN, CANNOT, RANGE};
 use text::limits::Side;
@@ -8,11 +8,6 @@ use text::limits::Side;
 impl Shown {
     pub(super) fn can_json(&self, values: Values) -> Ended {
         let problem = &self.problem;
-        let named = problem.names.iter().enumerate().map(|(variable, name)| {
-            let mut fields = vec![("name", json::text(name))];
-            fields.extend(json::pair(values.at(variable)));
-            json::inner(&fields)
-        });
         let limits = all_limits(problem).into_iter().map(|(variable, side)| {
             let spare = values.spare(problem, (variable, side));
             let mut fields = self.limit_json(variable, side);
@@ -21,9 +16,21 @@ impl Shown {
         });
         let below = self.small_below(values);
         let below = below.map_or("null".to_string(), |end| json::inner(&json::fraction(end)));
-        let fields =
-            [("values", json::list(named)), ("small_below", below), ("limits", json::list(limits))];
+        let fields = [
+            ("values", self.values_json(values)),
+            ("small_below", below),
+            ("limits", json::list(limits)),
+        ];
         self.json("can", &fields, CAN)
+    }
+
+    /// The value of each name.
+    fn values_json(&self, values: Values) -> String {
+        json::list(self.problem.names.iter().enumerate().map(|(variable, name)| {
+            let mut fields = vec![("name", json::text(name))];
+            fields.extend(json::pair(values.at(variable)));
+            json::inner(&fields)
+        }))
     }
 
     fn limit_json(&self, variable: usize, side: Side) -> Vec<(&'static str, String)> {
@@ -48,12 +55,16 @@ impl Shown {
         Ended::saying(json::object(&all), status)
     }
 
-    pub(super) fn cannot_json(&self, multipliers: [&Vec<i64>; 2]) -> Ended {
-        let counted = self.counted(multipliers);
-        let (_, sum) = self.added_up(&counted);
-        let limits = counted.iter().map(|&(variable, side, times)| {
+    pub(super) fn cannot_json(&self, counted: &[(usize, Side, i64)], each: Option<Each>) -> Ended {
+        let (_, sum) = self.added_up(counted);
+        let limits = counted.iter().enumerate().map(|(place, &(variable, side, times))| {
             let mut fields = self.limit_json(variable, side);
             fields.push(("times", times.to_string()));
+            if let Some(each) = &each {
+                let others = Values::of(&each[place].verdict);
+                let others = others.map_or("null".to_string(), |values| self.values_json(values));
+                fields.push(("without", others));
+            }
             json::inner(&fields)
         });
         let sum = json::text(&format!("{} {} {}", sum.left, sum.sign, sum.right));

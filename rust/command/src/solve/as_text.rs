@@ -1,6 +1,6 @@
 //! An answer in the reader's words.
 
-use super::{AtLeast, Shown};
+use super::{AtLeast, Each, Shown};
 use crate::problem::{all_limits, is_one_value, place, Values};
 use crate::table::table;
 use crate::{Ended, CAN, CANNOT, RANGE};
@@ -83,8 +83,7 @@ impl Shown {
         .collect()
     }
 
-    pub(super) fn cannot(&self, multipliers: [&Vec<i64>; 2]) -> Ended {
-        let counted = self.counted(multipliers);
+    pub(super) fn cannot(&self, counted: &[(usize, Side, i64)], each: Option<Each>) -> Ended {
         let named = counted.iter().map(|&(variable, side, times)| {
             let limit = self.problem.limit_text(variable, side).unwrap_or_default();
             let reference = self.reference(variable, side);
@@ -92,12 +91,29 @@ impl Shown {
         });
         let said = format!(
             "cannot\n\n{}\n# Each as \"at least\", so many times, and all of them added up:\n{}#\n\
-             # No values meet these limits together.\n{}",
+             # No values meet these limits together.\n\
+             # Each of them is needed for that: drop any one, and the others named here can be met.\n{}{}",
             table("", &named.collect::<Vec<Vec<String>>>()),
-            self.sum(&counted),
+            self.sum(counted),
+            each.map_or(String::new(), |each| self.others(counted, each)),
             self.accepted()
         );
         Ended::saying(said, CANNOT)
+    }
+
+    /// For each limit that counts, values that meet the others.
+    fn others(&self, counted: &[(usize, Side, i64)], each: Each) -> String {
+        let rows = counted.iter().zip(&each).map(|(&(variable, side, _), answer)| {
+            let values = Values::of(&answer.verdict).map(|values| {
+                let names = self.problem.names.iter().enumerate();
+                let named = names.map(|(at, name)| format!("{name} = {}", values.at(at)));
+                named.collect::<Vec<String>>().join(", ")
+            });
+            let unknown = || "a number grew beyond 2147483647, so no values are shown".to_string();
+            let reference = self.reference(variable, side);
+            vec![format!("without {reference}"), values.unwrap_or_else(unknown)]
+        });
+        format!("#\n{}#\n", table("#   ", &rows.collect::<Vec<Vec<String>>>()))
     }
 
     /// Each limit as "at least", and below a rule what they come to.
