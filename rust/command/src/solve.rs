@@ -150,13 +150,8 @@ mod tests {
         let mut count = 0;
         for number in 0..5_000 {
             let mut random = Random::of_problem(seed, number);
-            let family = Family::ACCEPTED[random.below(Family::ACCEPTED.len())];
-            let Some(mut problem) = Limits::from_words(&family.words(&mut random)) else {
-                continue;
-            };
-            for limit in problem.limits.iter_mut().flatten().flatten() {
-                limit.is_strict |= random.percent(50);
-            }
+            let family = random.pick(&[Family::Strict, Family::Touching]);
+            let problem = Limits::from_words(&family.words(&mut random)).unwrap();
             let Ok(answer) = solved(&problem) else { panic!("it is answered, SEED={seed}") };
             let Some(values) = Values::of(&answer.verdict) else { continue };
             let shown = Shown { file: String::new(), problem, answer: answer.clone() };

@@ -4,6 +4,7 @@ use problems::draft::{at_least, Draft, FREE};
 use problems::limits::Family;
 use problems::published::published;
 use problems::random::{seed, Random};
+use problems::strict::with_marks;
 use problems::worked::{self, time_words, TimesAnswer};
 use scatterflock::sizes::{LARGEST_NUMBER, LARGEST_SMALL, MOST_ANSWER, MOST_TIMES, MOST_WORDS};
 use scatterflock::{check, solve, times};
@@ -211,10 +212,10 @@ fn fractions_meet_strict_limits() {
     let mut small = 0;
     for problem in 0..20_000 {
         let mut random = Random::of_problem(seed, problem);
-        let family = Family::ALL[random.below(Family::ALL.len())];
-        let mut words = family.words(&mut random);
-        marked(&mut random, &mut words);
-        let Ok(problem) = Problem::from_words(&words) else { continue };
+        let family = random.pick(&Family::UNMARKED);
+        let plain = family.words(&mut random);
+        let words = with_marks(&mut random, &plain);
+        let problem = Problem::from_words(&words).unwrap();
         let answer = problem.solve();
         let Some(fractions) = answer.fractions() else { continue };
         assert!(are_met(&problem, &fractions), "SEED={seed}: {words:?}, {answer}");
@@ -222,17 +223,6 @@ fn fractions_meet_strict_limits() {
     }
     println!("{small} with small parts");
     assert!(small > 500, "{small} with small parts, SEED={seed}");
-}
-
-/// Marks some of the limits as strict.
-fn marked(random: &mut Random, words: &mut [i32]) {
-    let [n @ 1..=8, m @ 0..=16, ..] = *words else { return };
-    let start = (2 + m * n) as usize;
-    for kind in words.iter_mut().skip(start).step_by(3) {
-        if (0..=3).contains(kind) {
-            *kind |= (*kind * 4) & random.below(16) as i32;
-        }
-    }
 }
 
 #[test]

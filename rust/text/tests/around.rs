@@ -97,8 +97,7 @@ fn every_limit_problem_comes_round() {
     for problem in 0..5_000 {
         let mut random = Random::of_problem(seed, problem);
         let family = Family::ALL[random.below(Family::ALL.len())];
-        let mut given = family.words(&mut random);
-        marked(&mut random, &mut given);
+        let given = family.words(&mut random);
         let Some(shown) = Limits::from_words(&given) else { continue };
         let text = shown.text();
         let read =
@@ -110,17 +109,6 @@ fn every_limit_problem_comes_round() {
     assert!(come > 2_500, "{come} came round");
     for case in worked::limits() {
         assert_eq!(words(&Limits::from_words(&case.words).unwrap().text()), case.words);
-    }
-}
-
-/// Marks some of the limits as strict.
-fn marked(random: &mut Random, words: &mut [i32]) {
-    let [n @ 1..=8, m @ 0..=16, ..] = *words else { return };
-    let start = (2 + m * n) as usize;
-    for kind in words.iter_mut().skip(start).step_by(3) {
-        if (0..=3).contains(kind) {
-            *kind |= (*kind * 4) & random.below(16) as i32;
-        }
     }
 }
 
