@@ -34,8 +34,9 @@ pub enum Verdict {
     },
     /// No values meet all limits: the limits, each so many times, contradict
     /// each other. Of those that the solver names, the ones that are not 0, each
-    /// is needed for that; [`Problem::without`](crate::Problem::without) gives
-    /// values that meet the others.
+    /// is needed for that: [`Answer::clash`] says so, and
+    /// [`Problem::without`](crate::Problem::without) gives values that meet the
+    /// others.
     Cannot {
         /// How many times each lower limit counts.
         lower: Vec<i64>,
@@ -167,6 +168,33 @@ impl Answer {
             over: parts * i128::from(*over),
         })
     }
+
+    /// The limits that a "cannot" of the solver names, and that each of them is
+    /// needed.
+    ///
+    /// Ask it of the solver's own answers only: another's "cannot" may be
+    /// accepted although it names limits for nothing. The text of any answer,
+    /// by [`Display`](fmt::Display), tells what is named and no more.
+    ///
+    /// ```
+    /// use scatterflock::Problem;
+    ///
+    /// // x and y are at least 2, and their sum is at most 3
+    /// let problem =
+    ///     Problem::new(2)?.at_least(0, 2)?.at_least(1, 2)?.row(&[1, 1])?.at_most(2, 3)?;
+    /// assert_eq!(
+    ///     problem.solve().clash().unwrap(),
+    ///     "1 x lower 0, 1 x lower 1, 1 x upper 2: \
+    ///      each is needed, drop any one and the others can be met"
+    /// );
+    /// # Ok::<(), scatterflock::BuildError>(())
+    /// ```
+    #[must_use]
+    pub fn clash(&self) -> Option<String> {
+        let Verdict::Cannot { lower, upper } = &self.verdict else { return None };
+        let named = counted(lower, upper).join(", ");
+        Some(format!("{named}: each is needed, drop any one and the others can be met"))
+    }
 }
 
 impl Verdict {
@@ -181,7 +209,7 @@ impl Verdict {
     }
 }
 
-/// One line in plain words.
+/// One line in plain words, of any answer alike.
 impl fmt::Display for Answer {
     fn fmt(&self, to: &mut fmt::Formatter) -> fmt::Result {
         let pivots = match self.pivots {

@@ -165,6 +165,33 @@ fn texts_of_answers() {
 }
 
 #[test]
+fn clashes_say_that_each_limit_is_needed() {
+    let clash = |words: &[i32]| solve(words).unwrap().clash();
+    for words in [[1, 0, 3, 1, 0], [1, 0, 7, 5, 5]] {
+        assert_eq!(
+            clash(&words).unwrap(),
+            "1 x lower 0, 1 x upper 0: each is needed, drop any one and the others can be met"
+        );
+    }
+    for case in published() {
+        assert_eq!(clash(&case.words).is_some(), case.answer[0] == 2, "{:?}", case.words);
+    }
+}
+
+#[test]
+fn strangers_may_name_limits_for_nothing() {
+    let crossed = [3, 1, 0];
+    let words = Draft::new(2, &[], &[crossed, crossed]).words();
+    let mut stranger = solve(&words).unwrap();
+    stranger.verdict = Verdict::Cannot { lower: vec![1, 1], upper: vec![1, 1] };
+    assert_eq!(check(&words, &stranger.evidence().unwrap()), Ok(Judgement::Accepted));
+    assert_eq!(
+        stranger.to_string(),
+        "cannot, after 0 pivots: 1 x lower 0, 1 x upper 0, 1 x lower 1, 1 x upper 1"
+    );
+}
+
+#[test]
 fn fractions_meet_strict_rows() {
     for n in 2..=64 {
         let mut rows: Vec<[i32; 4]> = (1..n).map(|to| [to - 1, to, 1, 0]).collect();

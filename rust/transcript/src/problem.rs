@@ -213,8 +213,7 @@ pub fn problem(ws: &[i128]) -> Problem<'_, Limit> {
     }
 }
 
-/// As the run reads it: a strict limit stands for a pair one small amount
-/// inside.
+/// As the run reads it: each limit is the pair that it stands for.
 pub fn inner<'a>(p: &'a Problem<'a, Limit>) -> Problem<'a, (i128, i128)> {
     Problem {
         n: p.n,
