@@ -39,8 +39,10 @@ pub mod Idle
 pub mod Rule
 pub mod Only
 pub mod Range
+pub mod Sessions
 pub mod Entries
 pub mod Times
 pub mod Text
 pub mod Worked
 pub mod SlicesWorked
+pub mod SessionsWorked

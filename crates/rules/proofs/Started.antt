@@ -1,7 +1,7 @@
 -- The start of the rules: its rows hold, its values are within limits that do not cross, and it is sound where none do.
 --   at-start, common-one, seat-start, seated-problem, basic-row    what stands where at the start
 --   rowed-start, housed-start, sound-start
---   no-conflict                                        no crossed limits: `Apart`
+--   uncrossed, no-conflict                             limits that do not cross; no crossed limits: `Apart`
 use mathlib.Core.Bool.{Bool, cond, false, true}
 use mathlib.Core.Option.{Option, Option·none-ne-some, none, some}
 use mathlib.Core.Path.{ap, refl, sym, _∙_, _≡_}
@@ -89,7 +89,7 @@ module _ {X : Type 0} (𝓥 : Values X) where
                 ∙ sym (sum-front (P .n) (P .m) (λ u. startEntry P (P .n + i) u *ℤ x u)
                 (λ u k. rw (row-zero (P .n + i) u (omega arith) k) (zero-*ℤ (x u)))))
 
-  uncrossed : (o p : Option X) → crossed 𝓥 o p ≡ false → (l u : X) → o ≡ some l → p ≡ some u → Le 𝓥 l u
+  pub uncrossed : (o p : Option X) → crossed 𝓥 o p ≡ false → (l u : X) → o ≡ some l → p ≡ some u → Le 𝓥 l u
   unfolding crossed
   uncrossed o p q l u a b = rw (a, b) at q
 

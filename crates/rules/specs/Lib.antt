@@ -11,6 +11,8 @@ pub mod Plain
 pub mod Slices
 pub mod Evidence
 pub mod Keeping
+pub mod Session
+pub mod LiveWords
 pub mod Idle
 pub mod Walks
 pub mod Passes
@@ -21,6 +23,7 @@ pub mod Expected
 pub mod LimitCases
 pub mod EvidenceCases
 pub mod SliceCases
+pub mod SessionCases
 pub mod TimeCases
 pub mod Cases
 pub mod Bytes

@@ -24,7 +24,7 @@ between l u = pos 3 ∷ l ∷ u ∷ []
 abbrev pub moreThan : ℤ → List ℤ
 moreThan l = pos 5 ∷ l ∷ pos 0 ∷ []
 
-abbrev lessThan : ℤ → List ℤ
+abbrev pub lessThan : ℤ → List ℤ
 lessThan u = pos 10 ∷ pos 0 ∷ u ∷ []
 
 -- n and m, or a row of two coefficients

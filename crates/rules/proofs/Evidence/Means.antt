@@ -32,7 +32,7 @@ pub data Meant (P : Problem Limit) (a : List ℤ) : Type 0 where
   cannot-be-met : verdictOf a ≡ pos 2 → Unsatisfied P → Meant P a
 
 -- no word is both
-one-two : {A : Type 0} {z : ℤ} → z ≡ pos 1 → z ≡ pos 2 → A
+pub one-two : {A : Type 0} {z : ℤ} → z ≡ pos 1 → z ≡ pos 2 → A
 one-two e f = let y : _≡_ {A = ℕ} 1 2 = cc in let x : ⊥ = omega arith in absurd x
 
 module _ (ws a : List ℤ) (c : checked ws a ≡ 8) where

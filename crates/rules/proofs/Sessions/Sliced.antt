@@ -1,0 +1,51 @@
+-- A check is one slice with pivots enough.
+--   spending-enough    with as many pivots to spend as the bound, or more, the run comes to its end
+--   check-sliced       so one continue from the session's state answers as a check does, and comes to what it keeps
+use mathlib.Core.List.{[]}
+use mathlib.Core.Option.{Option, none, some}
+use mathlib.Core.Path.{ap, refl, sym, _∙_, _≡_}
+use Prim.Native.Nat.{ℕ, _≤_}
+use native.Mathlib.Omega.{arith}
+use lib.IntN.{ℤ}
+use Rattle.whole.proofs.Beside.{pairs-laws}
+use Rattle.whole.proofs.Values.{Laws}
+use Rattle.whole.specs.Values.{Values, pairs}
+use Rattle.rules.proofs.AnswerIs.{ending-crossed, ending-run, spending-crossed, spending-run}
+use Rattle.rules.proofs.Bounded.{below-bound}
+use Rattle.rules.proofs.Ends.{ends}
+use Rattle.rules.proofs.Runs.{run-is}
+use Rattle.rules.proofs.Sessions.Fair.{Fair, fair-ready}
+use Rattle.rules.proofs.Slices.{Sliced, answer-by, first, sliced}
+use Rattle.rules.proofs.Sound.{Ready, ready-sound}
+use Rattle.rules.proofs.Started.{no-conflict}
+use Rattle.rules.specs.Problem.{Problem}
+use Rattle.rules.specs.Run.{bound, conflict, ending, spending}
+use Rattle.rules.specs.Session.{Session, checkAnswer, live, rested}
+use Rattle.rules.specs.Slices.{continued, continuedBy, sliceAnswer}
+use Rattle.rules.specs.Step.{State}
+
+pub spending-enough : {X : Type 0} (𝓥 : Values X) → Laws 𝓥 → (P : Problem X) (s : State X) → Ready 𝓥 P s → (b : ℕ) →
+    bound P ≤ b → spending 𝓥 b P s 0 ≡ ending 𝓥 P s
+spending-enough 𝓥 law P s R b h = go (conflict 𝓥 P) refl
+  where
+    go : (o : Option ℕ) → conflict 𝓥 P ≡ o → spending 𝓥 b P s 0 ≡ ending 𝓥 P s
+    go (some v) e = spending-crossed 𝓥 P v e b s 0 ∙ sym (ending-crossed 𝓥 P s v e)
+    go none e =
+        let S = ready-sound 𝓥 P s (no-conflict 𝓥 P e) R in
+        let (k, E) = ends 𝓥 law P s (no-conflict 𝓥 P e) S (R .seated-many) in
+        let l = below-bound 𝓥 law P s (no-conflict 𝓥 P e) S (R .seated-many) k (E .runs) in
+        spending-run 𝓥 P e b s 0 ∙ run-is 𝓥 P s b k (omega arith) E
+        ∙ sym (ending-run 𝓥 law P s e S (R .seated-many) k E)
+
+module _ (A : Session (ℤ × ℤ)) (F : Fair pairs A) (b : ℕ) (enough : bound (A .given) ≤ b) where
+  ready : Ready pairs (live A) (A .state)
+  ready = fair-ready pairs A F
+
+  pub check-sliced : (sliceAnswer (first (live A) (A .state)) b ≡ some (checkAnswer A))
+      × (continued pairs (first (live A) (A .state)) b .state ≡ rested pairs A .state)
+  unfolding bound continued continuedBy checkAnswer rested
+  check-sliced = (
+    (let S : Sliced (live A) (A .state) = sliced (live A) (A .state) ready in
+        let l = S .below in answer-by (live A) (A .state) S [] b (omega arith)),
+    ap (λ e. e .last) (spending-enough pairs pairs-laws (live A) (A .state) ready b enough),
+  )
