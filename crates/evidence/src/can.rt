@@ -141,7 +141,7 @@ fn at_least(denominator: i64, x: i64, small: i64, limit: Given) -> bool
 {
     let least = denominator * limit.plain as i64;
     let beyond = (limit.strict & (0 < small)) | (!limit.strict & !(small < 0));
-    !limit.there | ((least < x) | (!(x < least) & beyond))
+    !limit.on | ((least < x) | (!(x < least) & beyond))
 }
 
 fn at_most(denominator: i64, x: i64, small: i64, limit: Given) -> bool
@@ -150,7 +150,7 @@ fn at_most(denominator: i64, x: i64, small: i64, limit: Given) -> bool
 {
     let most = denominator * limit.plain as i64;
     let beyond = (limit.strict & (small < 0)) | (!limit.strict & !(0 < small));
-    !limit.there | ((x < most) | (!(most < x) & beyond))
+    !limit.on | ((x < most) | (!(most < x) & beyond))
 }
 
 // Every present limit holds.

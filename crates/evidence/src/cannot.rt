@@ -23,7 +23,7 @@ use tableau::Variable;
 fn fair(limit: Given, k: i64) -> bool
     ensures { λ r. ⌜ r ≡ fair (limitIn limit) k ⌝ }
 {
-    (limit.there & !is_outside(k, 0, Tableau::LARGEST_NUMBER)) | (k == 0)
+    (limit.on & !is_outside(k, 0, Tableau::LARGEST_NUMBER)) | (k == 0)
 }
 
 fn multipliers_fair(limits: Limits, answer: &[i64], variables: usize) -> bool
@@ -101,7 +101,7 @@ fn weighed(limit: Given, k: i64) -> i64
     requires { ⌜ (Within (limit .plain) largestLimit) × (Within k largestNumber) ⌝ }
     ensures { λ r. ⌜ r ≡ plainOf (limitIn limit) *ℤ k ⌝ }
 {
-    if limit.there {
+    if limit.on {
         return limit.plain as i64 * k;
     }
     0
@@ -129,7 +129,7 @@ fn surplus(limits: Limits, answer: &[i64], variables: usize) -> i64
 fn strict_named(limit: Given, k: i64) -> bool
     ensures { λ r. ⌜ r ≡ strictNamed (limitIn limit) k ⌝ }
 {
-    limit.there & (limit.strict & !(k == 0))
+    limit.on & (limit.strict & !(k == 0))
 }
 
 // Some strict limit has.

@@ -40,13 +40,13 @@ pub fn product(a: i32, b: i32) -> i64
 fn under(common: i32, value: Amount, limit: Given) -> bool
     ensures { λ r. ⌜ r ≡ step.under pairs common (pairOf value) (leastIn limit) ⌝ }
 {
-    limit.there & amount::less(value, amount::times(common, amount::lower_value(limit)))
+    limit.on & amount::less(value, amount::times(common, amount::lower_value(limit)))
 }
 
 fn over(common: i32, value: Amount, limit: Given) -> bool
     ensures { λ r. ⌜ r ≡ step.over pairs common (pairOf value) (mostIn limit) ⌝ }
 {
-    limit.there & amount::less(amount::times(common, amount::upper_value(limit)), value)
+    limit.on & amount::less(amount::times(common, amount::upper_value(limit)), value)
 }
 
 // One amount less another, part by part.
@@ -97,14 +97,14 @@ fn may_rise(value: Value, limit: Given) -> bool
     ensures { λ r. ⌜ r ≡ mayRise pairs (pairIn value) (mostIn limit) ⌝ }
 {
     let most = amount::widened(amount::upper_value(limit));
-    !limit.there | amount::less(amount::widened(value), most)
+    !limit.on | amount::less(amount::widened(value), most)
 }
 
 fn may_fall(value: Value, limit: Given) -> bool
     ensures { λ r. ⌜ r ≡ mayFall pairs (pairIn value) (leastIn limit) ⌝ }
 {
     let least = amount::widened(amount::lower_value(limit));
-    !limit.there | amount::less(least, amount::widened(value))
+    !limit.on | amount::less(least, amount::widened(value))
 }
 
 // Whether a nonbasic variable can move the right way, by its entry in the row of the variable that must rise or fall.

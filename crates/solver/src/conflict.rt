@@ -24,7 +24,7 @@ fn is_crossed(lower: Given, upper: Given) -> bool
 {
     let least = amount::widened(amount::lower_value(lower));
     let most = amount::widened(amount::upper_value(upper));
-    lower.there & upper.there & amount::less(most, least)
+    lower.on & upper.on & amount::less(most, least)
 }
 
 // The search over the first variables.

@@ -9,13 +9,13 @@ use Rattle.tableau.specs.declared.amount.Value.{Value}
 
 -- a missing limit
 abbrev pub absent : Given
-absent = record { there = false; strict = false; plain = pos 0 }
+absent = record { given = false; on = false; strict = false; plain = pos 0 }
 
--- the rules' limit, which may be missing
+-- the rules' limit, which may be missing or off
 abbrev pub limitIn : Given → Option Limit
-limitIn g = present (g .there) (record { plain = g .plain; strict = g .strict })
+limitIn g = present (g .on) (record { plain = g .plain; strict = g .strict })
 
--- the pair that it stands for in the run, where it is there
+-- the pair that it stands for in the run, where it is on
 abbrev pub givenLower : Given → ℤ × ℤ
 givenLower g = (g .plain, inset (g .strict))
 

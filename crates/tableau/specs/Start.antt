@@ -51,10 +51,10 @@ startSeats n k = filled mostVariables nowhere k (seatFor n)
 
 -- ---- limits and values
 
--- a limit as the code holds it
+-- a limit as the code holds it: on
 abbrev pub givenOf : Option Limit → Given
 givenOf none = absent
-givenOf (some l) = record { there = true; strict = l .strict; plain = l .plain }
+givenOf (some l) = record { given = true; on = true; strict = l .strict; plain = l .plain }
 
 abbrev pub isStrict : Option Limit → Bool
 isStrict none = false

@@ -15,11 +15,12 @@ pub struct Seat {
     pub column: ColumnPlace,
 }
 
-// A limit as it was given: whether it is there, whether it excludes its own number, and that number. Of a missing limit
-// the number is 0 and the mark is not set; no answer depends on either.
+// A limit as it was given: whether it was, whether it is on, whether it excludes its own number, and that number. Every
+// answer is by the limits that are on. Of a missing limit no flag is set and the number is 0.
 #[repr(C)]
 pub struct Given {
-    pub there: bool,
+    pub given: bool,
+    pub on: bool,
     pub strict: bool,
     pub plain: i32,
 }

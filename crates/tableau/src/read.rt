@@ -127,22 +127,28 @@ fn start_seats(columns: usize, variables: usize) -> [Seat; Tableau::MOST_VARIABL
     seats
 }
 
-// A variable's limits, from its kind and the limit's word.
+// A variable's limits, from its kind and the limit's word. What is given is on.
 fn lower_given(kind: i32, word: i32) -> Given
-    ensures { λ r. ⌜ r ≡ record { there = hasLower kind; strict = strictLower kind; plain = word } ⌝ }
+    ensures { λ r. ⌜ r
+        ≡ record { given = hasLower kind; on = hasLower kind; strict = strictLower kind; plain = word } ⌝ }
 {
+    let given = judge::has_lower(kind);
     Given {
-        there: judge::has_lower(kind),
+        given,
+        on: given,
         strict: judge::strict_lower(kind),
         plain: word,
     }
 }
 
 fn upper_given(kind: i32, word: i32) -> Given
-    ensures { λ r. ⌜ r ≡ record { there = hasUpper kind; strict = strictUpper kind; plain = word } ⌝ }
+    ensures { λ r. ⌜ r
+        ≡ record { given = hasUpper kind; on = hasUpper kind; strict = strictUpper kind; plain = word } ⌝ }
 {
+    let given = judge::has_upper(kind);
     Given {
-        there: judge::has_upper(kind),
+        given,
+        on: given,
         strict: judge::strict_upper(kind),
         plain: word,
     }
@@ -163,10 +169,10 @@ fn start_value(lower: Given, upper: Given) -> Value
     let zero = Value { plain: 0, small: 0 };
     let least = amount::lower_value(lower);
     let most = amount::upper_value(upper);
-    if lower.there & amount::less(amount::widened(zero), amount::widened(least)) {
+    if lower.on & amount::less(amount::widened(zero), amount::widened(least)) {
         return least;
     }
-    if upper.there & amount::less(amount::widened(most), amount::widened(zero)) {
+    if upper.on & amount::less(amount::widened(most), amount::widened(zero)) {
         return most;
     }
     zero

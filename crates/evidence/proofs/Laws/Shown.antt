@@ -132,5 +132,5 @@ module _ {entries : List ℤ} {limits : Limits} {rows columns : ℕ} {a : List �
           pub cannot-plain : limits .strict ≡ false → showsCannot P a ≡ false
           unfolding someNamed
           cannot-plain e = cannot-strict ∙ some-empty variables (namedAt limits a variables) (λ v h. or-of
-              (not-named (lowerGiven limits v .there) _ (lowerPart a v) (R .limited .lowers-plain e v))
-              (not-named (upperGiven limits v .there) _ (upperPart variables a v) (R .limited .uppers-plain e v)))
+              (not-named (lowerGiven limits v .on) _ (lowerPart a v) (R .limited .lowers-plain e v))
+              (not-named (upperGiven limits v .on) _ (upperPart variables a v) (R .limited .uppers-plain e v)))

@@ -32,7 +32,7 @@ pub net-within : (l u : Given) (i k : ℤ) → Within (l .plain) largestLimit �
     Within (u .plain) largestLimit → Within k largestNumber →
     Within (plainOf (limitIn l) *ℤ i -ℤ plainOf (limitIn u) *ℤ k)
     (largestLimit * largestNumber + largestLimit * largestNumber)
-net-within l u i k p q r s = within-- (weight-within (l .there) _ i p q) (weight-within (u .there) _ k r s)
+net-within l u i k p q r s = within-- (weight-within (l .on) _ i p q) (weight-within (u .on) _ k r s)
 
 fair-within : (b : Bool) (l : Limit) (k : ℤ) → fair (present b l) k ≡ true → Within k largestNumber
 unfolding fair present
@@ -58,8 +58,8 @@ multiplied l a variables e = record {
     both v h = and-true (lower v) (upper v) (all-each variables (fairAt l a variables) e v h)
 
     low : (v : ℕ) → v < variables → (lower v ≡ true) × (upper v ≡ true) → Within (lowerPart a v) largestNumber
-    low v h p = fair-within (lowerGiven l v .there) _ (lowerPart a v) (p .0)
+    low v h p = fair-within (lowerGiven l v .on) _ (lowerPart a v) (p .0)
 
     high : (v : ℕ) → v < variables → (lower v ≡ true) × (upper v ≡ true) →
         Within (upperPart variables a v) largestNumber
-    high v h p = fair-within (upperGiven l v .there) _ (upperPart variables a v) (p .1)
+    high v h p = fair-within (upperGiven l v .on) _ (upperPart variables a v) (p .1)

@@ -42,7 +42,7 @@ pub record Short (x : ℤ × ℤ) : Type 0 where
 -- a limit that is missing counts as 0
 seated-near : (f : Limit → ℤ × ℤ) (g : Given) → Near (f (stated g)) → Near (seated pairs (mapped f (limitIn g)))
 unfolding seated present mapped
-seated-near f g h = go (g .there)
+seated-near f g h = go (g .on)
   where
     go : (b : Bool) → Near (seated pairs (mapped f (present b (stated g))))
     go true = h

@@ -50,12 +50,12 @@ module _ (d : ℤ) (x : ℤ × ℤ) (p : LimitPair) where
   short-below : under pairs d x (lowerIn p) ≡ true → short below ≡ gap pairs (pairs .scale d (givenLower (p .lower))) x
   unfolding shortfallBy under
   short-below e = ap (λ l. gap pairs (pairs .scale d l) x)
-      (is-there lowerPair (p .lower .there) (stated (p .lower)) (under pairs d x) refl e)
+      (is-there lowerPair (p .lower .on) (stated (p .lower)) (under pairs d x) refl e)
 
   short-above : over pairs d x (upperIn p) ≡ true → short above ≡ gap pairs x (pairs .scale d (givenUpper (p .upper)))
   unfolding shortfallBy over
   short-above e = ap (λ u. gap pairs x (pairs .scale d u))
-      (is-there upperPair (p .upper .there) (stated (p .upper)) (over pairs d x) refl e)
+      (is-there upperPair (p .upper .on) (stated (p .upper)) (over pairs d x) refl e)
 
   pub breach-under : under pairs d x (lowerIn p) ≡ true →
       record {
@@ -112,18 +112,18 @@ module _ (f : Limit → ℤ × ℤ) (l : Limit) where
 
 module _ (g : Given) where
   pub under-joined : (d : ℤ) (x : ℤ × ℤ) →
-      (g .there && pairs .less x (pairs .scale d (givenLower g))) ≡ under pairs d x (leastIn g)
-  under-joined = under-there lowerPair (stated g) (g .there)
+      (g .on && pairs .less x (pairs .scale d (givenLower g))) ≡ under pairs d x (leastIn g)
+  under-joined = under-there lowerPair (stated g) (g .on)
 
   pub over-joined : (d : ℤ) (x : ℤ × ℤ) →
-      (g .there && pairs .less (pairs .scale d (givenUpper g)) x) ≡ over pairs d x (mostIn g)
-  over-joined = over-there upperPair (stated g) (g .there)
+      (g .on && pairs .less (pairs .scale d (givenUpper g)) x) ≡ over pairs d x (mostIn g)
+  over-joined = over-there upperPair (stated g) (g .on)
 
-  pub rise-joined : (x : ℤ × ℤ) → (not (g .there) || pairs .less x (givenUpper g)) ≡ mayRise pairs x (mostIn g)
-  rise-joined = rise-there upperPair (stated g) (g .there)
+  pub rise-joined : (x : ℤ × ℤ) → (not (g .on) || pairs .less x (givenUpper g)) ≡ mayRise pairs x (mostIn g)
+  rise-joined = rise-there upperPair (stated g) (g .on)
 
-  pub fall-joined : (x : ℤ × ℤ) → (not (g .there) || pairs .less (givenLower g) x) ≡ mayFall pairs x (leastIn g)
-  fall-joined = fall-there lowerPair (stated g) (g .there)
+  pub fall-joined : (x : ℤ × ℤ) → (not (g .on) || pairs .less (givenLower g) x) ≡ mayFall pairs x (leastIn g)
+  fall-joined = fall-there lowerPair (stated g) (g .on)
 
 not-below : (k : ℕ) → ltZ (pos (suc k)) (pos 0) ≡ false
 not-below k = leb·suc-zero (suc k)

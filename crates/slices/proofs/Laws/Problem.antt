@@ -41,25 +41,25 @@ module _ {P Q : Problem (ℤ × ℤ)} {t : Tableau} {s x : State (ℤ × ℤ)} (
   in-both : {v : ℕ} → v < vars P → v < vars Q
   in-both h = let a = columns-are in let b = rows-are in omega arith
 
-  common-same : common s ≡ common x
+  pub common-same : common s ≡ common x
   common-same = sym (A .numbers .common-is) ∙ B .numbers .common-is
 
   -- a variable is basic in both or in none
-  basic-too : (v : ℕ) → v < vars P → seat s v ≡ none → seat x v ≡ none
+  pub basic-too : (v : ℕ) → v < vars P → seat s v ≡ none → seat x v ≡ none
   basic-too v h e = go (seat x v) refl
     where
       go : (o : Option (ℤ × ℤ)) → seat x v ≡ o → seat x v ≡ none
       go none q = q
       go (some y) q = true-false (A .placed .has-row v h e .flag) (B .placed .has-column v y (in-both h) q .flag)
 
-  seated-too : (v : ℕ) (y : ℤ × ℤ) → v < vars P → seat s v ≡ some y → (z : ℤ × ℤ) × (seat x v ≡ some z)
+  pub seated-too : (v : ℕ) (y : ℤ × ℤ) → v < vars P → seat s v ≡ some y → (z : ℤ × ℤ) × (seat x v ≡ some z)
   seated-too v y h e = go (seat x v) refl
     where
       go : (o : Option (ℤ × ℤ)) → seat x v ≡ o → (z : ℤ × ℤ) × (seat x v ≡ some z)
       go (some z) q = (z, q)
       go none q = true-false (B .placed .has-row v (in-both h) q .flag) (A .placed .has-column v y h e .flag)
 
-  entries-same : (v w : ℕ) → v < vars P → w < vars P → entry (s .tableau) v w ≡ entry (x .tableau) v w
+  pub entries-same : (v w : ℕ) → v < vars P → w < vars P → entry (s .tableau) v w ≡ entry (x .tableau) v w
   entries-same v w h k = by-row (seat s v) refl (seat s w) refl
     where
       at-cell : (y : ℤ × ℤ) → seat s v ≡ none → seat s w ≡ some y → entry (s .tableau) v w ≡ entry (x .tableau) v w
@@ -86,7 +86,7 @@ module _ {P Q : Problem (ℤ × ℤ)} {t : Tableau} {s x : State (ℤ × ℤ)} (
   abbrev sized-as : ℕ → ℕ → Problem (ℤ × ℤ)
   sized-as n m = record { n = n; m = m; coefficient = Q .coefficient; lower = Q .lower; upper = Q .upper }
 
-  same-problem : SameProblem P Q
+  pub same-problem : SameProblem P Q
   same-problem = record {
     columns-same = columns-are;
     rows-same = rows-are;

@@ -28,7 +28,7 @@ unfolding problemRefusal problemTests first tooFew badSize badLength badCoeffici
 idle-fine = refl
 
 module _ (ws : List ℤ) where
-  started-fine : problemRefusal (startedWords (problemRefusal ws) ws) ≡ 0
+  pub started-fine : problemRefusal (startedWords (problemRefusal ws) ws) ≡ 0
   started-fine = go (problemRefusal ws) refl
     where
       go : (k : ℕ) → problemRefusal ws ≡ k → problemRefusal (startedWords k ws) ≡ 0

@@ -36,9 +36,9 @@ use Rattle.solver.specs.Multipliers.{unitAt}
 use Rattle.solver.proofs.Laws.Halves.{units-are}
 
 pub crossed-joined : (l u : Given) →
-    ((l .there && u .there) && pairs .less (givenUpper u) (givenLower l)) ≡ crossed pairs (leastIn l) (mostIn u)
+    ((l .on && u .on) && pairs .less (givenUpper u) (givenLower l)) ≡ crossed pairs (leastIn l) (mostIn u)
 unfolding crossed present mapped
-crossed-joined l u = go (l .there) (u .there)
+crossed-joined l u = go (l .on) (u .on)
   where
     go : (a b : Bool) → ((a && b) && pairs .less (givenUpper u) (givenLower l)) ≡ crossed pairs
         (mapped lowerPair (present a (record { plain = l .plain; strict = l .strict })))

@@ -48,7 +48,7 @@ module _ {ws : List ℤ} {n m : ℕ} (F : Framed ws n m) where
 
 -- a limit as the code holds it, by its parts, and as the rules do
 abbrev pub given : Bool → Bool → ℤ → Given
-given b s z = record { there = b; strict = s; plain = z }
+given b s z = record { given = b; on = b; strict = s; plain = z }
 
 abbrev limit : Bool → Bool → ℤ → Option Limit
 limit b s z = present b (record { plain = z; strict = s })

@@ -92,11 +92,11 @@ module _ {P : Problem (ℤ × ℤ)} {t : Tableau} {s : State (ℤ × ℤ)} {r : 
       go : {σ : Side} {y : ℤ × ℤ} → Outside pairs P s (r .variable) σ y → limitNumber σ (t .limits) (r .variable) ≡ y
       go {y} (too-low e h) =
           let g : Given = lowerGiven (t .limits) (r .variable) in
-          present-some lowerPair (g .there) (limit g) y
+          present-some lowerPair (g .on) (limit g) y
           (sym (M .stands .serves .lower-is (r .variable) (M .left .variable)) ∙ e)
       go {y} (too-high e h) =
           let g : Given = upperGiven (t .limits) (r .variable) in
-          present-some upperPair (g .there) (limit g) y
+          present-some upperPair (g .on) (limit g) y
           (sym (M .stands .serves .upper-is (r .variable) (M .left .variable)) ∙ e)
 
   limit-within : Within (x .0) largestLimit

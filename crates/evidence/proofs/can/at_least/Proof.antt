@@ -39,7 +39,7 @@ returns c = let k = c .before .before .before in let s = start k in let a = s .a
       toZ-ofZ (s .fits .x),
       toZ-ofZ (s .fits .small),
     )
-    (at-least-joined (a .limit .strict) (a .limit .plain) (a .denominator) (a .x) (a .small) (a .limit .there))
+    (at-least-joined (a .limit .strict) (a .limit .plain) (a .denominator) (a .x) (a .small) (a .limit .on))
 
 pub at-least-spec : {M : Type 1} → statement M
 at-least-spec = tie.close (tie.spec cast-least mul-least returns)

@@ -39,7 +39,7 @@ returns c = let k = c .before .before .before in let s = start k in let a = s .a
       toZ-ofZ (s .fits .x),
       toZ-ofZ (s .fits .small),
     )
-    (at-most-joined (a .limit .strict) (a .limit .plain) (a .denominator) (a .x) (a .small) (a .limit .there))
+    (at-most-joined (a .limit .strict) (a .limit .plain) (a .denominator) (a .x) (a .small) (a .limit .on))
 
 pub at-most-spec : {M : Type 1} → statement M
 at-most-spec = tie.close (tie.spec cast-most mul-most returns)

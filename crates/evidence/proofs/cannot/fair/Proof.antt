@@ -21,9 +21,9 @@ zero-fits = record { sfits = lit< tt }
 returns : tie.Need-returns
 unfolding outside
 returns c = let o = c .before .before in
-    ap₂ (λ (a b : Bool). (o .args .limit .there && not a) || b)
+    ap₂ (λ (a b : Bool). (o .args .limit .on && not a) || b)
     (simp (toZ-ofZ (o .fits .k)) at (c .before .is-outside .ensures))
-    (bits-eq w64 (o .fits .k) zero-fits) ∙ fair-joined (o .args .limit .there) _ (o .args .k)
+    (bits-eq w64 (o .fits .k) zero-fits) ∙ fair-joined (o .args .limit .on) _ (o .args .k)
 
 pub fair-spec : {M : Type 1} → statement M
 fair-spec = tie.close (tie.spec is-outside-requires returns)

@@ -15,8 +15,8 @@ zero-fits = record { sfits = lit< tt }
 
 returns : tie.Need-returns
 returns c = let s = c .before .before in let l = s .args .limit in
-    ap (λ (b : Bool). l .there && (l .strict && not b)) (bits-eq w64 (s .fits .k) zero-fits)
-    ∙ named-joined (l .there) _ (s .args .k)
+    ap (λ (b : Bool). l .on && (l .strict && not b)) (bits-eq w64 (s .fits .k) zero-fits)
+    ∙ named-joined (l .on) _ (s .args .k)
 
 pub strict-named-spec : {M : Type 1} → statement M
 strict-named-spec = tie.close (tie.spec returns)

@@ -35,7 +35,7 @@ module _ (c : tie.After-less) where
 
 returns : tie.Need-returns
 returns c = let a = s c .args in
-    ap (λ b. not (a .limit .there) || b) (less-is c) ∙ rise-joined (a .limit) (pairIn (a .value))
+    ap (λ b. not (a .limit .on) || b) (less-is c) ∙ rise-joined (a .limit) (pairIn (a .value))
 
 pub may-rise-spec : {M : Type 1} → statement M
 may-rise-spec =

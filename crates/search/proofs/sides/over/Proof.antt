@@ -32,7 +32,7 @@ module _ (c : tie.After-less) where
 
 returns : tie.Need-returns
 returns c = let a = s (c .before) .args in
-    ap (λ b. a .limit .there && b) (less-is (c .before)) ∙ over-joined (a .limit) (a .common) (pairOf (a .value))
+    ap (λ b. a .limit .on && b) (less-is (c .before)) ∙ over-joined (a .limit) (a .common) (pairOf (a .value))
 
 pub over-spec : {M : Type 1} → statement M
 over-spec = tie.close (tie.spec upper-value-requires times-requires less-requires returns)

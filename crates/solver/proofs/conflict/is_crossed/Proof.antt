@@ -43,7 +43,7 @@ module _ (c : tie.After-less) where
 
 returns : tie.Need-returns
 returns c = let a = start c .args in
-    ap (λ b. (a .lower .there && a .upper .there) && b) (less-is c) ∙ crossed-joined (a .lower) (a .upper)
+    ap (λ b. (a .lower .on && a .upper .on) && b) (less-is c) ∙ crossed-joined (a .lower) (a .upper)
 
 pub is-crossed-spec : {M : Type 1} → statement M
 is-crossed-spec =

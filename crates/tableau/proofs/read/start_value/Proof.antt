@@ -20,11 +20,11 @@ module _ (s : tie.Start) where
   abbrev upper : Given
   upper = s .args .upper
 
-  by-tests : (a b : Bool) → (lower .there && pairs .less (pairs .nil) (givenLower lower)) ≡ a →
-      (upper .there && pairs .less (givenUpper upper) (pairs .nil)) ≡ b →
+  by-tests : (a b : Bool) → (lower .on && pairs .less (pairs .nil) (givenLower lower)) ≡ a →
+      (upper .on && pairs .less (givenUpper upper) (pairs .nil)) ≡ b →
       startValue pairs (mapped lowerPair (limitIn lower)) (mapped upperPair (limitIn upper))
       ≡ cond a (givenLower lower) (cond b (givenUpper upper) (pairs .nil))
-  by-tests a b e q = value-is (lower .there) (upper .there) _ _
+  by-tests a b e q = value-is (lower .on) (upper .on) _ _
       ∙ ap₂ (λ (a b : Bool). cond a (givenLower lower) (cond b (givenUpper upper) (pairs .nil))) e q
 
 lower-value-requires : tie.Need-lower-value-requires
@@ -74,7 +74,7 @@ module _ (c : tie.After-less2) where
   abbrev first : tie.After-less
   first = c .before .before .before .before .before
 
-  not-raised : (lower (begun first) .there && pairs .less (pairs .nil) (givenLower (lower (begun first)))) ≡ false
+  not-raised : (lower (begun first) .on && pairs .less (pairs .nil) (givenLower (lower (begun first)))) ≡ false
   not-raised = rw (sym (low-less first)) (c .before .before .before .if1 .left)
 
   high-less : c .less2 .result ≡ pairs .less (givenUpper (upper (begun first))) (pairs .nil)
