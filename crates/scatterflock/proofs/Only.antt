@@ -4,6 +4,8 @@
 --   scatterflock-check-only    the number
 --   scatterflock-slice-start-only       the number and the state
 --   scatterflock-slice-continue-only    the number, whether there is an answer, the state, and every word of the output
+--   scatterflock-session-open-only, scatterflock-session-switch-only    the number and the session
+--   scatterflock-session-check-only     the number, the session, and every word of the output
 --   scatterflock-times-only    the number, and every word of the output; or both name a bad cycle
 use mathlib.Core.Logic.{_⊎_}
 use mathlib.Core.Path.{_≡_, ap, sym, _∙_}
@@ -12,6 +14,9 @@ use Rattle.rules.specs.Times.{BothNamed}
 use Rattle.rules.proofs.Times.Told.{told-only}
 use Rattle.scatterflock.proofs.scatterflock_solve.Reads as solve
 use Rattle.scatterflock.proofs.scatterflock_check.Reads as check
+use Rattle.scatterflock.proofs.scatterflock_session_check.Reads as session-check
+use Rattle.scatterflock.proofs.scatterflock_session_open.Reads as session-open
+use Rattle.scatterflock.proofs.scatterflock_session_switch.Reads as session-switch
 use Rattle.scatterflock.proofs.scatterflock_slice_continue.Reads as slice-continue
 use Rattle.scatterflock.proofs.scatterflock_slice_start.Reads as slice-start
 use Rattle.scatterflock.proofs.scatterflock_times.Reads as times
@@ -32,6 +37,18 @@ scatterflock-slice-start-only κs x a b e f h k = h .0 ∙ sym (k .0)
 pub scatterflock-slice-continue-only : (κs : _) (x : _) (a b : _) (e f : _) →
     slice-continue.Post κs x a e → slice-continue.Post κs x b f → (a ≡ b) × (e .1 .1 .0 .now ≡ f .1 .1 .0 .now)
 scatterflock-slice-continue-only κs x a b e f h k = (h .0 ∙ sym (k .0), h .1 .0 ∙ sym (k .1 .0))
+
+pub scatterflock-session-open-only : (κs : _) (x : _) (a b : _) (e f : _) →
+    session-open.Post κs x a e → session-open.Post κs x b f → a ≡ b
+scatterflock-session-open-only κs x a b e f h k = h .0 ∙ sym (k .0)
+
+pub scatterflock-session-switch-only : (κs : _) (x : _) (a b : _) (e f : _) →
+    session-switch.Post κs x a e → session-switch.Post κs x b f → a ≡ b
+scatterflock-session-switch-only κs x a b e f h k = h .0 ∙ sym (k .0)
+
+pub scatterflock-session-check-only : (κs : _) (x : _) (a b : _) (e f : _) →
+    session-check.Post κs x a e → session-check.Post κs x b f → (a ≡ b) × (e .1 .0 .now ≡ f .1 .0 .now)
+scatterflock-session-check-only κs x a b e f h k = (h .0 ∙ sym (k .0), h .1 .0 ∙ sym (k .1 .0))
 
 pub scatterflock-times-only : (κs : _) (x : _) (a b : _) (e f : _) → times.Post κs x a e → times.Post κs x b f →
     (a ≡ b) × ((e .1 .0 .now ≡ f .1 .0 .now) ⊎ BothNamed (x .0 .now) a (e .1 .0 .now) (f .1 .0 .now))

@@ -7,6 +7,12 @@ ghost use Rattle.rules.specs.Evidence.{checked};
 ghost use Rattle.rules.specs.Refusal.{refusal};
 ghost use Rattle.rules.specs.Times.{Timed};
 ghost use Rattle.slices.specs.Slices.{GoesOnAs, Standing, StartsAs, begunAt, outputAt, wentOnAt};
+ghost use Rattle.session.specs.Sessions as sessions;
+ghost use Rattle.session.specs.Sessions.{ChecksAs, OpensAs, SwitchesAs, checkedAt, openedAt, switchedAt};
+use session::Checked;
+use session::Opened;
+use session::Session;
+use session::Switched;
 use slices::Begun;
 use slices::Continued;
 use slices::Slice;
@@ -58,4 +64,39 @@ pub extern "C" fn scatterflock_slice_continue(
     ensures meaning { λ r. ⌜ GoesOnAs slice pivots (now (out .entry)) r (now (out .exit)) ⌝ }
 {
     slice.go_on(pivots, out)
+}
+
+// Opens a problem whose limits are switched on and off.
+#[no_mangle]
+pub extern "C" fn scatterflock_session_open(words: &[i32]) -> Opened
+    ensures exact { λ r. ⌜ r ≡ openedAt (now (words .entry)) ⌝ }
+    ensures meaning { λ r. ⌜ OpensAs (now (words .entry)) r ⌝ }
+{
+    session::open(words)
+}
+
+// Switches one limit of a variable on or off.
+#[no_mangle]
+pub extern "C" fn scatterflock_session_switch(
+    session: Session,
+    variable: u32,
+    upper: bool,
+    on: bool,
+) -> Switched
+    requires { ⌜ sessions.Standing session ⌝ }
+    ensures exact { λ r. ⌜ r ≡ switchedAt session variable upper on ⌝ }
+    ensures meaning { λ r. ⌜ SwitchesAs session variable upper on r ⌝ }
+{
+    session.switch(variable, upper, on)
+}
+
+// Answers the problem with the limits that are on.
+#[no_mangle]
+pub extern "C" fn scatterflock_session_check(session: Session, out: &mut [i64]) -> Checked
+    requires { ⌜ sessions.Standing session ⌝ }
+    ensures exact { λ r. ⌜ r ≡ checkedAt session (length (now (out .entry))) ⌝ }
+    ensures output { λ r. ⌜ now (out .exit) ≡ sessions.outputAt session (now (out .entry)) ⌝ }
+    ensures meaning { λ r. ⌜ ChecksAs session (now (out .entry)) r (now (out .exit)) ⌝ }
+{
+    session.check(out)
 }
