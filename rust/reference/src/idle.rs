@@ -29,17 +29,10 @@ pub fn idle(words: &[i32], answer: &[i64]) -> Option<Named> {
     let problem = Problem::read(words).expect("an answered problem is not refused");
     let named = named(words, answer);
     named.iter().copied().find(|&dropped| {
-        let kept = |limit: Named| limit != dropped && named.contains(&limit);
-        !is_met(&with(&problem, kept))
+        let is_kept = |variable, upper: bool| {
+            let limit = Named { variable, lower: !upper };
+            limit != dropped && named.contains(&limit)
+        };
+        !is_met(&problem.keeping(is_kept))
     })
-}
-
-/// The same rows with those limits alone that are kept.
-fn with(problem: &Problem, kept: impl Fn(Named) -> bool) -> Problem {
-    let mut fewer = problem.clone();
-    for (variable, limits) in fewer.limits.iter_mut().enumerate() {
-        limits.lower = limits.lower.filter(|_| kept(Named { variable, lower: true }));
-        limits.upper = limits.upper.filter(|_| kept(Named { variable, lower: false }));
-    }
-    fewer
 }

@@ -11,6 +11,7 @@
 //! - `tableau`: basic variables as sums over nonbasic ones, and the exchange
 //! - `run`: the limit solver
 //! - `slices`: the same run, some pivots at a time
+//! - `session`: limits that are switched on and off, and checks
 //! - `answer`: how a run ended, and the words that say so
 //! - `evidence`: the checker, which uses nothing of the run
 //! - `actual`: the fractions that an answer stands for
@@ -30,6 +31,7 @@ mod pair;
 mod problem;
 mod program;
 mod run;
+mod session;
 mod slices;
 mod tableau;
 mod times;
@@ -41,6 +43,7 @@ pub use evidence::check;
 pub use idle::{idle, named, Named};
 pub use program::respond;
 pub use run::{pivots, solve, violations, Violation};
+pub use session::Session;
 pub use slices::{Continued, Slice};
 pub use tableau::Pivot;
 pub use times::{times, times_is_right};

@@ -58,6 +58,17 @@ impl Problem {
         3 + 2 * self.variables()
     }
 
+    /// The same rows with those limits alone that are kept, by variable and by
+    /// whether they are upper ones.
+    pub fn keeping(&self, is_kept: impl Fn(Variable, bool) -> bool) -> Problem {
+        let mut fewer = self.clone();
+        for (variable, limits) in fewer.limits.iter_mut().enumerate() {
+            limits.lower = limits.lower.filter(|_| is_kept(variable, false));
+            limits.upper = limits.upper.filter(|_| is_kept(variable, true));
+        }
+        fewer
+    }
+
     /// The problem of the words, or the number that refuses them.
     pub fn read(words: &[i32]) -> Result<Problem, u32> {
         if words.len() < 2 {

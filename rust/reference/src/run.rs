@@ -224,11 +224,16 @@ impl<'a> State<'a> {
         }
     }
 
-    fn can(&self) -> Verdict {
+    /// D, and D times each variable's value: plain parts, small parts.
+    pub fn numerators(&self) -> (i128, Vec<i128>, Vec<i128>) {
         let over = self.tableau.common();
-        let numerators = |variable| self.value(variable).times_multiple(over);
-        let (plain, small): (Vec<i128>, Vec<i128>) =
-            (0..self.problem.variables()).map(numerators).unzip();
+        let numerator = |variable| self.value(variable).times_multiple(over);
+        let (plain, small) = (0..self.problem.variables()).map(numerator).unzip();
+        (over, plain, small)
+    }
+
+    fn can(&self) -> Verdict {
+        let (over, plain, small) = self.numerators();
         let is_met = actual::holds(self.problem, over, &plain, &small);
         assert!(is_met, "a small amount of 1 / 17,179,869,177 meets every limit");
         Verdict::Can { over, plain, small }
