@@ -30,7 +30,8 @@
  *     and nobody else writes any of them, or reads what may be written, until
  *     the call returns;
  *   - there is room on the stack: 64 KiB is more than any function uses;
- *   - the state of a run in slices is handed in as it was handed back.
+ *   - the state of a run in slices, and a session, is handed in as it was
+ *     handed back.
  *
  * Nothing else is owed. Any words at all may be handed in, of any count: words
  * that are no problem are refused with a number. The functions use no heap,
@@ -66,7 +67,8 @@ enum {
     SCATTERFLOCK_MOST_TIME_ROWS = 256,
     SCATTERFLOCK_MOST_TIME_WORDS = 1026,
     SCATTERFLOCK_MOST_TIMES = 130,  /* words of an answer to time rows */
-    SCATTERFLOCK_SLICE_WORDS = 135  /* of 64 bits, beside the count, in the state of a run */
+    SCATTERFLOCK_SLICE_WORDS = 135, /* of 64 bits, beside the count, in the state of a run */
+    SCATTERFLOCK_SESSION_WORDS = 135 /* of 64 bits, in a session */
 };
 #define SCATTERFLOCK_LARGEST_SMALL INT64_C(17179869176) /* small part of a numerator */
 
@@ -118,7 +120,11 @@ enum {
     SCATTERFLOCK_TIMES_VERTEX = 14,
     SCATTERFLOCK_TIMES_STRICT = 15,
     SCATTERFLOCK_TIMES_BOUND = 16,
-    SCATTERFLOCK_TIMES_SHORT = 17
+    SCATTERFLOCK_TIMES_SHORT = 17,
+    SCATTERFLOCK_SWITCH_NO_VARIABLE = 41,
+    SCATTERFLOCK_SWITCH_NO_LIMIT = 42,
+    SCATTERFLOCK_SWITCH_ALREADY_ON = 43,
+    SCATTERFLOCK_SWITCH_ALREADY_OFF = 44
 };
 
 /*
@@ -251,6 +257,79 @@ struct scatterflock_begun scatterflock_slice_start(const int32_t *words, size_t 
 struct scatterflock_continued scatterflock_slice_continue(struct scatterflock_slice slice,
                                                           size_t pivots,
                                                           int64_t *out, size_t out_count);
+
+/*
+ * A session: a problem, which of its limits are on, and the tableau and the
+ * values that the next check starts from. What is in tableau is the archive's
+ * own; another version may have it otherwise. It may be copied and kept, also
+ * to come back to an earlier one, and is to be handed in as it was handed back.
+ * A session that was altered is no session: then nothing is promised.
+ */
+struct scatterflock_session {
+    uint64_t tableau[SCATTERFLOCK_SESSION_WORDS];
+};
+
+/* What scatterflock_session_open hands back. */
+struct scatterflock_opened {
+    uint32_t refused;
+    struct scatterflock_session session;
+};
+
+/* What scatterflock_session_switch hands back. */
+struct scatterflock_switched {
+    uint32_t refused;
+    struct scatterflock_session session;
+};
+
+/* What scatterflock_session_check hands back. */
+struct scatterflock_checked {
+    uint32_t refused;
+    struct scatterflock_session session;
+};
+
+/*
+ * Opens a session of a problem with all its rows and limits. Every limit is
+ * off, and each of the n variables is nonbasic at 0.
+ *
+ * In refused is 0, or the number of the refusal as in scatterflock_solve, 1 to
+ * 6 or 10. Then session is that of one variable without rows and limits, which
+ * is safe to go on with.
+ */
+struct scatterflock_opened scatterflock_session_open(const int32_t *words, size_t word_count);
+
+/*
+ * Switches a limit on or off: the upper one of the variable where upper is
+ * true, else the lower one.
+ *
+ * If the variable is nonbasic, its limits that are on now do not cross, and its
+ * value is outside of one of them, its value becomes that limit; a strict one
+ * is a small amount farther in. No other value changes.
+ *
+ * In refused is 0, or the first of these that applies, and then session is the
+ * one that was handed in: 41 variable is not below n + m, 42 the problem has no
+ * such limit, 43 it is to be on and is, 44 it is to be off and is.
+ */
+struct scatterflock_switched scatterflock_session_switch(struct scatterflock_session session,
+                                                         uint32_t variable, bool upper, bool on);
+
+/*
+ * Answers the problem with the limits that are on and no others.
+ *
+ * In refused is 7 if out_count is below 3 + 2 (n + m), whatever is on; then
+ * session is the one that was handed in, and out keeps every word. Else refused
+ * is 0, and the first words of out are an answer as scatterflock_solve writes
+ * one, but for where the run starts: at the tableau and the values of the
+ * session. out[1] counts the pivots of this check alone. Words past the answer
+ * keep what they had. While the limits of some variable that are on cross, it
+ * is "cannot" by the two limits of the lowest such variable, without a pivot.
+ *
+ * The session that comes back has the last completed tableau and its values,
+ * whatever the answer is. scatterflock_check gives 8 for an answer with 1 or 2,
+ * handed in with the words of the problem in which the limits that are off are
+ * missing: bits and mark taken out of the kind, and 0 for the number.
+ */
+struct scatterflock_checked scatterflock_session_check(struct scatterflock_session session,
+                                                       int64_t *out, size_t out_count);
 
 #ifdef __cplusplus
 }

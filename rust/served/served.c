@@ -3,16 +3,18 @@
  * for a machine that cannot link the archive and can run this program under
  * an emulator.
  *
- * A request is five numbers of 64 bits: the function (0 solve, 1 check,
- * 2 times, 3 slice_start, 4 slice_continue), how many 32-bit words there are
- * to read, how many 64-bit words the output (of check: the answer) has, and
- * for slice_continue the number of the slice and the pivots. Then come those
- * words. The reply is four numbers of 64 bits: what the function returned, and
- * of the last two whether it answered, the number of the slice that came back
- * and its count; and then all words of the output. Numbers are little-endian,
- * as the machine's own.
+ * A request is seven numbers of 64 bits: the function (0 solve, 1 check,
+ * 2 times, 3 slice_start, 4 slice_continue, 5 session_open, 6 session_switch,
+ * 7 session_check), how many 32-bit words there are to read, how many 64-bit
+ * words the output (of check: the answer) has, and what else the function
+ * takes: slice_continue the number of the slice and the pivots, the last two
+ * the number of the session, and session_switch variable, upper and on. Then
+ * come those words. The reply is four numbers of 64 bits: what the function
+ * returned, and of slices and sessions whether it answered, the number of the
+ * one that came back and its count; and then all words of the output. Numbers
+ * are little-endian, as the machine's own.
  *
- * Slices are kept here, the last so many of them.
+ * Slices and sessions are kept here, the last so many of them.
  *
  * Both slices lie between guard words. A function that changes a guard, or a
  * word that it was lent to read, ends the program with a message.
@@ -26,6 +28,7 @@
 #define GUARD 4
 #define MOST_WORDS (1 << 20)
 #define KEPT 64
+#define SESSIONS_KEPT 4096
 
 static const int32_t WORD_GUARD = -1431655766;
 static const int64_t OUT_GUARD = -6148914691236517206;
@@ -35,6 +38,9 @@ static int64_t out[MOST_WORDS + 2 * GUARD], out_before[MOST_WORDS];
 
 static struct scatterflock_slice kept[KEPT];
 static uint64_t slices;
+
+static struct scatterflock_session sessions_kept[SESSIONS_KEPT];
+static uint64_t sessions;
 
 static void stop(const char *what)
 {
@@ -100,6 +106,44 @@ static void go_on(uint64_t number, uint64_t pivots, size_t out_count, uint64_t *
     keep(reply, next.slice);
 }
 
+static void keep_session(uint64_t *reply, uint32_t refused, struct scatterflock_session session)
+{
+    reply[0] = refused;
+    reply[2] = sessions;
+    sessions_kept[sessions % SESSIONS_KEPT] = session;
+    sessions++;
+}
+
+static struct scatterflock_session session_of(uint64_t number)
+{
+    if (number >= sessions || number + SESSIONS_KEPT < sessions)
+        stop("there is no such session any more");
+    return sessions_kept[number % SESSIONS_KEPT];
+}
+
+static void open_session(size_t word_count, uint64_t *reply)
+{
+    struct scatterflock_opened opened = scatterflock_session_open(words + GUARD, word_count);
+
+    keep_session(reply, opened.refused, opened.session);
+}
+
+static void switch_limit(const uint64_t *more, uint64_t *reply)
+{
+    struct scatterflock_switched next =
+        scatterflock_session_switch(session_of(more[0]), (uint32_t)more[1], more[2] != 0, more[3] != 0);
+
+    keep_session(reply, next.refused, next.session);
+}
+
+static void check_session(const uint64_t *more, size_t out_count, uint64_t *reply)
+{
+    struct scatterflock_checked next =
+        scatterflock_session_check(session_of(more[0]), out + GUARD, out_count);
+
+    keep_session(reply, next.refused, next.session);
+}
+
 static uint64_t answer(uint64_t function, size_t word_count, size_t out_count)
 {
     const int32_t *read = words + GUARD;
@@ -119,7 +163,7 @@ static uint64_t answer(uint64_t function, size_t word_count, size_t out_count)
 
 int main(void)
 {
-    uint64_t request[5];
+    uint64_t request[7];
 
     while (fread(request, sizeof request, 1, stdin) == 1) {
         uint64_t reply[4] = { 0 }, word_count = request[1], out_count = request[2];
@@ -132,12 +176,25 @@ int main(void)
         memcpy(words_before, words + GUARD, word_count * sizeof *words);
         memcpy(out_before, out + GUARD, out_count * sizeof *out);
 
-        if (request[0] == 3)
+        switch (request[0]) {
+        case 3:
             start(word_count, reply);
-        else if (request[0] == 4)
+            break;
+        case 4:
             go_on(request[3], request[4], out_count, reply);
-        else
+            break;
+        case 5:
+            open_session(word_count, reply);
+            break;
+        case 6:
+            switch_limit(request + 3, reply);
+            break;
+        case 7:
+            check_session(request + 3, out_count, reply);
+            break;
+        default:
             reply[0] = answer(request[0], word_count, out_count);
+        }
 
         look_at_guards(word_count, out_count);
         if (memcmp(words_before, words + GUARD, word_count * sizeof *words) != 0)

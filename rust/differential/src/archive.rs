@@ -2,9 +2,13 @@
 //! program of their own.
 
 #[cfg(not(feature = "served"))]
-pub use scatterflock::raw::{check, slice_continue, slice_start, solve, times, Slice};
+use scatterflock::raw;
 #[cfg(feature = "served")]
-pub use served::{check, slice_continue, slice_start, solve, times, Slice};
+use served as raw;
+
+pub use raw::{check, solve, times};
+pub use raw::{session_check, session_open, session_switch, Session};
+pub use raw::{slice_continue, slice_start, Slice};
 
 /// Whether they are linked into this program.
 pub const LINKED: bool = cfg!(not(feature = "served"));

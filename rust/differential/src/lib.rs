@@ -1,11 +1,12 @@
-//! The archive against `reference`: solver, checker, slices and time rows, on
-//! random problems of every family, every word compared.
+//! The archive against `reference`: solver, checker, slices, sessions and time
+//! rows, on random problems of every family, every word compared.
 //!
 //! - [`archive`]: the archive's functions, linked or served
 //! - `lent`: lends an output with guards around it and looks at all of it
 //! - `limits`: one limit problem through the solver and the checker, and each
 //!   limit that a "cannot" names left out in turn
 //! - `slices`: one limit problem through a start and continues
+//! - `sessions`: one limit problem through a script of switches and checks
 //! - `times`: time rows through the time solver
 //! - `report`: many of them, counted
 
@@ -13,5 +14,6 @@ pub mod archive;
 mod lent;
 pub mod limits;
 pub mod report;
+pub mod sessions;
 pub mod slices;
 pub mod times;

@@ -1,6 +1,6 @@
 //! Many problems, counted.
 
-use crate::{limits, slices, times};
+use crate::{limits, sessions, slices, times};
 use problems::random::Random;
 use std::collections::BTreeMap;
 use std::fmt;
@@ -12,7 +12,8 @@ pub struct Report {
     pub problems: u64,
     /// By verdict or refusal.
     pub outcomes: BTreeMap<String, u64>,
-    /// By what further calls returned: the checker, or continues.
+    /// By what further calls returned: the checker, continues, or switches and
+    /// checks of sessions.
     pub calls: BTreeMap<u32, u64>,
     /// How many answers have small parts.
     pub with_small: u64,
@@ -46,6 +47,24 @@ pub fn slices(seed: u64, problems: u64) -> Result<Report, String> {
     Ok(report)
 }
 
+/// Compares so many sessions, one for each problem, the families in turn. What
+/// is counted is each check by its verdict, and each refused opening.
+pub fn sessions(seed: u64, problems: u64) -> Result<Report, String> {
+    let mut report = Report::default();
+    for problem in 0..problems {
+        let family = in_turn(&problems::limits::Family::ALL, problem);
+        let outcome = sessions::compare(&mut Random::of_problem(seed, problem), family)
+            .map_err(|what| format!("SEED={seed}, problem {problem}, {family:?}: {what}"))?;
+        report.problems += 1;
+        report.count_outcome(&format!("refused {}", outcome.number), (outcome.number != 0).into());
+        for (name, count) in outcome.checks {
+            report.count_outcome(name, count);
+        }
+        report.count_calls(&outcome.calls);
+    }
+    Ok(report)
+}
+
 /// Compares so many time rows, the families in turn.
 pub fn times(seed: u64, problems: u64) -> Result<Report, String> {
     let mut report = Report::default();
@@ -69,7 +88,13 @@ impl Report {
             refusal => format!("refused {refusal}"),
         };
         self.problems += 1;
-        *self.outcomes.entry(name).or_default() += 1;
+        self.count_outcome(&name, 1);
+    }
+
+    fn count_outcome(&mut self, name: &str, count: u64) {
+        if count > 0 {
+            *self.outcomes.entry(name.to_string()).or_default() += count;
+        }
     }
 
     fn count_calls(&mut self, numbers: &[u32]) {

@@ -3,6 +3,7 @@
 
 use differential::archive;
 use problems::published::published;
+use problems::sessions::{self, Operation, Reply};
 use problems::worked;
 
 const KEPT: i64 = -123_456_789;
@@ -84,6 +85,36 @@ fn cases_j_to_l() {
                 assert!(number == 0 && case.answer.is(&out[..needed]), "{}", case.name);
                 assert_eq!(out[needed..], vec![KEPT; length - needed], "{}", case.name);
             }
+        }
+    }
+}
+
+#[test]
+fn worked_sessions() {
+    for case in sessions::worked() {
+        let needed = 3 + 2 * (case.words[0] + case.words[1]) as usize;
+        let opened = archive::session_open(&case.words);
+        assert_eq!(opened.refused, 0, "{}", case.name);
+        let mut session = opened.session;
+        for (place, (operation, expected)) in case.script.into_iter().enumerate() {
+            let reply = match operation {
+                Operation::Switch { variable, upper, on } => {
+                    let next = archive::session_switch(session, variable, upper, on);
+                    session = next.session;
+                    Reply::Number(next.refused)
+                }
+                Operation::Check => {
+                    let mut out = vec![KEPT; needed - 1];
+                    let short = archive::session_check(session, &mut out);
+                    assert_eq!((short.refused, out), (7, vec![KEPT; needed - 1]));
+                    let mut out = vec![KEPT; needed + 1];
+                    let next = archive::session_check(short.session, &mut out);
+                    assert_eq!((next.refused, out.pop()), (0, Some(KEPT)));
+                    session = next.session;
+                    Reply::Answer(out)
+                }
+            };
+            assert_eq!(reply, expected, "{}, {place}", case.name);
         }
     }
 }

@@ -11,6 +11,7 @@
 //! - `damage`: words that are nearly right, and words that are not
 //! - `evidence`: answers that are nearly right
 //! - `times`: random time rows, by family
+//! - `sessions`: scripts of switches and checks
 
 pub mod damage;
 pub mod division;
@@ -20,6 +21,7 @@ pub mod limits;
 mod oven;
 pub mod published;
 pub mod random;
+pub mod sessions;
 pub mod strict;
 pub mod times;
 pub mod worked;

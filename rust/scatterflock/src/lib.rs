@@ -52,8 +52,10 @@
 //!   judgement
 //! - [`Fractions`]: values as numbers over one denominator
 //! - [`Slice`]: a run that is made some pivots at a time
+//! - [`Session`]: limits that are switched on and off, and checked again
 //! - [`TimeRows`], [`times()`]: time rows
-//! - [`Refusal`], [`TimesRefusal`]: why words are refused
+//! - [`Refusal`], [`TimesRefusal`], [`SwitchRefusal`]: why words or switches
+//!   are refused
 //! - [`sizes`]: how large everything may be
 //! - [`raw`]: the archive's functions as they are, over lent words
 //!
@@ -67,6 +69,7 @@ mod problem;
 pub mod raw;
 mod refusal;
 mod rows;
+mod session;
 pub mod sizes;
 mod slice;
 mod times;
@@ -75,7 +78,8 @@ pub use answer::{check, solve, Answer, Judgement, Verdict};
 pub use build_error::BuildError;
 pub use fractions::Fractions;
 pub use problem::{Limit, Problem, Side};
-pub use refusal::{Refusal, TimesRefusal};
+pub use refusal::{Refusal, SwitchRefusal, TimesRefusal};
 pub use rows::TimeRows;
+pub use session::Session;
 pub use slice::Slice;
 pub use times::{times, Schedule, Time};

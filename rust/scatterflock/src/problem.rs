@@ -327,6 +327,6 @@ impl Limit {
 }
 
 /// The bit of a kind that says that there is a lower, an upper limit.
-const PRESENT: [i32; 2] = [1, 2];
+pub(crate) const PRESENT: [i32; 2] = [1, 2];
 /// The bit that marks it as strict.
-const STRICT: [i32; 2] = [4, 8];
+pub(crate) const STRICT: [i32; 2] = [4, 8];

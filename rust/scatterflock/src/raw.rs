@@ -2,7 +2,7 @@
 //! Nothing is allocated.
 
 mod archive {
-    use super::{Begun, Continued, Slice};
+    use super::{Begun, Checked, Continued, Opened, Session, Slice, Switched};
 
     extern "C" {
         pub fn scatterflock_solve(
@@ -34,6 +34,21 @@ mod archive {
             out: *mut i64,
             out_count: usize,
         ) -> Continued;
+
+        pub fn scatterflock_session_open(words: *const i32, word_count: usize) -> Opened;
+
+        pub fn scatterflock_session_switch(
+            session: Session,
+            variable: u32,
+            upper: bool,
+            on: bool,
+        ) -> Switched;
+
+        pub fn scatterflock_session_check(
+            session: Session,
+            out: *mut i64,
+            out_count: usize,
+        ) -> Checked;
     }
 }
 
@@ -78,6 +93,49 @@ pub struct Continued {
     pub answered: bool,
     /// The state to go on with; where it is refused, the state that it was.
     pub slice: Slice,
+}
+
+/// A session, as the archive hands it back and takes it again: a problem, which
+/// of its limits are on, and the tableau and the values that the next check
+/// starts from. What is in it is the archive's own.
+#[derive(Debug, Clone)]
+#[repr(C)]
+pub struct Session {
+    tableau: [u64; SESSION_WORDS],
+}
+
+/// The words of 64 bits that the archive keeps in a session.
+const SESSION_WORDS: usize = SLICE_WORDS;
+
+/// What [`session_open`] hands back.
+#[derive(Debug, Clone)]
+#[repr(C)]
+pub struct Opened {
+    /// 0, or the number of a [`Refusal`](crate::Refusal).
+    pub refused: u32,
+    /// The session with every limit off. Where the words are refused, that of a
+    /// problem with nothing to switch.
+    pub session: Session,
+}
+
+/// What [`session_switch`] hands back.
+#[derive(Debug, Clone)]
+#[repr(C)]
+pub struct Switched {
+    /// 0, or the number of a [`SwitchRefusal`](crate::SwitchRefusal).
+    pub refused: u32,
+    /// The session after the switch; where it is refused, the one that it was.
+    pub session: Session,
+}
+
+/// What [`session_check`] hands back.
+#[derive(Debug, Clone)]
+#[repr(C)]
+pub struct Checked {
+    /// 0, or 7 where the output is too short.
+    pub refused: u32,
+    /// The session after the check; where it is refused, the one that it was.
+    pub session: Session,
 }
 
 /// Answers a limit problem: 0 and the answer's words at the start of `out`,
@@ -161,4 +219,59 @@ pub fn slice_continue(slice: Slice, pivots: usize, out: &mut [i64]) -> Continued
     // SAFETY: the pointer is valid for its length. A slice comes from the
     // archive alone: its fields are private, and nothing changes them.
     unsafe { archive::scatterflock_slice_continue(slice, pivots, out.as_mut_ptr(), out.len()) }
+}
+
+/// Opens a session of a problem: every limit is off, and each of the problem's
+/// own variables is 0.
+///
+/// ```
+/// let opened = scatterflock::raw::session_open(&[1, 0, 1, 5, 0]);
+/// assert_eq!(opened.refused, 0);
+/// assert_eq!(scatterflock::raw::session_open(&[9, 0]).refused, 2);
+/// ```
+#[must_use = "it is all that opening does"]
+pub fn session_open(words: &[i32]) -> Opened {
+    // SAFETY: the pointer is valid for its length, and is not written through.
+    unsafe { archive::scatterflock_session_open(words.as_ptr(), words.len()) }
+}
+
+/// Switches the lower or the upper limit of a variable on or off.
+///
+/// ```
+/// use scatterflock::raw::{session_open, session_switch};
+///
+/// let session = session_open(&[1, 0, 1, 5, 0]).session;
+/// let next = session_switch(session, 0, false, true);
+/// assert_eq!(next.refused, 0);
+/// let again = session_switch(next.session, 0, false, true);
+/// assert_eq!(again.refused, 43);
+/// assert_eq!(session_switch(again.session, 0, true, true).refused, 42);
+/// ```
+#[must_use = "it has the session to go on with"]
+pub fn session_switch(session: Session, variable: u32, upper: bool, on: bool) -> Switched {
+    // SAFETY: a session comes from the archive alone: its field is private, and
+    // nothing changes it.
+    unsafe { archive::scatterflock_session_switch(session, variable, upper, on) }
+}
+
+/// Answers the problem with the limits that are on, from where the session
+/// stands: the answer at the start of `out`, its own pivots counted alone.
+///
+/// ```
+/// use scatterflock::raw::{session_check, session_open, session_switch};
+///
+/// let session = session_open(&[1, 0, 1, 5, 0]).session;
+/// let mut out = [-1; 6];
+/// let next = session_check(session, &mut out);
+/// assert_eq!((next.refused, out), (0, [1, 0, 1, 0, 0, -1]));
+/// let session = session_switch(next.session, 0, false, true).session;
+/// let next = session_check(session, &mut out);
+/// assert_eq!((next.refused, out), (0, [1, 0, 1, 5, 0, -1]));
+/// assert_eq!(session_check(next.session, &mut out[..4]).refused, 7);
+/// ```
+#[must_use = "it has the session to go on with"]
+pub fn session_check(session: Session, out: &mut [i64]) -> Checked {
+    // SAFETY: the pointer is valid for its length. Of the session as in
+    // `session_switch`.
+    unsafe { archive::scatterflock_session_check(session, out.as_mut_ptr(), out.len()) }
 }

@@ -157,3 +157,66 @@ impl fmt::Display for TimesRefusal {
 }
 
 impl Error for TimesRefusal {}
+
+/// Why a limit is not switched.
+///
+/// ```
+/// use scatterflock::{Session, Side, SwitchRefusal};
+///
+/// // x is at least 5
+/// let mut session = Session::open(&[1, 0, 1, 5, 0]).unwrap();
+/// let refusal = session.switch_on(0, Side::Upper).unwrap_err();
+/// assert_eq!(refusal, SwitchRefusal::NoLimit);
+/// assert_eq!(refusal.number(), 42);
+/// assert_eq!(refusal.to_string(), "the variable has no such limit");
+/// ```
+#[derive(Debug, Clone, Copy, PartialEq, Eq, Hash)]
+#[non_exhaustive]
+pub enum SwitchRefusal {
+    /// 41: the number is that of no variable.
+    NoVariable = 41,
+    /// 42: the variable has no such limit.
+    NoLimit = 42,
+    /// 43: the limit is to be on, and is.
+    AlreadyOn = 43,
+    /// 44: the limit is to be off, and is.
+    AlreadyOff = 44,
+}
+
+impl SwitchRefusal {
+    /// Every refusal, in the order in which they are asked.
+    pub const ALL: &[SwitchRefusal] = &[
+        SwitchRefusal::NoVariable,
+        SwitchRefusal::NoLimit,
+        SwitchRefusal::AlreadyOn,
+        SwitchRefusal::AlreadyOff,
+    ];
+
+    /// The number in docs/RULES.md, 41 to 44.
+    #[must_use]
+    pub const fn number(self) -> u32 {
+        self as u32
+    }
+}
+
+/// The refusal of this number. A number that is none comes back.
+impl TryFrom<u32> for SwitchRefusal {
+    type Error = u32;
+
+    fn try_from(number: u32) -> Result<SwitchRefusal, u32> {
+        SwitchRefusal::ALL.iter().copied().find(|refusal| refusal.number() == number).ok_or(number)
+    }
+}
+
+impl fmt::Display for SwitchRefusal {
+    fn fmt(&self, to: &mut fmt::Formatter) -> fmt::Result {
+        to.write_str(match self {
+            SwitchRefusal::NoVariable => "there is no such variable",
+            SwitchRefusal::NoLimit => "the variable has no such limit",
+            SwitchRefusal::AlreadyOn => "the limit is on already",
+            SwitchRefusal::AlreadyOff => "the limit is off already",
+        })
+    }
+}
+
+impl Error for SwitchRefusal {}

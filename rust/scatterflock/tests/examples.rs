@@ -1,9 +1,16 @@
 //! The examples run to their end.
 
+#[path = "../examples/editor.rs"]
+mod editor;
 #[path = "../examples/oven.rs"]
 mod oven;
 #[path = "../examples/starts.rs"]
 mod starts;
+
+#[test]
+fn editor_runs() {
+    assert_eq!(editor::main(), Ok(()));
+}
 
 #[test]
 fn oven_runs() {

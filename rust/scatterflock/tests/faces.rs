@@ -4,12 +4,14 @@ use problems::draft::{at_least, Draft, FREE};
 use problems::limits::Family;
 use problems::published::published;
 use problems::random::{seed, Random};
+use problems::sessions::{self, Operation, Reply};
 use problems::strict::with_marks;
 use problems::worked::{self, time_words, TimesAnswer};
 use scatterflock::sizes::{LARGEST_NUMBER, LARGEST_SMALL, MOST_ANSWER, MOST_TIMES, MOST_WORDS};
 use scatterflock::{check, solve, times};
 use scatterflock::{
-    Fractions, Judgement, Limit, Problem, Refusal, Schedule, Time, TimesRefusal, Verdict,
+    Fractions, Judgement, Limit, Problem, Refusal, Schedule, Session, Side, SwitchRefusal, Time,
+    TimesRefusal, Verdict,
 };
 
 #[test]
@@ -269,4 +271,58 @@ fn fractions_of_worked_cases() {
 fn sizes_are_those_of_the_rules() {
     assert_eq!(LARGEST_SMALL, 17_179_869_176);
     assert_eq!([MOST_WORDS, MOST_ANSWER, MOST_TIMES], [202, 51, 130]);
+}
+
+#[test]
+fn worked_sessions() {
+    for case in sessions::worked() {
+        let mut session = Session::open(&case.words).unwrap();
+        for (operation, expected) in case.script {
+            let reply = match operation {
+                Operation::Switch { variable, upper, on } => {
+                    let side = if upper { Side::Upper } else { Side::Lower };
+                    let variable = variable as usize;
+                    let done = if on {
+                        session.switch_on(variable, side)
+                    } else {
+                        session.switch_off(variable, side)
+                    };
+                    Reply::Number(done.err().map_or(0, SwitchRefusal::number))
+                }
+                Operation::Check => {
+                    let evidence = session.check().evidence().unwrap();
+                    let live = session.live_words();
+                    let is_on = |variable, upper: bool| {
+                        session.is_on(variable, if upper { Side::Upper } else { Side::Lower })
+                    };
+                    assert_eq!(live, sessions::live_words(&case.words, is_on), "{}", case.name);
+                    assert_eq!(check(&live, &evidence), Ok(Judgement::Accepted), "{}", case.name);
+                    Reply::Answer(evidence)
+                }
+            };
+            assert_eq!(reply, expected, "{}", case.name);
+        }
+    }
+}
+
+#[test]
+fn sessions_refuse() {
+    assert_eq!(Session::open(&[9, 0]).unwrap_err(), Refusal::Sizes);
+    assert_eq!(Session::open(&worked::case_i().words).unwrap_err(), Refusal::BlankRow);
+    let mut session = Session::open(&[1, 0, 1, 5, 0]).unwrap();
+    for wrong in [1, 24, u32::MAX as usize, 1 << 32] {
+        assert_eq!(session.switch_on(wrong, Side::Lower), Err(SwitchRefusal::NoVariable));
+        assert!(!session.is_on(wrong, Side::Lower));
+    }
+    assert_eq!(session.switch_off(0, Side::Lower), Err(SwitchRefusal::AlreadyOff));
+    assert_eq!(session.switch_on(0, Side::Lower), Ok(()));
+    assert_eq!(session.switch_on(0, Side::Lower), Err(SwitchRefusal::AlreadyOn));
+    assert_eq!(session.switch_on(0, Side::Upper), Err(SwitchRefusal::NoLimit));
+    assert!(session.is_on(0, Side::Lower) && !session.is_on(0, Side::Upper));
+    for (refusal, number) in SwitchRefusal::ALL.iter().copied().zip(41..) {
+        assert_eq!(refusal.number(), number);
+        assert_eq!(SwitchRefusal::try_from(number), Ok(refusal));
+    }
+    assert_eq!([40, 45].map(SwitchRefusal::try_from), [Err(40), Err(45)]);
+    assert_eq!(SwitchRefusal::AlreadyOff.to_string(), "the limit is off already");
 }

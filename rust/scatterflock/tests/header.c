@@ -1,9 +1,9 @@
 /*
  * Calls the archive through include/scatterflock.h and compares what it gives:
- * cases A, C and J of docs/RULES.md, case A in slices, strict limits, answers
- * that are right and wrong, and refusals. It is C and C++ at once, and header.rs
- * compiles it as both. Each difference is a line, and any makes the program
- * fail.
+ * cases A, C and J of docs/RULES.md, case A in slices, the first session of
+ * docs/formats/session.md, strict limits, answers that are right and wrong, and
+ * refusals. It is C and C++ at once, and header.rs compiles it as both. Each
+ * difference is a line, and any makes the program fail.
  */
 #include "scatterflock.h"
 
@@ -35,6 +35,15 @@ static const int32_t STRICT_MISSING[] = {1, 0, SCATTERFLOCK_AT_LEAST + SCATTERFL
 static const int32_t J[] = {4, 6, 0, 1, 0, 5, 1, 0, 0, -5, 1, 2, 0, -2,
                             0, 2, 0, -3, 3, 0, 0, 2, 0, 3, 0, -2};
 static const int64_t J_TIMES[] = {1, 4, 5, 0, 8, 7, 0, 0, 0, 0};
+
+/* x >= 5, y >= 3, 2x + y <= 12, x - 3y <= 2 */
+static const int32_t FOUR[] = {2, 2, 2, 1, 1, -3,
+                               SCATTERFLOCK_AT_LEAST, 5, 0, SCATTERFLOCK_AT_LEAST, 3, 0,
+                               SCATTERFLOCK_AT_MOST, 0, 12, SCATTERFLOCK_AT_MOST, 0, 2};
+static const int32_t FOUR_LIVE[] = {2, 2, 2, 1, 1, -3, 0, 0, 0, 1, 3, 0, 2, 0, 12, 2, 0, 2};
+static const int64_t FOUR_ANSWERS[][11] = {{1, 0, 1, 5, 3, 13, -4, 0, 0, 0, 0},
+                                           {2, 0, 0, 2, 1, 0, 0, 0, 0, 1, 0},
+                                           {1, 1, 2, 9, 6, 24, -9, 0, 0, 0, 0}};
 
 static const int32_t NINE_VARIABLES[] = {9, 0};
 static const int32_t NO_SUCH_VERTEX[] = {1, 1, 0, 1, 0, 0};
@@ -106,6 +115,56 @@ static void in_slices(void)
     number("continue nine", scatterflock_slice_continue(begun.slice, 1, fresh(), ROOM).answered, 1);
 }
 
+static struct scatterflock_session switched(struct scatterflock_session session, uint32_t variable,
+                                            bool upper, bool on, uint32_t expected)
+{
+    struct scatterflock_switched next = scatterflock_session_switch(session, variable, upper, on);
+
+    number("switch", next.refused, expected);
+    return next.session;
+}
+
+static struct scatterflock_session checked(struct scatterflock_session session, const int64_t *answer)
+{
+    int64_t *out = fresh();
+    struct scatterflock_checked next = scatterflock_session_check(session, out, 10);
+
+    number("session short", next.refused, SCATTERFLOCK_SHORT);
+    words("session short", out, NULL, 0);
+    next = scatterflock_session_check(next.session, out, ROOM);
+    number("session", next.refused, 0);
+    words("session", out, answer, 11);
+    return next.session;
+}
+
+/* Can without a pivot, then cannot, then with one limit off can by one pivot. */
+static void in_a_session(void)
+{
+    struct scatterflock_opened opened = scatterflock_session_open(FOUR, COUNT(FOUR));
+    struct scatterflock_session session = opened.session, earlier;
+
+    number("open", opened.refused, 0);
+    session = switched(session, 0, false, true, 0);
+    session = switched(session, 1, false, true, 0);
+    session = switched(session, 3, true, true, 0);
+    session = checked(session, FOUR_ANSWERS[0]);
+    earlier = session;
+    session = switched(session, 2, true, true, 0);
+    session = checked(session, FOUR_ANSWERS[1]);
+    session = switched(session, 0, false, true, SCATTERFLOCK_SWITCH_ALREADY_ON);
+    session = switched(session, 0, true, true, SCATTERFLOCK_SWITCH_NO_LIMIT);
+    session = switched(session, 9, false, true, SCATTERFLOCK_SWITCH_NO_VARIABLE);
+    session = switched(session, 0, false, false, 0);
+    session = switched(session, 0, false, false, SCATTERFLOCK_SWITCH_ALREADY_OFF);
+    session = checked(session, FOUR_ANSWERS[2]);
+    number("check session", scatterflock_check(FOUR_LIVE, COUNT(FOUR_LIVE), FOUR_ANSWERS[2], 11), 8);
+    earlier = checked(earlier, FOUR_ANSWERS[0]);
+    opened = scatterflock_session_open(NINE_VARIABLES, COUNT(NINE_VARIABLES));
+    number("open nine", opened.refused, 2);
+    switched(opened.session, 0, false, true, 42);
+    switched(opened.session, 1, false, true, 41);
+}
+
 int main(void)
 {
     int64_t *out = fresh();
@@ -143,5 +202,6 @@ int main(void)
     words("times vertex", out, NULL, 0);
 
     in_slices();
+    in_a_session();
     return differences == 0 ? 0 : 1;
 }

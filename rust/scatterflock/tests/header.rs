@@ -3,7 +3,7 @@
 //! run. Where the machine is not x86-64 that is done twice: with the archive
 //! that is linked here, and with the code for x86-64 under an emulator.
 
-use scatterflock::{raw, sizes, Refusal, TimesRefusal};
+use scatterflock::{raw, sizes, Refusal, SwitchRefusal, TimesRefusal};
 use std::collections::BTreeMap;
 use std::fs;
 use std::path::{Path, PathBuf};
@@ -64,6 +64,10 @@ fn the_names_of_the_header_are_those_of_the_crate() {
         let name = format!("TIMES_{}", camel(format!("{refusal:?}")));
         assert_eq!(named[&name[..]], refusal.number());
     }
+    for refusal in SwitchRefusal::ALL {
+        let name = format!("SWITCH_{}", camel(format!("{refusal:?}")));
+        assert_eq!(named[&name[..]], refusal.number());
+    }
     for (name, size) in [
         ("MOST_VARIABLES", sizes::MOST_VARIABLES),
         ("MOST_ROWS", sizes::MOST_ROWS),
@@ -77,6 +81,7 @@ fn the_names_of_the_header_are_those_of_the_crate() {
         ("MOST_TIME_WORDS", 2 + 4 * sizes::MOST_TIME_ROWS),
         ("MOST_TIMES", sizes::MOST_TIMES),
         ("SLICE_WORDS", size_of::<raw::Slice>() / 8 - 1),
+        ("SESSION_WORDS", size_of::<raw::Session>() / 8),
     ] {
         assert_eq!(named[name] as usize, size, "{name}");
     }

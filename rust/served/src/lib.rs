@@ -23,6 +23,9 @@ enum Function {
     Times = 2,
     SliceStart = 3,
     SliceContinue = 4,
+    SessionOpen = 5,
+    SessionSwitch = 6,
+    SessionCheck = 7,
 }
 
 /// A run at some point, that the program keeps.
@@ -57,12 +60,55 @@ pub struct Continued {
     pub slice: Slice,
 }
 
-/// What the program says: what the function returned, whether it answered, and
-/// the slice that it keeps. Of the first three functions the number alone.
+/// A session that the program keeps.
+#[derive(Clone)]
+pub struct Session {
+    /// By this number.
+    number: u64,
+}
+
+/// What [`session_open`] hands back.
+pub struct Opened {
+    /// 0, or the number of a refusal.
+    pub refused: u32,
+    /// The session with every limit off.
+    pub session: Session,
+}
+
+/// What [`session_switch`] hands back.
+pub struct Switched {
+    /// 0, or 41 to 44.
+    pub refused: u32,
+    /// The session after the switch.
+    pub session: Session,
+}
+
+/// What [`session_check`] hands back.
+pub struct Checked {
+    /// 0, or 7.
+    pub refused: u32,
+    /// The session after the check.
+    pub session: Session,
+}
+
+/// What the program says: what the function returned, and of slices and
+/// sessions whether it answered, by which number the one that came back is kept,
+/// and its count.
 struct Reply {
     number: u32,
     answered: bool,
-    slice: Slice,
+    kept: u64,
+    count: usize,
+}
+
+impl Reply {
+    fn slice(&self) -> Slice {
+        Slice { number: self.kept, count: self.count }
+    }
+
+    fn session(&self) -> Session {
+        Session { number: self.kept }
+    }
 }
 
 thread_local! {
@@ -86,21 +132,40 @@ pub fn times(rows: &[i32], out: &mut [i64]) -> u32 {
 
 /// Starts a run that is made in slices.
 pub fn slice_start(words: &[i32]) -> Begun {
-    let reply = reply(Function::SliceStart, words, &mut [], [0, 0]);
-    Begun { refused: reply.number, slice: reply.slice }
+    let reply = reply(Function::SliceStart, words, &mut [], [0; 4]);
+    Begun { refused: reply.number, slice: reply.slice() }
 }
 
 /// Goes on with one, so many pivots.
 pub fn slice_continue(slice: Slice, pivots: usize, out: &mut [i64]) -> Continued {
-    let reply = reply(Function::SliceContinue, &[], out, [slice.number, pivots as u64]);
-    Continued { refused: reply.number, answered: reply.answered, slice: reply.slice }
+    let reply = reply(Function::SliceContinue, &[], out, [slice.number, pivots as u64, 0, 0]);
+    Continued { refused: reply.number, answered: reply.answered, slice: reply.slice() }
+}
+
+/// Opens a session of a problem.
+pub fn session_open(words: &[i32]) -> Opened {
+    let reply = reply(Function::SessionOpen, words, &mut [], [0; 4]);
+    Opened { refused: reply.number, session: reply.session() }
+}
+
+/// Switches the lower or the upper limit of a variable on or off.
+pub fn session_switch(session: Session, variable: u32, upper: bool, on: bool) -> Switched {
+    let more = [session.number, variable.into(), upper.into(), on.into()];
+    let reply = reply(Function::SessionSwitch, &[], &mut [], more);
+    Switched { refused: reply.number, session: reply.session() }
+}
+
+/// Answers the problem with the limits that are on.
+pub fn session_check(session: Session, out: &mut [i64]) -> Checked {
+    let reply = reply(Function::SessionCheck, &[], out, [session.number, 0, 0, 0]);
+    Checked { refused: reply.number, session: reply.session() }
 }
 
 fn ask(function: Function, words: &[i32], out: &mut [i64]) -> u32 {
-    reply(function, words, out, [0, 0]).number
+    reply(function, words, out, [0; 4]).number
 }
 
-fn reply(function: Function, words: &[i32], out: &mut [i64], more: [u64; 2]) -> Reply {
+fn reply(function: Function, words: &[i32], out: &mut [i64], more: [u64; 4]) -> Reply {
     SERVER.with_borrow_mut(|server| {
         server.ask(function, words, out, more).unwrap_or_else(|error| {
             panic!("the archive's program has ended: {error}; its message stands above")
@@ -147,11 +212,11 @@ impl Server {
         function: Function,
         words: &[i32],
         out: &mut [i64],
-        more: [u64; 2],
+        more: [u64; 4],
     ) -> Result<Reply> {
-        let head = [function as u64, words.len() as u64, out.len() as u64, more[0], more[1]];
-        let mut request: Vec<u8> = Vec::with_capacity(40 + 4 * words.len() + 8 * out.len());
-        request.extend(head.iter().flat_map(|number| number.to_le_bytes()));
+        let head = [function as u64, words.len() as u64, out.len() as u64];
+        let mut request: Vec<u8> = Vec::with_capacity(56 + 4 * words.len() + 8 * out.len());
+        request.extend(head.iter().chain(&more).flat_map(|number| number.to_le_bytes()));
         request.extend(words.iter().flat_map(|word| word.to_le_bytes()));
         request.extend(out.iter().flat_map(|word| word.to_le_bytes()));
         self.requests.as_mut().expect("it is piped").write_all(&request)?;
@@ -163,8 +228,8 @@ impl Server {
             .map(|bytes| i64::from_le_bytes(bytes.try_into().expect("a chunk has eight bytes")));
         let mut next = || numbers.next().expect("a reply has four numbers");
         let (number, answered) = (next() as u32, next() != 0);
-        let slice = Slice { number: next() as u64, count: next() as usize };
+        let (kept, count) = (next() as u64, next() as usize);
         out.iter_mut().zip(numbers).for_each(|(word, reply)| *word = reply);
-        Ok(Reply { number, answered, slice })
+        Ok(Reply { number, answered, kept, count })
     }
 }

@@ -1,6 +1,6 @@
 //! `soak COUNT` compares so many limit problems, a quarter as many in slices
-//! and as many time rows, in parts, each with a seed of its own that is printed
-//! before it.
+//! and as many time rows, and a tenth as many sessions, in parts, each with a
+//! seed of its own that is printed before it.
 //! `SEED=.. soak COUNT` goes through the same parts again.
 
 use differential::report;
@@ -31,6 +31,7 @@ fn soak(first: u64, count: u64) -> Result<(), String> {
         println!("SEED={seed}");
         println!("limits: {}", report::limits(seed, part)?);
         println!("slices: {}", report::slices(seed, part.div_ceil(4))?);
+        println!("sessions: {}", report::sessions(seed, part.div_ceil(10))?);
         println!("times: {}", report::times(seed, part.div_ceil(4))?);
         left -= part;
         seed += 1;
