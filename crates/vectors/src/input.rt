@@ -44,6 +44,11 @@ fn long(u: u64) -> i64
     -1 - size
 }
 
+// The next four bytes as a number.
+pub fn number() -> u32 {
+    half() as u32
+}
+
 // The next word of 32 bits.
 pub fn word() -> i32 {
     short(half())

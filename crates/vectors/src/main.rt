@@ -1,8 +1,10 @@
 // The test program. It reads calls of the entry points from standard input, makes each, and prints a line for it: the
-// number that was returned, a colon, and the words of the output after the call. A run in slices has a line for each.
+// number that was returned, a colon, and the words of the output after the call. A run in slices has a line for each
+// continue, and a session one for each operation.
 mod cycle;
 mod input;
 mod print;
+mod scripted;
 mod sliced;
 
 const MOST_CALLS: usize = 100000;
@@ -45,12 +47,16 @@ fn call(entry: usize, words: &[i32], out: &mut [i64]) {
         line_of_times(number, out);
         return;
     }
-    sliced::run(words, out);
+    if entry == 3 {
+        sliced::run(words, out);
+        return;
+    }
+    scripted::run(words, out);
 }
 
 // Reads one call.
 fn next() {
-    let entry = input::count(3);
+    let entry = input::count(4);
     let mut words = [0i32; MOST_WORDS];
     let word_count = input::count(MOST_WORDS);
     input::words(&mut words, word_count);

@@ -2,6 +2,7 @@
 //! the program prints for it.
 
 use files::vectors::{Entry, Vector};
+use problems::sessions::{Operation, Reply};
 use std::fs;
 
 #[test]
@@ -47,16 +48,48 @@ fn each_example_says_what_is_printed() {
     }
 }
 
+/// A session's page has a line for each call, in order: what is called, the
+/// number, and of a check the answer.
+#[test]
+fn the_page_of_sessions_has_the_worked_ones() {
+    let page = fs::read_to_string(files::top().join("docs/formats/session.md")).unwrap();
+    let mut lines = page.lines();
+    for case in problems::sessions::worked() {
+        for (operation, reply) in case.script {
+            let call = match operation {
+                Operation::Check => "check".to_string(),
+                Operation::Switch { variable, upper, on } => {
+                    let side = if upper { "upper" } else { "lower" };
+                    format!("{variable} {side} {}", if on { "on" } else { "off" })
+                }
+            };
+            let (number, end) = match reply {
+                Reply::Number(number) => (number, "| |".to_string()),
+                Reply::Answer(words) => {
+                    let words: Vec<String> = words.iter().map(i64::to_string).collect();
+                    (0, format!("| `{}` |", words.join(" ")))
+                }
+            };
+            let start = format!("| {call} | {number} |");
+            assert!(
+                lines.any(|line| line.contains(&start) && line.ends_with(&end)),
+                "{}: no line {start} .. {end}",
+                case.name
+            );
+        }
+    }
+}
+
 #[test]
 fn every_refusal_and_verdict_is_asked_for() {
     let vectors = files::vectors::all();
     let text = files::vectors::answered(&vectors);
-    for number in 0..=17 {
+    for number in (0..=17).chain(41..=44) {
         let asked = text.lines().filter(|line| line.starts_with(&format!("{number}:"))).count();
         assert!(asked >= 2, "{number} comes {asked} times");
     }
     let lines = |vector: &Vector| match vector.entry {
-        Entry::Slices => vector.answer().lines().count(),
+        Entry::Slices | Entry::Session(_) => vector.answer().lines().count(),
         _ => 1,
     };
     assert_eq!(text.lines().count(), vectors.iter().map(lines).sum::<usize>());
