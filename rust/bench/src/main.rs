@@ -8,9 +8,13 @@
 //! too, so judging the words is part of what is measured, and making them is
 //! not. The checker is measured on the answers of the first contender.
 //!
+//! Then scripts of edits, in a session and with each problem solved anew
+//! (`edits`).
+//!
 //! `SEED=.. make bench` measures other problems.
 
 mod contenders;
+mod edits;
 mod measure;
 mod sets;
 mod table;
@@ -46,6 +50,10 @@ fn print(to: &mut impl Write) -> io::Result<()> {
     for set in sets::times(seed) {
         let times = measure::times(CONTENDERS, &set);
         writeln!(to, "{}", table::line("times", set.name, &times, ""))?;
+    }
+    writeln!(to, "\n{}", edits::heading())?;
+    for set in edits::sets(seed) {
+        writeln!(to, "{}", set.line())?;
     }
     Ok(())
 }
