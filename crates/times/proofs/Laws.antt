@@ -1,7 +1,6 @@
 pub mod Numbers
-pub mod Keys
 pub mod Passing
 pub mod Tracing
-pub mod Words
+pub mod Parts
 pub mod Answers
 pub mod Only

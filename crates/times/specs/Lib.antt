@@ -1,4 +1,3 @@
 -- What the steps of `times` ask and promise. The promise of `times` itself stands in the rules (Times.antt).
-pub mod Lengths
 pub mod Judged
 pub mod Steps

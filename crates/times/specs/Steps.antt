@@ -1,13 +1,12 @@
--- What passes, the way back and the answer ask and promise. Each is stated over the edges of the words, through what
+-- What passes and the way back ask and promise. Each is stated over the edges of the words, through what
 -- the arrays stand for.
 use mathlib.Core.Path.{_≡_}
 use mathlib.Core.Logic.{_≢_}
 use mathlib.Core.Bool.{Bool, true, false}
-use mathlib.Core.List.{List, _∷_, _++_}
-use Prim.Native.Nat.{ℕ, suc, _+_, _*_, _-_, _≤_, _<_}
-use lib.IntN.{ℤ, pos, _+ℤ_}
-use lib.ListN.{length, getD, take, drop}
-use lib.Seq.{slice}
+use mathlib.Core.List.{List}
+use Prim.Native.Nat.{ℕ, suc, _+_, _*_, _≤_, _<_}
+use lib.IntN.{ℤ, _+ℤ_}
+use lib.ListN.{length, getD}
 use lib.Signed.{ltZ}
 use Rattle.whole.specs.Values.{pairs}
 use Rattle.rules.specs.Sizes.{mostVertices, mostTimeRows}
@@ -16,10 +15,10 @@ use Rattle.rules.specs.Passes.{distance, distances, canMeet}
 use Rattle.rules.specs.Cycle.{BadCycle}
 use Rattle.rules.specs.TimeWords.{timesLength, AcceptedTimes, timeEdges}
 use Rattle.rules.proofs.Times.Traced.{Traced}
-use Rattle.times.specs.declared.answer.Halves.{Halves}
-use Rattle.times.specs.declared.cycle.Way.{Way}
-use Rattle.times.specs.declared.length.Length.{Length}
-use Rattle.times.specs.Lengths.{lengthAt, at, rowAt, noRow, keyOf, looks, Near, Modest, Passed}
+use Rattle.lengths.specs.declared.answer.Way.{Way}
+use Rattle.lengths.specs.declared.Length.{Length}
+use Rattle.lengths.specs.Answer.{AllPassed, rowsOf}
+use Rattle.lengths.specs.Lengths.{lengthAt, at, keyOf, looks, Near, Modest}
 
 -- what refusals 11 to 16 leave
 abbrev pub Fine : List ℤ → Type 0
@@ -52,6 +51,14 @@ Quiet ws best false = (i : ℕ) × (i < mOf ws) × (isLess ws best i ≡ true)
 
 -- ---- passes
 
+-- the row that bettered v last; past an array's end it is 0
+abbrev pub rowAt : List ℕ → ℕ → ℕ
+rowAt last v = getD last v 0
+
+-- what stands for no row is one past the last number that a row can have
+abbrev pub noRow : ℕ
+noRow = mostTimeRows
+
 -- after k passes and the looks at the rows below i
 pub record Looked (ws : List ℤ) (k i : ℕ) (best : List Length) (last : List ℕ) : Type 0 where
   pub fine : Fine ws
@@ -79,9 +86,6 @@ pub record Pass (ws : List ℤ) (k i : ℕ) (best : List Length) (last : List �
 
 -- ---- how passes end
 
-abbrev pub AllPassed : List Length → Type 0
-AllPassed best = (v : ℕ) → Passed (lengthAt best v)
-
 -- no row betters its head
 pub record Settled (ws : List ℤ) (best : List Length) : Type 0 where
   pub can : canMeet pairs (timeEdges ws) ≡ true
@@ -97,10 +101,6 @@ pub record Closing (ws : List ℤ) (last : List ℕ) (passes v : ℕ) : Type 0 w
   pub looked : Looked ws passes (mOf ws) best last
   pub vertex : v < nOf ws
   pub late : mOf ws * passes < looked .time v
-
--- the rows of a way
-abbrev pub rowsOf : Way → List ℕ
-rowsOf w = slice (w .from) (w .to) (w .path)
 
 pub record Closed (ws : List ℤ) (w : Way) : Type 0 where
   pub in-order : w .from ≤ w .to
@@ -124,15 +124,3 @@ Back ws last v w = (passes : ℕ) → Closing ws last passes v → Went ws passe
 abbrev pub Settling : List ℤ → Bool → List Length → Way → Type 0
 Settling ws true best way = Settled ws best
 Settling ws false best way = Closed ws way
-
--- ---- the answer
-
--- two words, the first n words of each half, and what was past them
-abbrev pub output : ℤ → ℕ → Halves → ℕ → List ℤ → List ℤ
-output verdict count h n before =
-    verdict ∷ pos count ∷ (take n (h .plain) ++ take n (h .small)) ++ drop (2 + 2 * n) before
-
-pub record Gathering (w : Way) : Type 0 where
-  pub in-order : w .from ≤ w .to
-  pub in-path : w .to ≤ mostVertices
-  pub listed : (k : ℕ) → k < w .to - w .from → getD (w .path) (w .from + k) 0 < mostTimeRows

@@ -5,16 +5,10 @@ ghost use Prim.Native.Nat.{ℕ};
 ghost use lib.IntN.{ℤ};
 ghost use Rattle.rules.specs.Problem.{nOf};
 ghost use Rattle.times.specs.Steps.{Tried, Back};
-use crate::rows::MOST_VERTICES;
 use crate::rows::NO_ROW;
 use crate::rows::tail;
-
-// The rows that a way took, at the places from `from` on; those up to `to` go round, if there are any.
-pub struct Way {
-    pub from: usize,
-    pub to: usize,
-    pub path: [u16; MOST_VERTICES],
-}
+use lengths::MOST_VERTICES;
+use lengths::answer::Way;
 
 pub fn way_back(rows: &[i32], n: usize, last: [u32; MOST_VERTICES], v: usize) -> Way
     requires { ⌜ Tried (now rows) last v ⌝ }

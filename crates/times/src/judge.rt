@@ -11,9 +11,9 @@ ghost use Rattle.rules.specs.Sizes.{largestLength};
 ghost use Rattle.rules.specs.Problem.{nOf, mOf};
 ghost use Rattle.rules.specs.TimeWords.{badTimeSize, timeRefusal};
 ghost use Rattle.times.specs.Judged.{Framed, numberOf, rowNumber, rowsNumber};
-use crate::length::Length;
-use crate::rows::MOST_VERTICES;
 use crate::rows::count_at;
+use lengths::Length;
+use lengths::MOST_VERTICES;
 
 pub const MOST_ROWS: usize = 256;
 

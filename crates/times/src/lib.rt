@@ -1,28 +1,25 @@
 // Time rows x - y <= c or x - y < c: times that meet them all, or a cycle of rows that no times meet. docs/RULES.md,
 // "Time rows".
 //   judge     refusals 11 to 17
-//   length    what is added and compared along walks
 //   rows      accepted words as edges
 //   passes    distances, pass by pass
 //   cycle     the way back to a cycle
-//   answer    the answer's words
 ghost use mathlib.Core.Path.{_≡_};
 ghost use Prim.Native.Nat.{ℕ};
 ghost use lib.IntN.{ℤ};
-ghost use lib.ListN as lists;
+ghost use lib.ListN.{length};
 ghost use Rattle.rules.specs.TimeWords.{AcceptedTimes};
 ghost use Rattle.rules.specs.Times.{Timed};
+use lengths::answer;
 
-mod answer;
 mod cycle;
 mod judge;
-mod length;
 mod passes;
 mod rows;
 
 // The times where the passes settle; else the cycle that the way back closed.
 fn solve(rows: &[i32], out: &mut [i64])
-    requires { ⌜ AcceptedTimes (now rows) (lists.length (now out)) ⌝ }
+    requires { ⌜ AcceptedTimes (now rows) (length (now out)) ⌝ }
     ensures { λ r. ⌜ Timed (now (rows .entry)) (now (out .entry)) 0 (now (out .exit)) ⌝ }
 {
     let n = rows::count_at(rows, 0);

@@ -6,16 +6,16 @@ ghost use Prim.Native.Nat.{ℕ, _<_, min};
 ghost use lib.IntN.{ℤ, _+ℤ_};
 ghost use Rattle.rules.specs.Problem.{mOf};
 ghost use Rattle.rules.specs.TimeWords.{timeEdges};
-ghost use Rattle.times.specs.Lengths.{lengthOf, keyOf, Modest};
+ghost use Rattle.lengths.specs.Lengths.{lengthOf, keyOf, Modest};
 ghost use Rattle.times.specs.Steps.{Fine, Looking, Quiet, Solvable, Settling};
-use crate::cycle::Way;
 use crate::cycle::way_back;
-use crate::length::Length;
-use crate::rows::MOST_VERTICES;
 use crate::rows::NO_ROW;
 use crate::rows::head;
 use crate::rows::size;
 use crate::rows::tail;
+use lengths::Length;
+use lengths::MOST_VERTICES;
+use lengths::answer::Way;
 
 // What the passes came to: whether all rows can be met, the distances if so, and a cycle if not.
 pub struct Ending {

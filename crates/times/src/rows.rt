@@ -7,11 +7,9 @@ ghost use lib.ListN.{length};
 ghost use lib.Signed.{_≤ℤ_};
 ghost use Rattle.rules.specs.Problem.{word, mOf};
 ghost use Rattle.rules.specs.TimeWords.{timeEdges};
-ghost use Rattle.times.specs.Lengths.{lengthOf, keyOf};
+ghost use Rattle.lengths.specs.Lengths.{lengthOf, keyOf};
 ghost use Rattle.times.specs.Steps.{Fine};
-use crate::length::Length;
-
-pub const MOST_VERTICES: usize = 64;
+use lengths::Length;
 
 // Stands for no row: one past the last number that a row can have.
 pub const NO_ROW: u32 = 256;

@@ -23,12 +23,14 @@ use Rattle.rules.proofs.Times.Closed.{slice-at}
 use Rattle.rules.proofs.Times.Decide.{cycle-short, bad-cannot}
 use Rattle.rules.proofs.Times.Only.{answer-can, answer-cannot}
 use Rattle.rules.proofs.Times.Refused.{n-few, m-few, accepted-ends, times-accepted-exactly}
-use Rattle.times.specs.declared.answer.Halves.{Halves}
-use Rattle.times.specs.declared.cycle.Way.{Way}
-use Rattle.times.specs.declared.length.Length.{Length}
-use Rattle.times.specs.Lengths.{plainPart, smallPart}
-use Rattle.times.specs.Steps.{Fine, Settled, Closed, Gathering, rowsOf, output}
-use Rattle.times.proofs.Laws.Words.{words-take, words-twice, take-replicate, plains-are, smalls-are}
+use Rattle.lengths.specs.declared.answer.Halves.{Halves}
+use Rattle.lengths.specs.declared.answer.Way.{Way}
+use Rattle.lengths.specs.declared.Length.{Length}
+use Rattle.lengths.specs.Answer.{Gathering, rowsOf, output}
+use Rattle.lengths.specs.Lengths.{plainPart, smallPart}
+use Rattle.lengths.proofs.Laws.Words.{words-take, words-twice, take-replicate}
+use Rattle.times.specs.Steps.{Fine, Settled, Closed}
+use Rattle.times.proofs.Laws.Parts.{plains-are, smalls-are}
 
 -- a refusal keeps the output
 pub timed-refused : (ws before : List ℤ) (r : ℕ) → r ≡ timeRefusal ws (length before) → (r ≡ 0 → ⊥) → Timed ws before r before

@@ -33,10 +33,10 @@ use Rattle.rules.proofs.Times.Refused.{n-few, m-few, accepted-ends}
 use Rattle.rules.proofs.Times.Still.{Still}
 use Rattle.rules.proofs.Times.Traced.{Put, put, put-put, Traced, traced-start, traced-kept, traced-taken, traced-pass}
 use Rattle.rules.proofs.Times.Traced.{traced-still}
-use Rattle.times.specs.declared.length.Length.{Length}
-use Rattle.times.specs.Lengths.{unit, lengthOf, noRows, noRow, keyOf, looks, Near, lengthAt, at, rowAt}
-use Rattle.times.specs.Steps.{Fine, AllModest, isLess, Quiet, Looked, Pass, Settled, Closing}
-use Rattle.times.proofs.Laws.Keys.{key-plus, near-le, near-plus, near-within, size-near, key-less, key-low}
+use Rattle.lengths.specs.declared.Length.{Length}
+use Rattle.lengths.specs.Lengths.{unit, lengthOf, noRows, keyOf, looks, Near, lengthAt, at}
+use Rattle.lengths.proofs.Laws.Keys.{key-plus, near-le, near-plus, near-within, size-near, key-less, key-low}
+use Rattle.times.specs.Steps.{noRow, rowAt, Fine, AllModest, isLess, Quiet, Looked, Pass, Settled, Closing}
 
 -- ---- no pass
 

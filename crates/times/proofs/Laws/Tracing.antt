@@ -24,8 +24,7 @@ use Rattle.rules.specs.TimeWords.{timeEdges}
 use Rattle.rules.proofs.Times.Closed.{trail-cycle}
 use Rattle.rules.proofs.Times.Refused.{n-few, m-few, accepted-ends}
 use Rattle.rules.proofs.Times.Trail.{Trail, trail-start, trail-left, trail-ends, trail-more}
-use Rattle.times.specs.Lengths.{rowAt, noRow}
-use Rattle.times.specs.Steps.{Looked, Closing, Went}
+use Rattle.times.specs.Steps.{rowAt, noRow, Looked, Closing, Went}
 
 module _ {ws : List ℤ} {last : List ℕ} {passes v : ℕ} (c : Closing ws last passes v) where
   abbrev l : Looked ws passes (mOf ws) (c .best) last

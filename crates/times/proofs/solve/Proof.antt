@@ -11,9 +11,10 @@ use Rattle.rules.specs.Sizes.{mostVertices}
 use Rattle.rules.specs.Problem.{nOf}
 use Rattle.rules.specs.TimeWords.{AcceptedTimes}
 use Rattle.rules.proofs.Times.Refused.{n-few}
+use Rattle.lengths.specs.declared.answer.Way.{Way}
+use Rattle.lengths.specs.Answer.{output}
 use Rattle.times.specs.declared.passes.Ending.{Ending}
-use Rattle.times.specs.declared.cycle.Way.{Way}
-use Rattle.times.specs.Steps.{Settled, Settling, Closed, output}
+use Rattle.times.specs.Steps.{Settled, Settling, Closed}
 use Rattle.times.proofs.Laws.Answers.{fine-of, timed-met, closed-gathering, timed-unmet}
 use Rattle.times.proofs.solve.Statement.{statement}
 use Rattle.times.proofs.solve.Tie as tie

@@ -5,8 +5,7 @@ use Prim.Native.Nat.{ℕ, _≤_, _<_, _-_}
 use native.Mathlib.Omega.{arith}
 use Rattle.rules.specs.Problem.{mOf}
 use Rattle.rules.proofs.Times.Refused.{m-few}
-use Rattle.times.specs.Lengths.{rowAt}
-use Rattle.times.specs.Steps.{Closing}
+use Rattle.times.specs.Steps.{rowAt, Closing}
 use Rattle.times.proofs.Laws.Tracing.{Tracing, tracing-start, tracing-more, tracing-left, tracing-closed}
 use Rattle.times.proofs.Laws.Tracing.{tracing-ended, tracing-here, tracing-high, tracing-mark, tracing-listed}
 use Rattle.times.proofs.cycle.way_back.Statement.{statement}

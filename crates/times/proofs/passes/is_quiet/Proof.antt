@@ -11,8 +11,8 @@ use lib.Signed.{ltZ}
 use Rattle.rules.specs.Problem.{mOf}
 use Rattle.rules.specs.TimeWords.{timeEdges}
 use Rattle.rules.proofs.Times.Refused.{n-few, m-few, accepted-ends}
-use Rattle.times.specs.declared.length.Length.{Length}
-use Rattle.times.specs.Lengths.{lengthOf, keyOf, at}
+use Rattle.lengths.specs.declared.Length.{Length}
+use Rattle.lengths.specs.Lengths.{lengthOf, keyOf, at}
 use Rattle.times.specs.Steps.{isLess, Looking}
 use Rattle.times.proofs.passes.is_quiet.Statement.{statement}
 use Rattle.times.proofs.passes.is_quiet.Tie as tie

@@ -8,8 +8,8 @@ use lib.IntN.{_+ℤ_}
 use Rattle.whole.specs.Numbers.{Within}
 use Rattle.whole.proofs.Sizes.{within-le}
 use Rattle.rules.specs.Sizes.{mostVertices, largestLength}
-use Rattle.times.specs.Lengths.{unit, lengthOf, looks}
-use Rattle.times.proofs.Laws.Keys.{near-within, size-near}
+use Rattle.lengths.specs.Lengths.{unit, lengthOf, looks}
+use Rattle.lengths.proofs.Laws.Keys.{near-within, size-near}
 use Rattle.times.proofs.passes.offer.Statement.{statement}
 use Rattle.times.proofs.passes.offer.Tie as tie
 

@@ -7,11 +7,17 @@ ghost use lib.ListN.{length, replicate};
 ghost use lib.Seq.{paste};
 ghost use Rattle.rules.specs.Sizes.{mostVertices};
 ghost use Rattle.rules.specs.Times.{cycleWords};
-ghost use Rattle.times.specs.Lengths.{plainPart, smallPart};
-ghost use Rattle.times.specs.Steps.{AllPassed, Gathering, rowsOf, output};
-use crate::cycle::Way;
-use crate::length::Length;
-use crate::rows::MOST_VERTICES;
+ghost use Rattle.lengths.specs.Answer.{AllPassed, Gathering, rowsOf, output};
+ghost use Rattle.lengths.specs.Lengths.{plainPart, smallPart};
+use crate::Length;
+use crate::MOST_VERTICES;
+
+// The rows that a way took, at the places from `from` on; those up to `to` go round, if there are any.
+pub struct Way {
+    pub from: usize,
+    pub to: usize,
+    pub path: [u16; MOST_VERTICES],
+}
 
 // The two halves.
 pub struct Halves {

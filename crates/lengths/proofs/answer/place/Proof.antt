@@ -1,4 +1,4 @@
--- `times::answer::place` meets its contract. The invariant of its loop: the words passed stand from the place on, and
+-- `lengths::answer::place` meets its contract. The invariant of its loop: the words passed stand from the place on, and
 -- what is past them is as it was. The measure is the words left. Assumes nothing.
 use mathlib.Core.Path.{_≡_, _∙_, ap}
 use Prim.Native.Nat.{_+_, _≤_, _-_}
@@ -9,8 +9,8 @@ use lib.IntN.{pos}
 use lib.ListN.{length, getD, set}
 use lib.Seq.{paste, paste-zero, paste-suc, length-paste}
 use mir.Facts.{toZ-ofZ}
-use Rattle.times.proofs.answer.place.Statement.{statement}
-use Rattle.times.proofs.answer.place.Tie as tie
+use Rattle.lengths.proofs.answer.place.Statement.{statement}
+use Rattle.lengths.proofs.answer.place.Tie as tie
 
 abbrev Inv-loop : tie.InvT-loop
 Inv-loop n from out₀ half i₀ out i = (i ≤ n) × (out ≡ paste out₀ from half i)

@@ -1,4 +1,4 @@
--- `times::length::Length::of` meets its contract: 65,536 times c, less 1, fits 64 bits. Assumes nothing.
+-- `lengths::Length::of` meets its contract: 65,536 times c, less 1, fits 64 bits. Assumes nothing.
 use mathlib.Core.Path.{_≡_, refl}
 use mathlib.Core.List.{[], _∷_}
 use Prim.Native.Nat.{_*_}
@@ -12,9 +12,9 @@ use Rattle.whole.proofs.Reify.{reify}
 use Rattle.whole.proofs.Sizes.{fits-by, within--, within-*}
 use Rattle.whole.proofs.Tools.{ring-at}
 use Rattle.rules.specs.Sizes.{largestLength}
-use Rattle.times.specs.Lengths.{keyOf}
-use Rattle.times.proofs.length.Length.of.Statement.{statement}
-use Rattle.times.proofs.length.Length.of.Tie as tie
+use Rattle.lengths.specs.Lengths.{keyOf}
+use Rattle.lengths.proofs.Length.of.Statement.{statement}
+use Rattle.lengths.proofs.Length.of.Tie as tie
 
 module _ (c : tie.Start) where
   abbrev span : ℤ

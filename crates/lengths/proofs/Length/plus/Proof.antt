@@ -1,12 +1,12 @@
--- `times::length::Length::plus` meets its contract: the sum of two modest lengths fits. Assumes nothing.
+-- `lengths::Length::plus` meets its contract: the sum of two modest lengths fits. Assumes nothing.
 use borrow.Author.Needs.{needs}
 use lib.IntN.{_+ℤ_}
 use mir.Facts.{toZ-ofZ}
 use mir.Syntax.{w64}
 use mir.Val.{SFits}
 use Rattle.whole.proofs.Sizes.{fits-by, within-+}
-use Rattle.times.proofs.length.Length.plus.Statement.{statement}
-use Rattle.times.proofs.length.Length.plus.Tie as tie
+use Rattle.lengths.proofs.Length.plus.Statement.{statement}
+use Rattle.lengths.proofs.Length.plus.Tie as tie
 
 module _ (c : tie.Start) where
   own : SFits w64 (c .args .self .0)

@@ -1,4 +1,4 @@
--- `times::length::Length::small_time` meets its contract: minus a distance that is not above 0 is a count. Assumes
+-- `lengths::Length::small_time` meets its contract: minus a distance that is not above 0 is a count. Assumes
 -- nothing.
 use mathlib.Core.Path.{ap}
 use Prim.Native.Nat.{_%_}
@@ -10,10 +10,10 @@ use mir.Syntax.{w64}
 use mir.Val.{SFits}
 use Rattle.whole.proofs.Sizes.{abs-neg, fits-by, fits-abs, within-neg}
 use Rattle.whole.proofs.Tests.{not-neg}
-use Rattle.times.specs.Lengths.{unit}
-use Rattle.times.proofs.Laws.Keys.{turned-up}
-use Rattle.times.proofs.length.Length.small_time.Statement.{statement}
-use Rattle.times.proofs.length.Length.small_time.Tie as tie
+use Rattle.lengths.specs.Lengths.{unit}
+use Rattle.lengths.proofs.Laws.Keys.{turned-up}
+use Rattle.lengths.proofs.Length.small_time.Statement.{statement}
+use Rattle.lengths.proofs.Length.small_time.Tie as tie
 
 module _ (c : tie.Start) where
   own : SFits w64 (c .args .self .0)

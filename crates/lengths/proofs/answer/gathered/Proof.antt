@@ -1,4 +1,4 @@
--- `times::answer::gathered` meets its contract. The invariant of its loop: the rows passed stand at the front, zeros
+-- `lengths::answer::gathered` meets its contract. The invariant of its loop: the rows passed stand at the front, zeros
 -- after them. The measure is the rows left. Assumes nothing.
 use mathlib.Core.Path.{_≡_, refl, sym, _∙_, ap}
 use mathlib.Core.List.{_++_, map}
@@ -14,11 +14,11 @@ use mir.Val.{SFits}
 use Rattle.whole.proofs.Sizes.{fits-abs}
 use Rattle.rules.specs.Sizes.{mostVertices, mostTimeRows}
 use Rattle.rules.proofs.Times.Closed.{slice-at}
-use Rattle.times.specs.declared.cycle.Way.{Way}
-use Rattle.times.specs.Steps.{rowsOf}
-use Rattle.times.proofs.Laws.Words.{words-more, words-all}
-use Rattle.times.proofs.answer.gathered.Statement.{statement}
-use Rattle.times.proofs.answer.gathered.Tie as tie
+use Rattle.lengths.specs.declared.answer.Way.{Way}
+use Rattle.lengths.specs.Answer.{rowsOf}
+use Rattle.lengths.proofs.Laws.Words.{words-more, words-all}
+use Rattle.lengths.proofs.answer.gathered.Statement.{statement}
+use Rattle.lengths.proofs.answer.gathered.Tie as tie
 
 abbrev Inv-loop : tie.InvT-loop
 Inv-loop way from count plain₀ i₀ plain i = (i ≤ count) × (plain ≡ take i (map pos (rowsOf way)) ++ drop i plain₀)

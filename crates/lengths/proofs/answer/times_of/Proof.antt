@@ -1,4 +1,4 @@
--- `times::answer::times_of` meets its contract. The invariant of its loop: the parts of the times passed stand at the
+-- `lengths::answer::times_of` meets its contract. The invariant of its loop: the parts of the times passed stand at the
 -- front. The measure is the distances left. Assumes nothing.
 use mathlib.Core.Path.{_≡_, refl, sym, _∙_, ap}
 use mathlib.Core.List.{List, _++_, map, append-nil}
@@ -12,10 +12,10 @@ use mir.Syntax.{w64}
 use mir.Val.{SFits}
 use Rattle.whole.proofs.Prefix.{set-prefix, prefix-all}
 use Rattle.rules.specs.Sizes.{mostVertices}
-use Rattle.times.specs.declared.length.Length.{Length}
-use Rattle.times.specs.Lengths.{noRows, plainPart, smallPart}
-use Rattle.times.proofs.answer.times_of.Statement.{statement}
-use Rattle.times.proofs.answer.times_of.Tie as tie
+use Rattle.lengths.specs.declared.Length.{Length}
+use Rattle.lengths.specs.Lengths.{noRows, plainPart, smallPart}
+use Rattle.lengths.proofs.answer.times_of.Statement.{statement}
+use Rattle.lengths.proofs.answer.times_of.Tie as tie
 
 -- the first v words of a half
 abbrev Half : (Length → ℤ) → List Length → List ℤ → List ℤ → ℕ → Type 0

@@ -1,13 +1,18 @@
 // Lengths of rows: what is added and compared along walks. A length is a pair, minutes and small amounts, kept as one
 // number: UNIT times the minutes, and the small amounts. There are never so many that they come up to half a minute, so
 // the order of the numbers is that of the pairs. Nothing else in the code knows what a length is.
+//   answer    the answer's words: distances as times, or the rows of a cycle
 ghost use mathlib.Core.Path.{_≡_};
 ghost use mathlib.Core.Bool.{Bool};
 ghost use lib.IntN.{ℤ, negℤ, _+ℤ_};
 ghost use lib.Signed.{ltZ};
 ghost use Rattle.whole.specs.Numbers.{Within};
 ghost use Rattle.rules.specs.Sizes.{largestLength};
-ghost use Rattle.times.specs.Lengths.{lengthOf, keyOf, Modest, Passed, plainPart, smallPart};
+ghost use Rattle.lengths.specs.Lengths.{lengthOf, keyOf, Modest, Passed, plainPart, smallPart};
+
+pub mod answer;
+
+pub const MOST_VERTICES: usize = 64;
 
 pub struct Length(pub i64);
 

@@ -25,7 +25,7 @@ use Rattle.rules.specs.Sizes.{largestLength}
 use Rattle.rules.specs.Problem.{mOf}
 use Rattle.rules.specs.TimeWords.{AcceptedTimes, timeEdges}
 use Rattle.rules.proofs.Times.Refused.{strict-within}
-use Rattle.times.specs.Lengths.{unit, keyOf, Near}
+use Rattle.lengths.specs.Lengths.{unit, keyOf, Near}
 
 pub key-plus : (p q : ℤ × ℤ) → keyOf (pairs .plus p q) ≡ keyOf p +ℤ keyOf q
 key-plus p q = one (p .0) (p .1) (q .0) (q .1)

@@ -1,4 +1,4 @@
--- `times::answer::write` meets its contract: two words, and the two halves after them. Assumes nothing.
+-- `lengths::answer::write` meets its contract: two words, and the two halves after them. Assumes nothing.
 use mathlib.Core.Path.{_≡_, _∙_, ap, ap₂}
 use mathlib.Core.List.{List, _∷_, _++_}
 use Prim.Native.Nat.{ℕ, _+_, _*_}
@@ -11,9 +11,9 @@ use mir.Facts.{toZ-ofZ}
 use mir.Syntax.{w64}
 use mir.Val.{SFits, toZ, ofZ}
 use Rattle.whole.proofs.Sizes.{fits-abs}
-use Rattle.times.proofs.Laws.Words.{two-halves}
-use Rattle.times.proofs.answer.write.Statement.{statement}
-use Rattle.times.proofs.answer.write.Tie as tie
+use Rattle.lengths.proofs.Laws.Words.{two-halves}
+use Rattle.lengths.proofs.answer.write.Statement.{statement}
+use Rattle.lengths.proofs.answer.write.Tie as tie
 
 module _ (c : tie.Start) where
   abbrev n : ℕ

@@ -8,7 +8,7 @@ use lib.Signed.{_≤ℤ_}
 use Rattle.whole.specs.Numbers.{Within}
 use Rattle.whole.specs.Values.{mixed}
 use Rattle.rules.specs.Sizes.{mostVertices, mostTimeRows, largestLength}
-use Rattle.times.specs.declared.length.Length.{Length}
+use Rattle.lengths.specs.declared.Length.{Length}
 
 -- small amounts to a minute, in the code's numbers
 abbrev pub unit : ℕ
@@ -23,10 +23,6 @@ lengthOf l = l .0
 -- the length of no rows
 abbrev pub noRows : Length
 noRows = record { 0 = pos 0 }
-
--- what stands for no row is one past the last number that a row can have
-abbrev pub noRow : ℕ
-noRow = mostTimeRows
 
 -- ---- sizes
 
@@ -59,12 +55,9 @@ smallPart l = pos (natAbs (lengthOf l) % unit)
 
 -- ---- arrays
 
--- the distance of v, as a length and as its number, and the row that bettered it last; past an array's end these are 0
+-- the distance of v, as a length and as its number; past an array's end these are 0
 abbrev pub lengthAt : List Length → ℕ → Length
 lengthAt best v = getD best v noRows
 
 abbrev pub at : List Length → ℕ → ℤ
 at best v = lengthOf (lengthAt best v)
-
-abbrev pub rowAt : List ℕ → ℕ → ℕ
-rowAt last v = getD last v 0

@@ -1,0 +1,3 @@
+-- What lengths, and the words of an answer, stand for.
+pub mod Lengths
+pub mod Answer
