@@ -1,4 +1,3 @@
-pub mod Numbers
 pub mod Passing
 pub mod Tracing
 pub mod Parts

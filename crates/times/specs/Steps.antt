@@ -13,16 +13,13 @@ use Rattle.rules.specs.Sizes.{mostVertices, mostTimeRows}
 use Rattle.rules.specs.Problem.{nOf, mOf}
 use Rattle.rules.specs.Passes.{distance, distances, canMeet}
 use Rattle.rules.specs.Cycle.{BadCycle}
-use Rattle.rules.specs.TimeWords.{timesLength, AcceptedTimes, timeEdges}
+use Rattle.rules.specs.TimeWords.{timeEdges}
 use Rattle.rules.proofs.Times.Traced.{Traced}
 use Rattle.lengths.specs.declared.answer.Way.{Way}
 use Rattle.lengths.specs.declared.Length.{Length}
 use Rattle.lengths.specs.Answer.{AllPassed, rowsOf}
 use Rattle.lengths.specs.Lengths.{lengthAt, at, keyOf, looks, Near, Modest}
-
--- what refusals 11 to 16 leave
-abbrev pub Fine : List ℤ → Type 0
-Fine ws = AcceptedTimes ws (timesLength ws)
+use Rattle.timerows.specs.Judged.{Fine}
 
 -- accepted words, with n and m at hand
 pub record Solvable (ws : List ℤ) (n m : ℕ) : Type 0 where

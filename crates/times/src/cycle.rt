@@ -5,10 +5,10 @@ ghost use Prim.Native.Nat.{ℕ};
 ghost use lib.IntN.{ℤ};
 ghost use Rattle.rules.specs.Problem.{nOf};
 ghost use Rattle.times.specs.Steps.{Tried, Back};
-use crate::rows::NO_ROW;
-use crate::rows::tail;
+use crate::NO_ROW;
 use lengths::MOST_VERTICES;
 use lengths::answer::Way;
+use timerows::rows::tail;
 
 pub fn way_back(rows: &[i32], n: usize, last: [u32; MOST_VERTICES], v: usize) -> Way
     requires { ⌜ Tried (now rows) last v ⌝ }

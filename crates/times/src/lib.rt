@@ -1,9 +1,7 @@
 // Time rows x - y <= c or x - y < c: times that meet them all, or a cycle of rows that no times meet. docs/RULES.md,
 // "Time rows".
-//   judge     refusals 11 to 17
-//   rows      accepted words as edges
-//   passes    distances, pass by pass
-//   cycle     the way back to a cycle
+//   passes   distances, pass by pass
+//   cycle    the way back to a cycle
 ghost use mathlib.Core.Path.{_≡_};
 ghost use Prim.Native.Nat.{ℕ};
 ghost use lib.IntN.{ℤ};
@@ -11,11 +9,14 @@ ghost use lib.ListN.{length};
 ghost use Rattle.rules.specs.TimeWords.{AcceptedTimes};
 ghost use Rattle.rules.specs.Times.{Timed};
 use lengths::answer;
+use timerows::judge;
+use timerows::rows;
 
 mod cycle;
-mod judge;
 mod passes;
-mod rows;
+
+// Stands for no row: one past the last number that a row can have.
+const NO_ROW: u32 = 256;
 
 // The times where the passes settle; else the cycle that the way back closed.
 fn solve(rows: &[i32], out: &mut [i64])

@@ -7,15 +7,16 @@ ghost use lib.IntN.{ℤ, _+ℤ_};
 ghost use Rattle.rules.specs.Problem.{mOf};
 ghost use Rattle.rules.specs.TimeWords.{timeEdges};
 ghost use Rattle.lengths.specs.Lengths.{lengthOf, keyOf, Modest};
-ghost use Rattle.times.specs.Steps.{Fine, Looking, Quiet, Solvable, Settling};
+ghost use Rattle.timerows.specs.Judged.{Fine};
+ghost use Rattle.times.specs.Steps.{Looking, Quiet, Solvable, Settling};
+use crate::NO_ROW;
 use crate::cycle::way_back;
-use crate::rows::NO_ROW;
-use crate::rows::head;
-use crate::rows::size;
-use crate::rows::tail;
 use lengths::Length;
 use lengths::MOST_VERTICES;
 use lengths::answer::Way;
+use timerows::rows::head;
+use timerows::rows::size;
+use timerows::rows::tail;
 
 // What the passes came to: whether all rows can be met, the distances if so, and a cycle if not.
 pub struct Ending {

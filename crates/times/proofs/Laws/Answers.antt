@@ -29,7 +29,8 @@ use Rattle.lengths.specs.declared.Length.{Length}
 use Rattle.lengths.specs.Answer.{Gathering, rowsOf, output}
 use Rattle.lengths.specs.Lengths.{plainPart, smallPart}
 use Rattle.lengths.proofs.Laws.Words.{words-take, words-twice, take-replicate}
-use Rattle.times.specs.Steps.{Fine, Settled, Closed}
+use Rattle.timerows.specs.Judged.{Fine}
+use Rattle.times.specs.Steps.{Settled, Closed}
 use Rattle.times.proofs.Laws.Parts.{plains-are, smalls-are}
 
 -- a refusal keeps the output

@@ -23,7 +23,8 @@ use Rattle.rules.proofs.Times.Refused.{n-few, accepted-ends}
 use Rattle.lengths.specs.declared.Length.{Length}
 use Rattle.lengths.specs.Lengths.{unit, keyOf, noRows, lengthAt, plainPart, smallPart}
 use Rattle.lengths.proofs.Laws.Keys.{turned-up, plain-key, small-key}
-use Rattle.times.specs.Steps.{Fine, Settled}
+use Rattle.timerows.specs.Judged.{Fine}
+use Rattle.times.specs.Steps.{Settled}
 
 -- a half of the times, by its words
 half-are : (ws : List ℤ) → Fine ws → (best : List Length) → length best ≡ mostVertices →

@@ -36,7 +36,8 @@ use Rattle.rules.proofs.Times.Traced.{traced-still}
 use Rattle.lengths.specs.declared.Length.{Length}
 use Rattle.lengths.specs.Lengths.{unit, lengthOf, noRows, keyOf, looks, Near, lengthAt, at}
 use Rattle.lengths.proofs.Laws.Keys.{key-plus, near-le, near-plus, near-within, size-near, key-less, key-low}
-use Rattle.times.specs.Steps.{noRow, rowAt, Fine, AllModest, isLess, Quiet, Looked, Pass, Settled, Closing}
+use Rattle.timerows.specs.Judged.{Fine}
+use Rattle.times.specs.Steps.{noRow, rowAt, AllModest, isLess, Quiet, Looked, Pass, Settled, Closing}
 
 -- ---- no pass
 

@@ -20,7 +20,8 @@ use Rattle.rules.specs.TimeWords.{timeEdges}
 use Rattle.rules.proofs.Times.Refused.{n-few, m-few, accepted-ends}
 use Rattle.lengths.specs.declared.Length.{Length}
 use Rattle.lengths.specs.Lengths.{lengthOf, keyOf, lengthAt, at}
-use Rattle.times.specs.Steps.{rowAt, noRow, Fine, isLess, Quiet, Looked, Pass, Closing, Went}
+use Rattle.timerows.specs.Judged.{Fine}
+use Rattle.times.specs.Steps.{rowAt, noRow, isLess, Quiet, Looked, Pass, Closing, Went}
 use Rattle.times.proofs.Laws.Passing.{looked-start, looked-modest, pass-start, pass-taken, pass-kept}
 use Rattle.times.proofs.Laws.Passing.{looked-more, pass-quiet, pass-still, pass-settled, pass-closing}
 use Rattle.times.proofs.passes.settle.Statement.{statement}

@@ -1,0 +1,2 @@
+-- The laws behind judging time rows. Assumes nothing.
+pub mod Laws

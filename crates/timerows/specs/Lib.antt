@@ -1,0 +1,2 @@
+-- What judging and reading time rows ask and promise.
+pub mod Judged
