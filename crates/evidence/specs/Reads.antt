@@ -13,7 +13,7 @@ use Rattle.rules.specs.Sizes.{mostRows, mostColumns, largestCoefficient, larges
 use Rattle.rules.specs.Limit.{Limit}
 use Rattle.rules.specs.Problem.{Problem}
 use Rattle.rules.specs.Evidence.{lowerPart, upperPart, pairPart, atLeast, atMost, fair, plainOf, strictNamed}
-use Rattle.pivot.specs.Layout.{entryIn}
+use Rattle.layout.specs.Layout.{entryIn}
 use Rattle.tableau.specs.declared.Limits.{Limits}
 use Rattle.tableau.specs.Parts.{lowerGiven, upperGiven, lowerOf, upperOf}
 

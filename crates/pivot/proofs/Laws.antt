@@ -1,6 +1,4 @@
 -- Laws that this crate's proofs, and those of its callers, cite.
-pub mod Layout
-pub mod Lines
 pub mod Ranges
 pub mod Mixes
 pub mod Reductions

@@ -4,7 +4,7 @@ use mathlib.Core.Bool.{Bool}
 use mathlib.Core.List.{List}
 use lib.IntN.{ℤ}
 use Rattle.pivot.specs.declared.asked.Asked.{Asked}
-use Rattle.pivot.specs.Layout.{entryIn}
+use Rattle.layout.specs.Layout.{entryIn}
 use Rattle.pivot.specs.Pivot.{Pivotable, product, mixedCell, mixedUpTo, fitsAfter, commonAfter, entriesAfter}
 
 module _ (l : List ℤ) (a : Asked) where

@@ -13,8 +13,8 @@ use Rattle.divisor.specs.Cells.{divisorBelow}
 use Rattle.rules.specs.Sizes.{mostColumns, mostRows, largestNumber}
 use Rattle.pivot.specs.declared.asked.Asked.{Asked}
 use Rattle.pivot.specs.declared.border.Border.{Border}
-use Rattle.pivot.specs.declared.layout.Strip.{Strip}
-use Rattle.pivot.specs.Layout.{mostEntries, rowAt, columnAt, live, along, rowStrip, columnStrip, entryIn}
+use Rattle.layout.specs.declared.Strip.{Strip}
+use Rattle.layout.specs.Layout.{mostEntries, rowAt, columnAt, live, along, rowStrip, columnStrip, entryIn}
 
 abbrev pub raisedBy : Bool → ℤ → ℤ → ℤ
 raisedBy true a extra = a +ℤ extra

@@ -1,5 +1,4 @@
 -- What the code of this crate computes, by place.
-pub mod Layout
 pub mod Pivot
 pub mod TwoOrders
 pub mod Asked

@@ -14,8 +14,8 @@ use Rattle.divisor.specs.Cells.{divisorBelow, quotients}
 use Rattle.rules.specs.Sizes.{mostColumns, mostRows, largestNumber}
 use Rattle.pivot.specs.declared.Pivoted.{Pivoted}
 use Rattle.pivot.specs.declared.Pivoted.the-variants as pivots
-use Rattle.pivot.specs.Layout.{Order, inUse, mostEntries, rowLaid, columnLaid, rowAt, columnAt, live}
-use Rattle.pivot.specs.Layout.{entryLaid, entryIn}
+use Rattle.layout.specs.Layout.{Order, inUse, mostEntries, rowLaid, columnLaid, rowAt, columnAt, live}
+use Rattle.layout.specs.Layout.{entryLaid, entryIn}
 
 -- ---- one entry before reduction: `own` is the entry, `beside` stands in its row and the entering column, `above` in
 -- its column and the leaving row

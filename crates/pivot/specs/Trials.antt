@@ -19,7 +19,7 @@ use Rattle.pivot.specs.declared.settle.Tried.the-variants as tries
 use Rattle.pivot.specs.declared.settle.Settled.{Settled}
 use Rattle.pivot.specs.declared.settle.Settled.the-variants as ends
 use Rattle.pivot.specs.Asked.{entriesFor, fitsFor}
-use Rattle.pivot.specs.Layout.{mostEntries, lineAt}
+use Rattle.layout.specs.Layout.{mostEntries, lineAt}
 use Rattle.pivot.specs.Border.{crossedOf, crossedAt, inBorder}
 use Rattle.pivot.specs.Pivot.{signedBy, by}
 

@@ -3,7 +3,7 @@ use mathlib.Core.List.{List}
 use mathlib.Core.Path.{_≡_}
 use Prim.Native.Nat.{ℕ, _<_}
 use lib.IntN.{ℤ}
-use Rattle.pivot.specs.Layout.{Order, entryLaid}
+use Rattle.layout.specs.Layout.{Order, entryLaid}
 use Rattle.pivot.specs.Pivot.{commonLaid, entriesLaid, fitsLaid}
 
 -- two arrays hold the same entries of m rows and n columns, l in order o and r in order u

@@ -2,8 +2,7 @@
 ghost use mathlib.Core.Path.{_≡_};
 ghost use Rattle.pivot.specs.Asked.{Able, pivotFor, productFor};
 use crate::MOST_ENTRIES;
-use crate::layout;
-use crate::layout::Spot;
+use layout::Spot;
 
 // The sizes, the common number, and the spot of the pivot.
 pub struct Asked {

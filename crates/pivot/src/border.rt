@@ -16,8 +16,7 @@ ghost use Rattle.pivot.specs.Border.{raisedBy, raisedStrip, Bears, borde
 use crate::MOST_ENTRIES;
 use crate::asked;
 use crate::asked::Asked;
-use crate::layout;
-use crate::layout::Strip;
+use layout::Strip;
 
 pub struct Border {
     pub rows: usize,

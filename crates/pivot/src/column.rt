@@ -3,7 +3,7 @@ ghost use mathlib.Core.Path.{_≡_};
 ghost use Prim.Native.Nat.{ℕ, _+_, _≤_, _<_};
 ghost use lib.IntN.{pos};
 ghost use lib.ListN.{getD, length};
-ghost use Rattle.pivot.specs.Layout.{mostEntries};
+ghost use Rattle.layout.specs.Layout.{mostEntries};
 ghost use Rattle.pivot.specs.Trials.{Quotient, crossedIn, Columned, Apart, columnDivisor, someAbove};
 use crate::MOST_ENTRIES;
 use crate::guess;

@@ -5,7 +5,7 @@
 //   D y = .. + b w + a u ..     another row, times p: D p y = b D x + (p a - b c) u ..
 // The quotients are guessed and multiplied back, and their range is tested once they are right; where that settles
 // nothing, the numbers are divided in the full width.
-// The entries lie flat, as specs/Layout.antt says; a cell that is not in use is 0.
+// The entries lie flat, as the crate layout says; a cell that is not in use is 0.
 ghost use mathlib.Core.Path.{_≡_};
 ghost use Rattle.pivot.specs.Pivot.{Pivotable, fitsAfter, commonAfter, entriesAfter, pivotedBy, entriesBy};
 use asked::Asked;
@@ -16,7 +16,6 @@ mod asked;
 mod border;
 mod column;
 mod guess;
-pub mod layout;
 mod numbers;
 mod quick;
 mod range;
@@ -24,14 +23,7 @@ mod settle;
 mod wide;
 
 // How many cells the array of entries has.
-pub const MOST_ENTRIES: usize = divisor::MOST_CELLS;
-
-// The two kinds of place: neither stands for the other.
-#[repr(C)]
-pub struct RowPlace(pub u8);
-
-#[repr(C)]
-pub struct ColumnPlace(pub u8);
+const MOST_ENTRIES: usize = layout::MOST_ENTRIES;
 
 // What a pivot comes to: the new common number, or a number beyond the largest.
 pub enum Pivoted {

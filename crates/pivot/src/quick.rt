@@ -7,7 +7,7 @@ ghost use lib.ListN.{replicate};
 ghost use Rattle.whole.specs.Numbers.{Within};
 ghost use Rattle.rules.specs.Sizes.{largestNumber};
 ghost use Rattle.pivot.specs.Asked.{Able};
-ghost use Rattle.pivot.specs.Layout.{mostEntries};
+ghost use Rattle.layout.specs.Layout.{mostEntries};
 ghost use Rattle.pivot.specs.Trials.{EndsAs};
 use crate::MOST_ENTRIES;
 use crate::asked;

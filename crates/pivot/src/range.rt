@@ -1,7 +1,7 @@
 // Whether numbers are ones that a tableau may hold.
 ghost use mathlib.Core.Path.{_≡_};
 ghost use Prim.Native.Nat.{_≤_};
-ghost use Rattle.pivot.specs.Layout.{mostEntries};
+ghost use Rattle.layout.specs.Layout.{mostEntries};
 ghost use Rattle.pivot.specs.Pivot.{inRange, smallBelow, beyondOf, beyondBelow};
 use crate::MOST_ENTRIES;
 

@@ -7,7 +7,7 @@ ghost use lib.IntN.{pos, natAbs};
 ghost use lib.ListN.{length};
 ghost use Rattle.whole.specs.Numbers.{Within, AllWithin};
 ghost use Rattle.rules.specs.Sizes.{largestNumber};
-ghost use Rattle.pivot.specs.Layout.{mostEntries};
+ghost use Rattle.layout.specs.Layout.{mostEntries};
 ghost use Rattle.pivot.specs.Pivot.{signedBy};
 ghost use Rattle.pivot.specs.Border.{Bordered, inBorder};
 ghost use Rattle.pivot.specs.Trials.{Apart, columnOf, columnDivisor, someAbove, TriedAs, SettledAs};
@@ -16,7 +16,6 @@ use crate::border::Border;
 use crate::column;
 use crate::column::Column;
 use crate::guess;
-use crate::layout;
 use crate::numbers;
 
 // What a divisor that is tried comes to: all quotients are right, or one of a column is not.

@@ -5,17 +5,16 @@ ghost use Prim.Native.Nat.{_+_, _<_};
 ghost use lib.ListN.{length};
 ghost use Rattle.whole.specs.Numbers.{AllWithin};
 ghost use Rattle.rules.specs.Sizes.{largestNumber};
-ghost use Rattle.pivot.specs.Layout.{mostEntries, lines, lineAt, live};
+ghost use Rattle.layout.specs.Layout.{mostEntries, lines, lineAt, live};
 ghost use Rattle.pivot.specs.Pivot.{mixedOf, Mixable, pivotedBy, entriesBy};
 ghost use Rattle.pivot.specs.Asked.{Able, cellFor, cellsFor, fitsFor, commonFor, entriesFor};
 use crate::MOST_ENTRIES;
 use crate::Pivoted;
 use crate::asked;
 use crate::asked::Asked;
-use crate::layout;
-use crate::layout::Spot;
 use crate::numbers;
 use crate::range;
+use layout::Spot;
 
 // The numbers that one cell is made of: `own` is its entry, `beside` stands in its row and the entering column, `above`
 // in its column and the leaving row.

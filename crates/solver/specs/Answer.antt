@@ -10,7 +10,7 @@ use Rattle.whole.specs.Tables.{table, filled}
 use Rattle.rules.specs.Sizes.{mostColumns, mostRows, mostVariables, largestLimit, largestNumber}
 use Rattle.tableau.specs.declared.Seat.{Seat}
 use Rattle.tableau.specs.declared.Tableau.{Tableau}
-use Rattle.pivot.specs.Layout.{Order, inUse}
+use Rattle.layout.specs.Layout.{Order, inUse}
 use Rattle.tableau.specs.Parts.{nowhere}
 use Rattle.search.specs.Search.{rowSumLaid}
 use Rattle.solver.specs.declared.answer.Verdict.{Verdict}

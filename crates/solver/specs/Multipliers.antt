@@ -12,7 +12,7 @@ use Rattle.rules.specs.Sizes.{mostColumns, mostRows, mostVariables, largestNumb
 use Rattle.rules.specs.Step.{pull, positive}
 use Rattle.tableau.specs.declared.Seat.{Seat}
 use Rattle.tableau.specs.declared.Tableau.{Tableau}
-use Rattle.pivot.specs.Layout.{Order, inUse, entryLaid}
+use Rattle.layout.specs.Layout.{Order, inUse, entryLaid}
 use Rattle.tableau.specs.Parts.{nowhere}
 use Rattle.search.specs.declared.Blocked.{Blocked}
 use Rattle.search.specs.Sides.{sideBy}

@@ -10,7 +10,7 @@ use Rattle.rules.specs.Run.{conflict}
 use Rattle.rules.specs.Step.{State}
 use Rattle.rules.proofs.Sound.{Ready}
 use Rattle.tableau.specs.declared.Tableau.{Tableau}
-use Rattle.pivot.specs.Layout.{Order, inUse}
+use Rattle.layout.specs.Layout.{Order, inUse}
 use Rattle.tableau.specs.Stands.{Ranged, Stands}
 use Rattle.search.specs.declared.Blocked.{Blocked}
 use Rattle.search.specs.Search.{Searchable}

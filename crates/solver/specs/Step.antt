@@ -11,7 +11,7 @@ use Rattle.rules.specs.Step.{State}
 use Rattle.rules.proofs.Sound.{Rowed}
 use Rattle.tableau.specs.declared.Given.{Given}
 use Rattle.tableau.specs.declared.Tableau.{Tableau}
-use Rattle.pivot.specs.Layout.{Order, inUse}
+use Rattle.layout.specs.Layout.{Order, inUse}
 use Rattle.tableau.specs.Amounts.{givenLower, givenUpper, valueOf}
 use Rattle.tableau.specs.Parts.{basicAt, lowerGiven, upperGiven}
 use Rattle.pivot.specs.Pivot.{Pivotable, commonAfter, entriesAfter, entriesBy, fitsLaid}

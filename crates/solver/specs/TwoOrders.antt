@@ -8,7 +8,7 @@ use Rattle.whole.specs.Values.{pairs}
 use Rattle.rules.specs.Problem.{inner, problem, varsOf}
 use Rattle.rules.specs.Run.{conflict}
 use Rattle.tableau.specs.declared.Tableau.{Tableau}
-use Rattle.pivot.specs.Layout.{Order, byColumns, byRows}
+use Rattle.layout.specs.Layout.{Order, byColumns, byRows}
 use Rattle.tableau.specs.Start.{startLaid}
 use Rattle.tableau.specs.TwoOrders.{SameTableau}
 use Rattle.solver.specs.declared.step.End.{End}

@@ -6,7 +6,7 @@ use lib.IntN.{ℤ, pos}
 use lib.ListN.{getD}
 use Rattle.rules.specs.Limit.{Limit, lowerPair, upperPair}
 use Rattle.rules.specs.Problem.{mapped}
-use Rattle.pivot.specs.Layout.{Order, inUse, row, column, entryLaid}
+use Rattle.layout.specs.Layout.{Order, inUse, row, column, entryLaid}
 use Rattle.tableau.specs.declared.Variable.{Variable}
 use Rattle.tableau.specs.declared.Seat.{Seat}
 use Rattle.tableau.specs.declared.Given.{Given}

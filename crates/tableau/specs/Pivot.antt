@@ -6,7 +6,7 @@ use lib.IntN.{ℤ}
 use lib.ListN.{getD, set}
 use Rattle.whole.specs.Numbers.{Within}
 use Rattle.rules.specs.Sizes.{mostColumns, mostRows, mostVariables, largestNumber}
-use Rattle.pivot.specs.Layout.{Order, inUse, row, column}
+use Rattle.layout.specs.Layout.{Order, inUse, row, column}
 use Rattle.pivot.specs.Pivot.{commonLaid, entriesLaid}
 use Rattle.tableau.specs.declared.Variable.{Variable}
 use Rattle.tableau.specs.declared.Tableau.{Tableau}

@@ -11,7 +11,7 @@ use Rattle.rules.specs.Sizes.{mostColumns, mostRows, mostVariables, largestLimi
 use Rattle.rules.specs.Problem.{Problem, vars}
 use Rattle.rules.specs.Tableau.{entry}
 use Rattle.rules.specs.Step.{State, seat, common}
-use Rattle.pivot.specs.Layout.{live}
+use Rattle.layout.specs.Layout.{live}
 use Rattle.tableau.specs.declared.Limits.{Limits}
 use Rattle.tableau.specs.declared.Tableau.{Tableau}
 use Rattle.tableau.specs.Parts.{cell, cellAt, basicAt, nonbasicAt, valueAt, seatAt, rowOf, columnOf}

@@ -13,7 +13,7 @@ use Rattle.rules.specs.Sizes.{mostColumns, mostRows, mostVariables}
 use Rattle.rules.specs.Limit.{Limit}
 use Rattle.rules.specs.Problem.{Problem, inner, vars}
 use Rattle.rules.specs.Step.{startValue}
-use Rattle.pivot.specs.Layout.{Order, inUse, mostEntries, rowLaid, columnLaid, rowAt, columnAt, live, row, column}
+use Rattle.layout.specs.Layout.{Order, inUse, mostEntries, rowLaid, columnLaid, rowAt, columnAt, live, row, column}
 use Rattle.tableau.specs.declared.Variable.{Variable}
 use Rattle.tableau.specs.declared.Seat.{Seat}
 use Rattle.tableau.specs.declared.Given.{Given}

@@ -1,6 +1,6 @@
 -- The same tableau in two orders of its entries, which may be by rows and by columns.
 use mathlib.Core.Path.{_≡_}
-use Rattle.pivot.specs.Layout.{Order}
+use Rattle.layout.specs.Layout.{Order}
 use Rattle.pivot.specs.TwoOrders.{SameCells}
 use Rattle.tableau.specs.declared.Tableau.{Tableau}
 use Rattle.tableau.specs.Pivot.{withNumbers}

@@ -1,7 +1,7 @@
 // The tableau by place. A row is an equation: `common`, the rules' D, times the row's basic variable is the sum of the
 // row's entries, each times its column's nonbasic variable. All of these numbers are whole.
-use pivot::ColumnPlace;
-use pivot::RowPlace;
+use layout::ColumnPlace;
+use layout::RowPlace;
 
 // A variable's number. No place stands for it.
 #[repr(C)]
@@ -56,7 +56,7 @@ impl Tableau {
 
     pub const MOST_VARIABLES: usize = rules::MOST_VARIABLES;
 
-    pub const MOST_ENTRIES: usize = pivot::MOST_ENTRIES;
+    pub const MOST_ENTRIES: usize = layout::MOST_ENTRIES;
 
     pub const LARGEST_COEFFICIENT: i32 = rules::LARGEST_COEFFICIENT;
 

@@ -9,7 +9,7 @@ ghost use Rattle.rules.specs.Problem.{mapped, problem};
 ghost use Rattle.rules.specs.Refusal.{Accepted, problemRefusal};
 ghost use Rattle.rules.specs.Step.{startValue};
 ghost use Rattle.judge.specs.Words.{Framed};
-ghost use Rattle.pivot.specs.Layout.{lines, lineAt};
+ghost use Rattle.layout.specs.Layout.{lines, lineAt};
 ghost use Rattle.tableau.specs.Start.{startUpTo, startEntries, startBasic, startNonbasic, seatFor, startSeats};
 ghost use Rattle.tableau.specs.Amounts.{limitIn, valueOf};
 ghost use Rattle.tableau.specs.Start.{limitsFor, startsFor, startTableau};
@@ -20,9 +20,8 @@ use crate::Tableau;
 use crate::Variable;
 use crate::amount;
 use crate::amount::Value;
-use pivot::ColumnPlace;
-use pivot::RowPlace;
-use pivot::layout;
+use layout::ColumnPlace;
+use layout::RowPlace;
 
 // The values of the problem variables: plain parts and small parts.
 pub struct Starts {

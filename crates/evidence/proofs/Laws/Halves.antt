@@ -16,7 +16,7 @@ use Rattle.whole.proofs.Sums.{sum-zero}
 use Rattle.whole.proofs.Tells.{tells-eqZ, tells-true, tells-within}
 use Rattle.rules.specs.Problem.{word}
 use Rattle.rules.specs.Evidence.{lowerPart, upperPart}
-use Rattle.pivot.specs.Layout.{entryIn}
+use Rattle.layout.specs.Layout.{entryIn}
 use Rattle.evidence.specs.Reads.{halfHolds, isZero, numeratorsFit, rowUpTo, rowsHold}
 
 pub second-half : (a : List ℤ) (variables : ℕ) → lowerPart (drop variables a) ≡ upperPart variables a

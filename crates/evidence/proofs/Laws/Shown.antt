@@ -20,7 +20,7 @@ use Rattle.rules.specs.Limit.{Limit, present}
 use Rattle.rules.specs.Problem.{Problem}
 use Rattle.rules.specs.Evidence.{denominatorOf, lowerPart, upperPart, column, surplus, showsCan, showsCannot}
 use Rattle.rules.specs.Evidence.{contradicts, someStrict, strictNamed}
-use Rattle.pivot.specs.Layout.{entryIn}
+use Rattle.layout.specs.Layout.{entryIn}
 use Rattle.tableau.specs.declared.Limits.{Limits}
 use Rattle.tableau.specs.Parts.{lowerGiven, upperGiven}
 use Rattle.evidence.specs.Reads.{Readable, problemOf, numeratorsFit, rowUpTo, rowsHold, halfHolds, limitsUpTo}

@@ -32,11 +32,11 @@ use Rattle.divisor.specs.Cells.{largestSize}
 use Rattle.rules.specs.Sizes.{largestNumber}
 use Rattle.pivot.specs.declared.border.Border.{Border}
 use Rattle.pivot.specs.declared.column.Column.{Column}
-use Rattle.pivot.specs.Layout.{lines, steps, lineAt, live}
+use Rattle.layout.specs.Layout.{lines, steps, lineAt, live}
 use Rattle.pivot.specs.Border.{Bordered, crossedOf, crossedAt}
 use Rattle.pivot.specs.Trials.{Apart, Quotient, Columned, columnOf, crossedIn, columnDivisor, someAbove}
-use Rattle.pivot.proofs.Laws.Layout.{lines-are, steps-are, lines-live, line-next, step-live, live-most}
-use Rattle.pivot.proofs.Laws.Layout.{row-along, column-along}
+use Rattle.layout.proofs.Laws.Layout.{lines-are, steps-are, lines-live, line-next, step-live, live-most}
+use Rattle.layout.proofs.Laws.Layout.{row-along, column-along}
 
 pub apart-start : (s : ℕ) (l : List ℤ) → Apart s 0 l l
 apart-start s l = record { long = refl; kept = λ i h. refl }

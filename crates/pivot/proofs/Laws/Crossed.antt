@@ -21,12 +21,12 @@ use Rattle.whole.proofs.Tables.{filled-in}
 use Rattle.whole.proofs.Tools.{ring-at}
 use Rattle.rules.specs.Sizes.{mostRows, largestNumber}
 use Rattle.pivot.specs.declared.border.Border.{Border}
-use Rattle.pivot.specs.declared.layout.Strip.{Strip}
-use Rattle.pivot.specs.Layout.{flat, rowAt, columnAt, live, along, rowStrip, columnStrip, entryIn}
+use Rattle.layout.specs.declared.Strip.{Strip}
+use Rattle.layout.specs.Layout.{flat, rowAt, columnAt, live, along, rowStrip, columnStrip, entryIn}
 use Rattle.pivot.specs.Pivot.{mixedOf, mixedLaid, mixedAt, Pivotable}
 use Rattle.pivot.specs.Border.{raisedBy, raisedAt, raisedStrip, Bears, borderAt, Bordered, crossedOf, crossedAt}
-use Rattle.pivot.proofs.Laws.Layout.{flat-in, flat-back, row-live, column-live}
-use Rattle.pivot.proofs.Laws.Layout.{row-strip, row-count, column-strip, column-count}
+use Rattle.layout.proofs.Laws.Layout.{flat-in, flat-back, row-live, column-live}
+use Rattle.layout.proofs.Laws.Layout.{row-strip, row-count, column-strip, column-count}
 
 -- ---- over plain numbers: p is the pivot, c the common number
 

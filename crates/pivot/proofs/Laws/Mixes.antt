@@ -13,7 +13,7 @@ use Rattle.whole.specs.Numbers.{Within, AllWithin, isNeg}
 use Rattle.whole.proofs.Sizes.{within-*, within--, within-neg, within-le}
 use Rattle.divisor.specs.Cells.{largestSize}
 use Rattle.rules.specs.Sizes.{largestNumber}
-use Rattle.pivot.specs.Layout.{flat}
+use Rattle.layout.specs.Layout.{flat}
 use Rattle.pivot.specs.Pivot.{mixedOf, mixedCell, mixedLaid, Mixable, signedBy}
 
 pub mixed-of-within : (a b : Bool) (common pivot own beside above : ℤ) → Mixable common pivot own beside above →

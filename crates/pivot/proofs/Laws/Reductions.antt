@@ -28,10 +28,10 @@ use Rattle.whole.proofs.Sizes.{within-*, within-le, product-nonzero, all-within
 use Rattle.divisor.specs.Cells.{largestSize, dividedCells, divisorBelow, quotients}
 use Rattle.divisor.proofs.Laws.Cells.{divisor-above-zero, divisor-most, fits-size}
 use Rattle.rules.specs.Sizes.{largestNumber}
-use Rattle.pivot.specs.Layout.{mostEntries, flat, rowAt, columnAt, live}
+use Rattle.layout.specs.Layout.{mostEntries, flat, rowAt, columnAt, live}
 use Rattle.pivot.specs.Pivot.{mixedAt, product, mix, by, commonAfter, entriesAfter, fitsAfter, Pivotable}
 use Rattle.pivot.specs.Pivot.{inRange, smallBelow}
-use Rattle.pivot.proofs.Laws.Layout.{flat-in, live-most}
+use Rattle.layout.proofs.Laws.Layout.{flat-in, live-most}
 use Rattle.pivot.proofs.Laws.Mixes.{mixed-within, signed-nonzero}
 
 module _ {m n : ℕ} {l : List ℤ} {c : ℤ} {p q : ℕ} (h : Pivotable m n l c p q) where

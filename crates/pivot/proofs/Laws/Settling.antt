@@ -38,14 +38,14 @@ use Rattle.pivot.specs.declared.border.Border.{Border}
 use Rattle.pivot.specs.declared.settle.Settled.{Settled}
 use Rattle.pivot.specs.declared.settle.Settled.the-variants as ends
 use Rattle.pivot.specs.Asked.{Able}
-use Rattle.pivot.specs.Layout.{mostEntries, flat, live, entryIn}
+use Rattle.layout.specs.Layout.{mostEntries, flat, live, entryIn}
 use Rattle.pivot.specs.Pivot.{mixedLaid, mixedCell, mixedAt, product, mix, by, commonAfter, entriesAfter}
 use Rattle.pivot.specs.Pivot.{fitsAfter, Pivotable, signedBy, inRange}
 use Rattle.pivot.specs.Border.{raisedBy, borderAt, borderFor, borderDivisor, crossedAt}
 use Rattle.pivot.specs.Trials.{Found, Exceeds, SettledAs, EndsAs}
 use Rattle.pivot.proofs.Laws.Crossed.{beside-is, above-is, crossed-is}
 use Rattle.pivot.proofs.Laws.Divides.{over-neg, over-sum, over-sizes, quotient-is, back-divides}
-use Rattle.pivot.proofs.Laws.Layout.{flat-live, row-flat, column-flat}
+use Rattle.layout.proofs.Laws.Layout.{flat-live, row-flat, column-flat}
 use Rattle.pivot.proofs.Laws.Ranges.{small-cell, small-common}
 use Rattle.pivot.proofs.Laws.Reductions.{nonzero-product, nonzero-by, end-in}
 use Rattle.pivot.proofs.Laws.Signs.{size-signed, signed-again, quotient-up}

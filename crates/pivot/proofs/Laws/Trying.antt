@@ -18,7 +18,7 @@ use Rattle.rules.specs.Sizes.{largestNumber}
 use Rattle.pivot.specs.Pivot.{signedBy}
 use Rattle.pivot.proofs.Laws.Mixes.{signed-nonzero}
 use Rattle.pivot.specs.declared.border.Border.{Border}
-use Rattle.pivot.specs.Layout.{lineAt}
+use Rattle.layout.specs.Layout.{lineAt}
 use Rattle.pivot.specs.Border.{crossedAt, inBorder}
 use Rattle.pivot.specs.Trials.{columnOf, columnDivisor, someAbove, Exceeds}
 use Rattle.pivot.proofs.Laws.Columns.{column-divides, column-greatest, column-live, cell-here, above-at}

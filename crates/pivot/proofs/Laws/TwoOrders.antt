@@ -17,12 +17,12 @@ use Rattle.whole.proofs.Bools.{same-tests}
 use Rattle.whole.proofs.Tables.{filled-in}
 use Rattle.divisor.specs.Cells.{divisorBelow, quotients}
 use Rattle.divisor.proofs.Laws.Cells.{divisor-divides, divisor-greatest}
-use Rattle.pivot.specs.Layout.{Order, mostEntries, flatLaid, rowLaid, columnLaid, live, entryLaid}
+use Rattle.layout.specs.Layout.{Order, mostEntries, flatLaid, rowLaid, columnLaid, live, entryLaid}
 use Rattle.pivot.specs.Pivot.{mixedLaid, mixLaid, productLaid, byLaid, commonLaid, entriesLaid}
 use Rattle.pivot.specs.Pivot.{signedBy, inRange, smallBelow}
 use Rattle.pivot.specs.TwoOrders.{SameCells, SamePivot}
-use Rattle.pivot.proofs.Laws.Layout.{row-laid, column-laid, flat-laid-back, flat-laid-live, row-laid-live}
-use Rattle.pivot.proofs.Laws.Layout.{column-laid-live}
+use Rattle.layout.proofs.Laws.Layout.{row-laid, column-laid, flat-laid-back, flat-laid-live, row-laid-live}
+use Rattle.layout.proofs.Laws.Layout.{column-laid-live}
 
 -- an array filled by the places of its cells
 pub cell-filled : (o : Order) (m n : ℕ) (f : ℕ → ℕ → ℤ) (i j : ℕ) → i < m → j < n →

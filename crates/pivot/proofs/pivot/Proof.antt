@@ -20,7 +20,7 @@ use Rattle.pivot.specs.declared.Pivoted.the-variants as pivots
 use Rattle.pivot.specs.declared.settle.Settled.{Settled}
 use Rattle.pivot.specs.declared.settle.Settled.the-variants as ends
 use Rattle.pivot.specs.Asked.{productFor}
-use Rattle.pivot.specs.Layout.{mostEntries, live}
+use Rattle.layout.specs.Layout.{mostEntries, live}
 use Rattle.pivot.specs.Pivot.{Pivotable, commonAfter, entriesAfter, fitsAfter, pivotedBy, entriesBy, beyondBelow}
 use Rattle.pivot.specs.Trials.{Settles, EndsAs}
 use Rattle.pivot.proofs.Laws.Halves.{wide, widened}

@@ -11,7 +11,7 @@ use Rattle.whole.specs.Sums.{sumBy}
 use Rattle.whole.proofs.Sizes.{within-*}
 use Rattle.whole.proofs.Sums.{sum-within, sum-zero}
 use Rattle.rules.specs.Sizes.{largestNumber}
-use Rattle.pivot.specs.Layout.{flat, entryIn}
+use Rattle.layout.specs.Layout.{flat, entryIn}
 use Rattle.search.specs.Search.{partSum, sumLaid}
 
 module _ (m n : ℕ) (l x : List ℤ) (i : ℕ) where

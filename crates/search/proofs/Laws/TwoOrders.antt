@@ -16,7 +16,7 @@ use Rattle.whole.proofs.Sums.{sum-same}
 use Rattle.whole.proofs.Turns.{lowest-same}
 use Rattle.rules.specs.Step.{Side, Leaving, shortfallBy, pull, suits}
 use Rattle.tableau.specs.declared.Tableau.{Tableau}
-use Rattle.pivot.specs.Layout.{Order}
+use Rattle.layout.specs.Layout.{Order}
 use Rattle.pivot.specs.TwoOrders.{SameCells}
 use Rattle.tableau.specs.Parts.{valueAt, seatAt, rowOf, columnOf, lowestOf, highestOf}
 use Rattle.tableau.specs.Pivot.{withNumbers}

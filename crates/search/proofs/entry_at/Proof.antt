@@ -8,8 +8,8 @@ use lib.ListN.{getD}
 use mir.Facts.{toZ-ofZ}
 use mir.Syntax.{w32}
 use mir.Val.{SFits}
-use Rattle.pivot.specs.Layout.{mostEntries}
-use Rattle.pivot.proofs.Laws.Layout.{flat-in}
+use Rattle.layout.specs.Layout.{mostEntries}
+use Rattle.layout.proofs.Laws.Layout.{flat-in}
 use Rattle.search.proofs.entry_at.Statement.{statement}
 use Rattle.search.proofs.entry_at.Tie as tie
 

@@ -13,7 +13,7 @@ use Rattle.whole.specs.Numbers.{Within}
 use Rattle.whole.specs.Sums.{sumBy}
 use Rattle.whole.proofs.Sizes.{within-+, within-*, within-le, fits-by}
 use Rattle.rules.specs.Sizes.{mostColumns, largestNumber, largestLimit}
-use Rattle.pivot.specs.Layout.{flat, entryIn}
+use Rattle.layout.specs.Layout.{flat, entryIn}
 use Rattle.search.specs.Search.{partSum, sumLaid}
 use Rattle.search.proofs.Laws.Sums.{row-more, row-within}
 use Rattle.search.proofs.row_value.Statement.{statement}

@@ -25,7 +25,7 @@ use Rattle.rules.proofs.First.{first-hit, first-skip}
 use Rattle.rules.proofs.Sessions.Fair.{fair-ready, fair-rested}
 use Rattle.rules.proofs.Sessions.Sliced.{check-sliced}
 use Rattle.rules.proofs.Slices.{on-way-start}
-use Rattle.pivot.specs.Layout.{inUse}
+use Rattle.layout.specs.Layout.{inUse}
 use Rattle.tableau.specs.declared.Tableau.{Tableau}
 use Rattle.tableau.specs.Pivot.{pivotedLaid, swappedAt}
 use Rattle.tableau.specs.Stands.{Stands}

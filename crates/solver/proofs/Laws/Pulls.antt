@@ -11,7 +11,7 @@ use Rattle.whole.proofs.Sizes.{within-neg}
 use Rattle.rules.specs.Sizes.{largestNumber}
 use Rattle.rules.specs.Step.{Side, above, below, pull}
 use Rattle.tableau.specs.declared.Seat.{Seat}
-use Rattle.pivot.specs.Layout.{flat}
+use Rattle.layout.specs.Layout.{flat}
 use Rattle.search.specs.declared.Blocked.{Blocked}
 use Rattle.search.specs.Sides.{sideBy}
 use Rattle.solver.specs.Multipliers.{Blockable, pullOf, pullLaid, relationFrom}

@@ -10,8 +10,8 @@ use Prim.Native.Nat.{ℕ}
 use lib.IntN.{ℤ}
 use lib.ListN.{getD, set}
 use Rattle.whole.proofs.Bools.{zero-one}
-use Rattle.pivot.specs.declared.ColumnPlace.{ColumnPlace}
-use Rattle.pivot.specs.declared.RowPlace.{RowPlace}
+use Rattle.layout.specs.declared.ColumnPlace.{ColumnPlace}
+use Rattle.layout.specs.declared.RowPlace.{RowPlace}
 use Rattle.tableau.specs.declared.Seat.{Seat}
 use Rattle.tableau.specs.declared.Tableau.{Tableau}
 use Rattle.tableau.specs.declared.amount.Value.{Value}

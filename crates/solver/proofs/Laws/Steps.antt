@@ -20,8 +20,8 @@ use Rattle.rules.specs.Step.{Leaving, State, can, entering, evidence, goes, lea
 use Rattle.rules.specs.Tableau.{relation}
 use Rattle.rules.proofs.Moves.{Stepped, is-can, is-cannot, is-goes, is-range, stepped}
 use Rattle.rules.proofs.Sound.{Rowed}
-use Rattle.pivot.specs.declared.ColumnPlace.{ColumnPlace}
-use Rattle.pivot.specs.declared.RowPlace.{RowPlace}
+use Rattle.layout.specs.declared.ColumnPlace.{ColumnPlace}
+use Rattle.layout.specs.declared.RowPlace.{RowPlace}
 use Rattle.tableau.specs.declared.Given.{Given}
 use Rattle.tableau.specs.declared.Tableau.{Tableau}
 use Rattle.tableau.specs.declared.amount.Value.{Value}

@@ -25,7 +25,7 @@ use Rattle.rules.specs.Run.{conflict}
 use Rattle.rules.specs.Sizes.{mostVariables}
 use Rattle.rules.specs.Step.{positive, pull, start}
 use Rattle.tableau.specs.declared.Tableau.{Tableau}
-use Rattle.pivot.specs.Layout.{Order, byColumns, byRows, inUse, entryLaid}
+use Rattle.layout.specs.Layout.{Order, byColumns, byRows, inUse, entryLaid}
 use Rattle.pivot.specs.TwoOrders.{SameCells}
 use Rattle.tableau.specs.TwoOrders.{SameTableau}
 use Rattle.tableau.specs.Parts.{columnOf, rowOf, seatAt}

@@ -23,8 +23,8 @@ use Rattle.rules.specs.Problem.{Problem, inner, mapped, problem, vars}
 use Rattle.rules.specs.Refusal.{Accepted}
 use Rattle.rules.specs.Sizes.{largestCoefficient, largestLimit, mostColumns, mostRows, mostVariables}
 use Rattle.rules.specs.Step.{startValue}
-use Rattle.pivot.proofs.Laws.Layout.{column-flat, column-live, flat-live, row-flat, row-live}
-use Rattle.pivot.specs.Layout.{columnAt, flat, live, mostEntries, rowAt}
+use Rattle.layout.proofs.Laws.Layout.{column-flat, column-live, flat-live, row-flat, row-live}
+use Rattle.layout.specs.Layout.{columnAt, flat, live, mostEntries, rowAt}
 use Rattle.tableau.proofs.Laws.Reading.{lower-of, upper-of}
 use Rattle.tableau.specs.Amounts.{absent}
 use Rattle.tableau.specs.Parts.{cell, cellAt}

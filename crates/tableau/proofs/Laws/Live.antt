@@ -5,8 +5,8 @@ use mathlib.Core.Path.{_≡_}
 use Prim.Native.Nat.{ℕ, _<_}
 use lib.IntN.{ℤ}
 use Rattle.rules.specs.Problem.{Problem}
-use Rattle.pivot.specs.Layout.{flat, rowAt, columnAt, live}
-use Rattle.pivot.proofs.Laws.Layout.{flat-live, row-flat, column-flat}
+use Rattle.layout.specs.Layout.{flat, rowAt, columnAt, live}
+use Rattle.layout.proofs.Laws.Layout.{flat-live, row-flat, column-flat}
 use Rattle.tableau.specs.declared.Tableau.{Tableau}
 use Rattle.tableau.specs.Stands.{Sized}
 

@@ -24,9 +24,9 @@ use Rattle.rules.specs.Tableau as rules
 use Rattle.rules.proofs.Lowest.{Factored, factored, divisor-divides, divisor-greatest, reduced-entry}
 use Rattle.rules.proofs.Pivoted.{rowed-moved}
 use Rattle.rules.proofs.Sound.{Rowed}
-use Rattle.pivot.specs.Layout.{mostEntries, flat, rowAt, columnAt, live}
+use Rattle.layout.specs.Layout.{mostEntries, flat, rowAt, columnAt, live}
 use Rattle.pivot.specs.Pivot.{mixedCell, mixedAt, signedBy, product, mix, by}
-use Rattle.pivot.proofs.Laws.Layout.{row-live, column-live}
+use Rattle.layout.proofs.Laws.Layout.{row-live, column-live}
 use Rattle.tableau.specs.declared.Tableau.{Tableau}
 use Rattle.tableau.specs.Parts.{cell, cellAt, basicAt, nonbasicAt}
 use Rattle.tableau.specs.Pivot.{pivotedLaid, swappedAt}

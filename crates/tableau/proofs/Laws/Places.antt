@@ -16,7 +16,7 @@ use lib.Seq.{getD-set-same, getD-set-other}
 use Rattle.rules.specs.Problem.{Problem, vars}
 use Rattle.rules.specs.Step.{State, seat}
 use Rattle.rules.proofs.Swaps.{Swap, none-some}
-use Rattle.pivot.specs.Layout.{row, column}
+use Rattle.layout.specs.Layout.{row, column}
 use Rattle.tableau.specs.declared.Variable.{Variable}
 use Rattle.tableau.specs.declared.Seat.{Seat}
 use Rattle.tableau.specs.declared.Tableau.{Tableau}

@@ -18,9 +18,9 @@ use Rattle.rules.specs.Sizes.{largestNumber}
 use Rattle.rules.specs.Step.{State}
 use Rattle.rules.specs.Tableau.{entry, small}
 use Rattle.rules.proofs.Sound.{Rowed}
-use Rattle.pivot.specs.Layout.{flat, rowAt, columnAt}
+use Rattle.layout.specs.Layout.{flat, rowAt, columnAt}
 use Rattle.pivot.specs.Pivot.{inRange, smallBelow}
-use Rattle.pivot.proofs.Laws.Layout.{flat-back, row-live, column-live}
+use Rattle.layout.proofs.Laws.Layout.{flat-back, row-live, column-live}
 use Rattle.tableau.specs.declared.Tableau.{Tableau}
 use Rattle.tableau.specs.Parts.{cell, basicAt, nonbasicAt}
 use Rattle.tableau.specs.Pivot.{Cells}

@@ -15,7 +15,7 @@ use Rattle.rules.specs.Problem.{Problem, inner, vars}
 use Rattle.rules.specs.Sizes.{mostColumns, mostRows, mostVariables}
 use Rattle.rules.specs.Step.{same, seat, start, startEntry, startSeat}
 use Rattle.rules.specs.Tableau.{entry}
-use Rattle.pivot.specs.Layout.{live, mostEntries}
+use Rattle.layout.specs.Layout.{live, mostEntries}
 use Rattle.tableau.proofs.Laws.Fitting.{Fitting, coefficient-start, serves-start}
 use Rattle.tableau.specs.Parts.{basicAt, cell, cellAt, columnOf, nonbasicAt, nowhere}
 use Rattle.tableau.specs.Parts.{rowOf, seatAt, valueAt, variable}

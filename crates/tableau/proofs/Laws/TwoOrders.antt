@@ -2,7 +2,7 @@
 use mathlib.Core.Path.{refl, sym, _∙_}
 use Rattle.rules.specs.Limit.{Limit}
 use Rattle.rules.specs.Problem.{Problem}
-use Rattle.pivot.specs.Layout.{Order}
+use Rattle.layout.specs.Layout.{Order}
 use Rattle.pivot.proofs.Laws.TwoOrders.{cell-filled}
 use Rattle.tableau.specs.Start.{startLaid}
 use Rattle.tableau.specs.TwoOrders.{SameTableau}

@@ -15,8 +15,8 @@ use Rattle.whole.proofs.Sizes.{within-*, within-le, fits-by}
 use Rattle.whole.proofs.Sums.{sum-step, sum-within}
 use Rattle.rules.specs.Sizes.{largestCoefficient, largestNumerator, mostColumns}
 use Rattle.rules.specs.Evidence.{lowerPart}
-use Rattle.pivot.specs.Layout.{mostEntries, entryIn}
-use Rattle.pivot.proofs.Laws.Layout.{flat-in}
+use Rattle.layout.specs.Layout.{mostEntries, entryIn}
+use Rattle.layout.proofs.Laws.Layout.{flat-in}
 use Rattle.evidence.specs.Reads.{rowUpTo}
 use Rattle.evidence.proofs.can.row_sum.Statement.{statement}
 use Rattle.evidence.proofs.can.row_sum.Tie as tie

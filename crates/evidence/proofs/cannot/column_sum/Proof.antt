@@ -15,8 +15,8 @@ use Rattle.whole.specs.Sums.{sumBy}
 use Rattle.whole.proofs.Sizes.{within-*, within-+, within--, within-le, fits-by}
 use Rattle.whole.proofs.Sums.{sum-step, sum-within}
 use Rattle.rules.specs.Sizes.{largestCoefficient, largestNumber, mostRows}
-use Rattle.pivot.specs.Layout.{mostEntries, entryIn}
-use Rattle.pivot.proofs.Laws.Layout.{flat-in}
+use Rattle.layout.specs.Layout.{mostEntries, entryIn}
+use Rattle.layout.proofs.Laws.Layout.{flat-in}
 use Rattle.evidence.specs.Reads.{balanceAt, columnUpTo}
 use Rattle.evidence.proofs.cannot.column_sum.Statement.{statement}
 use Rattle.evidence.proofs.cannot.column_sum.Tie as tie

@@ -6,7 +6,7 @@ use mathlib.Core.Path.{ap, _∙_}
 use lib.IntN.{pos}
 use lib.ListN.{getD}
 use mir.Facts.{toZ-ofZ}
-use Rattle.pivot.specs.Layout.{mostEntries}
+use Rattle.layout.specs.Layout.{mostEntries}
 use Rattle.pivot.proofs.Laws.Reductions.{pivot-in}
 use Rattle.pivot.proofs.asked.pivot_of.Statement.{statement}
 use Rattle.pivot.proofs.asked.pivot_of.Tie as tie

@@ -11,7 +11,7 @@ use mir.Val.{SFits, toZ, ofZ}
 use Rattle.whole.proofs.Sizes.{within-neg, fits-by}
 use Rattle.pivot.specs.declared.asked.Asked.{Asked}
 use Rattle.pivot.specs.declared.border.Border.{Border}
-use Rattle.pivot.specs.declared.layout.Strip.{Strip}
+use Rattle.layout.specs.declared.Strip.{Strip}
 use Rattle.pivot.specs.Asked.{Able}
 use Rattle.pivot.specs.Border.{Bears, raisedStrip}
 use Rattle.pivot.proofs.Laws.Crossed.{besides-bear, aboves-bear}

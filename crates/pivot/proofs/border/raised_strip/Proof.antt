@@ -16,8 +16,8 @@ use Rattle.whole.specs.Numbers.{Within}
 use Rattle.whole.proofs.Prefix.{filled-start, filled-more}
 use Rattle.whole.proofs.Tells.{tells-eq}
 use Rattle.rules.specs.Sizes.{mostRows, largestNumber}
-use Rattle.pivot.specs.declared.layout.Strip.{Strip}
-use Rattle.pivot.specs.Layout.{mostEntries, along}
+use Rattle.layout.specs.declared.Strip.{Strip}
+use Rattle.layout.specs.Layout.{mostEntries, along}
 use Rattle.pivot.specs.Border.{raisedAt}
 use Rattle.pivot.proofs.border.raised_strip.Statement.{statement}
 use Rattle.pivot.proofs.border.raised_strip.Tie as tie

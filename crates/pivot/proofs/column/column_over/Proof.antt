@@ -10,7 +10,7 @@ use lib.ListN.{length, getD}
 use mir.Facts.{toZ-ofZ}
 use mir.Syntax.{w32, w64}
 use mir.Val.{SFits}
-use Rattle.pivot.specs.Layout.{mostEntries}
+use Rattle.layout.specs.Layout.{mostEntries}
 use Rattle.pivot.specs.Trials.{Apart, Quotient, crossedIn}
 use Rattle.pivot.proofs.Laws.Columns.{apart-start, apart-more, each-more}
 use Rattle.pivot.proofs.column.column_over.Statement.{statement}

@@ -22,7 +22,7 @@ use Rattle.pivot.specs.declared.asked.Asked.{Asked}
 use Rattle.pivot.specs.declared.border.Border.{Border}
 use Rattle.pivot.specs.declared.settle.Settled.{Settled}
 use Rattle.pivot.specs.Asked.{Able, pivotFor}
-use Rattle.pivot.specs.Layout.{mostEntries}
+use Rattle.layout.specs.Layout.{mostEntries}
 use Rattle.pivot.specs.Pivot.{product, signedBy}
 use Rattle.pivot.specs.Border.{borderFor, borderDivisor, Bordered}
 use Rattle.pivot.specs.Trials.{SettledAs}

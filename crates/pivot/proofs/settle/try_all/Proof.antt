@@ -13,12 +13,12 @@ use mir.Val.{SFits, toZ, ofZ}
 use Rattle.rules.specs.Sizes.{mostRows}
 use Rattle.pivot.specs.declared.border.Border.{Border}
 use Rattle.pivot.specs.declared.column.Column.{Column}
-use Rattle.pivot.specs.Layout.{mostEntries, lineAt, live}
+use Rattle.layout.specs.Layout.{mostEntries, lineAt, live}
 use Rattle.pivot.specs.Border.{Bordered, crossedAt}
 use Rattle.pivot.specs.Trials.{Apart, Quotient, Columned, columnOf, crossedIn}
 use Rattle.pivot.proofs.Laws.Columns.{apart-start, apart-then, apart-wider, column-alike, column-end}
 use Rattle.pivot.proofs.Laws.Columns.{column-most, columned, columns-all, quotients-then}
-use Rattle.pivot.proofs.Laws.Layout.{lines-are}
+use Rattle.layout.proofs.Laws.Layout.{lines-are}
 use Rattle.pivot.proofs.settle.try_all.Statement.{statement}
 use Rattle.pivot.proofs.settle.try_all.Tie as tie
 

@@ -14,7 +14,7 @@ use Rattle.whole.specs.Tables.{filled, table}
 use Rattle.whole.proofs.Prefix.{filled-start, filled-more, filled-all}
 use Rattle.whole.proofs.Sizes.{fits-by}
 use Rattle.whole.proofs.Tables.{table-all}
-use Rattle.pivot.specs.Layout.{mostEntries}
+use Rattle.layout.specs.Layout.{mostEntries}
 use Rattle.pivot.proofs.wide.halves_of.Statement.{statement}
 use Rattle.pivot.proofs.wide.halves_of.Tie as tie
 

@@ -11,9 +11,9 @@ use lib.IntN.{ℤ, pos}
 use mir.Facts.{toZ-ofZ}
 use mir.Syntax.{w32, w64}
 use mir.Val.{SFits}
-use Rattle.pivot.specs.Layout.{mostEntries, flat}
+use Rattle.layout.specs.Layout.{mostEntries, flat}
 use Rattle.pivot.specs.Pivot.{mixedOf, mixedCell, mixedLaid}
-use Rattle.pivot.proofs.Laws.Layout.{flat-in}
+use Rattle.layout.proofs.Laws.Layout.{flat-in}
 use Rattle.pivot.proofs.wide.mixed_at.Statement.{statement}
 use Rattle.pivot.proofs.wide.mixed_at.Tie as tie
 

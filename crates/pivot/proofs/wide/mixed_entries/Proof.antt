@@ -5,9 +5,9 @@ use Prim.Native.Nat.{ℕ, _-_, _≤_, _<_}
 use native.Mathlib.Omega.{arith}
 use borrow.Author.Needs.{needs}
 use lib.IntN.{ℤ}
-use Rattle.pivot.specs.Layout.{lines, lineAt, rowAt, columnAt}
+use Rattle.layout.specs.Layout.{lines, lineAt, rowAt, columnAt}
 use Rattle.pivot.specs.Asked.{cellFor, cellsFor}
-use Rattle.pivot.proofs.Laws.Lines.{lines-all, lines-start}
+use Rattle.layout.proofs.Laws.Lines.{lines-all, lines-start}
 use Rattle.pivot.proofs.wide.mixed_entries.Statement.{statement}
 use Rattle.pivot.proofs.wide.mixed_entries.Tie as tie
 

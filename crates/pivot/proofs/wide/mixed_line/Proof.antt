@@ -9,11 +9,11 @@ use lib.IntN.{ℤ}
 use mir.Facts.{toZ-ofZ}
 use mir.Syntax.{w64}
 use mir.Val.{SFits}
-use Rattle.pivot.specs.declared.layout.Spot.{Spot}
-use Rattle.pivot.specs.Layout.{mostEntries, steps, lineAt, live, rowAt, columnAt}
+use Rattle.layout.specs.declared.Spot.{Spot}
+use Rattle.layout.specs.Layout.{mostEntries, steps, lineAt, live, rowAt, columnAt}
 use Rattle.pivot.specs.Asked.{cellFor, cellsFor}
-use Rattle.pivot.proofs.Laws.Layout.{flat-spot, spot-used, step-live}
-use Rattle.pivot.proofs.Laws.Lines.{line-all, line-more, line-start}
+use Rattle.layout.proofs.Laws.Layout.{flat-spot, spot-used, step-live}
+use Rattle.layout.proofs.Laws.Lines.{line-all, line-more, line-start}
 use Rattle.pivot.proofs.Laws.Reductions.{end-in}
 use Rattle.pivot.proofs.wide.mixed_line.Statement.{statement}
 use Rattle.pivot.proofs.wide.mixed_line.Tie as tie

@@ -21,7 +21,7 @@ use Rattle.pivot.specs.declared.asked.Asked.{Asked}
 use Rattle.pivot.specs.declared.Pivoted.{Pivoted}
 use Rattle.pivot.specs.declared.Pivoted.the-variants as pivots
 use Rattle.pivot.specs.Asked.{Able, commonFor, entriesFor, fitsFor}
-use Rattle.pivot.specs.Layout.{live, mostEntries}
+use Rattle.layout.specs.Layout.{live, mostEntries}
 use Rattle.pivot.specs.Pivot.{signedBy, smallBelow, entriesBy, product, mix, by, pivotedBy}
 use Rattle.pivot.proofs.Laws.Reductions.{end-in, within-size, mix-within, size-most}
 use Rattle.pivot.proofs.Laws.Reductions.{nonzero-by, quotient-fits, divided-all, fits-common, fits-entries}

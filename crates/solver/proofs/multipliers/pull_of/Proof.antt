@@ -13,7 +13,7 @@ use Rattle.whole.specs.Numbers.{Within}
 use Rattle.whole.proofs.Sizes.{fits-by, within-neg}
 use Rattle.rules.specs.Sizes.{largestNumber}
 use Rattle.rules.specs.Step.{pull}
-use Rattle.pivot.specs.Layout.{flat, entryIn}
+use Rattle.layout.specs.Layout.{flat, entryIn}
 use Rattle.pivot.proofs.Laws.Halves.{wide}
 use Rattle.search.specs.Sides.{sideBy}
 use Rattle.solver.specs.Multipliers.{pullLaid, relationFrom}

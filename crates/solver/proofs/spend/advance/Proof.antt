@@ -12,8 +12,8 @@ use mir.Facts.{toZ-ofZ}
 use mir.Syntax.{w32}
 use mir.Val.{SFits}
 use Rattle.whole.proofs.Sizes.{fits-by}
-use Rattle.pivot.specs.declared.ColumnPlace.{ColumnPlace}
-use Rattle.pivot.specs.declared.RowPlace.{RowPlace}
+use Rattle.layout.specs.declared.ColumnPlace.{ColumnPlace}
+use Rattle.layout.specs.declared.RowPlace.{RowPlace}
 use Rattle.tableau.specs.declared.Tableau.{Tableau}
 use Rattle.tableau.specs.declared.amount.Value.{Value}
 use Rattle.tableau.specs.Pivot.{Swappable, withNumbers}

@@ -6,8 +6,8 @@ use native.Mathlib.Omega.{arith}
 use borrow.Author.Needs.{needs}
 use lib.IntN.{ℤ}
 use Rattle.rules.specs.Problem.{problem}
-use Rattle.pivot.specs.Layout.{rowAt, columnAt, lines, lineAt, live}
-use Rattle.pivot.proofs.Laws.Lines.{lines-all, lines-start}
+use Rattle.layout.specs.Layout.{rowAt, columnAt, lines, lineAt, live}
+use Rattle.layout.proofs.Laws.Lines.{lines-all, lines-start}
 use Rattle.tableau.specs.Start.{startUpTo}
 use Rattle.tableau.proofs.Tableau.start_entries.Statement.{statement}
 use Rattle.tableau.proofs.Tableau.start_entries.Tie as tie

@@ -5,7 +5,7 @@ use Prim.Native.Nat.{ℕ, _-_}
 use native.Mathlib.Omega.{arith}
 use borrow.Author.Needs.{needs}
 use borrow.Author.Tests.{lt-ltb, le-ltb}
-use Rattle.pivot.specs.Layout.{row, column}
+use Rattle.layout.specs.Layout.{row, column}
 use Rattle.tableau.specs.declared.Seat.{Seat}
 use Rattle.tableau.proofs.read.seat_for.Statement.{statement}
 use Rattle.tableau.proofs.read.seat_for.Tie as tie

@@ -10,10 +10,10 @@ use mir.Facts.{toZ-ofZ}
 use mir.Syntax.{w32}
 use mir.Val.{SFits}
 use Rattle.rules.specs.Problem.{problem}
-use Rattle.pivot.specs.declared.layout.Spot.{Spot}
-use Rattle.pivot.specs.Layout.{mostEntries, rowAt, columnAt, steps, lineAt, live}
-use Rattle.pivot.proofs.Laws.Layout.{flat-spot, live-most, spot-used, step-live}
-use Rattle.pivot.proofs.Laws.Lines.{line-all, line-more, line-start}
+use Rattle.layout.specs.declared.Spot.{Spot}
+use Rattle.layout.specs.Layout.{mostEntries, rowAt, columnAt, steps, lineAt, live}
+use Rattle.layout.proofs.Laws.Layout.{flat-spot, live-most, spot-used, step-live}
+use Rattle.layout.proofs.Laws.Lines.{line-all, line-more, line-start}
 use Rattle.tableau.specs.Start.{startUpTo}
 use Rattle.tableau.proofs.read.start_line.Statement.{statement}
 use Rattle.tableau.proofs.read.start_line.Tie as tie

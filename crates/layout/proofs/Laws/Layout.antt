@@ -18,10 +18,10 @@ use native.Mathlib.Omega.{arith}
 use mathlib.Core.Path.{_≡_, refl, ap, ap₂, sym, _∙_}
 use lib.Arith.{digits-lt}
 use Rattle.rules.specs.Sizes.{mostColumns, mostRows}
-use Rattle.pivot.specs.declared.layout.Spot.{Spot}
-use Rattle.pivot.specs.Layout.{Order, byRows, byColumns, inUse, mostEntries, flatLaid, rowLaid, columnLaid}
-use Rattle.pivot.specs.Layout.{linesLaid, stepsLaid, flat, rowAt, columnAt, lines, steps, lineAt, live}
-use Rattle.pivot.specs.Layout.{row, column, spotAt, along, rowStripLaid, columnStripLaid, rowStrip, columnStrip}
+use Rattle.layout.specs.declared.Spot.{Spot}
+use Rattle.layout.specs.Layout.{Order, byRows, byColumns, inUse, mostEntries, flatLaid, rowLaid, columnLaid}
+use Rattle.layout.specs.Layout.{linesLaid, stepsLaid, flat, rowAt, columnAt, lines, steps, lineAt, live}
+use Rattle.layout.specs.Layout.{row, column, spotAt, along, rowStripLaid, columnStripLaid, rowStrip, columnStrip}
 
 -- ---- a number by its quotient and its remainder
 

@@ -9,8 +9,8 @@ use lib.IntN.{ℤ, pos}
 use lib.ListN.{replicate, set}
 use Rattle.whole.specs.Tables.{filled}
 use Rattle.whole.proofs.Prefix.{filled-more, filled-start}
-use Rattle.pivot.specs.Layout.{lineAt, lines, live, mostEntries, steps}
-use Rattle.pivot.proofs.Laws.Layout.{line-next, lines-live}
+use Rattle.layout.specs.Layout.{lineAt, lines, live, mostEntries, steps}
+use Rattle.layout.proofs.Laws.Layout.{line-next, lines-live}
 
 module _ (m n : ℕ) (f : ℕ → ℤ) where
   abbrev upTo : ℕ → List ℤ

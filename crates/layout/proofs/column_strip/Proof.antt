@@ -1,4 +1,4 @@
--- `pivot::layout::column_strip` meets its contract: a place of 8 bits times few rows fits. Assumes nothing.
+-- `layout::column_strip` meets its contract: a place of 8 bits times few rows fits. Assumes nothing.
 use borrow.Author.Needs.{needs}
 use Prim.Native.Nat.{ℕ, _*_, _≤_, _<_}
 use native.Mathlib.Nat.{mul-le-mul}
@@ -7,9 +7,9 @@ use mathlib.Core.Path.{refl}
 use mir.Syntax.{w8}
 use mir.Val.{Fits}
 use Rattle.rules.specs.Sizes.{mostRows}
-use Rattle.pivot.specs.Layout.{columnStripLaid}
-use Rattle.pivot.proofs.layout.column_strip.Statement.{statement}
-use Rattle.pivot.proofs.layout.column_strip.Tie as tie
+use Rattle.layout.specs.Layout.{columnStripLaid}
+use Rattle.layout.proofs.column_strip.Statement.{statement}
+use Rattle.layout.proofs.column_strip.Tie as tie
 
 cast-t4 : tie.Need-cast-t4
 cast-t4 c = search needs

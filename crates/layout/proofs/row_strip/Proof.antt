@@ -1,9 +1,9 @@
--- `pivot::layout::row_strip` meets its contract. Assumes nothing.
+-- `layout::row_strip` meets its contract. Assumes nothing.
 use borrow.Author.Needs.{needs}
 use mathlib.Core.Path.{refl}
-use Rattle.pivot.specs.Layout.{rowStripLaid}
-use Rattle.pivot.proofs.layout.row_strip.Statement.{statement}
-use Rattle.pivot.proofs.layout.row_strip.Tie as tie
+use Rattle.layout.specs.Layout.{rowStripLaid}
+use Rattle.layout.proofs.row_strip.Statement.{statement}
+use Rattle.layout.proofs.row_strip.Tie as tie
 
 cast-t4 : tie.Need-cast-t4
 cast-t4 c = search needs

@@ -1,10 +1,10 @@
--- `pivot::layout::live` meets its contract. Assumes nothing.
+-- `layout::live` meets its contract. Assumes nothing.
 use native.Mathlib.Omega.{arith}
 use borrow.Author.Needs.{needs}
-use Rattle.pivot.specs.Layout.{live}
-use Rattle.pivot.proofs.Laws.Layout.{live-most}
-use Rattle.pivot.proofs.layout.live.Statement.{statement}
-use Rattle.pivot.proofs.layout.live.Tie as tie
+use Rattle.layout.specs.Layout.{live}
+use Rattle.layout.proofs.Laws.Layout.{live-most}
+use Rattle.layout.proofs.live.Statement.{statement}
+use Rattle.layout.proofs.live.Tie as tie
 
 mul-result : tie.Need-mul-result
 unfolding live

@@ -4,10 +4,18 @@
 ghost use mathlib.Core.Path.{_≡_};
 ghost use Prim.Native.Nat.{_+_, _≤_, _<_};
 ghost use Rattle.rules.specs.Sizes.{mostRows, mostColumns};
-ghost use Rattle.pivot.specs.Layout.{flat, lineAt, spotAt, rowStrip, columnStrip};
-ghost use Rattle.pivot.specs.Layout as layout;
-use crate::ColumnPlace;
-use crate::RowPlace;
+ghost use Rattle.layout.specs.Layout.{flat, lineAt, spotAt, rowStrip, columnStrip};
+ghost use Rattle.layout.specs.Layout as layout;
+
+// How many cells the array of entries has.
+pub const MOST_ENTRIES: usize = divisor::MOST_CELLS;
+
+// The two kinds of place: neither stands for the other.
+#[repr(C)]
+pub struct RowPlace(pub u8);
+
+#[repr(C)]
+pub struct ColumnPlace(pub u8);
 
 // The row place and the column place of one entry.
 pub struct Spot {

@@ -1,12 +1,12 @@
--- `pivot::layout::line_at` meets its contract: lines and steps are few, so the product fits. Assumes nothing.
+-- `layout::line_at` meets its contract: lines and steps are few, so the product fits. Assumes nothing.
 use Prim.Native.Nat.{_*_, _≤_}
 use native.Mathlib.Nat.{mul-le-mul}
 use native.Mathlib.Omega.{arith}
 use mathlib.Core.Path.{refl}
 use Rattle.rules.specs.Sizes.{mostRows, mostColumns}
-use Rattle.pivot.specs.Layout.{linesLaid, stepsLaid}
-use Rattle.pivot.proofs.layout.line_at.Statement.{statement}
-use Rattle.pivot.proofs.layout.line_at.Tie as tie
+use Rattle.layout.specs.Layout.{linesLaid, stepsLaid}
+use Rattle.layout.proofs.line_at.Statement.{statement}
+use Rattle.layout.proofs.line_at.Tie as tie
 
 returns : tie.Need-returns
 unfolding stepsLaid

@@ -1,10 +1,10 @@
--- `pivot::layout::spot_at` meets its contract: lines and steps are few, so a place has 8 bits. Assumes nothing.
+-- `layout::spot_at` meets its contract: lines and steps are few, so a place has 8 bits. Assumes nothing.
 use native.Mathlib.Omega.{arith}
 use borrow.Author.Needs.{needs}
-use Rattle.pivot.specs.Layout.{linesLaid, stepsLaid}
-use Rattle.pivot.proofs.Laws.Layout.{spot-along}
-use Rattle.pivot.proofs.layout.spot_at.Statement.{statement}
-use Rattle.pivot.proofs.layout.spot_at.Tie as tie
+use Rattle.layout.specs.Layout.{linesLaid, stepsLaid}
+use Rattle.layout.proofs.Laws.Layout.{spot-along}
+use Rattle.layout.proofs.spot_at.Statement.{statement}
+use Rattle.layout.proofs.spot_at.Tie as tie
 
 cast-t5 : tie.Need-cast-t5
 unfolding stepsLaid

@@ -6,10 +6,10 @@ use mathlib.Core.List.{List}
 use lib.IntN.{ℤ, pos}
 use lib.ListN.{getD}
 use Rattle.divisor.specs.Cells.{mostCells}
-use Rattle.pivot.specs.declared.RowPlace.{RowPlace}
-use Rattle.pivot.specs.declared.ColumnPlace.{ColumnPlace}
-use Rattle.pivot.specs.declared.layout.Spot.{Spot}
-use Rattle.pivot.specs.declared.layout.Strip.{Strip}
+use Rattle.layout.specs.declared.RowPlace.{RowPlace}
+use Rattle.layout.specs.declared.ColumnPlace.{ColumnPlace}
+use Rattle.layout.specs.declared.Spot.{Spot}
+use Rattle.layout.specs.declared.Strip.{Strip}
 
 -- how many cells the array has
 abbrev pub mostEntries : ℕ

@@ -1,4 +1,4 @@
--- `pivot::layout::place` meets its contract. Places and sizes are small, so neither the product nor the sum leaves 64
+-- `layout::place` meets its contract. Places and sizes are small, so neither the product nor the sum leaves 64
 -- bits. Assumes nothing.
 use Prim.Native.Nat.{ℕ, _+_, _*_, _≤_}
 use native.Mathlib.Nat.{mul-le-mul}
@@ -8,9 +8,9 @@ use mathlib.Core.Path.{refl}
 use mir.Syntax.{w64}
 use mir.Val.{Fits}
 use Rattle.rules.specs.Sizes.{mostRows}
-use Rattle.pivot.specs.Layout.{flatLaid}
-use Rattle.pivot.proofs.layout.place.Statement.{statement}
-use Rattle.pivot.proofs.layout.place.Tie as tie
+use Rattle.layout.specs.Layout.{flatLaid}
+use Rattle.layout.proofs.place.Statement.{statement}
+use Rattle.layout.proofs.place.Tie as tie
 
 product-fits : {a b : ℕ} → a ≤ mostRows → b ≤ mostRows → Fits w64 (a * b)
 product-fits {a} {b} h k = let z : a * b ≤ mostRows * mostRows = mul-le-mul h k in omega arith

@@ -1,0 +1,2 @@
+-- The laws of places and lines. Assumes nothing.
+pub mod Laws

@@ -1,0 +1,2 @@
+-- Where entries lie.
+pub mod Layout
