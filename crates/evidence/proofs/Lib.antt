@@ -1,2 +1,2 @@
--- Laws that the proofs of this crate share. Nothing is assumed.
+-- The laws behind the checker. Nothing is assumed.
 pub mod Laws

@@ -12,10 +12,6 @@ use can::shows_can;
 use cannot::shows_cannot;
 use tableau::Tableau;
 
-mod can;
-mod cannot;
-mod parts;
-
 // Each verdict reads the problem for itself: so the record of the limits is made and used in one place.
 fn can_holds(words: &[i32], columns: usize, rows: usize, answer: &[i64]) -> bool
     requires { ⌜ Framed (now words) columns rows ⌝ }

@@ -28,7 +28,7 @@ use Rattle.tableau.specs.Start.{limitsFor, startEntries, startLaid}
 use Rattle.tableau.proofs.Laws.Fitting.{Fitting, coefficient-start, coefficients-start, fitting-accepted}
 use Rattle.tableau.proofs.Laws.Fitting.{serves-start}
 use Rattle.tableau.proofs.Laws.Reading.{lower-of, upper-of}
-use Rattle.evidence.specs.Reads.{problemOf, Readable, meetsBoth}
+use Rattle.parts.specs.Reads.{problemOf, Readable, meetsBoth}
 
 record ReadFrom (P : Problem Limit) (entries : List ℤ) (limits : Limits) (rows columns : ℕ) : Type 0 where
   entries-are : entries ≡ startEntries P
