@@ -1,7 +1,5 @@
 -- Laws that the proofs cite. Assumes nothing.
 pub mod Sums
-pub mod Sides
-pub mod Modest
 pub mod Choices
 pub mod Rows
 pub mod Searches

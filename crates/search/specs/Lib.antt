@@ -1,3 +1,2 @@
 -- The search for the next pivot, by place, and what it finds.
-pub mod Sides
 pub mod Search

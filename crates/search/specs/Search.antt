@@ -20,12 +20,12 @@ use Rattle.tableau.specs.Amounts.{amountOf}
 use Rattle.tableau.specs.Parts.{cellLaid, valueAt, seatAt, rowOf, columnOf, lowestOf, highestOf}
 use Rattle.tableau.specs.Parts.{plainAt, smallAt, lowerGiven, upperGiven}
 use Rattle.tableau.specs.Pivot.{Cells}
+use Rattle.sides.specs.Sides.{sideOf, rising}
 use Rattle.search.specs.declared.Blocked.{Blocked}
 use Rattle.search.specs.declared.Choice.{Choice}
 use Rattle.search.specs.declared.Next.{Next}
 use Rattle.search.specs.declared.Next.the-variants as variants
 use Rattle.search.specs.declared.View.{View}
-use Rattle.search.specs.Sides.{sideOf, rising}
 
 abbrev pub tagged : ℕ → Option Side → (Side → ℤ × ℤ) → Option (Leaving (ℤ × ℤ))
 tagged v none short = none

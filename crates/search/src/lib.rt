@@ -9,17 +9,15 @@ ghost use Rattle.whole.specs.Numbers.{Within};
 ghost use Rattle.rules.specs.Sizes.{mostColumns, mostRows, mostVariables, largestNumber, largestLimit};
 ghost use Rattle.layout.specs.Layout.{entryIn};
 ghost use Rattle.search.specs.Search.{rowSum, Searchable, seen, nextAt};
-use crate::sides::LimitPair;
 use layout::ColumnPlace;
 use layout::RowPlace;
+use sides::LimitPair;
 use tableau::Limits;
 use tableau::Seat;
 use tableau::Tableau;
 use tableau::Variable;
 use tableau::amount::Amount;
 use tableau::amount::Value;
-
-pub mod sides;
 
 // What a step reads of a tableau beside its entries and its limits. Which variable is in which column it does not ask.
 pub struct View {

@@ -1,8 +1,4 @@
 -- What the code of this crate computes, by place, and what it promises of the rules' run.
-pub mod Conflict
-pub mod Multipliers
-pub mod Answer
-pub mod Step
 pub mod Run
 pub mod Spend
 pub mod TwoOrders

@@ -14,13 +14,13 @@ use Rattle.layout.specs.Layout.{Order, inUse}
 use Rattle.tableau.specs.Stands.{Ranged, Stands}
 use Rattle.search.specs.declared.Blocked.{Blocked}
 use Rattle.search.specs.Search.{Searchable}
-use Rattle.solver.specs.declared.multipliers.Multipliers.{Multipliers}
-use Rattle.solver.specs.declared.answer.Verdict.the-variants as verdicts
-use Rattle.solver.specs.declared.step.End.{End}
-use Rattle.solver.specs.declared.step.End.the-variants as ends
-use Rattle.solver.specs.Answer.{mostCount, noughts, numeratorsLaid, wordsAt}
-use Rattle.solver.specs.Multipliers.{multipliersLaid}
-use Rattle.solver.specs.Step.{on, over, steppedLaid}
+use Rattle.answers.specs.declared.multipliers.Multipliers.{Multipliers}
+use Rattle.answers.specs.declared.Verdict.the-variants as verdicts
+use Rattle.answers.specs.Answer.{mostCount, noughts, numeratorsLaid, wordsAt}
+use Rattle.answers.specs.Multipliers.{multipliersLaid}
+use Rattle.steps.specs.declared.End.{End}
+use Rattle.steps.specs.declared.End.the-variants as ends
+use Rattle.steps.specs.Step.{on, over, steppedLaid}
 
 -- the tableau after k steps
 unfoldable pub afterLaid : Order → Tableau → ℕ → Tableau

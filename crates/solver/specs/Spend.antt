@@ -8,15 +8,15 @@ use Rattle.rules.specs.Slices.{Slice}
 use Rattle.rules.proofs.Slices.{OnWay}
 use Rattle.tableau.specs.declared.Tableau.{Tableau}
 use Rattle.tableau.specs.Stands.{Ranged, Stands}
-use Rattle.solver.specs.declared.answer.Verdict.the-variants as verdicts
-use Rattle.solver.specs.declared.conflict.Crossed.{Crossed}
-use Rattle.solver.specs.declared.conflict.Crossed.the-variants as crossings
+use Rattle.answers.specs.declared.Verdict.the-variants as verdicts
+use Rattle.answers.specs.declared.conflict.Crossed.{Crossed}
+use Rattle.answers.specs.declared.conflict.Crossed.the-variants as crossings
+use Rattle.answers.specs.Answer.{laidOver, wordsAt}
+use Rattle.answers.specs.Conflict.{conflictAt}
+use Rattle.answers.specs.Multipliers.{unitAt}
+use Rattle.steps.specs.Step.{Course, on, over, steppedAt}
 use Rattle.solver.specs.declared.spend.Spent.{Spent}
-use Rattle.solver.specs.Answer.{laidOver, wordsAt}
-use Rattle.solver.specs.Conflict.{conflictAt}
-use Rattle.solver.specs.Multipliers.{unitAt}
 use Rattle.solver.specs.Run.{endWords}
-use Rattle.solver.specs.Step.{Course, on, over, steppedAt}
 
 -- ---- how far the run comes
 

@@ -11,9 +11,9 @@ use Rattle.tableau.specs.declared.Tableau.{Tableau}
 use Rattle.layout.specs.Layout.{Order, byColumns, byRows}
 use Rattle.tableau.specs.Start.{startLaid}
 use Rattle.tableau.specs.TwoOrders.{SameTableau}
-use Rattle.solver.specs.declared.step.End.{End}
+use Rattle.steps.specs.declared.End.{End}
+use Rattle.steps.specs.Step.{Stepped, steppedLaid}
 use Rattle.solver.specs.Run.{FinishedLaid, GoesOnLaid, afterLaid, wordsLaid}
-use Rattle.solver.specs.Step.{Stepped, steppedLaid}
 
 -- two steps come to the same: both go on, or both end in the same way; and the tableau after them is the same
 pub record SameStep (o u : Order) (a b : Stepped) : Type 0 where

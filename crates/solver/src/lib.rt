@@ -5,12 +5,8 @@ ghost use Rattle.rules.specs.Answer.{written};
 ghost use Rattle.rules.specs.Refusal.{refusal};
 use tableau::Tableau;
 
-pub mod answer;
-pub mod conflict;
-pub mod multipliers;
 mod run;
 pub mod spend;
-pub mod step;
 
 // The refusal of an output that is too short.
 const TOO_SHORT: u32 = 7;

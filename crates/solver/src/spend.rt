@@ -3,18 +3,18 @@ ghost use mathlib.Core.Path.{_≡_};
 ghost use Prim.Native.Nat.{_+_, _*_, _≤_};
 ghost use lib.ListN.{length};
 ghost use Rattle.solver.specs.Spend.{Standing, Uncrossed, outAt, ranAt, ranOut, spentAt, spentFrom};
-use crate::answer::Head;
-use crate::answer::Verdict;
-use crate::answer::write;
-use crate::conflict::Crossed;
-use crate::conflict::conflict_of;
-use crate::multipliers::unit;
 use crate::run::seated;
 use crate::run::tell;
-use crate::step::End;
-use crate::step::Outcome;
-use crate::step::step;
+use answers::Head;
+use answers::Verdict;
+use answers::conflict::Crossed;
+use answers::conflict::conflict_of;
+use answers::multipliers::unit;
+use answers::write;
 use search::View;
+use steps::End;
+use steps::Outcome;
+use steps::step;
 use tableau::Tableau;
 
 // The run is over, or goes on past the pivots that were spent.

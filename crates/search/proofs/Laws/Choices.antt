@@ -13,9 +13,9 @@ use Rattle.rules.specs.Step.{Side, below, above, leaves}
 use Rattle.tableau.specs.declared.Tableau.{Tableau}
 use Rattle.tableau.specs.Amounts.{amountOf, pairOf}
 use Rattle.tableau.specs.Parts.{seatAt, rowOf}
+use Rattle.sides.specs.Sides.{sideBy, rising, asBreach}
 use Rattle.search.specs.declared.Choice.{Choice}
 use Rattle.search.specs.declared.Next.the-variants as variants
-use Rattle.search.specs.Sides.{sideBy, rising, asBreach}
 use Rattle.search.specs.Search.{shortAt, sideAt, tagged, brokenAt, brokenLaid, leavingAt, fitting, enteringOf}
 use Rattle.search.specs.Search.{entersLaid, enteringAt, moveBy, nextBy, nextByLaid, nextAt, nextLaid}
 

@@ -6,9 +6,6 @@ use Rattle.search.proofs.entry_at.Reads as entry-at
 use Rattle.search.proofs.row_value.Reads as row-value
 use Rattle.search.proofs.row_small.Reads as row-small
 use Rattle.search.proofs.next_step.Reads as next-step
-use Rattle.search.proofs.sides.breach_of.Reads as breach-of
-use Rattle.search.proofs.sides.product.Reads as product
-use Rattle.search.proofs.sides.suits.Reads as suits
 
 pub after-only : (κs : _) (x : _) (a b : _) (e : _) → after.Post κs x a e → after.Post κs x b e → a ≡ b
 after-only κs x a b e h k = h ∙ sym k
@@ -24,12 +21,3 @@ row-small-only κs x a b e h k = h ∙ sym k
 
 pub next-step-only : (κs : _) (x : _) (a b : _) (e : _) → next-step.Post κs x a e → next-step.Post κs x b e → a ≡ b
 next-step-only κs x a b e h k = h ∙ sym k
-
-pub breach-of-only : (κs : _) (x : _) (a b : _) (e : _) → breach-of.Post κs x a e → breach-of.Post κs x b e → a ≡ b
-breach-of-only κs x a b e h k = h ∙ sym k
-
-pub suits-only : (κs : _) (x : _) (a b : _) (e : _) → suits.Post κs x a e → suits.Post κs x b e → a ≡ b
-suits-only κs x a b e h k = h ∙ sym k
-
-pub product-only : (κs : _) (x : _) (a b : _) (e : _) → product.Post κs x a e → product.Post κs x b e → a ≡ b
-product-only κs x a b e h k = h ∙ sym k

@@ -37,8 +37,8 @@ use Rattle.rules.proofs.Sound.{Rowed}
 use Rattle.tableau.specs.declared.Tableau.{Tableau}
 use Rattle.tableau.specs.Parts.{cellAt, valueAt, seatAt, rowOf, columnOf}
 use Rattle.tableau.specs.Stands.{HasRow, Stands}
+use Rattle.sides.specs.Sides.{sideFrom, sideOf}
 use Rattle.search.specs.declared.Next.the-variants as variants
-use Rattle.search.specs.Sides.{sideFrom, sideOf}
 use Rattle.search.specs.Search.{shortAt, sideAt, tagged, brokenAt, brokenLaid, leavingAt, leavingLaid, fitting}
 use Rattle.search.specs.Search.{enteringOf, entersLaid, enteringAt, enteringLaid, blockedAt, choiceAt, moveBy}
 use Rattle.search.specs.Search.{nextBy, nextByLaid, nextAt, nextLaid}

@@ -26,12 +26,12 @@ use Rattle.tableau.specs.declared.Tableau.{Tableau}
 use Rattle.tableau.specs.Amounts.{limitIn}
 use Rattle.tableau.specs.Parts.{lowerGiven, rowOf, seatAt, upperGiven}
 use Rattle.tableau.specs.Stands.{Stands}
+use Rattle.sides.specs.Sides.{Modest, leastIn, mostIn}
+use Rattle.sides.proofs.Laws.Modest.{Near, lower-near, upper-near}
+use Rattle.sides.proofs.Laws.Sides.{gap-parts, stated}
 use Rattle.search.specs.Search.{Searchable, brokenAt, brokenLaid, leavingAt, leavingLaid, scaledAt, shortAt}
 use Rattle.search.specs.Search.{sideAt, tagged}
-use Rattle.search.specs.Sides.{Modest, leastIn, mostIn}
-use Rattle.search.proofs.Laws.Modest.{Near, lower-near, upper-near}
 use Rattle.search.proofs.Laws.Searches.{leaving-is}
-use Rattle.search.proofs.Laws.Sides.{gap-parts, stated}
 use Rattle.search.proofs.Laws.Sums.{row-within}
 
 -- the bounds of a shortfall

@@ -20,9 +20,9 @@ use Rattle.layout.specs.Layout.{Order}
 use Rattle.pivot.specs.TwoOrders.{SameCells}
 use Rattle.tableau.specs.Parts.{valueAt, seatAt, rowOf, columnOf, lowestOf, highestOf}
 use Rattle.tableau.specs.Pivot.{withNumbers}
+use Rattle.sides.specs.Sides.{sideOf}
 use Rattle.search.specs.declared.Choice.{Choice}
 use Rattle.search.specs.declared.Next.the-variants as variants
-use Rattle.search.specs.Sides.{sideOf}
 use Rattle.search.specs.Search.{Searchable, choiceAt, moveBy, tagged}
 use Rattle.search.specs.Search.{sumLaid, rowSumLaid, sideLaid, shortLaid, brokenLaid, leavingLaid}
 use Rattle.search.specs.Search.{fittingLaid, entersLaid, enteringLaid, nextByLaid, nextLaid}

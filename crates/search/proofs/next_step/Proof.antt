@@ -19,8 +19,8 @@ use Rattle.rules.specs.Step.{Side, leaves, pull, suits}
 use Rattle.tableau.specs.declared.Tableau.{Tableau}
 use Rattle.tableau.specs.Amounts.{pairOf}
 use Rattle.tableau.specs.Parts.{columnOf, highestOf, lowestOf, plainAt, rowOf, seatAt, smallAt, valueAt}
-use Rattle.search.specs.declared.sides.Breach.{Breach}
-use Rattle.search.specs.Sides.{Modest, asBreach, breachAt, breachOf, sideBy, suitsOf}
+use Rattle.sides.specs.declared.Breach.{Breach}
+use Rattle.sides.specs.Sides.{Modest, asBreach, breachAt, breachOf, sideBy, suitsOf}
 use Rattle.search.specs.Search.{shortAt, sideAt, fitting, brokenAt, enteringOf, leavingAt, leavingLaid}
 use Rattle.search.specs.Search.{enteringLaid, scaledAt, seen}
 use Rattle.search.proofs.Laws.Choices.{

@@ -33,12 +33,12 @@ use Rattle.search.specs.declared.Choice.{Choice}
 use Rattle.search.specs.declared.Next.{Next}
 use Rattle.search.specs.declared.Next.the-variants as nexts
 use Rattle.search.specs.Search.{nextLaid}
-use Rattle.solver.specs.declared.conflict.Crossed.{Crossed}
-use Rattle.solver.specs.declared.conflict.Crossed.the-variants as crossings
-use Rattle.solver.specs.Conflict.{conflictAt}
+use Rattle.answers.specs.declared.conflict.Crossed.{Crossed}
+use Rattle.answers.specs.declared.conflict.Crossed.the-variants as crossings
+use Rattle.answers.specs.Conflict.{conflictAt}
+use Rattle.steps.specs.Step.{Course, admitAt, fitsByLaid, movedLaid, on, over, stepLaid, steppedAt, steppedLaid}
 use Rattle.solver.specs.Spend as solver
 use Rattle.solver.specs.Spend.{manyOf, outAt, ranAt, spentAt, spentBy, spentWhere}
-use Rattle.solver.specs.Step.{Course, admitAt, fitsByLaid, movedLaid, on, over, stepLaid, steppedAt, steppedLaid}
 use Rattle.solver.proofs.Laws.Runs.{bound-small}
 use Rattle.solver.proofs.Laws.Slices.{holds-more, many-is, out-is}
 use Rattle.session.specs.declared.Checked.{Checked}

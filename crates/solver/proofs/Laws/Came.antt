@@ -17,10 +17,10 @@ use Rattle.rules.proofs.Sound.{Rowed}
 use Rattle.tableau.specs.declared.Tableau.{Tableau}
 use Rattle.tableau.specs.Stands.{Ranged, Stands}
 use Rattle.search.specs.Search.{blockedAt}
-use Rattle.solver.specs.declared.step.End.the-variants as ends
+use Rattle.steps.specs.declared.End.the-variants as ends
+use Rattle.steps.specs.Step.{Course, Stepped, on, over, steppedAt}
+use Rattle.steps.proofs.Laws.Steps.{StepIs, ends-can, ends-cannot, ends-range, goes-to, step-is}
 use Rattle.solver.specs.Spend.{Ran, counted, ranAt, spentBy}
-use Rattle.solver.specs.Step.{Course, Stepped, on, over, steppedAt}
-use Rattle.solver.proofs.Laws.Steps.{StepIs, ends-can, ends-cannot, ends-range, goes-to, step-is}
 
 pub data CourseIs (P : Problem (ℤ × ℤ)) (t : Tableau) (s : State (ℤ × ℤ)) : Course → Outcome (ℤ × ℤ) → Type 0 where
   over-can : CourseIs P t s (over ends.Can) can

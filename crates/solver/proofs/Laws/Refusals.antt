@@ -28,7 +28,7 @@ use Rattle.tableau.specs.Stands.{Ranged, Stands}
 use Rattle.tableau.specs.Start.{startTableau, startLaid}
 use Rattle.tableau.proofs.Laws.Fitting.{fitting-accepted, ranged-start}
 use Rattle.tableau.proofs.Laws.Started.{stands-start}
-use Rattle.solver.specs.Answer.{mostCount}
+use Rattle.answers.specs.Answer.{mostCount}
 use Rattle.solver.specs.Run.{Begun}
 use Rattle.solver.specs.Spend.{Holds, outAt}
 use Rattle.solver.proofs.Laws.Runs.{bound-small}

@@ -1,6 +1,6 @@
 -- The run by place goes as the run of the state: each turn is its step.
---   Going, going         after k steps that go on the tableau stands for the state after k steps, and the run has k pivots
---   held-begun, held-after    so a step may be asked of it
+--   Going, going         after k steps that go on the tableau stands for the state after k steps, and the run has k
+-- pivots   held-begun, held-after    so a step may be asked of it
 --   after-none, after-more, goes-more    no step yet, and one more
 --   bound-small          the bound on its pivots fits
 use mathlib.Core.Path.{_≡_, ap, refl}
@@ -20,10 +20,10 @@ use Rattle.rules.proofs.Moved.{rowed-after}
 use Rattle.rules.proofs.Sound.{Rowed}
 use Rattle.tableau.specs.declared.Tableau.{Tableau}
 use Rattle.tableau.specs.Stands.{Ranged, Stands}
-use Rattle.solver.specs.Answer.{mostCount}
+use Rattle.answers.specs.Answer.{mostCount}
+use Rattle.steps.specs.Step.{Held, on, steppedAt}
+use Rattle.steps.proofs.Laws.Steps.{StepIs, ends-can, ends-cannot, ends-range, goes-to, step-is}
 use Rattle.solver.specs.Run.{Begun, GoesOn, afterAt, afterLaid}
-use Rattle.solver.specs.Step.{Held, on, steppedAt}
-use Rattle.solver.proofs.Laws.Steps.{StepIs, ends-can, ends-cannot, ends-range, goes-to, step-is}
 
 pub record Going (P : Problem (ℤ × ℤ)) (s : State (ℤ × ℤ)) (t : Tableau) (k : ℕ) : Type 0 where
   pub stands : Stands P t (after pairs P s k)

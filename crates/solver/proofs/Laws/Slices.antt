@@ -27,19 +27,19 @@ use Rattle.tableau.specs.declared.Variable.{Variable}
 use Rattle.tableau.specs.Stands.{Ranged, Stands}
 use Rattle.search.specs.Search.{blockedAt}
 use Rattle.search.proofs.Laws.Searches.{all-vars}
-use Rattle.solver.specs.declared.answer.Verdict.the-variants as verdicts
-use Rattle.solver.specs.declared.conflict.Crossed.{Crossed}
-use Rattle.solver.specs.declared.conflict.Crossed.the-variants as crossings
-use Rattle.solver.specs.declared.step.End.{End}
-use Rattle.solver.specs.declared.step.End.the-variants as ends
-use Rattle.solver.specs.Answer.{laidOver, mostCount, wordsAt}
-use Rattle.solver.specs.Conflict.{conflictAt}
-use Rattle.solver.specs.Multipliers.{unitAt}
+use Rattle.answers.specs.declared.Verdict.the-variants as verdicts
+use Rattle.answers.specs.declared.conflict.Crossed.{Crossed}
+use Rattle.answers.specs.declared.conflict.Crossed.the-variants as crossings
+use Rattle.answers.specs.Answer.{laidOver, mostCount, wordsAt}
+use Rattle.answers.specs.Conflict.{conflictAt}
+use Rattle.answers.specs.Multipliers.{unitAt}
+use Rattle.answers.proofs.Laws.Crossings.{crossing-at, crossing-in, crossing-none, crossing-told}
+use Rattle.steps.specs.declared.End.{End}
+use Rattle.steps.specs.declared.End.the-variants as ends
+use Rattle.steps.specs.Step.{Course, Held, on, over}
 use Rattle.solver.specs.Run.{Tellable, endWords}
 use Rattle.solver.specs.Spend.{Holds, Ran, Uncrossed, isOver, manyOf, outAt, outBy, outWhere, ranAt, spentAt, spentWhere}
-use Rattle.solver.specs.Step.{Course, Held, on, over}
 use Rattle.solver.proofs.Laws.Came.{Came, CourseIs, came, over-can, over-cannot, over-range, still-on}
-use Rattle.solver.proofs.Laws.Crossings.{crossing-at, crossing-in, crossing-none, crossing-told}
 use Rattle.solver.proofs.Laws.Runs.{bound-small}
 use Rattle.solver.proofs.Laws.Told.{came-many, tellable-came, told-came}
 

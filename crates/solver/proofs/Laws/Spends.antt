@@ -6,10 +6,10 @@ use Prim.Native.Nat.{ℕ, zero, suc, _+_, _-_, _≤_}
 use native.Mathlib.Nat.{add-zero}
 use native.Mathlib.Omega.{arith}
 use Rattle.tableau.specs.declared.Tableau.{Tableau}
-use Rattle.solver.specs.declared.step.End.{End}
+use Rattle.steps.specs.declared.End.{End}
+use Rattle.steps.specs.Step.{over, steppedAt}
 use Rattle.solver.specs.Run.{GoesOn, afterAt, afterLaid}
 use Rattle.solver.specs.Spend.{Ran, counted, ranAt, spentBy}
-use Rattle.solver.specs.Step.{over, steppedAt}
 
 after-front : (t : Tableau) (i : ℕ) → afterAt (steppedAt t .tableau) i ≡ afterAt t (suc i)
 unfolding afterLaid

@@ -1,6 +1,6 @@
 -- The words of a run that is over are those of the rules' run.
---   came-many, told-came, tellable-came    by where a run with pivots to spend came: as many variables as the problem has,
---                                          the words, and what writing them needs
+--   came-many, told-came, tellable-came    by where a run with pivots to spend came: as many variables as the problem
+-- has,                                          the words, and what writing them needs
 --   last-many, told, ended-tellable        the same of a run that is finished, with the answer of the rules
 use mathlib.Core.List.{_∷_, _++_}
 use mathlib.Core.Path.{_≡_, ap, ap₂, refl, subst, sym, _∙_}
@@ -27,14 +27,14 @@ use Rattle.search.specs.declared.Blocked.{Blocked}
 use Rattle.search.specs.Search.{blockedAt}
 use Rattle.search.proofs.Laws.Rows.{searchable}
 use Rattle.search.proofs.Laws.Searches.{all-vars}
-use Rattle.solver.specs.declared.step.End.{End}
-use Rattle.solver.specs.declared.step.End.the-variants as ends
-use Rattle.solver.specs.Answer.{mostCount, numberOf, wordsAt}
+use Rattle.answers.specs.Answer.{mostCount, numberOf, wordsAt}
+use Rattle.answers.proofs.Laws.Halves.{lowers-are, numerators-are, smalls-are, uppers-are, zeros-are}
+use Rattle.steps.specs.declared.End.{End}
+use Rattle.steps.specs.declared.End.the-variants as ends
+use Rattle.steps.specs.Step.{Course, over}
 use Rattle.solver.specs.Run.{Finished, Startable, Tellable, endWords, wordsLaid}
 use Rattle.solver.specs.Spend.{Ran, manyOf, ranAt}
-use Rattle.solver.specs.Step.{Course, over}
 use Rattle.solver.proofs.Laws.Came.{Came, CourseIs, came, over-can, over-cannot, over-range, still-on}
-use Rattle.solver.proofs.Laws.Halves.{lowers-are, numerators-are, smalls-are, uppers-are, zeros-are}
 use Rattle.solver.proofs.Laws.Runs.{bound-small, going, held-begun}
 use Rattle.solver.proofs.Laws.Spends.{ran-over}
 

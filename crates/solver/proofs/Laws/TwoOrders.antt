@@ -34,26 +34,26 @@ use Rattle.tableau.specs.Pivot.{pivotedLaid, swappedAt, withNumbers}
 use Rattle.tableau.specs.Start.{startLaid, startTableau}
 use Rattle.pivot.proofs.Laws.TwoOrders.{same-pivot}
 use Rattle.tableau.proofs.Laws.TwoOrders.{same-start}
+use Rattle.sides.specs.Sides.{sideBy}
 use Rattle.search.specs.declared.Blocked.{Blocked}
 use Rattle.search.specs.declared.Choice.{Choice}
 use Rattle.search.specs.declared.Next.{Next}
 use Rattle.search.specs.declared.Next.the-variants as nexts
 use Rattle.search.specs.Search.{Searchable, nextLaid, rowSumLaid}
-use Rattle.search.specs.Sides.{sideBy}
 use Rattle.search.proofs.Laws.TwoOrders.{next-same, pivot-places, row-same}
-use Rattle.solver.specs.declared.answer.Verdict.the-variants as verdicts
-use Rattle.solver.specs.declared.multipliers.Multipliers.{Multipliers}
-use Rattle.solver.specs.declared.step.End.{End}
-use Rattle.solver.specs.declared.step.End.the-variants as ends
-use Rattle.solver.specs.Answer.{numeratorFrom, numeratorLaid, numeratorsLaid, wordsAt}
-use Rattle.solver.specs.Multipliers.{multipliersLaid, pullInLaid, pullLaid, relationFrom}
+use Rattle.answers.specs.declared.Verdict.the-variants as verdicts
+use Rattle.answers.specs.declared.multipliers.Multipliers.{Multipliers}
+use Rattle.answers.specs.Answer.{numeratorFrom, numeratorLaid, numeratorsLaid, wordsAt}
+use Rattle.answers.specs.Multipliers.{multipliersLaid, pullInLaid, pullLaid, relationFrom}
+use Rattle.steps.specs.declared.End.{End}
+use Rattle.steps.specs.declared.End.the-variants as ends
+use Rattle.steps.specs.Step.{admitAt, fitsByLaid, movedLaid, on, stepLaid, steppedAt, steppedLaid, valueAfter}
+use Rattle.steps.proofs.Laws.Steps.{search-held}
 use Rattle.solver.specs.TwoOrders.{RowsAndColumns, SameAfter, SameStep}
 use Rattle.solver.specs.Run.{Begun, Finished, FinishedLaid, GoesOn, GoesOnLaid, Startable}
 use Rattle.solver.specs.Run.{afterAt, afterLaid, endWords, wordsLaid}
-use Rattle.solver.specs.Step.{admitAt, fitsByLaid, movedLaid, on, stepLaid, steppedAt, steppedLaid, valueAfter}
 use Rattle.solver.proofs.Laws.Refusals.{begun-start, start-many}
 use Rattle.solver.proofs.Laws.Runs.{held-after, held-begun}
-use Rattle.solver.proofs.Laws.Steps.{search-held}
 use Rattle.solver.proofs.Laws.Told.{ended-tellable, last-many, told}
 
 -- ---- one step

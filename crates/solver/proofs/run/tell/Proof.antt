@@ -13,11 +13,11 @@ use Rattle.tableau.specs.declared.Tableau.{Tableau}
 use Rattle.pivot.proofs.Laws.Halves.{wide}
 use Rattle.search.specs.Search.{Searchable}
 use Rattle.search.specs.declared.Blocked.{Blocked}
-use Rattle.solver.specs.declared.answer.Verdict.the-variants as verdicts
-use Rattle.solver.specs.declared.step.End.{End}
-use Rattle.solver.specs.Answer.{laidOver, wordsAt}
+use Rattle.answers.specs.declared.Verdict.the-variants as verdicts
+use Rattle.answers.specs.Answer.{laidOver, wordsAt}
+use Rattle.answers.proofs.Laws.Readable.{blockable, numerable}
+use Rattle.steps.specs.declared.End.{End}
 use Rattle.solver.specs.Run.{endWords, wordsLaid}
-use Rattle.solver.proofs.Laws.Readable.{blockable, numerable}
 use Rattle.solver.proofs.run.tell.Statement.{statement}
 use Rattle.solver.proofs.run.tell.Tie as tie
 

@@ -1,6 +1,6 @@
--- `solver::spend::advance` meets its contract. The loop's invariant: the tableau is the first one after as many steps as
--- are counted, all of which go on; not more are counted than there are to spend, and where none is left the entries are
--- saved. The measure is what is left to spend. Assumes nothing.
+-- `solver::spend::advance` meets its contract. The loop's invariant: the tableau is the first one after as many steps
+-- as are counted, all of which go on; not more are counted than there are to spend, and where none is left the entries
+-- are saved. The measure is what is left to spend. Assumes nothing.
 use mathlib.Core.List.{List}
 use mathlib.Core.Logic.{⊎-elim}
 use mathlib.Core.Path.{_≡_, ap, ap₂, refl, subst, sym, _∙_}
@@ -18,20 +18,20 @@ use Rattle.tableau.specs.declared.Tableau.{Tableau}
 use Rattle.tableau.specs.declared.amount.Value.{Value}
 use Rattle.tableau.specs.Pivot.{Swappable, withNumbers}
 use Rattle.search.specs.Search.{nextAt}
+use Rattle.answers.specs.Answer.{mostCount}
+use Rattle.steps.specs.declared.End.{End}
+use Rattle.steps.specs.declared.Outcome.the-variants as outcomes
+use Rattle.steps.specs.Step.{Course, Held, leftAt, on, outcomeAt, over, steppedAt}
+use Rattle.steps.proofs.Laws.Stepped.{Chosen, exchanged, going, outcome-ended, outcome-goes, outcome-left, readOf}
+use Rattle.steps.proofs.Laws.Steps.{common-held, places-held, small-held, steppable-held, value-held}
 use Rattle.solver.specs.declared.spend.Course as code
 use Rattle.solver.specs.declared.spend.Course.the-variants as courses
-use Rattle.solver.specs.declared.step.End.{End}
-use Rattle.solver.specs.declared.step.Outcome.the-variants as outcomes
 use Rattle.solver.specs.Run.{GoesOn, afterAt}
-use Rattle.solver.specs.Answer.{mostCount}
 use Rattle.solver.specs.Run.{Tellable}
 use Rattle.solver.specs.Spend.{Ran, isOver, manyOf, outBy, ranAt, ranOut, spentFrom}
-use Rattle.solver.specs.Step.{Course, Held, leftAt, on, outcomeAt, over, steppedAt}
 use Rattle.solver.proofs.Laws.Slices.{held-slice, many-same, tellable-slice, total-few}
 use Rattle.solver.proofs.Laws.Spends.{ran-over, ran-spent}
 use Rattle.solver.proofs.Laws.Runs.{after-more, after-none, goes-more, held-after}
-use Rattle.solver.proofs.Laws.Stepped.{Chosen, exchanged, going, outcome-ended, outcome-goes, outcome-left, readOf}
-use Rattle.solver.proofs.Laws.Steps.{common-held, places-held, small-held, steppable-held, value-held}
 use Rattle.solver.proofs.spend.advance.Statement.{statement}
 use Rattle.solver.proofs.spend.advance.Tie as tie
 

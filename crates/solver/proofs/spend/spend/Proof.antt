@@ -5,10 +5,10 @@ use borrow.Author.Needs.{needs}
 use lib.IntN.{pos}
 use Rattle.tableau.specs.declared.Tableau.{Tableau}
 use Rattle.tableau.specs.declared.Variable.{Variable}
-use Rattle.solver.specs.declared.answer.Verdict.the-variants as verdicts
-use Rattle.solver.specs.declared.conflict.Crossed.the-variants as crossings
-use Rattle.solver.specs.Answer.{laidOver, wordsAt}
-use Rattle.solver.specs.Conflict.{conflictAt}
+use Rattle.answers.specs.declared.Verdict.the-variants as verdicts
+use Rattle.answers.specs.declared.conflict.Crossed.the-variants as crossings
+use Rattle.answers.specs.Answer.{laidOver, wordsAt}
+use Rattle.answers.specs.Conflict.{conflictAt}
 use Rattle.solver.specs.Spend.{Uncrossed, manyOf}
 use Rattle.solver.proofs.Laws.Slices.{count-few, crossing-seat, few-variables, out-where, spent-where}
 use Rattle.solver.proofs.spend.spend.Statement.{statement}

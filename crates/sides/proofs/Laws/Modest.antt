@@ -1,0 +1,36 @@
+-- What a limit stands for, and D times it, are small.
+--   Near                        what a limit may stand for
+--   lower-near, upper-near      what a lower and an upper limit stands for
+--   limit-modest                D times that
+use mathlib.Core.Bool.{Bool, false, true}
+use native.Mathlib.Omega.{arith}
+use lib.IntN.{ℤ}
+use Rattle.whole.specs.Numbers.{Within}
+use Rattle.whole.specs.Values.{pairs}
+use Rattle.whole.proofs.Sizes.{within-*, within-le, within-neg}
+use Rattle.rules.specs.Limit.{inset}
+use Rattle.rules.specs.Sizes.{largestLimit, largestNumber}
+use Rattle.tableau.specs.declared.Given.{Given}
+use Rattle.tableau.specs.Amounts.{givenLower, givenUpper}
+use Rattle.sides.specs.Sides.{Modest}
+
+pub record Near (x : ℤ × ℤ) : Type 0 where
+  pub plain : Within (x .0) largestLimit
+  pub small : Within (x .1) 1
+
+inset-within : (b : Bool) → Within (inset b) 1
+inset-within true = record { within = omega arith }
+inset-within false = record { within = omega arith }
+
+module _ (g : Given) (h : Within (g .plain) largestLimit) where
+  pub lower-near : Near (givenLower g)
+  lower-near = record { plain = h; small = inset-within (g .strict) }
+
+  pub upper-near : Near (givenUpper g)
+  upper-near = record { plain = h; small = within-neg (inset-within (g .strict)) }
+
+pub limit-modest : (d : ℤ) (x : ℤ × ℤ) → Within d largestNumber → Near x → Modest (pairs .scale d x)
+limit-modest d x c h = record {
+  plain = within-le (within-* c (h .plain)) (omega arith);
+  small = within-le (within-* c (h .small)) (omega arith);
+}

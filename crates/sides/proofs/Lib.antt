@@ -1,0 +1,2 @@
+-- The laws behind the sides. Assumes nothing.
+pub mod Laws

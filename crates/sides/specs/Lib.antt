@@ -1,0 +1,2 @@
+-- A value against limits that may be missing.
+pub mod Sides

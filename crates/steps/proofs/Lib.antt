@@ -1,0 +1,2 @@
+-- The laws behind one step. Assumes nothing.
+pub mod Laws

@@ -1,0 +1,2 @@
+-- One step of the run, by place.
+pub mod Step
