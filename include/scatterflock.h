@@ -135,7 +135,9 @@ enum {
  * are the answer of the rules: for "can" a denominator, numerators and their
  * small parts that meet every row and limit, for "cannot" multipliers that show
  * that no fractions do, for "out of range" zeros, which say nothing about the
- * limits. Words past those keep what they had.
+ * limits. Words past those keep what they had. No limit has a multiplier other
+ * than 0 for nothing: without any one of those that have, fractions meet the
+ * others.
  *
  * The value of variable v is out[3 + v] over out[2] and, out[3 + n + m + v]
  * over out[2] times, an amount above 0 that is as small as one likes. Where no
