@@ -4,6 +4,7 @@ pub mod Spends
 pub mod Came
 pub mod Told
 pub mod Slices
+pub mod Running
 pub mod Refusals
 pub mod TwoOrders
 pub mod Only

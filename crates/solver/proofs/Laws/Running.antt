@@ -1,0 +1,81 @@
+-- The loop that spends pivots, on plain values: where it stands, and what the run comes to.
+--   Running                        of `most` pivots from t, k are spent: they go on, u is the tableau after them, and
+--                                  where none is left its entries are saved
+--   running-start, running-more    none is spent, and one more
+--   running-held                   a step may be asked of u
+--   running-over, running-spent    the run is over at u, or goes on where nothing is left to spend
+--   ran-few, ran-tellable          what the run comes to can be told: its count, and its end
+--   ran-many                       .. of as many variables
+use mathlib.Core.List.{List}
+use mathlib.Core.Path.{_≡_, ap, ap₂, refl, sym, _∙_}
+use Prim.Native.Nat.{ℕ, _+_, _<_, _≤_}
+use native.Mathlib.Omega.{arith}
+use lib.IntN.{ℤ}
+use Rattle.tableau.specs.declared.Tableau.{Tableau}
+use Rattle.tableau.specs.Pivot.{withNumbers}
+use Rattle.answers.specs.Answer.{mostCount}
+use Rattle.steps.specs.declared.End.{End}
+use Rattle.steps.specs.declared.Outcome.the-variants as outcomes
+use Rattle.steps.specs.Step.{Held, leftAt, on, outcomeAt, over, steppedAt}
+use Rattle.steps.proofs.Laws.Stepped.{outcome-ended, outcome-left, readOf}
+use Rattle.solver.specs.Run.{GoesOn, Tellable, afterAt}
+use Rattle.solver.specs.Spend.{Ran, Standing, Uncrossed, manyOf, ranAt}
+use Rattle.solver.proofs.Laws.Runs.{after-more, after-none, goes-more, held-after}
+use Rattle.solver.proofs.Laws.Slices.{many-same, tellable-slice, total-few}
+use Rattle.solver.proofs.Laws.Spends.{ran-over, ran-spent}
+
+pub record Running (t : Tableau) (most : ℕ) (u : Tableau) (k : ℕ) (saved : List ℤ) : Type 0 where
+  pub counted : k ≤ most
+  pub after-is : u ≡ afterAt t k
+  pub goes-on : GoesOn t k
+  pub saved-is : k ≡ most → saved ≡ u .entries
+
+pub running-start : (t : Tableau) (most : ℕ) → Running t most t 0 (t .entries)
+running-start t most = record {
+  counted = omega arith;
+  after-is = after-none t;
+  goes-on = λ i h. let z : ⊥ = omega arith in absurd z;
+  saved-is = λ e. refl;
+}
+
+module _ {t u : Tableau} {most k : ℕ} {saved : List ℤ} (R : Running t most u k saved) where
+  pub running-held : Held t → Held u
+  running-held H = rw (R .after-is) (held-after H k (R .goes-on))
+
+  pub running-more : {n : Tableau} {l : List ℤ} → k < most → steppedAt u .course ≡ on → n ≡ steppedAt u .tableau →
+      (k + 1 ≡ most → l ≡ n .entries) → Running t most n (k + 1) l
+  running-more h e f s = record {
+    counted = omega arith;
+    after-is = f ∙ ap (λ x. steppedAt x .tableau) (R .after-is) ∙ after-more t k;
+    goes-on = goes-more t k (R .goes-on) (ap (λ x. steppedAt x .course) (sym (R .after-is)) ∙ e);
+    saved-is = s;
+  }
+
+  -- the entries l that the last step leaves are those before it
+  pub running-over : (e : End) {l : List ℤ} → outcomeAt (readOf u) ≡ outcomes.Ended e → l ≡ leftAt (readOf u) →
+      record { tableau = withNumbers u (u .common) l; course = over e; count = k } ≡ ranAt t most
+  running-over e q f =
+      ap (λ x. record { tableau = x; course = over e; count = k })
+      (ap (withNumbers u (u .common)) (f ∙ outcome-left u e q) ∙ R .after-is)
+      ∙ sym (ran-over t k most (R .goes-on) e (R .counted)
+      (ap (λ x. steppedAt x .course) (sym (R .after-is)) ∙ ap (λ s. s .course) (outcome-ended u e q)))
+
+  -- the saved entries are put back
+  pub running-spent : k ≡ most → steppedAt u .course ≡ on →
+      record { tableau = withNumbers u (u .common) saved; course = on; count = k } ≡ ranAt t most
+  running-spent h e =
+      ap₂ (λ x w. record { tableau = x; course = w; count = k })
+      (ap (withNumbers u (u .common)) (R .saved-is h) ∙ R .after-is)
+      (sym e ∙ ap (λ x. steppedAt x .course) (R .after-is))
+      ∙ sym (ran-spent t k most (R .goes-on) h)
+
+module _ {t : Tableau} {before : ℕ} (S : Standing t before) (free : Uncrossed t) (most : ℕ) {r : Ran}
+    (q : r ≡ ranAt t most) where
+  pub ran-few : before + r .count < mostCount
+  ran-few = rw q (total-few (S .holds) free most)
+
+  pub ran-many : manyOf (r .tableau) ≡ manyOf t
+  ran-many = rw q (many-same (S .holds) free most)
+
+  pub ran-tellable : (e : End) → r .course ≡ over e → Tellable e (before + r .count) (r .tableau)
+  ran-tellable e = rw q (tellable-slice (S .holds) free most e)
