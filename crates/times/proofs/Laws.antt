@@ -1,4 +1,6 @@
 pub mod Passing
+pub mod Looks
+pub mod Due
 pub mod Tracing
 pub mod Parts
 pub mod Answers

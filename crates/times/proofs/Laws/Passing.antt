@@ -1,12 +1,11 @@
 -- A pass, row by row, and the passes one after the other.
 --   looked-start                   no pass
 --   looked-modest                  distances are modest, so a sum fits
---   looked-less                    a look compares numbers as the rules compare pairs
 --   pass-start                     no row of a pass
 --   pass-taken, pass-kept          a row that betters its head; one that does not
 --   looked-more                    the next pass begins
---   pass-quiet, pass-still         a pass that bettered nothing, or a look after it, leaves nothing to better
---   pass-settled                   then the distances are right
+--   settled-still, settled-quiet   a pass bettered nothing, or a look after it finds nothing to better: the distances
+--                                  are right
 --   pass-closing                   a pass that bettered a vertex
 use mathlib.Core.Path.{_≡_, refl, sym, _∙_, ap, ap₂, subst}
 use mathlib.Core.Bool.{Bool, true, false}
@@ -79,22 +78,23 @@ module _ {ws : List ℤ} {k i : ℕ} {best : List Length} {last : List ℕ} (l :
       (near-within (near-all v))
 
   -- what a row offers, as a number and as a pair
-  pub looked-offer : (j : ℕ) →
+  looked-offer : (j : ℕ) →
       at best (timeEdges ws .tail j) +ℤ keyOf (timeEdges ws .size j) ≡ keyOf (through pairs (timeEdges ws) (l .far) j)
   looked-offer j =
       ap (λ z. z +ℤ keyOf (timeEdges ws .size j)) (l .are (timeEdges ws .tail j))
       ∙ sym (key-plus (l .far (timeEdges ws .tail j)) (timeEdges ws .size j))
 
-  pub looked-less : (j : ℕ) → j < mOf ws → isLess ws best j ≡ betters pairs (timeEdges ws) (l .far) j
+  -- a look compares numbers as the rules compare pairs
+  looked-less : (j : ℕ) → j < mOf ws → isLess ws best j ≡ betters pairs (timeEdges ws) (l .far) j
   looked-less j g =
       ap₂ ltZ (looked-offer j) (l .are (timeEdges ws .head j))
       ∙ key-less (through pairs (timeEdges ws) (l .far) j) (l .far (timeEdges ws .head j))
       (within-le (near-plus (near-all (timeEdges ws .tail j)) (size-near (l .fine) j g) .small) (omega arith))
       (within-le (near-all (timeEdges ws .head j) .small) (omega arith))
 
-pub pass-start : (ws : List ℤ) (k : ℕ) (best : List Length) (last : List ℕ) → Looked ws k 0 best last →
+pub pass-start : {ws : List ℤ} {k : ℕ} {best : List Length} {last : List ℕ} → Looked ws k 0 best last →
     Pass ws k 0 best last noRow
-pass-start ws k best last l = record {
+pass-start {ws} {k} l = record {
   looked = l;
   finds = record {
     none = λ e v. let h : l .time v ≤ mOf ws * k + 0 = l .traced .recent v in omega arith;
@@ -103,7 +103,7 @@ pass-start ws k best last l = record {
   };
 }
 
-module _ (ws : List ℤ) (k : ℕ) (best : List Length) (last : List ℕ) (i row : ℕ) (p : Pass ws k i best last row)
+module _ {ws : List ℤ} {k : ℕ} {best : List Length} {last : List ℕ} {i row : ℕ} (p : Pass ws k i best last row)
     (listed : i < mOf ws) where
   abbrev E : Edges (ℤ × ℤ)
   E = timeEdges ws
@@ -208,7 +208,7 @@ module _ (ws : List ℤ) (k : ℕ) (best : List Length) (last : List ℕ) (i row
 
 -- ---- the end of a pass
 
-module _ (ws : List ℤ) (k : ℕ) (best : List Length) (last : List ℕ) (row : ℕ)
+module _ {ws : List ℤ} {k : ℕ} {best : List Length} {last : List ℕ} {row : ℕ}
     (p : Pass ws k (mOf ws) best last row) where
   abbrev done : Looked ws k (mOf ws) best last
   done = p .looked
@@ -229,16 +229,8 @@ module _ (ws : List ℤ) (k : ℕ) (best : List Length) (last : List ℕ) (row :
     last-long = done .last-long;
   }
 
-  pub pass-quiet : Quiet ws best true → Still pairs (timeEdges ws) (done .far)
-  pass-quiet q i h = sym (looked-less done (omega arith) i h) ∙ q i h
-
-  pub pass-still : row ≡ noRow → Still pairs (timeEdges ws) (done .far)
-  pass-still e =
-      traced-still pairs-laws (timeEdges ws) (mOf ws * k) (done .time) (done .far) (rowAt last) (done .traced)
-      (p .finds .none e)
-
-  pub pass-settled : Still pairs (timeEdges ws) (done .far) → Settled ws best
-  pass-settled s = record {
+  settled : Still pairs (timeEdges ws) (done .far) → Settled ws best
+  settled s = record {
     can = still-can pairs-laws (timeEdges ws) ends _ _ (done .time) (done .far) (rowAt last) (done .traced) s;
     are = λ v. done .are v ∙ ap keyOf (right v);
     passed = λ v. record { modest = looked-modest done (omega arith) v; low = low v };
@@ -256,10 +248,17 @@ module _ (ws : List ℤ) (k : ℕ) (best : List Length) (last : List ℕ) (row :
           subst (λ z. z ≤ℤ pos 0) (sym (done .are v))
           (key-low (done .far v) (within-le (near-all done (omega arith) v .small) (omega arith)) (done .traced .low v))
 
-  pub pass-closing : row ≢ noRow → Closing ws last k (timeEdges ws .head row)
-  pass-closing n = record {
+  pub settled-still : row ≡ noRow → Settled ws best
+  settled-still e = settled (traced-still pairs-laws (timeEdges ws) (mOf ws * k) (done .time) (done .far) (rowAt last)
+      (done .traced) (p .finds .none e))
+
+  pub settled-quiet : {b : Bool} → b ≡ true → Quiet ws best b → Settled ws best
+  settled-quiet e q = settled (λ i h. sym (looked-less done (omega arith) i h) ∙ subst (Quiet ws best) e q i h)
+
+  pub pass-closing : row ≢ noRow → {v : ℕ} → v ≡ timeEdges ws .head row → Closing ws last k v
+  pass-closing n e = rw e (record {
     best = best;
     looked = done;
     vertex = accepted-ends (done .fine) .head-in row (p .finds .listed n);
     late = p .finds .late n;
-  }
+  })

@@ -1,19 +1,19 @@
 -- `times::passes::is_quiet` meets its contract. The invariant of its loop: the rows passed better nothing. The measure
 -- is the rows left. Assumes nothing.
-use mathlib.Core.Path.{_≡_, sym, _∙_, ap, ap₂}
-use mathlib.Core.Bool.{Bool, false}
+use mathlib.Core.Path.{_≡_, _∙_, ap}
+use mathlib.Core.Bool.{false}
 use mathlib.Core.List.{List}
 use Prim.Native.Nat.{ℕ, _+_, _≤_, _<_, _-_}
 use native.Mathlib.Omega.{arith}
 use native.Mathlib.Decide.{ℕ-discrete}
-use lib.IntN.{ℤ, _+ℤ_}
-use lib.Signed.{ltZ}
+use lib.IntN.{ℤ}
+use Rattle.rules.specs.Sizes.{mostVertices}
 use Rattle.rules.specs.Problem.{mOf}
 use Rattle.rules.specs.TimeWords.{timeEdges}
-use Rattle.rules.proofs.Times.Refused.{n-few, m-few, accepted-ends}
+use Rattle.rules.proofs.Times.Refused.{m-few}
 use Rattle.lengths.specs.declared.Length.{Length}
-use Rattle.lengths.specs.Lengths.{lengthOf, keyOf, at}
 use Rattle.times.specs.Steps.{isLess, Looking}
+use Rattle.times.proofs.Laws.Looks.{tail-low, head-low, test-is}
 use Rattle.times.proofs.passes.is_quiet.Statement.{statement}
 use Rattle.times.proofs.passes.is_quiet.Tie as tie
 
@@ -60,13 +60,11 @@ module _ (c : tie.After-head Inv-loop μ-loop) where
   y-is : c .head .result ≡ timeEdges (ws turn) .head (i turn)
   y-is = c .head .ensures
 
-  x-low : c .before .tail .result < 64
-  x-low =
-      let f = looking turn .fine in omega (arith, x-is, accepted-ends f .tail-in (i turn) (listed turn), n-few f)
+  x-low : c .before .tail .result < mostVertices
+  x-low = tail-low (looking turn .fine) (listed turn) x-is
 
-  y-low : c .head .result < 64
-  y-low =
-      let f = looking turn .fine in omega (arith, y-is, accepted-ends f .head-in (i turn) (listed turn), n-few f)
+  y-low : c .head .result < mostVertices
+  y-low = head-low (looking turn .fine) (listed turn) y-is
 
 mul-offer : tie.Need-mul-offer Inv-loop μ-loop
 mul-offer c = omega (arith, x-low c)
@@ -97,17 +95,11 @@ module _ (c : tie.After-less Inv-loop μ-loop) where
   abbrev best : List Length
   best = begun t .args .t3
 
-  value : lengthOf (c .before .before .offer .result)
-      ≡ at best (timeEdges (ws t) .tail (i t)) +ℤ keyOf (timeEdges (ws t) .size (i t))
-  value =
-      c .before .before .offer .ensures
-      ∙ ap (λ x. at best x +ℤ keyOf (timeEdges (ws t) .size (i t))) (x-is ends)
-
-  same-test : {b : Bool} → c .less .result ≡ b → isLess (ws t) best (i t) ≡ b
-  same-test e = sym (ap₂ (λ z u. ltZ z (at best u)) value (y-is ends)) ∙ sym (c .less .ensures) ∙ e
+  same-test : isLess (ws t) best (i t) ≡ c .less .result
+  same-test = test-is (ws t) best (i t) (x-is ends) (c .before .before .offer .ensures) (y-is ends) (c .less .ensures)
 
 returns : tie.Need-returns Inv-loop μ-loop
-returns c = let k = t (c .before) in (i k, listed k, same-test (c .before) (c .if1 .taken))
+returns c = let k = t (c .before) in (i k, listed k, same-test (c .before) ∙ c .if1 .taken)
 
 add-i : tie.Need-add-i Inv-loop μ-loop
 add-i c = let k = t (c .before) in omega (arith, listed k, m-few (looking k .fine))
@@ -121,7 +113,7 @@ loop-again c = (omega arith, λ j h. go j h (ℕ-discrete j (i (t (c .before))))
     go : (j : ℕ) → j < i (t (c .before)) + 1 → Dec (j ≡ i (t (c .before))) →
         isLess (ws (t (c .before))) (best (c .before)) j ≡ false
     go j h (yes e) =
-        ap (isLess (ws (t (c .before))) (best (c .before))) e ∙ same-test (c .before) (c .if1 .left)
+        ap (isLess (ws (t (c .before))) (best (c .before))) e ∙ same-test (c .before) ∙ c .if1 .left
     go j h (no n) = t (c .before) .before .loop .inv .1 j (omega arith)
 
 returns-2 : tie.Need-returns-2 Inv-loop μ-loop
