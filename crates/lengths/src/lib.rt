@@ -3,8 +3,7 @@
 // the order of the numbers is that of the pairs. Nothing else in the code knows what a length is.
 //   answer    the answer's words: distances as times, or the rows of a cycle
 ghost use mathlib.Core.Path.{_≡_};
-ghost use mathlib.Core.Bool.{Bool};
-ghost use lib.IntN.{ℤ, negℤ, _+ℤ_};
+ghost use lib.IntN.{natAbs, negℤ, _+ℤ_};
 ghost use lib.Signed.{ltZ};
 ghost use Rattle.whole.specs.Numbers.{Within};
 ghost use Rattle.rules.specs.Sizes.{largestLength};
@@ -45,12 +44,20 @@ impl Length {
         self.0 < other.0
     }
 
-    // The time of a vertex at this distance, which is not above 0: its minutes, and its small amounts.
+    // The time of a vertex at this distance, which is not above 0.
+    fn time(self) -> u64
+        requires { ⌜ Passed self ⌝ }
+        ensures { λ r. ⌜ r ≡ natAbs (lengthOf self) ⌝ }
+    {
+        -self.0 as u64
+    }
+
+    // .. its minutes, and its small amounts.
     pub fn plain_time(self) -> i64
         requires { ⌜ Passed self ⌝ }
         ensures { λ r. ⌜ r ≡ plainPart self ⌝ }
     {
-        let time = -self.0 as u64;
+        let time = self.time();
         (time / (Length::UNIT as u64)) as i64
     }
 
@@ -58,7 +65,7 @@ impl Length {
         requires { ⌜ Passed self ⌝ }
         ensures { λ r. ⌜ r ≡ smallPart self ⌝ }
     {
-        let time = -self.0 as u64;
+        let time = self.time();
         (time % (Length::UNIT as u64)) as i64
     }
 }
