@@ -1,19 +1,19 @@
 -- Lines put one behind the other, and whole texts.
---   lines-start, -more          the lines of the variables below a number
+--   lines-start, -room, -more   the lines of the variables below a number: none, room for one more, one more
 --   printed-none, -all, -only   a whole text in a slice, or none of it; bytes-fit, that it is there
 --   short-clash                 a slice of `mostText` bytes is not too short
 use mathlib.Core.Path.{_≡_, refl, sym, _∙_, ap}
 use mathlib.Core.Bool.{Bool, true, false, cond}
 use mathlib.Core.List.{List, _++_}
-use Prim.Native.Nat.{ℕ, _+_, _*_, _≤_, _<_}
-use native.Mathlib.Nat.{mul-suc}
+use Prim.Native.Nat.{ℕ, _+_, _*_, _^_, _≤_, _<_}
+use native.Mathlib.Nat.{mul-le-mul, mul-suc}
 use native.Mathlib.Numerals.{add-one}
 use native.Mathlib.Omega.{arith}
 use borrow.Author.Tests.{le-leb, lt-leb}
 use lib.Dec.{leb}
 use lib.ListN.{length, drop, length-append}
 use Rattle.whole.proofs.Stores.{sets-front}
-use Rattle.rules.specs.Sizes.{mostText}
+use Rattle.rules.specs.Sizes.{mostMultiplierLines, mostText, mostVariables}
 use Rattle.rules.specs.Text.{linesBelow, printed}
 use Rattle.rules.proofs.Text.Lengths.{lines-longer}
 use Rattle.put.specs.Put.{Put, PutShort}
@@ -28,6 +28,11 @@ module _ (f : ℕ → List ℕ) (b : ℕ) where
   pub lines-start : (l : List ℕ) (i : ℕ) → PutShort (b * 0) l i (linesBelow 0 f) l i
   unfolding linesBelow
   lines-start l i = record { put = put-none l i; short = omega arith }
+
+  pub lines-room :
+      {l m : List ℕ} {i j : ℕ} (v : ℕ) → PutShort (b * v) l i (linesBelow v f) m j → b ≤ mostMultiplierLines
+      → v ≤ mostVariables → i ≤ mostText → j + b < 2 ^ 64
+  lines-room v p h k l = omega (arith, p .put .place, p .short, mul-le-mul h k)
 
   pub lines-more :
       {l m n : List ℕ} {i j k : ℕ} (v : ℕ) → PutShort (b * v) l i (linesBelow v f) m j → PutShort b m j (f v) n k

@@ -8,7 +8,7 @@ use Rattle.rules.specs.Sizes.{mostMultiplierLines}
 use Rattle.rules.specs.Text.{linesBelow, multiplierLines}
 use Rattle.put.specs.Put.{PutShort}
 use Rattle.put.proofs.Texts.{put-length}
-use Rattle.lines.proofs.Texts.{lines-start, lines-more}
+use Rattle.lines.proofs.Texts.{lines-start, lines-room, lines-more}
 use Rattle.lines.proofs.answer.put_evidence.Statement.{statement}
 use Rattle.lines.proofs.answer.put_evidence.Tie as tie
 
@@ -33,7 +33,8 @@ loop-holds c =
 put-multipliers-requires : tie.Need-put-multipliers-requires Inv-loop μ-loop
 put-multipliers-requires c κs =
     let at = c .before .before in
-    (omega arith, omega arith, omega (arith, at .loop .inv .1 .put .place, at .loop .inv .1 .short))
+    let room = lines-room _ mostMultiplierLines (at .loop .v) (at .loop .inv .1) (omega arith) (omega arith) (omega arith) in
+    (omega arith, omega arith, room)
 
 add-v : tie.Need-add-v Inv-loop μ-loop
 add-v c = omega arith
@@ -43,8 +44,8 @@ loop-less c = omega arith
 
 loop-again : tie.Need-loop-again Inv-loop μ-loop
 loop-again c =
-    let at = c .before .before .before .before .before in
     let line = c .before .before .put-multipliers .ensures in
+    let at = c .before .before .before .before .before in
     (omega arith, lines-more (entry (at .before .before)) mostMultiplierLines (at .loop .v) (at .loop .inv .1) line)
 
 same-length : tie.Need-same-length Inv-loop μ-loop

@@ -8,7 +8,7 @@ use Rattle.rules.specs.Sizes.{mostValueLine}
 use Rattle.rules.specs.Text.{linesBelow, valueLine}
 use Rattle.put.specs.Put.{PutShort}
 use Rattle.put.proofs.Texts.{put-length}
-use Rattle.lines.proofs.Texts.{lines-start, lines-more}
+use Rattle.lines.proofs.Texts.{lines-start, lines-room, lines-more}
 use Rattle.lines.proofs.answer.put_values.Statement.{statement}
 use Rattle.lines.proofs.answer.put_values.Tie as tie
 
@@ -32,7 +32,8 @@ loop-holds c =
 put-value-requires : tie.Need-put-value-requires Inv-loop μ-loop
 put-value-requires c κs =
     let at = c .before .before in
-    (omega arith, omega arith, omega (arith, at .loop .inv .1 .put .place, at .loop .inv .1 .short))
+    let room = lines-room _ mostValueLine (at .loop .v) (at .loop .inv .1) (omega arith) (omega arith) (omega arith) in
+    (omega arith, omega arith, room)
 
 add-v : tie.Need-add-v Inv-loop μ-loop
 add-v c = omega arith
@@ -42,8 +43,8 @@ loop-less c = omega arith
 
 loop-again : tie.Need-loop-again Inv-loop μ-loop
 loop-again c =
-    let at = c .before .before .before .before .before in
     let line = c .before .before .put-value .ensures in
+    let at = c .before .before .before .before .before in
     (omega arith, lines-more (entry (at .before .before)) mostValueLine (at .loop .v) (at .loop .inv .1) line)
 
 same-length : tie.Need-same-length Inv-loop μ-loop
