@@ -15,10 +15,10 @@ ghost use Rattle.parts.specs.Reads.{problemOf, Readable, Limited, rowSumAt};
 ghost use Rattle.parts.specs.Reads.{numeratorsFit, rowsHold, halfHolds, isZero, limitsHold};
 use layout::ColumnPlace;
 use layout::RowPlace;
-use parts::is_outside;
 use tableau::Given;
 use tableau::Limits;
 use tableau::Tableau;
+use words::is_outside;
 
 const LARGEST_NUMERATOR: i64 = 515396075280000;
 

@@ -12,11 +12,11 @@ ghost use Rattle.parts.specs.Reads.{problemOf, Readable, Limited, Multiplied, b
 ghost use Rattle.parts.specs.Reads.{multipliersFair, columnsCancel, surplusOf, someNamed};
 use layout::ColumnPlace;
 use layout::RowPlace;
-use parts::is_outside;
 use tableau::Given;
 use tableau::Limits;
 use tableau::Tableau;
 use tableau::Variable;
+use words::is_outside;
 
 // A multiplier is in its range, and 0 where its limit is missing.
 fn fair(limit: Given, k: i64) -> bool

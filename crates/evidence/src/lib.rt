@@ -11,6 +11,7 @@ ghost use Rattle.judge.specs.Words.{Framed};
 use can::shows_can;
 use cannot::shows_cannot;
 use tableau::Tableau;
+use words::count_at;
 
 // Each verdict reads the problem for itself: so the record of the limits is made and used in one place.
 fn can_holds(words: &[i32], columns: usize, rows: usize, answer: &[i64]) -> bool
@@ -43,8 +44,8 @@ pub fn check(words: &[i32], answer: &[i64]) -> u32
     if refused != 0 {
         return refused;
     }
-    let columns = judge::count_at(words, 0);
-    let rows = judge::count_at(words, 1);
+    let columns = count_at(words, 0);
+    let rows = count_at(words, 1);
     if answer.len() < 3 + 2 * (columns + rows) {
         return 7;
     }

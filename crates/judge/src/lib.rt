@@ -2,28 +2,17 @@
 ghost use mathlib.Core.Path.{_≡_};
 ghost use mathlib.Core.Bool.{_||_};
 ghost use mathlib.Core.List.{[], _∷_};
-ghost use Prim.Native.Nat.{_/_, _%_, _≤_, _<_};
+ghost use Prim.Native.Nat.{_/_, _%_, _<_};
 ghost use lib.Dec.{eqb};
-ghost use lib.IntN.{ℤ, pos, natAbs};
-ghost use lib.ListN.{length};
+ghost use lib.IntN.{pos, natAbs};
 ghost use lib.Signed.{_<ℤ_, _≤ℤ_};
-ghost use Rattle.whole.specs.Numbers.{within, outside};
-ghost use Rattle.rules.specs.Sizes.{mostRows};
+ghost use Rattle.whole.specs.Numbers.{within};
 ghost use Rattle.rules.specs.Limit.{hasLower, hasUpper, strictLower, strictUpper, badKindWord, badLimitWord};
-ghost use Rattle.rules.specs.Problem.{word};
-ghost use Rattle.rules.specs.Refusal.{badSize, badCoefficient, blankRow, first, problemRefusal, someBlank};
+ghost use Rattle.rules.specs.Refusal.{badCoefficient, blankRow, first, problemRefusal, someBlank};
 ghost use Rattle.judge.specs.Words.{Framed, badBy, badVariable};
-
-// Whether a word is below `least` or above `most`.
-fn is_outside(word: i32, least: u32, most: u32) -> bool
-    ensures { λ r. ⌜ r ≡ outside least most word ⌝ }
-{
-    let z = word as i64;
-    if z < least as i64 {
-        return true;
-    }
-    (most as i64) < z
-}
+use words::count_at;
+use words::is_bad_size;
+use words::is_outside;
 
 // Whether the size of a word is at most `largest`.
 fn is_within(word: i32, largest: i32) -> bool
@@ -78,7 +67,7 @@ fn is_bad_kind(kind: i32) -> bool
 {
     let lower = strict_lower(kind) & !has_lower(kind);
     let upper = strict_upper(kind) & !has_upper(kind);
-    is_outside(kind, 0, 15) | (lower | upper)
+    is_outside(kind as i64, 0, 15) | (lower | upper)
 }
 
 // Whether a limit's word is out of range, or not 0 where the limit is missing.
@@ -112,25 +101,6 @@ fn either(a: bool, b: bool) -> bool
         return true;
     }
     b
-}
-
-// A word that is not below 0, as a count.
-pub fn count_at(words: &[i32], at: usize) -> usize
-    requires { ⌜ (at < length (now words)) × (pos 0 ≤ℤ word (now words) at) ⌝ }
-    ensures { λ r. ⌜ r ≡ natAbs (word (now (words .entry)) at) ⌝ }
-{
-    words[at] as usize
-}
-
-// Whether n or m is outside its range.
-fn is_bad_size(words: &[i32]) -> bool
-    requires { ⌜ 2 ≤ length (now words) ⌝ }
-    ensures { λ r. ⌜ r ≡ badSize mostRows (now (words .entry)) ⌝ }
-{
-    if is_outside(words[0], 1, rules::MOST_COLUMNS as u32) {
-        return true;
-    }
-    is_outside(words[1], 0, rules::MOST_ROWS as u32)
 }
 
 // Whether some coefficient is outside its range.
@@ -222,7 +192,7 @@ pub fn judge(words: &[i32]) -> u32
     if words.len() < 2 {
         return 1;
     }
-    if is_bad_size(words) {
+    if is_bad_size(words, rules::MOST_COLUMNS as u32, rules::MOST_ROWS as u32) {
         return 2;
     }
     let columns = count_at(words, 0);

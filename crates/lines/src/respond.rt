@@ -5,6 +5,7 @@ ghost use Rattle.lines.specs.Printed.{Printed};
 use crate::Written;
 use crate::write_answer;
 use crate::write_refusal;
+use words::count_at;
 
 // The most words of a problem, and of an answer.
 const MOST_WORDS: usize = 202;
@@ -20,7 +21,7 @@ fn reply(words: &[i32], out: &mut [u8]) -> Written
     if number != 0 {
         return write_refusal(number, out);
     }
-    let variables = judge::count_at(words, 0) + judge::count_at(words, 1);
+    let variables = count_at(words, 0) + count_at(words, 1);
     write_answer(&answer, variables, out)
 }
 

@@ -4,6 +4,7 @@ ghost use lib.ListN.{length};
 ghost use Rattle.rules.specs.Answer.{written};
 ghost use Rattle.rules.specs.Refusal.{refusal};
 use tableau::Tableau;
+use words::count_at;
 
 mod run;
 pub mod spend;
@@ -20,7 +21,7 @@ pub fn solve(words: &[i32], out: &mut [i64]) -> u32
     if refused != 0 {
         return refused;
     }
-    let variables = judge::count_at(words, 0) + judge::count_at(words, 1);
+    let variables = count_at(words, 0) + count_at(words, 1);
     if out.len() < 3 + 2 * variables {
         return TOO_SHORT;
     }

@@ -22,6 +22,7 @@ use crate::amount;
 use crate::amount::Value;
 use layout::ColumnPlace;
 use layout::RowPlace;
+use words::count_at;
 
 // The values of the problem variables: plain parts and small parts.
 pub struct Starts {
@@ -241,8 +242,8 @@ impl Tableau {
         requires { ⌜ problemRefusal (now words) ≡ 0 ⌝ }
         ensures { λ r. ⌜ r ≡ startTableau (problem (now (words .entry))) ⌝ }
     {
-        let columns = judge::count_at(words, 0);
-        let rows = judge::count_at(words, 1);
+        let columns = count_at(words, 0);
+        let rows = count_at(words, 1);
         let limits = Tableau::limits_of(words, columns, rows);
         let starts = start_values(limits, columns);
         let values = starts.values;

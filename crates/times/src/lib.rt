@@ -2,15 +2,12 @@
 // "Time rows".
 //   passes   distances, pass by pass
 //   cycle    the way back to a cycle
-ghost use mathlib.Core.Path.{_≡_};
-ghost use Prim.Native.Nat.{ℕ};
-ghost use lib.IntN.{ℤ};
 ghost use lib.ListN.{length};
 ghost use Rattle.rules.specs.TimeWords.{AcceptedTimes};
 ghost use Rattle.rules.specs.Times.{Timed};
 use lengths::answer;
 use timerows::judge;
-use timerows::rows;
+use words::count_at;
 
 mod cycle;
 mod passes;
@@ -23,8 +20,8 @@ fn solve(rows: &[i32], out: &mut [i64])
     requires { ⌜ AcceptedTimes (now rows) (length (now out)) ⌝ }
     ensures { λ r. ⌜ Timed (now (rows .entry)) (now (out .entry)) 0 (now (out .exit)) ⌝ }
 {
-    let n = rows::count_at(rows, 0);
-    let m = rows::count_at(rows, 1);
+    let n = count_at(rows, 0);
+    let m = count_at(rows, 1);
     let s = passes::settle(rows, n, m);
     if s.met {
         let best = s.best;

@@ -1,7 +1,7 @@
 -- What the tests on the words come to.
 --   parity                        the remainder by 2 of a signed number, against that of its size
 --   zero-bits                     a signed number's bits are 0 exactly where it is
---   neg-fits, natural-bits        the negation of a number that is not below 0; a 32-bit count as a signed number
+--   neg-fits                      the negation of a number that is not below 0
 --   within-below, within-above    a number within a size, tested on one side and then on the other
 --   few-words, kind-place, ..     the places of words whose sizes and whose length are fine
 --   accepted-framed               accepted words are such
@@ -10,14 +10,13 @@ use mathlib.Core.Bool.{true, false, not}
 use mathlib.Core.List.{List}
 use Prim.Native.Nat.{ℕ, zero, suc, _+_, _*_, _%_, _^_, _-_, _≤_, _<_}
 use native.Mathlib.Omega.{arith}
-use native.Mathlib.Nat.{mod-lt, mul-le-mul, lt-of-lt-of-le}
+use native.Mathlib.Nat.{mod-lt, mul-le-mul}
 use borrow.Author.Tests.{ne-eqb}
-use lib.Dec.{eqb, lit≤}
+use lib.Dec.{eqb}
 use lib.IntN.{ℤ, pos, negsuc, negℤ, natAbs}
 use lib.Signed.{leZ, ltZ, remZ, _≤ℤ_}
-use mir.Facts.{fits-lt-pow, toZ-pos}
-use mir.Syntax.{w32, w64}
-use mir.Val.{Fits, SFits, ofZ, toZ}
+use mir.Syntax.{w32}
+use mir.Val.{SFits, ofZ}
 use Rattle.whole.specs.Numbers.{within, eqZ}
 use Rattle.whole.proofs.Order.{true→lt, false→le}
 use Rattle.whole.proofs.Sizes.{abs-neg, fits-abs}
@@ -51,9 +50,6 @@ zero-bits (negsuc a) f = let h : a < 2 ^ 31 = f .sfits in ne-eqb (2 ^ 32 - suc a
 pub neg-fits : (z : ℤ) → pos 0 ≤ℤ z → SFits w32 z → SFits w32 (negℤ z)
 neg-fits (pos a) h f = fits-abs (rw (abs-neg (pos a)) (f .sfits))
 neg-fits (negsuc a) h f = absurd (h .le)
-
-pub natural-bits : {n : ℕ} → Fits w32 n → toZ w64 n ≡ pos n
-natural-bits f = toZ-pos w64 (lt-of-lt-of-le (fits-lt-pow f) (lit≤ tt))
 
 -- ---- within a size
 

@@ -5,7 +5,6 @@ use Rattle.judge.proofs.has_lower.Reads as has-lower
 use Rattle.judge.proofs.has_upper.Reads as has-upper
 use Rattle.judge.proofs.strict_lower.Reads as strict-lower
 use Rattle.judge.proofs.strict_upper.Reads as strict-upper
-use Rattle.judge.proofs.count_at.Reads as count-at
 use Rattle.judge.proofs.judge.Reads as judge
 
 pub has-lower-only : (κs : _) (x : _) (a b : _) (e : _) → has-lower.Post κs x a e → has-lower.Post κs x b e → a ≡ b
@@ -13,9 +12,6 @@ has-lower-only κs x a b e h k = h ∙ sym k
 
 pub has-upper-only : (κs : _) (x : _) (a b : _) (e : _) → has-upper.Post κs x a e → has-upper.Post κs x b e → a ≡ b
 has-upper-only κs x a b e h k = h ∙ sym k
-
-pub count-at-only : (κs : _) (x : _) (a b : _) (e : _) → count-at.Post κs x a e → count-at.Post κs x b e → a ≡ b
-count-at-only κs x a b e h k = h ∙ sym k
 
 pub judge-only : (κs : _) (x : _) (a b : _) (e : _) → judge.Post κs x a e → judge.Post κs x b e → a ≡ b
 judge-only κs x a b e h k = h ∙ sym k

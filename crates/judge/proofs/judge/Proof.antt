@@ -1,6 +1,6 @@
 -- `judge::judge` meets its contract: each test that was passed leaves the list of tests one shorter (skip-1 to
 -- skip-3), and what is left are the tests over all words. Assumes nothing.
-use mathlib.Core.Path.{_≡_, sym, _∙_, ap, ap₂}
+use mathlib.Core.Path.{_≡_, sym, _∙_, ap₂}
 use mathlib.Core.Bool.{Bool}
 use mathlib.Core.List.{List, [], _∷_}
 use Prim.Native.Nat.{ℕ, _+_, _*_, _≤_}
@@ -15,7 +15,7 @@ use Rattle.whole.proofs.Tells.{tells-false, tells-true}
 use Rattle.whole.proofs.Tests.{under}
 use Rattle.rules.specs.Sizes.{mostColumns, mostRows}
 use Rattle.rules.specs.Problem.{mOf, nOf, varsOf, word}
-use Rattle.rules.specs.Refusal.{badCoefficient, badKind, first, problemRefusal, problemTests}
+use Rattle.rules.specs.Refusal.{badCoefficient, badKind, badSize, first, problemRefusal, problemTests}
 use Rattle.rules.proofs.First.{first-hit, first-skip}
 use Rattle.rules.proofs.Refused.{InRange, few-tells, length-tells, size-tells}
 use Rattle.judge.specs.Words.{Framed}
@@ -41,12 +41,22 @@ skip-1 c = first-skip 1 _ (tells-false (few-tells (words (c .before))) (c .if1 .
 
 -- ---- 2: n or m outside its range
 
+cast-is-bad-size : tie.Need-cast-is-bad-size
+cast-is-bad-size c = search needs
+
+cast-is-bad-size-2 : tie.Need-cast-is-bad-size-2
+cast-is-bad-size-2 c = search needs
+
 is-bad-size-requires : tie.Need-is-bad-size-requires
 is-bad-size-requires c κs = search needs
 
+bad-size-is : (c : tie.After-is-bad-size) → c .is-bad-size .result ≡ badSize mostRows (words (c .before .before))
+unfolding badSize
+bad-size-is c = c .is-bad-size .ensures
+
 returns-2 : tie.Need-returns-2
 unfolding problemTests
-returns-2 c = sym (skip-1 (c .before .before) ∙ first-hit 2 _ (sym (c .before .is-bad-size .ensures) ∙ c .if2 .taken))
+returns-2 c = sym (skip-1 (c .before .before) ∙ first-hit 2 _ (sym (bad-size-is (c .before)) ∙ c .if2 .taken))
 
 module _ (c : tie.Else2) where
   abbrev start : tie.Start
@@ -54,10 +64,10 @@ module _ (c : tie.Else2) where
 
   skip-2 : Skips 2 start
   unfolding problemTests
-  skip-2 = skip-1 (c .before .before) ∙ first-skip 2 _ (sym (c .before .is-bad-size .ensures) ∙ c .if2 .left)
+  skip-2 = skip-1 (c .before .before) ∙ first-skip 2 _ (sym (bad-size-is (c .before)) ∙ c .if2 .left)
 
   sizes : InRange 1 mostColumns (word (words start) 0) × InRange 0 mostRows (word (words start) 1)
-  sizes = size-tells (words start) mostRows .if-false (sym (c .before .is-bad-size .ensures) ∙ c .if2 .left)
+  sizes = size-tells (words start) mostRows .if-false (sym (bad-size-is (c .before)) ∙ c .if2 .left)
 
 count-at-requires : tie.Need-count-at-requires
 count-at-requires c κs = (omega arith, ≤ℤ-trans {b = pos 1} (leZ-yes tt) (sizes c .0 .0))
@@ -170,6 +180,8 @@ judge-spec =
     tie.close
     (tie.spec
     returns
+    cast-is-bad-size
+    cast-is-bad-size-2
     is-bad-size-requires
     returns-2
     count-at-requires

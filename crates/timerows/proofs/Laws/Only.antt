@@ -2,16 +2,12 @@
 -- The contracts themselves are compared: κs are lifetimes, x the arguments, e what lent words hold at the exit.
 use mathlib.Core.Path.{_≡_, sym, _∙_, ap}
 use Rattle.timerows.proofs.judge.judge.Reads as judge
-use Rattle.timerows.proofs.rows.count_at.Reads as count-at
 use Rattle.timerows.proofs.rows.tail.Reads as tail
 use Rattle.timerows.proofs.rows.head.Reads as head
 use Rattle.timerows.proofs.rows.size.Reads as size
 
 pub judge-only : (κs : _) (x : _) (a b : _) (e : _) → judge.Post κs x a e → judge.Post κs x b e → a ≡ b
 judge-only κs x a b e h k = h ∙ sym k
-
-pub count-at-only : (κs : _) (x : _) (a b : _) (e : _) → count-at.Post κs x a e → count-at.Post κs x b e → a ≡ b
-count-at-only κs x a b e h k = h ∙ sym k
 
 pub tail-only : (κs : _) (x : _) (a b : _) (e : _) → tail.Post κs x a e → tail.Post κs x b e → a ≡ b
 tail-only κs x a b e h k = h ∙ sym k

@@ -1,4 +1,5 @@
--- `timerows::judge::judge` meets its contract: each test that does not apply leaves the list of tests one shorter. Assumes nothing.
+-- `timerows::judge::judge` meets its contract: each test that does not apply leaves the list of tests one shorter.
+-- Assumes nothing.
 use mathlib.Core.Path.{_≡_, sym, _∙_, ap}
 use mathlib.Core.Bool.{Bool, not}
 use mathlib.Core.List.{List, [], _∷_}
@@ -40,6 +41,9 @@ returns : tie.Need-returns
 unfolding timeRefusal timeTests tooFew
 returns c = sym (first-hit 11 _ (lt-ltb _ _ (c .if1 .taken)))
 
+cast-is-bad-size : tie.Need-cast-is-bad-size
+cast-is-bad-size c = search needs
+
 is-bad-size-requires : tie.Need-is-bad-size-requires
 is-bad-size-requires c κs = search needs
 
@@ -48,12 +52,16 @@ module _ (c : tie.After-is-bad-size) where
   abbrev start : tie.Start
   start = c .before .before
 
+  bad-size-is : c .is-bad-size .result ≡ badTimeSize (ws start)
+  unfolding badTimeSize
+  bad-size-is = c .is-bad-size .ensures
+
   enough : {k : ℕ} → first ((badTimeSize (ws start), 12) ∷ (badWordCount (ws start), 13) ∷ row-tests start) ≡ k → Is start k
   unfolding timeRefusal timeTests tooFew
   enough e = first-skip 11 _ (le-ltb _ _ (c .before .if1 .left)) ∙ e
 
 returns-2 : tie.Need-returns-2
-returns-2 c = sym (enough (c .before) (first-hit 12 _ (sym (c .before .is-bad-size .ensures) ∙ c .if2 .taken)))
+returns-2 c = sym (enough (c .before) (first-hit 12 _ (sym (bad-size-is (c .before)) ∙ c .if2 .taken)))
 
 -- n and m are in range
 module _ (c : tie.Else2) where
@@ -61,13 +69,13 @@ module _ (c : tie.Else2) where
   begun = start (c .before)
 
   fine : InRange 1 mostVertices (word (ws begun) 0) × InRange 0 mostTimeRows (word (ws begun) 1)
-  fine = size-tells (ws begun) .if-false (sym (c .before .is-bad-size .ensures) ∙ c .if2 .left)
+  fine = size-tells (ws begun) .if-false (sym (bad-size-is (c .before)) ∙ c .if2 .left)
 
   m-few : mOf (ws begun) ≤ mostTimeRows
   m-few = under mostTimeRows 0 (word (ws begun) 1) (fine .1 .0) (fine .1 .1)
 
   sized : {k : ℕ} → first ((badWordCount (ws begun), 13) ∷ row-tests begun) ≡ k → Is begun k
-  sized e = enough (c .before) (first-skip 12 _ (sym (c .before .is-bad-size .ensures) ∙ c .if2 .left) ∙ e)
+  sized e = enough (c .before) (first-skip 12 _ (sym (bad-size-is (c .before)) ∙ c .if2 .left) ∙ e)
 
 count-at-requires : tie.Need-count-at-requires
 count-at-requires c κs = (omega (arith, c .before .before .if1 .left), fine c .1 .0)
@@ -159,6 +167,7 @@ judge-spec =
     tie.close
     (tie.spec
     returns
+    cast-is-bad-size
     is-bad-size-requires
     returns-2
     count-at-requires

@@ -4,13 +4,13 @@ use mathlib.Core.Bool.{_||_, not}
 use mathlib.Core.List.{List}
 use Prim.Native.Nat.{ℕ, _-_}
 use native.Mathlib.Omega.{arith}
-use borrow.Author.Needs.{needs, sfits-of}
+use borrow.Author.Needs.{needs}
 use lib.Dec.{le→leb}
 use lib.IntN.{ℤ, pos, natAbs}
 use lib.Signed.{_≤ℤ_}
 use mir.Facts.{toZ-ofZ}
 use mir.Syntax.{w32}
-use mir.Val.{SFits}
+use mir.Val.{SFits, ofZ, toZ}
 use Rattle.whole.specs.Numbers.{outside, within}
 use Rattle.rules.specs.Sizes.{largestLength}
 use Rattle.rules.specs.Problem.{nOf}
@@ -19,56 +19,24 @@ use Rattle.timerows.specs.Judged.{numberOf, rowNumber}
 use Rattle.timerows.proofs.judge.number_at.Statement.{statement}
 use Rattle.timerows.proofs.judge.number_at.Tie as tie
 
-mul-x : tie.Need-mul-x
-mul-x c = search needs
+word-of-requires : tie.Need-word-of-requires
+word-of-requires c κs = search needs
 
-add-x : tie.Need-add-x
-add-x c = search needs
+word-of-requires-2 : tie.Need-word-of-requires-2
+word-of-requires-2 c κs = search needs
 
-mul-y : tie.Need-mul-y
-mul-y c = search needs
+word-of-requires-3 : tie.Need-word-of-requires-3
+word-of-requires-3 c κs = search needs
 
-add-y : tie.Need-add-y
-add-y c = search needs
+word-of-requires-4 : tie.Need-word-of-requires-4
+word-of-requires-4 c κs = search needs
 
-mul-strict : tie.Need-mul-strict
-mul-strict c = search needs
-
-add-strict : tie.Need-add-strict
-add-strict c = search needs
-
-mul-c : tie.Need-mul-c
-mul-c c = search needs
-
-add-c : tie.Need-add-c
-add-c c = search needs
-
-mul-row-number : tie.Need-mul-row-number
-mul-row-number c = search needs
-
-shared-slice-copy-out-row-number : tie.Need-shared-slice-copy-out-row-number
-shared-slice-copy-out-row-number c = search needs
-
-mul-row-number-2 : tie.Need-mul-row-number-2
-mul-row-number-2 c = search needs
-
-shared-slice-copy-out-row-number-2 : tie.Need-shared-slice-copy-out-row-number-2
-shared-slice-copy-out-row-number-2 c = search needs
-
-mul-row-number-3 : tie.Need-mul-row-number-3
-mul-row-number-3 c = search needs
-
-shared-slice-copy-out-row-number-3 : tie.Need-shared-slice-copy-out-row-number-3
-shared-slice-copy-out-row-number-3 c = search needs
-
-mul-row-number-4 : tie.Need-mul-row-number-4
-mul-row-number-4 c = search needs
-
-shared-slice-copy-out-row-number-4 : tie.Need-shared-slice-copy-out-row-number-4
-shared-slice-copy-out-row-number-4 c = search needs
+-- a word that was read is handed on as it is
+handed : {z w : ℤ} → SFits w32 z → z ≡ w → toZ w32 (ofZ w32 z) ≡ w
+handed f e = toZ-ofZ f ∙ e
 
 -- the words that were read
-module _ (c : tie.After-row-number-arg4) where
+module _ (c : tie.After-word-of4) where
   abbrev start : tie.Start
   start = c .before .before .before .before
 
@@ -78,17 +46,17 @@ module _ (c : tie.After-row-number-arg4) where
   abbrev i : ℕ
   i = start .args .i
 
-  read-x : SFits w32 (fromWord ws i)
-  read-x = sfits-of (c .before .before .before .row-number-arg .given)
+  x-is : toZ w32 (ofZ w32 (c .before .before .before .word-of .result)) ≡ fromWord ws i
+  x-is = handed (search needs) (c .before .before .before .word-of .ensures)
 
-  read-y : SFits w32 (toWord ws i)
-  read-y = sfits-of (c .before .before .row-number-arg2 .given)
+  y-is : toZ w32 (ofZ w32 (c .before .before .word-of2 .result)) ≡ toWord ws i
+  y-is = handed (search needs) (c .before .before .word-of2 .ensures)
 
-  read-strict : SFits w32 (strictWord ws i)
-  read-strict = sfits-of (c .before .row-number-arg3 .given)
+  strict-is : toZ w32 (ofZ w32 (c .before .word-of3 .result)) ≡ strictWord ws i
+  strict-is = handed (search needs) (c .before .word-of3 .ensures)
 
-  read-c : SFits w32 (lengthWord ws i)
-  read-c = sfits-of (c .row-number-arg4 .given)
+  length-is : toZ w32 (ofZ w32 (c .word-of4 .result)) ≡ lengthWord ws i
+  length-is = handed (search needs) (c .word-of4 .ensures)
 
   -- the last vertex is not below 0
   most-fine : pos 0 ≤ℤ start .args .most
@@ -103,29 +71,17 @@ returns c =
     let t = c .before in
     let w = ws t in
     let j = i t in
-    (simp (toZ-ofZ (read-x t), toZ-ofZ (read-y t), toZ-ofZ (read-strict t), toZ-ofZ (read-c t), toZ-ofZ (start t .fits .most)) at (c .row-number .ensures))
-    ∙ ap (λ z. numberOf (outside 0 (natAbs z) (fromWord w j) || outside 0 (natAbs z) (toWord w j)) (outside 0 1 (strictWord w j))
-    (not (within largestLength (lengthWord w j)))) (start t .pre .2)
+    (simp (x-is t, y-is t, strict-is t, length-is t, toZ-ofZ (start t .fits .most)) at (c .row-number .ensures))
+    ∙ ap (λ z. numberOf (outside 0 (natAbs z) (fromWord w j) || outside 0 (natAbs z) (toWord w j))
+    (outside 0 1 (strictWord w j)) (not (within largestLength (lengthWord w j)))) (start t .pre .2)
 
 pub number-at-spec : {M : Type 1} → statement M
 number-at-spec =
     tie.close
     (tie.spec
-    mul-x
-    add-x
-    mul-y
-    add-y
-    mul-strict
-    add-strict
-    mul-c
-    add-c
-    mul-row-number
-    shared-slice-copy-out-row-number
-    mul-row-number-2
-    shared-slice-copy-out-row-number-2
-    mul-row-number-3
-    shared-slice-copy-out-row-number-3
-    mul-row-number-4
-    shared-slice-copy-out-row-number-4
+    word-of-requires
+    word-of-requires-2
+    word-of-requires-3
+    word-of-requires-4
     row-number-requires
     returns)

@@ -1,12 +1,17 @@
--- `timerows::judge::row_number` meets its contract: each test that does not apply leaves the list of tests one shorter. Assumes nothing.
+-- `timerows::judge::row_number` meets its contract: each test that does not apply leaves the list of tests one shorter.
+-- Assumes nothing.
 use mathlib.Core.Path.{_≡_, refl, sym, _∙_, ap}
-use mathlib.Core.Bool.{Bool, true, false, _||_, not}
+use mathlib.Core.Bool.{Bool, true, _||_, not}
 use mathlib.Core.List.{[], _∷_}
 use Prim.Native.Nat.{ℕ}
 use borrow.Author.Needs.{needs}
-use lib.IntN.{natAbs}
-use mir.Facts.{toZ-ofZ}
+use lib.IntN.{ℤ, natAbs, pos}
+use lib.Signed.{_≤ℤ_, ltZ}
+use mir.Facts.{sfits-widen, toZ-ofZ}
+use mir.Syntax.{w32, w64}
+use mir.Val.{SFits}
 use Rattle.whole.specs.Numbers.{outside, within}
+use Rattle.whole.proofs.Tests.{own-size}
 use Rattle.rules.specs.Sizes.{largestLength}
 use Rattle.rules.specs.Refusal.{first}
 use Rattle.rules.proofs.First.{first-hit, first-skip}
@@ -31,18 +36,36 @@ module _ (s : tie.Start) where
   abbrev number : ℕ
   number = numberOf (bad-x || bad-y) bad-strict bad-length
 
+-- a word fits 64 bits too
+wide : {z : ℤ} → SFits w32 z → SFits w64 z
+wide f = sfits-widen {w = w32} tt f
+
+-- an end against the last vertex
+outside-most : (most z : ℤ) → pos 0 ≤ℤ most → (ltZ z (pos 0) || ltZ most z) ≡ outside 0 (natAbs most) z
+unfolding outside
+outside-most most z h = ap (λ k. ltZ z (pos 0) || ltZ k z) (own-size 0 most h)
+
+cast-is-outside : tie.Need-cast-is-outside
+cast-is-outside c = simp (toZ-ofZ (c .fits .x)) (wide (c .fits .x))
+
 is-outside-requires : tie.Need-is-outside-requires
-is-outside-requires c κs = search needs
+is-outside-requires c κs = tt
 
 told-x : (c : tie.After-is-outside) → c .is-outside .result ≡ bad-x (c .before)
-told-x c = simp (toZ-ofZ (c .before .fits .x), toZ-ofZ (c .before .fits .most)) at (c .is-outside .ensures)
+told-x c =
+    let s = c .before in
+    (simp (toZ-ofZ (s .fits .x), toZ-ofZ (wide (s .fits .x)), toZ-ofZ (s .fits .most)) at (c .is-outside .ensures))
+    ∙ outside-most (s .args .most) (s .args .x) (s .pre)
 
 returns : tie.Need-returns
 unfolding numberOf
 returns c = sym (first-hit 14 _ (ap (λ t. t || bad-y (c .before .before)) (sym (told-x (c .before)) ∙ c .if1 .taken)))
 
+cast-is-outside-2 : tie.Need-cast-is-outside-2
+cast-is-outside-2 c = let s = c .before .before in simp (toZ-ofZ (s .fits .y)) (wide (s .fits .y))
+
 is-outside-requires-2 : tie.Need-is-outside-requires-2
-is-outside-requires-2 c κs = search needs
+is-outside-requires-2 c κs = tt
 
 module _ (c : tie.After-is-outside2) where
   abbrev start : tie.Start
@@ -50,22 +73,28 @@ module _ (c : tie.After-is-outside2) where
 
   told-y : c .is-outside2 .result ≡ (bad-x start || bad-y start)
   told-y =
-      (simp (toZ-ofZ (start .fits .y), toZ-ofZ (start .fits .most)) at (c .is-outside2 .ensures))
+      (simp (toZ-ofZ (start .fits .y), toZ-ofZ (wide (start .fits .y)), toZ-ofZ (start .fits .most))
+      at (c .is-outside2 .ensures))
+      ∙ outside-most (start .args .most) (start .args .y) (start .pre)
       ∙ ap (λ t. t || bad-y start) (sym (sym (told-x (c .before .before)) ∙ c .before .if1 .left))
 
 returns-2 : tie.Need-returns-2
 unfolding numberOf
 returns-2 c = sym (first-hit 14 _ (sym (told-y (c .before)) ∙ c .if2 .taken))
 
+cast-is-outside-3 : tie.Need-cast-is-outside-3
+cast-is-outside-3 c = let s = start (c .before) in simp (toZ-ofZ (s .fits .strict)) (wide (s .fits .strict))
+
 is-outside-requires-3 : tie.Need-is-outside-requires-3
-is-outside-requires-3 c κs = search needs
+is-outside-requires-3 c κs = tt
 
 module _ (c : tie.After-is-outside3) where
   abbrev s : tie.Start
   s = start (c .before .before)
 
   told-strict : c .is-outside3 .result ≡ bad-strict s
-  told-strict = simp (toZ-ofZ (s .fits .strict)) at (c .is-outside3 .ensures)
+  unfolding outside
+  told-strict = simp (toZ-ofZ (s .fits .strict), toZ-ofZ (wide (s .fits .strict))) at (c .is-outside3 .ensures)
 
   ends-pass : {k : ℕ} → first ((bad-strict s, 15) ∷ (bad-length s, 16) ∷ (true, 17) ∷ []) ≡ k → k ≡ number s
   unfolding numberOf
@@ -91,16 +120,21 @@ returns-4 : tie.Need-returns-4
 returns-4 c = strict-passes (c .before) (first-hit 16 _ (sym (told-length (c .before)) ∙ c .if4 .taken))
 
 returns-5 : tie.Need-returns-5
-returns-5 c = strict-passes (c .before) (first-skip 16 _ (sym (told-length (c .before)) ∙ c .if4 .left) ∙ first-hit 17 [] refl)
+returns-5 c =
+    strict-passes (c .before)
+    (first-skip 16 _ (sym (told-length (c .before)) ∙ c .if4 .left) ∙ first-hit 17 [] refl)
 
 pub row-number-spec : {M : Type 1} → statement M
 row-number-spec =
     tie.close
     (tie.spec
+    cast-is-outside
     is-outside-requires
     returns
+    cast-is-outside-2
     is-outside-requires-2
     returns-2
+    cast-is-outside-3
     is-outside-requires-3
     returns-3
     is-too-long-requires

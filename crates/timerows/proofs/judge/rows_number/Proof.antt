@@ -1,18 +1,20 @@
--- `timerows::judge::rows_number` meets its contract. The invariant of its loop: the least number so far is that of the rows below i. The measure is the
--- rows left. Assumes nothing.
+-- `timerows::judge::rows_number` meets its contract. The invariant of its loop: the least number so far is that of the
+-- rows below i. The measure is the rows left. Assumes nothing.
 use mathlib.Core.Path.{_≡_, sym, _∙_, ap, ap₂}
-use Prim.Native.Nat.{ℕ, zero, suc, _≤_, _-_, min}
+use Prim.Native.Nat.{zero, suc, _≤_, _-_, min}
 use native.Mathlib.Numerals.{add-one}
 use native.Mathlib.Omega.{arith}
 use borrow.Author.Needs.{sfits-of}
 use lib.IntN.{ℤ, pos, negsuc, natAbs, _-ℤ_}
 use lib.Signed.{_≤ℤ_}
-use mir.Facts.{toZ-ofZ}
-use mir.Syntax.{w32}
+use mir.Facts.{sfits-widen, toZ-ofZ}
+use mir.Syntax.{w32, w64}
 use mir.Val.{SFits}
+use Rattle.whole.specs.Numbers.{Within}
 use Rattle.whole.proofs.Nonneg.{sub-ge}
 use Rattle.whole.proofs.Sizes.{fits-by, within--}
-use Rattle.rules.specs.Problem.{word, nOf}
+use Rattle.rules.specs.Sizes.{mostVertices}
+use Rattle.rules.specs.Problem.{word}
 use Rattle.timerows.specs.Judged.{rowsNumber}
 use Rattle.timerows.proofs.Laws.Numbers.{rows-start, rows-more}
 use Rattle.timerows.proofs.judge.rows_number.Statement.{statement}
@@ -41,11 +43,20 @@ module _ (c : tie.After-most Inv-loop μ-loop) where
   read : SFits w32 n-word
   read = sfits-of (c .most .given)
 
-  fit : SFits w32 (n-word -ℤ pos 1)
-  fit = fits-by (within-- {a = n-word} {b = pos 1} {n = 1} (record { within = c .before .pre .0 .n-few }) (record { within = omega arith })) tt
+  wide : SFits w64 n-word
+  wide = sfits-widen {w = w32} tt read
+
+  fit : SFits w64 (n-word -ℤ pos 1)
+  fit = fits-by (within-- {a = n-word} {b = pos 1} {n = 1} few (record { within = omega arith })) tt
+    where
+      few : Within n-word mostVertices
+      few = record { within = c .before .pre .0 .n-few }
+
+cast-most : tie.Need-cast-most Inv-loop μ-loop
+cast-most c = simp (toZ-ofZ (read c)) (wide c)
 
 sub-most : tie.Need-sub-most Inv-loop μ-loop
-sub-most c = simp (toZ-ofZ (read c)) (fit c)
+sub-most c = simp (toZ-ofZ (read c), toZ-ofZ (wide c)) (fit c)
 
 loop-holds : tie.Need-loop-holds Inv-loop μ-loop
 loop-holds c = (omega arith, sym (rows-start _))
@@ -54,7 +65,7 @@ number-at-requires : tie.Need-number-at-requires Inv-loop μ-loop
 number-at-requires c κs =
     let t = c .before .before in
     let s = t .before in
-    simp (toZ-ofZ (read t), toZ-ofZ (fit t))
+    simp (toZ-ofZ (read t), toZ-ofZ (wide t), toZ-ofZ (fit t))
     (s .pre .0, omega (arith, s .pre .1, c .loop-test .taken), one-less (n-word t) (s .pre .0 .n-least))
 
 lesser-requires : tie.Need-lesser-requires Inv-loop μ-loop
@@ -86,6 +97,7 @@ rows-number-spec =
     Inv-loop
     μ-loop
     shared-slice-copy-out-most
+    cast-most
     sub-most
     loop-holds
     number-at-requires

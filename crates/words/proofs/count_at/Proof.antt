@@ -1,4 +1,4 @@
--- `timerows::rows::count_at` meets its contract. Assumes nothing.
+-- `words::count_at` meets its contract. Assumes nothing.
 use borrow.Author.Needs.{needs, sfits-of}
 use mathlib.Core.Path.{ap}
 use lib.IntN.{natAbs}
@@ -7,8 +7,8 @@ use mir.Syntax.{w32}
 use mir.Val.{SFits}
 use Rattle.whole.proofs.Tests.{not-neg}
 use Rattle.rules.specs.Problem.{word}
-use Rattle.timerows.proofs.rows.count_at.Statement.{statement}
-use Rattle.timerows.proofs.rows.count_at.Tie as tie
+use Rattle.words.proofs.count_at.Statement.{statement}
+use Rattle.words.proofs.count_at.Tie as tie
 
 mul-result : tie.Need-mul-result
 mul-result c = search needs

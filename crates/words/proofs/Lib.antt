@@ -1,0 +1,2 @@
+-- Two allowed results are equal. Assumes nothing.
+pub mod Only

@@ -1,0 +1,2 @@
+-- What is asked of single words.
+pub mod Sizes
