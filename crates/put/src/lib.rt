@@ -46,7 +46,7 @@ pub fn put_digits(out: &mut [u8], at: usize, n: u64) -> usize
 }
 
 // The size of a number below 0. Its negative need not fit, and that of the number above it does.
-fn size_below(n: i64) -> u64
+pub fn size_below(n: i64) -> u64
     requires { ⌜ n <ℤ pos 0 ⌝ }
     ensures { λ r. ⌜ r ≡ natAbs n ⌝ }
 {

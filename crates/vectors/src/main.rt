@@ -11,6 +11,8 @@ const MOST_CALLS: usize = 100000;
 
 const MOST_WORDS: usize = 1040;
 
+const MOST_BYTES: usize = 4 * MOST_WORDS;
+
 const MOST_OUT: usize = 136;
 
 pub fn line(number: u32, out: &[i64]) {
@@ -57,9 +59,10 @@ fn call(entry: usize, words: &[i32], out: &mut [i64]) {
 // Reads one call.
 fn next() {
     let entry = input::count(4);
+    let mut bytes = [0u8; MOST_BYTES];
     let mut words = [0i32; MOST_WORDS];
     let word_count = input::count(MOST_WORDS);
-    input::words(&mut words, word_count);
+    input::words(&mut bytes[..4 * word_count], &mut words);
     let mut out = [0i64; MOST_OUT];
     let out_count = input::count(MOST_OUT);
     input::wide_words(&mut out, out_count);

@@ -7,6 +7,7 @@ use lib.ListN.{drop}
 use Rattle.rules.specs.Bytes.{wordsFrom}
 use Rattle.wire.proofs.count_refusal.Reads as count-refusal
 use Rattle.wire.proofs.words_of.Reads as words-of
+use Rattle.wire.proofs.join.Reads as join
 
 pub count-refusal-only : (κs : _) (x : _) (a b : _) (e : _) → count-refusal.Post κs x a e →
     count-refusal.Post κs x b e → a ≡ b
@@ -17,3 +18,6 @@ pub words-of-only : (κs : _) (x : _) (a b : _) (e f : _) → words-of.Post κs 
 words-of-only κs x a b e f h k =
     let n : a ≡ b = h .0 ∙ sym (k .0) in
     (n, h .1 ∙ ap (λ j. wordsFrom (x .0 .now) ++ drop j (x .1 .0 .now)) n ∙ sym (k .1))
+
+pub join-only : (κs : _) (x : _) (a b : _) (e : _) → join.Post κs x a e → join.Post κs x b e → a ≡ b
+join-only κs x a b e h k = h .0 ∙ sym (k .0)

@@ -49,7 +49,7 @@ fn word_at(bytes: &[u8], at: usize) -> i32
 }
 
 // Four bytes as one number, the lowest first.
-fn join(a: u8, b: u8, c: u8, d: u8) -> u64
+pub fn join(a: u8, b: u8, c: u8, d: u8) -> u64
     ensures { λ r. ⌜ (r ≡ joined a b c d) × (r < 2 ^ 32) ⌝ }
 {
     a as u64 + 256 * (b as u64) + 65536 * (c as u64) + 16777216 * (d as u64)

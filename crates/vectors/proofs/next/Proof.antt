@@ -11,11 +11,20 @@ count-requires c κs = search needs
 count-requires-2 : tie.Need-count-requires-2
 count-requires-2 c κs = search needs
 
+mul-bytes : tie.Need-mul-bytes
+mul-bytes c = search needs
+
+array-borrow-prefix-bytes : tie.Need-array-borrow-prefix-bytes
+array-borrow-prefix-bytes c = search needs
+
 slice-aggregate-words : tie.Need-slice-aggregate-words
-slice-aggregate-words c = search needs
+slice-aggregate-words c = simp length-take (omega arith)
+
+slice-aggregate-words-2 : tie.Need-slice-aggregate-words-2
+slice-aggregate-words-2 c = search needs
 
 words-requires : tie.Need-words-requires
-words-requires c κs = search needs
+words-requires c κs = simp length-take (omega arith)
 
 count-requires-3 : tie.Need-count-requires-3
 count-requires-3 c κs = search needs
@@ -50,7 +59,10 @@ next-spec =
     (tie.spec
     count-requires
     count-requires-2
+    mul-bytes
+    array-borrow-prefix-bytes
     slice-aggregate-words
+    slice-aggregate-words-2
     words-requires
     count-requires-3
     slice-aggregate-wide-words

@@ -1,18 +1,25 @@
--- `vectors::input::long` meets its contract: what is too large for the type is turned round at minus one half.
--- Assumes nothing.
+-- `vectors::input::long` meets its contract: what is too large for the type is turned round at minus one half, by
+-- minus one less what it lacks of the most. Assumes nothing.
 use borrow.Author.Needs.{needs}
 use borrow.Author.Tests.{lt-ltb, le-ltb}
-use mathlib.Core.Path.{refl}
-use Prim.Native.Nat.{ℕ, _-_, _^_, _<_}
+use mathlib.Core.Path.{_≡_, refl, _∙_, ap}
+use Prim.Native.Nat.{ℕ, zero, suc, _+_, _-_, _^_, _≤_, _<_}
 use native.Mathlib.Omega.{arith}
 use lib.IntN.{pos, negsuc, _-ℤ_}
 use mir.Facts.{toZ-ofZ, toZ-pos}
 use mir.Syntax.{w64}
 use mir.Val.{SFits}
 use Rattle.vectors.specs.Wide.{signedWide}
-use Rattle.vectors.proofs.Mirror.{mirror-fits, mirror-turned}
 use Rattle.vectors.proofs.input.long.Statement.{statement}
 use Rattle.vectors.proofs.input.long.Tie as tie
+
+mirror : (k : ℕ) → negsuc 0 -ℤ pos k ≡ negsuc k
+mirror zero = refl
+mirror (suc k) = ap negsuc (let z : suc (0 + k) ≡ suc k = omega arith in z)
+
+mirror-turned : (most u : ℕ) → u ≤ most → negsuc 0 -ℤ pos (most - u) ≡ pos u -ℤ pos (suc most)
+mirror-turned most u h = mirror (most - u)
+    ∙ (rw (lt-ltb u (suc most) (omega arith)) (ap negsuc (let z : most - u ≡ suc most - suc u = omega arith in z)))
 
 module _ (c : tie.Else1) where
   abbrev u : ℕ
@@ -25,7 +32,7 @@ module _ (c : tie.Else1) where
   low = omega arith
 
   fit : SFits w64 (negsuc 0 -ℤ pos size)
-  fit = mirror-fits (pos size) (record { sfits = low })
+  fit = rw (mirror size) (record { sfits = low })
 
 cast-result : tie.Need-cast-result
 cast-result c = search needs

@@ -8,7 +8,6 @@ use lib.ListN.{drop, length}
 use lib.Seq.{drop-set-lt}
 use Rattle.vectors.proofs.input.wide_words.Statement.{statement}
 use Rattle.vectors.proofs.input.wide_words.Tie as tie
-use Rattle.vectors.proofs.input.wide_word.Reads as wide-word-reads
 
 abbrev Inv-loop : tie.InvT-loop
 Inv-loop into₀ count i₀ into i = (i ≤ count) × (length into ≡ length into₀) × (drop count into ≡ drop count into₀)

@@ -1,63 +1,48 @@
--- `vectors::input::words` meets its contract. The invariant: i is at most the count, and the length and the words
--- past the count are those of the start. The measure is the number of words that are left. Assumes nothing.
+-- `vectors::input::words` meets its contract: the words of the bytes are as many as `wire` says, and stand in front of
+-- what stays. Assumes nothing.
 use borrow.Author.Needs.{needs}
-use mathlib.Core.Path.{refl, _≡_, _∙_}
-use Prim.Native.Nat.{_-_, _≤_, _<_}
+use mathlib.Core.List.{List, _++_}
+use mathlib.Core.Path.{_≡_, sym, _∙_, ap}
+use Prim.Native.Nat.{ℕ, _+_, _*_, _/_}
 use native.Mathlib.Omega.{arith}
-use lib.ListN.{drop, length}
-use lib.Seq.{drop-set-lt}
+use lib.IntN.{ℤ}
+use lib.ListN.{length, drop}
+use lib.Seq.{drop-append-add}
+use Rattle.whole.proofs.Tables.{table-length}
+use Rattle.rules.specs.Bytes.{wordAt, wordsFrom}
 use Rattle.vectors.proofs.input.words.Statement.{statement}
 use Rattle.vectors.proofs.input.words.Tie as tie
-use Rattle.vectors.proofs.input.word.Reads as word-reads
 
-abbrev Inv-loop : tie.InvT-loop
-Inv-loop into₀ count i₀ into i = (i ≤ count) × (length into ≡ length into₀) × (drop count into ≡ drop count into₀)
+-- as many words as are there stay past those of the bytes
+stay : (bytes : List ℕ) (before : List ℤ) (n r : ℕ) → r ≡ length bytes / 4 → n ≡ r →
+    drop n (wordsFrom bytes ++ drop r before) ≡ drop n before
+unfolding wordsFrom
+stay bytes before n r e q =
+    let long = table-length (length bytes / 4) (λ i. wordAt bytes (4 * i)) in
+    let many : n ≡ length (wordsFrom bytes) + 0 = omega (arith, long) in
+    ap (λ k. drop k (wordsFrom bytes ++ drop r before)) many
+    ∙ drop-append-add (wordsFrom bytes) (drop r before) 0
+    ∙ ap (λ k. drop k before) (sym q)
 
-abbrev μ-loop : tie.MeasureT-loop
-μ-loop into₀ count i₀ into i = count - i
+read-full-requires : tie.Need-read-full-requires
+read-full-requires c κs = search needs
 
-loop-holds : tie.Need-loop-holds Inv-loop μ-loop
-loop-holds c = (omega arith, refl, refl)
+words-of-requires : tie.Need-words-of-requires
+words-of-requires c κs = search needs
 
-word-requires : tie.Need-word-requires Inv-loop μ-loop
-word-requires c κs = search needs
-
-mul-next : tie.Need-mul-next Inv-loop μ-loop
-mul-next c = omega arith
-
-slice-set-from-next : tie.Need-slice-set-from-next Inv-loop μ-loop
-slice-set-from-next c = omega arith
-
-add-i : tie.Need-add-i Inv-loop μ-loop
-add-i c = omega arith
-
-loop-less : tie.Need-loop-less Inv-loop μ-loop
-loop-less c = omega arith
-
-loop-again : tie.Need-loop-again Inv-loop μ-loop
-loop-again c =
-    let at = c .before .before in
-    let past : at .loop .i < at .before .args .count = omega arith in
-    (omega arith, search needs, drop-set-lt _ _ _ _ past ∙ at .loop .inv .2)
-
-same-length : tie.Need-same-length Inv-loop μ-loop
+same-length : tie.Need-same-length
 same-length c = search needs
 
-returns : tie.Need-returns Inv-loop μ-loop
-returns c = (c .before .loop .inv .1, c .before .loop .inv .2)
+same-length-2 : tie.Need-same-length-2
+same-length-2 c = search needs
+
+returns : tie.Need-returns
+returns c =
+    let told = c .before .words-of .ensures in
+    let start : tie.Start = c .before .before .before .before .before .before .before .before .before in
+    let n : ℕ = length (start .args .bytes .now) / 4 in
+    let many : n ≡ c .before .words-of .result = omega (arith, told .0) in
+    (search needs, ap (drop n) (told .1) ∙ stay _ _ n _ (told .0) many)
 
 pub words-spec : {M : Type 1} → statement M
-words-spec =
-    tie.close
-    (tie.spec
-    Inv-loop
-    μ-loop
-    loop-holds
-    word-requires
-    mul-next
-    slice-set-from-next
-    add-i
-    loop-less
-    loop-again
-    same-length
-    returns)
+words-spec = tie.close (tie.spec read-full-requires words-of-requires same-length same-length-2 returns)

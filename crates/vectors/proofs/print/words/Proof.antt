@@ -5,7 +5,6 @@ use Prim.Native.Nat.{_-_}
 use native.Mathlib.Omega.{arith}
 use Rattle.vectors.proofs.print.words.Statement.{statement}
 use Rattle.vectors.proofs.print.words.Tie as tie
-use Rattle.vectors.proofs.print.number.Reads as number-reads
 
 abbrev Inv-loop : tie.InvT-loop
 Inv-loop list from i₀ i-end i = Unit {0}
