@@ -3,12 +3,13 @@
 // variable. A loop asks its tests of every variable and joins the answers, so that nothing in it branches.
 ghost use mathlib.Core.Path.{_≡_};
 ghost use Prim.Native.Nat.{ℕ, _+_, _*_, _≤_, _<_};
-ghost use lib.IntN.{pos, natAbs};
+ghost use lib.IntN.{pos, natAbs, _*ℤ_};
 ghost use lib.ListN.{length};
 ghost use lib.Signed.{_≤ℤ_};
 ghost use Rattle.whole.specs.Numbers.{Within, AllWithin};
 ghost use Rattle.rules.specs.Sizes.{mostRows, mostColumns, mostVariables, largestCoefficient, largestLimit};
 ghost use Rattle.rules.specs.Sizes.{largestNumber, largestNumerator, largestSmall};
+ghost use Rattle.rules.specs.Evidence as evidence;
 ghost use Rattle.rules.specs.Evidence.{lowerPart, atLeast, atMost, showsCan};
 ghost use Rattle.tableau.specs.Amounts.{limitIn};
 ghost use Rattle.parts.specs.Reads.{problemOf, Readable, Limited, rowSumAt};
@@ -132,24 +133,38 @@ fn smalls_hold(
     half_holds(entries, half, rows, columns, LARGEST_SMALL)
 }
 
+// A limit's number over a denominator.
+fn scaled(denominator: i64, limit: Given) -> i64
+    requires { ⌜ (Within denominator largestNumber) × (Within (limit .plain) largestLimit) ⌝ }
+    ensures { λ r. ⌜ r ≡ denominator *ℤ limit .plain ⌝ }
+{
+    denominator * limit.plain as i64
+}
+
+// One number and its small part, a and b, are at most another and its small part, or strictly below them.
+fn clears(strict: bool, a: i64, b: i64, c: i64, d: i64) -> bool
+    ensures { λ r. ⌜ r ≡ evidence.clears strict (a, b) (c, d) ⌝ }
+{
+    let beyond = (strict & (b < d)) | (!strict & !(d < b));
+    (a < c) | (!(c < a) & beyond)
+}
+
 // A numerator and its small part, over a denominator, against a limit that may be missing. A strict limit wants more
 // than its own number.
 fn at_least(denominator: i64, x: i64, small: i64, limit: Given) -> bool
     requires { ⌜ (Within denominator largestNumber) × (Within (limit .plain) largestLimit) ⌝ }
     ensures { λ r. ⌜ r ≡ atLeast (limitIn limit) denominator (x, small) ⌝ }
 {
-    let least = denominator * limit.plain as i64;
-    let beyond = (limit.strict & (0 < small)) | (!limit.strict & !(small < 0));
-    !limit.on | ((least < x) | (!(x < least) & beyond))
+    let least = scaled(denominator, limit);
+    !limit.on | clears(limit.strict, least, 0, x, small)
 }
 
 fn at_most(denominator: i64, x: i64, small: i64, limit: Given) -> bool
     requires { ⌜ (Within denominator largestNumber) × (Within (limit .plain) largestLimit) ⌝ }
     ensures { λ r. ⌜ r ≡ atMost (limitIn limit) denominator (x, small) ⌝ }
 {
-    let most = denominator * limit.plain as i64;
-    let beyond = (limit.strict & (small < 0)) | (!limit.strict & !(0 < small));
-    !limit.on | ((x < most) | (!(most < x) & beyond))
+    let most = scaled(denominator, limit);
+    !limit.on | clears(limit.strict, x, small, most, 0)
 }
 
 // Every present limit holds.

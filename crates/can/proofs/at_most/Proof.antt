@@ -1,45 +1,23 @@
--- `can::at_most` meets its contract: the product fits, as it is within the largest number times the largest
--- limit. Assumes nothing.
+-- `can::at_most` meets its contract. Assumes nothing.
 use borrow.Author.Needs.{needs}
-use lib.IntN.{_*ℤ_}
-use mir.Facts.{toZ-ofZ, sfits-widen}
-use mir.Syntax.{w32, w64}
+use mir.Facts.{toZ-ofZ}
+use mir.Syntax.{w64}
 use mir.Val.{SFits}
-use Rattle.whole.proofs.Sizes.{within-*, fits-by}
 use Rattle.parts.proofs.Laws.Tests.{at-most-joined}
 use Rattle.can.proofs.at_most.Statement.{statement}
 use Rattle.can.proofs.at_most.Tie as tie
 
-module _ (c : tie.After-struct-told) where
-  abbrev start : tie.Start
-  start = c .before .before
+scaled-requires : tie.Need-scaled-requires
+scaled-requires c κs = search needs
 
-  fit : SFits w32 (start .args .limit .plain)
-  fit = search needs
-
-  wide : SFits w64 (start .args .limit .plain)
-  wide = sfits-widen {w = w32} tt fit
-
-  product : SFits w64 (start .args .denominator *ℤ start .args .limit .plain)
-  product = fits-by (within-* (start .pre .0) (start .pre .1)) tt
-
-cast-most : tie.Need-cast-most
-cast-most c = simp (toZ-ofZ (fit c)) (wide c)
-
-mul-most : tie.Need-mul-most
-mul-most c = simp (toZ-ofZ (start c .fits .denominator), toZ-ofZ (fit c), toZ-ofZ (wide c)) (product c)
+clears-requires : tie.Need-clears-requires
+clears-requires c κs = search needs
 
 returns : tie.Need-returns
-returns c = let k = c .before .before .before in let s = start k in let a = s .args in
-    simp (
-      toZ-ofZ (s .fits .denominator),
-      toZ-ofZ (fit k),
-      toZ-ofZ (wide k),
-      toZ-ofZ (product k),
-      toZ-ofZ (s .fits .x),
-      toZ-ofZ (s .fits .small),
-    )
-    (at-most-joined (a .limit .strict) (a .limit .plain) (a .denominator) (a .x) (a .small) (a .limit .on))
+returns c = let s = c .before .before .before in let a = s .args in let p = c .before .before .scaled in
+    let fit : SFits w64 (p .result) = search needs in
+    at-most-joined _ (a .denominator) (a .x) (a .small) (simp (toZ-ofZ (s .fits .denominator)) at (p .ensures))
+    (a .limit .on) (simp (toZ-ofZ fit, toZ-ofZ (s .fits .x), toZ-ofZ (s .fits .small)) at (c .clears .ensures))
 
 pub at-most-spec : {M : Type 1} → statement M
-at-most-spec = tie.close (tie.spec cast-most mul-most returns)
+at-most-spec = tie.close (tie.spec scaled-requires clears-requires returns)

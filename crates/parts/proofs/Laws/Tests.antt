@@ -2,7 +2,8 @@
 --   not-not, or-false                  a test that is denied twice, or joined with one that fails
 --   outside-largest                    a test of both sides is one of the size
 --   tests-more, finds-more             a loop's answer with one test more: all pass, or some test does
---   at-least-joined, at-most-joined    a limit that may be missing, and may be strict
+--   clears-joined                      one pair against another, strictly or not
+--   at-least-joined, at-most-joined    a limit that may be missing
 --   fair-joined, named-joined          a multiplier of a limit that may be missing
 use mathlib.Core.Path.{_≡_, refl, _∙_, ap, ap₂, sym}
 use mathlib.Core.Bool.{Bool, true, false, not, _&&_, _||_}
@@ -52,7 +53,7 @@ or-false false = refl
 -- ---- a limit
 
 -- by both tests of the first numbers and both of the second: no branch asks whether a limit is strict
-clears-joined : (strict : Bool) (a b c d : ℤ) →
+pub clears-joined : (strict : Bool) (a b c d : ℤ) →
     (ltZ a c || (not (ltZ c a) && ((strict && ltZ b d) || (not strict && not (ltZ d b))))) ≡ clears strict (a, b) (c, d)
 clears-joined true a b c d = go (ltZ a c) (ltZ c a) (ltZ b d)
   where
@@ -68,23 +69,19 @@ clears-joined false a b c d = go (ltZ a c) (ltZ c a) (ltZ d b) (λ e. le→false
     go false true r h = refl
     go false false r h = refl
 
-module _ (strict : Bool) (l d x y : ℤ) where
-  abbrev limit : Limit
-  limit = record { plain = l; strict = strict }
-
-  pub at-least-joined : (there : Bool) → (not there || (ltZ (d *ℤ l) x
-      || (not (ltZ x (d *ℤ l)) && ((strict && ltZ (pos 0) y) || (not strict && not (ltZ y (pos 0)))))))
-      ≡ atLeast (present there limit) d (x, y)
+-- p is the limit's number over d, and r what the order of the pairs says
+module _ (l : Limit) (d x y : ℤ) {p : ℤ} {r : Bool} (e : p ≡ d *ℤ l .plain) where
+  pub at-least-joined : (there : Bool) → r ≡ clears (l .strict) (p, pos 0) (x, y) →
+      (not there || r) ≡ atLeast (present there l) d (x, y)
   unfolding atLeast present
-  at-least-joined true = clears-joined strict (d *ℤ l) (pos 0) x y
-  at-least-joined false = refl
+  at-least-joined true h = h ∙ ap (λ z. clears (l .strict) (z, pos 0) (x, y)) e
+  at-least-joined false h = refl
 
-  pub at-most-joined : (there : Bool) → (not there || (ltZ x (d *ℤ l)
-      || (not (ltZ (d *ℤ l) x) && ((strict && ltZ y (pos 0)) || (not strict && not (ltZ (pos 0) y))))))
-      ≡ atMost (present there limit) d (x, y)
+  pub at-most-joined : (there : Bool) → r ≡ clears (l .strict) (x, y) (p, pos 0) →
+      (not there || r) ≡ atMost (present there l) d (x, y)
   unfolding atMost present
-  at-most-joined true = clears-joined strict x y (d *ℤ l) (pos 0)
-  at-most-joined false = refl
+  at-most-joined true h = h ∙ ap (λ z. clears (l .strict) (x, y) (z, pos 0)) e
+  at-most-joined false h = refl
 
 -- ---- a multiplier
 
