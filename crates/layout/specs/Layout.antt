@@ -1,10 +1,11 @@
 -- Where the entry of a row place and a column place lies in the flat array, and back, for m rows and n columns:
 -- row after row or column after column, with nothing between. The code's entries lie by columns. Beside this file only
 -- src/layout.rt says so, and proofs/Laws/Layout.antt uses it.
-use Prim.Native.Nat.{ℕ, _+_, _*_, _/_, _%_}
+use Prim.Native.Nat.{ℕ, _+_, _*_, _/_, _%_, _≤_, _<_}
 use mathlib.Core.List.{List}
 use lib.IntN.{ℤ, pos}
 use lib.ListN.{getD}
+use Rattle.rules.specs.Sizes.{mostColumns, mostRows}
 use Rattle.divisor.specs.Cells.{mostCells}
 use Rattle.layout.specs.declared.RowPlace.{RowPlace}
 use Rattle.layout.specs.declared.ColumnPlace.{ColumnPlace}
@@ -85,6 +86,13 @@ columnStrip = columnStripLaid inUse
 -- the flat place at which a line begins
 abbrev pub lineAt : ℕ → ℕ → ℕ → ℕ
 lineAt m n line = line * steps m n
+
+-- a step of a line, where rows and columns are as few as the array has room for
+pub record OnLine (m n line step : ℕ) : Type 0 where
+  pub few-rows : m ≤ mostRows
+  pub few-columns : n ≤ mostColumns
+  pub in-lines : line < lines m n
+  pub in-steps : step < steps m n
 
 -- the flat place of cell i of a strip
 abbrev pub along : Strip → ℕ → ℕ

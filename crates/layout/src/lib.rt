@@ -4,7 +4,7 @@
 ghost use mathlib.Core.Path.{_≡_};
 ghost use Prim.Native.Nat.{_+_, _≤_, _<_};
 ghost use Rattle.rules.specs.Sizes.{mostRows, mostColumns};
-ghost use Rattle.layout.specs.Layout.{flat, lineAt, spotAt, rowStrip, columnStrip};
+ghost use Rattle.layout.specs.Layout.{OnLine, flat, lineAt, spotAt, rowStrip, columnStrip};
 ghost use Rattle.layout.specs.Layout as layout;
 
 // How many cells the array of entries has.
@@ -55,8 +55,7 @@ pub fn line_at(rows: usize, columns: usize, line: usize) -> usize
 
 // The spot of a step of a line.
 pub fn spot_at(rows: usize, columns: usize, line: usize, step: usize) -> Spot
-    requires { ⌜ (rows ≤ mostRows) × (columns ≤ mostColumns) ⌝ }
-    requires { ⌜ (line < layout.lines rows columns) × (step < layout.steps rows columns) ⌝ }
+    requires { ⌜ OnLine rows columns line step ⌝ }
     ensures { λ r. ⌜ r ≡ spotAt rows columns (lineAt rows columns line + step) ⌝ }
 {
     Spot {

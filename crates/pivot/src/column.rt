@@ -1,7 +1,7 @@
 // One column: its cells before reduction, their quotients by a divisor that is tried, and their common divisor.
 ghost use mathlib.Core.Path.{_≡_};
 ghost use Prim.Native.Nat.{ℕ, _+_, _≤_, _<_};
-ghost use lib.IntN.{pos};
+ghost use lib.IntN.{natAbs, pos};
 ghost use lib.ListN.{getD, length};
 ghost use Rattle.layout.specs.Layout.{mostEntries};
 ghost use Rattle.pivot.specs.Trials.{Quotient, crossedIn, Columned, Apart, columnDivisor, someAbove};
@@ -33,6 +33,20 @@ fn cell_at<'a>(
     let own = entries[k];
     let beside = besides[i];
     numbers::crossed(column.pivot, own, beside, column.above)
+}
+
+// .. and its size.
+fn size_at<'a>(
+    entries: &'a [i32; MOST_ENTRIES],
+    besides: &'a [i32; rules::MOST_ROWS],
+    column: Column,
+    i: usize,
+) -> u64
+    requires { ⌜ Columned (now entries) (now besides) column ⌝ }
+    requires { ⌜ i < column .rows ⌝ }
+    ensures { λ r. ⌜ r ≡ natAbs (crossedIn (now (entries .entry)) (now (besides .entry)) column i) ⌝ }
+{
+    divisor::size(cell_at(entries, besides, column, i))
 }
 
 // 1 where a quotient, multiplied back, is another number, else 0.
@@ -88,8 +102,7 @@ pub fn column_divisor<'a>(
     let rows = column.rows;
     let mut g = by;
     for i in 0..rows {
-        let raw = cell_at(entries, besides, column, i);
-        g = divisor::common_of(divisor::size(raw), g);
+        g = divisor::common_of(size_at(entries, besides, column, i), g);
     }
     g
 }
@@ -106,8 +119,7 @@ pub fn is_above<'a>(
 {
     let rows = column.rows;
     for i in 0..rows {
-        let raw = cell_at(entries, besides, column, i);
-        if divisor::size(raw) > limit {
+        if size_at(entries, besides, column, i) > limit {
             return true;
         }
     }

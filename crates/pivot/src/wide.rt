@@ -83,9 +83,10 @@ fn mixed_line(
         ≡ cellsFor (now (entries .entry)) asked (lineAt (asked .rows) (asked .columns) (line + 1)) ⌝ }
 {
     let steps = layout::steps(asked.rows, asked.columns);
+    let start = layout::line_at(asked.rows, asked.columns, line);
     for step in 0..steps {
         let spot = layout::spot_at(asked.rows, asked.columns, line, step);
-        let at = layout::place(asked.rows, asked.columns, spot.row, spot.column);
+        let at = start + step;
         out[at] = mixed_at(entries, asked, spot);
     }
 }

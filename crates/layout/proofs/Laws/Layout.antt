@@ -8,7 +8,6 @@
 --   lines-live, line-next                   all lines are what is live; a line ends where the next begins
 --   lines-are, steps-are                    a line is a column
 --   row-along, column-along                 the places of a step of a line
---   flat-spot, spot-used                    the flat place of a spot; one whose flat place is live is in use
 --   row-strip, column-strip, row-count, ..  the cells of a row and of a column, and how many there are
 use Prim.Native.Nat.{ℕ, zero, suc, _+_, _*_, _/_, _%_, _≤_, _<_}
 use native.Mathlib.Nat.{add-comm, add-mul-div-right, add-mul-mod-self-right, div-add-mod', div-eq-of-lt}
@@ -18,7 +17,6 @@ use native.Mathlib.Omega.{arith}
 use mathlib.Core.Path.{_≡_, refl, ap, ap₂, sym, _∙_}
 use lib.Arith.{digits-lt}
 use Rattle.rules.specs.Sizes.{mostColumns, mostRows}
-use Rattle.layout.specs.declared.Spot.{Spot}
 use Rattle.layout.specs.Layout.{Order, byRows, byColumns, inUse, mostEntries, flatLaid, rowLaid, columnLaid}
 use Rattle.layout.specs.Layout.{linesLaid, stepsLaid, flat, rowAt, columnAt, lines, steps, lineAt, live}
 use Rattle.layout.specs.Layout.{row, column, spotAt, along, rowStripLaid, columnStripLaid, rowStrip, columnStrip}
@@ -141,21 +139,6 @@ lines-live m n = mul-comm n m
 
 pub line-next : (m n line : ℕ) → lineAt m n line + steps m n ≡ lineAt m n (line + 1)
 line-next m n line = omega (arith, suc-mul line (steps m n))
-
--- ---- spots, in the order in use
-
-module _ (m n k : ℕ) (spot : Spot) (e : spot ≡ spotAt m n k) where
-  abbrev i : ℕ
-  i = spot .row .0
-
-  abbrev j : ℕ
-  j = spot .column .0
-
-  pub flat-spot : flat m n i j ≡ k
-  flat-spot = ap (λ (s : Spot). flat m n (s .row .0) (s .column .0)) e ∙ flat-back m n k
-
-  pub spot-used : k < live m n → (i < m) × (j < n)
-  spot-used h = (rw e (row-live m n k h), rw e (column-live m n k h))
 
 -- ---- strips, in either order
 

@@ -2,15 +2,10 @@
 -- passed. The measure is how many are left. Assumes nothing.
 use native.Mathlib.Omega.{arith}
 use mathlib.Core.Path.{_≡_, ap, ap₂, sym, _∙_}
-use Prim.Native.Nat.{ℕ, _≤_, _-_}
-use borrow.Author.Needs.{needs}
-use lib.IntN.{natAbs}
-use mir.Facts.{toZ-ofZ}
-use mir.Syntax.{w64}
-use mir.Val.{SFits}
+use Prim.Native.Nat.{_≤_, _-_}
 use Rattle.whole.specs.Divisors.{gcd}
 use Rattle.pivot.specs.Trials.{columnDivisor}
-use Rattle.pivot.proofs.Laws.Columns.{column-none, column-more, crossed-within}
+use Rattle.pivot.proofs.Laws.Columns.{column-none, column-more}
 use Rattle.pivot.proofs.column.column_divisor.Statement.{statement}
 use Rattle.pivot.proofs.column.column_divisor.Tie as tie
 
@@ -24,21 +19,8 @@ loop-holds : tie.Need-loop-holds Inv-loop μ-loop
 loop-holds c = let s = c .args in
     (omega arith, sym (column-none (s .entries .now) (s .besides .now) (s .column) (s .by)))
 
-cell-at-requires : tie.Need-cell-at-requires Inv-loop μ-loop
-cell-at-requires c κs = (c .before .before .pre, omega arith)
-
-module _ (c : tie.After-cell-at Inv-loop μ-loop) where
-  abbrev start : tie.Start Inv-loop μ-loop
-  start = c .before .before .before
-
-  abbrev place : ℕ
-  place = c .before .before .loop .i
-
-  fit : SFits w64 (c .cell-at .result)
-  fit = search needs
-
-size-requires : tie.Need-size-requires Inv-loop μ-loop
-size-requires c κs = simp (toZ-ofZ (fit c)) (rw (c .cell-at .ensures) (crossed-within (start c .pre) (place c)))
+size-at-requires : tie.Need-size-at-requires Inv-loop μ-loop
+size-at-requires c κs = (c .before .before .pre, omega arith)
 
 common-of-requires : tie.Need-common-of-requires Inv-loop μ-loop
 common-of-requires c κs = tt
@@ -50,12 +32,10 @@ loop-less : tie.Need-loop-less Inv-loop μ-loop
 loop-less c = omega arith
 
 loop-again : tie.Need-loop-again Inv-loop μ-loop
-loop-again c = let a = c .before .before in let s = start a .args in (
+loop-again c = let a = c .before in let l = a .before .before in let s = l .before .args in (
   omega arith,
-  c .common-of .ensures
-      ∙ ap₂ gcd (c .before .size .ensures ∙ ap natAbs (toZ-ofZ (fit a) ∙ a .cell-at .ensures))
-      (a .before .before .loop .inv .1)
-      ∙ sym (column-more (s .entries .now) (s .besides .now) (s .column) (s .by) (place a)),
+  c .common-of .ensures ∙ ap₂ gcd (a .size-at .ensures) (l .loop .inv .1)
+      ∙ sym (column-more (s .entries .now) (s .besides .now) (s .column) (s .by) (l .loop .i)),
 )
 
 returns : tie.Need-returns Inv-loop μ-loop
@@ -71,8 +51,7 @@ column-divisor-spec =
     Inv-loop
     μ-loop
     loop-holds
-    cell-at-requires
-    size-requires
+    size-at-requires
     common-of-requires
     add-i
     loop-less
