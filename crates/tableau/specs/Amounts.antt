@@ -1,7 +1,8 @@
 -- Limits, values and amounts as the code holds them, and the pairs and limits of the rules that they stand for.
-use mathlib.Core.Bool.{false}
+use mathlib.Core.Bool.{false, cond, _&&_}
 use mathlib.Core.Option.{Option}
 use lib.IntN.{ℤ, pos, negℤ}
+use Rattle.whole.specs.Values.{pairs}
 use Rattle.rules.specs.Limit.{Limit, inset, present}
 use Rattle.tableau.specs.declared.Given.{Given}
 use Rattle.tableau.specs.declared.amount.Amount.{Amount}
@@ -21,6 +22,11 @@ givenLower g = (g .plain, inset (g .strict))
 
 abbrev pub givenUpper : Given → ℤ × ℤ
 givenUpper g = (g .plain, negℤ (inset (g .strict)))
+
+-- a value outside one of two limits goes to that one; the lower one is asked first
+unfoldable pub putInside : Given → Given → ℤ × ℤ → ℤ × ℤ
+putInside g h x = cond (g .on && pairs .less x (givenLower g)) (givenLower g)
+    (cond (h .on && pairs .less (givenUpper h) x) (givenUpper h) x)
 
 abbrev pub pairIn : Value → ℤ × ℤ
 pairIn x = (x .plain, x .small)

@@ -3,7 +3,7 @@
 ghost use mathlib.Core.Path.{_≡_};
 ghost use Rattle.whole.specs.Values.{pairs};
 ghost use Rattle.rules.specs.Limit.{inset};
-ghost use Rattle.tableau.specs.Amounts.{amountOf, givenLower, givenUpper, pairIn, pairOf, valueOf};
+ghost use Rattle.tableau.specs.Amounts.{amountOf, givenLower, givenUpper, pairIn, pairOf, putInside, valueOf};
 use crate::Given;
 
 // A value that a nonbasic variable may have: 0, or what a limit stands for.
@@ -49,7 +49,7 @@ pub fn upper_value(limit: Given) -> Value
 }
 
 // The same value in wider words.
-pub fn widened(value: Value) -> Amount
+fn widened(value: Value) -> Amount
     ensures { λ r. ⌜ r ≡ amountOf (pairIn value) ⌝ }
 {
     Amount {
@@ -74,4 +74,27 @@ pub fn less(a: Amount, b: Amount) -> bool
 {
     let tie = !(b.plain < a.plain) & (a.small < b.small);
     (a.plain < b.plain) | tie
+}
+
+// Whether one value is less than another.
+pub fn is_below(a: Value, b: Value) -> bool
+    ensures { λ r. ⌜ r ≡ pairs .less (pairIn a) (pairIn b) ⌝ }
+{
+    less(widened(a), widened(b))
+}
+
+// A value below its lower limit goes to that one, else a value above its upper limit to that one, each by what the limit
+// stands for.
+pub fn put_inside(lower: Given, upper: Given, value: Value) -> Value
+    ensures { λ r. ⌜ r ≡ valueOf (putInside lower upper (pairIn value)) ⌝ }
+{
+    let least = lower_value(lower);
+    let most = upper_value(upper);
+    if lower.on & is_below(value, least) {
+        return least;
+    }
+    if upper.on & is_below(most, value) {
+        return most;
+    }
+    value
 }

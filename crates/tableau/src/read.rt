@@ -61,9 +61,10 @@ fn start_line(
         ≡ startUpTo (problem (now (words .entry))) rows columns (lineAt rows columns (line + 1)) ⌝ }
 {
     let steps = layout::steps(rows, columns);
+    let start = layout::line_at(rows, columns, line);
     for step in 0..steps {
         let spot = layout::spot_at(rows, columns, line, step);
-        let at = layout::place(rows, columns, spot.row, spot.column);
+        let at = start + step;
         entries[at] = coefficient_at(words, columns, rows, spot.row, spot.column);
     }
 }
@@ -167,15 +168,7 @@ fn start_value(lower: Given, upper: Given) -> Value
         ≡ valueOf (startValue pairs (mapped lowerPair (limitIn lower)) (mapped upperPair (limitIn upper))) ⌝ }
 {
     let zero = Value { plain: 0, small: 0 };
-    let least = amount::lower_value(lower);
-    let most = amount::upper_value(upper);
-    if lower.on & amount::less(amount::widened(zero), amount::widened(least)) {
-        return least;
-    }
-    if upper.on & amount::less(amount::widened(most), amount::widened(zero)) {
-        return most;
-    }
-    zero
+    amount::put_inside(lower, upper, zero)
 }
 
 // The values of so many problem variables.
