@@ -19,12 +19,12 @@ pub enum Crossed {
 }
 
 // Whether both limits are present and the lower exceeds the upper.
-fn is_crossed(lower: Given, upper: Given) -> bool
+pub fn is_crossed(lower: Given, upper: Given) -> bool
     ensures { λ r. ⌜ r ≡ crossed pairs (leastIn lower) (mostIn upper) ⌝ }
 {
-    let least = amount::widened(amount::lower_value(lower));
-    let most = amount::widened(amount::upper_value(upper));
-    lower.on & upper.on & amount::less(most, least)
+    let least = amount::lower_value(lower);
+    let most = amount::upper_value(upper);
+    lower.on & upper.on & amount::is_below(most, least)
 }
 
 // The search over the first variables.

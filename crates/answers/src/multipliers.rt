@@ -54,8 +54,8 @@ fn turned(rises: bool, entry: i64) -> i64
     -entry
 }
 
-// The row as an equation "the sum is 0", turned to rise, at the variable of a seat: minus D at the row's own variable, 0
-// at the other basic ones.
+// The row as an equation "the sum is 0", turned to rise, at the variable of a seat: minus D at the row's own variable,
+// 0 at the other basic ones.
 fn pull_of(
     entries: &[i32; Tableau::MOST_ENTRIES],
     size: Size,

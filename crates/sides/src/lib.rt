@@ -96,15 +96,13 @@ pub fn breach_of(common: i32, value: Amount, limits: LimitPair) -> Breach
 fn may_rise(value: Value, limit: Given) -> bool
     ensures { λ r. ⌜ r ≡ mayRise pairs (pairIn value) (mostIn limit) ⌝ }
 {
-    let most = amount::widened(amount::upper_value(limit));
-    !limit.on | amount::less(amount::widened(value), most)
+    !limit.on | amount::is_below(value, amount::upper_value(limit))
 }
 
 fn may_fall(value: Value, limit: Given) -> bool
     ensures { λ r. ⌜ r ≡ mayFall pairs (pairIn value) (leastIn limit) ⌝ }
 {
-    let least = amount::widened(amount::lower_value(limit));
-    !limit.on | amount::less(least, amount::widened(value))
+    !limit.on | amount::is_below(amount::lower_value(limit), value)
 }
 
 // Whether a nonbasic variable can move the right way, by its entry in the row of the variable that must rise or fall.

@@ -83,8 +83,7 @@ pub fn is_below(a: Value, b: Value) -> bool
     less(widened(a), widened(b))
 }
 
-// A value below its lower limit goes to that one, else a value above its upper limit to that one, each by what the limit
-// stands for.
+// A value below its lower limit goes to what that stands for, else one above its upper limit to what that does.
 pub fn put_inside(lower: Given, upper: Given, value: Value) -> Value
     ensures { λ r. ⌜ r ≡ valueOf (putInside lower upper (pairIn value)) ⌝ }
 {

@@ -4,9 +4,13 @@
 use mathlib.Core.Path.{_≡_, sym, _∙_}
 use Rattle.answers.proofs.numerators_of.Reads as numerators-of
 use Rattle.answers.proofs.write.Reads as write
+use Rattle.answers.proofs.conflict.is_crossed.Reads as is-crossed
 use Rattle.answers.proofs.conflict.conflict_of.Reads as conflict-of
 use Rattle.answers.proofs.multipliers.multipliers_of.Reads as multipliers-of
 use Rattle.answers.proofs.multipliers.unit.Reads as unit
+
+pub is-crossed-only : (κs : _) (x : _) (a b : _) (e : _) → is-crossed.Post κs x a e → is-crossed.Post κs x b e → a ≡ b
+is-crossed-only κs x a b e h k = h ∙ sym k
 
 pub conflict-of-only : (κs : _) (x : _) (a b : _) (e : _) → conflict-of.Post κs x a e →
     conflict-of.Post κs x b e → a ≡ b

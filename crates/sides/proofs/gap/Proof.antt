@@ -7,22 +7,17 @@ use mir.Syntax.{w64}
 use mir.Val.{SFits}
 use Rattle.whole.proofs.Sizes.{fits-by, within--}
 use Rattle.tableau.specs.Amounts.{amountOf, pairOf}
+use Rattle.tableau.proofs.Laws.Parts.{Parted}
 use Rattle.sides.proofs.Laws.Sides.{gap-parts}
 use Rattle.sides.proofs.gap.Statement.{statement}
 use Rattle.sides.proofs.gap.Tie as tie
 
 module _ (s : tie.Start) where
-  fit-plain : SFits w64 (s .args .a .plain)
-  fit-plain = search needs
+  fit-a : Parted w64 (pairOf (s .args .a))
+  fit-a = search needs
 
-  fit-small : SFits w64 (s .args .a .small)
-  fit-small = search needs
-
-  fit-other-plain : SFits w64 (s .args .b .plain)
-  fit-other-plain = search needs
-
-  fit-other-small : SFits w64 (s .args .b .small)
-  fit-other-small = search needs
+  fit-b : Parted w64 (pairOf (s .args .b))
+  fit-b = search needs
 
   plain : SFits w64 (s .args .a .plain -ℤ s .args .b .plain)
   plain = fits-by (within-- (s .pre .0 .plain) (s .pre .1 .plain)) tt
@@ -32,19 +27,19 @@ module _ (s : tie.Start) where
 
 sub-t3 : tie.Need-sub-t3
 sub-t3 c = let s = c .before .before .before .before in
-    simp (toZ-ofZ (fit-plain s), toZ-ofZ (fit-other-plain s)) (plain s)
+    simp (toZ-ofZ (fit-a s .plain), toZ-ofZ (fit-b s .plain)) (plain s)
 
 sub-t4 : tie.Need-sub-t4
 sub-t4 c = let s = c .before .before .before .before .before .before .before .before in
-    simp (toZ-ofZ (fit-small s), toZ-ofZ (fit-other-small s)) (small s)
+    simp (toZ-ofZ (fit-a s .small), toZ-ofZ (fit-b s .small)) (small s)
 
 returns : tie.Need-returns
 returns c = let s = c .before .before .before .before .before .before .before .before in
     simp (
-      toZ-ofZ (fit-plain s),
-      toZ-ofZ (fit-small s),
-      toZ-ofZ (fit-other-plain s),
-      toZ-ofZ (fit-other-small s),
+      toZ-ofZ (fit-a s .plain),
+      toZ-ofZ (fit-a s .small),
+      toZ-ofZ (fit-b s .plain),
+      toZ-ofZ (fit-b s .small),
       toZ-ofZ (plain s),
       toZ-ofZ (small s),
     )

@@ -46,12 +46,16 @@ module _ {P : Problem (ℤ × ℤ)} {t : Tableau} {s : State (ℤ × ℤ)} (St :
   q = columnOf t w
 
   pub movable : Cells t → Movable t (choiceAt t r w)
-  movable c = record { pivotable = pivotable turn c; row-place = swappable turn .in-rows; leaving-seat = swappable turn .leaving-seat }
+  movable c = record {
+    pivotable = pivotable turn c;
+    row-place = swappable turn .in-rows;
+    leaving-seat = swappable turn .leaving-seat;
+  }
 
   pub exchangeable : Swappable t p q
   exchangeable = swappable turn
 
-  moved-is : next ≡ turns.nextAt P t r w
+  moved-is : next ≡ turns.next turn
   unfolding movedLaid
   moved-is =
       ap (λ v. swappedAt (pivotedAt t p q) p q

@@ -34,22 +34,13 @@ use Rattle.tableau.specs.Stands.{Serves, Stands}
 use Rattle.tableau.proofs.Laws.Kinds.{Kind, none-there, own, cell-there, kind}
 use Rattle.tableau.proofs.Laws.Live.{end, live-place, place-back}
 use Rattle.tableau.proofs.Laws.Solved.{mixed-is}
-use Rattle.tableau.proofs.Laws.Turns.{Turn, rowPlace, columnPlace, nextAt, pivot-is, pivot-nonzero}
+use Rattle.tableau.proofs.Laws.Turns.{Turn, p, q, next, pivot-is, pivot-nonzero}
 use Rattle.tableau.proofs.Laws.Turns.{common-nonzero, placed-next, sized-next}
 
 module _ {P : Problem (ℤ × ℤ)} {t : Tableau} {s : State (ℤ × ℤ)} {r : Leaving (ℤ × ℤ)} {w : ℕ}
     (M : Turn P t s r w) where
   abbrev N : ℕ
   N = vars P
-
-  abbrev p : ℕ
-  p = rowPlace t r
-
-  abbrev q : ℕ
-  q = columnPlace t w
-
-  abbrev next : Tableau
-  next = nextAt P t r w
 
   abbrev after : State (ℤ × ℤ)
   after = moved pairs P s r w
@@ -65,16 +56,16 @@ module _ {P : Problem (ℤ × ℤ)} {t : Tableau} {s : State (ℤ × ℤ)} {r : 
   n = t .columns
 
   abbrev mixed : ℕ → ℤ
-  mixed = mixedAt m n (t .common) (t .entries) p q
+  mixed = mixedAt m n (t .common) (t .entries) (p M) (q M)
 
   abbrev new : ℤ
-  new = product m n (t .entries) (t .common) p q
+  new = product m n (t .entries) (t .common) (p M) (q M)
 
   abbrev mixes : List ℤ
-  mixes = mix m n (t .entries) (t .common) p q
+  mixes = mix m n (t .entries) (t .common) (p M) (q M)
 
   abbrev part : ℤ
-  part = by m n (t .entries) (t .common) p q
+  part = by m n (t .entries) (t .common) (p M) (q M)
 
   abbrev g : ℕ
   g = divisorBelow (end t) mixes new
@@ -98,10 +89,10 @@ module _ {P : Problem (ℤ × ℤ)} {t : Tableau} {s : State (ℤ × ℤ)} {r : 
   cell-mixed k h = filled-in mostEntries (pos 0) (end t) mixed k h
 
   pub mixed-flat : (i j : ℕ) → i < P .m → j < P .n →
-      mixed (flat m n i j) ≡ entry T1 (basicAt next i) (nonbasicAt next j)
+      mixed (flat m n i j) ≡ entry T1 (basicAt (next M) i) (nonbasicAt (next M) j)
   mixed-flat i j h k =
       let b = place-back (M .stands .sized) i j h k in
-      ap₂ (mixedCell m n (t .common) (t .entries) p q) (b .0) (b .1) ∙ mixed-is M i j h k
+      ap₂ (mixedCell m n (t .common) (t .entries) (p M) (q M)) (b .0) (b .1) ∙ mixed-is M i j h k
 
   -- ---- the divisor of the cells divides every number of the solved tableau
 
@@ -113,9 +104,9 @@ module _ {P : Problem (ℤ × ℤ)} {t : Tableau} {s : State (ℤ × ℤ)} {r : 
 
   g-entry : (v u : ℕ) → v < N → u < N → g ∣ natAbs (entry T1 v u)
   unfolding moved pivot
-  g-entry v u h k = go (kind P next after rowed-next (placed-next M) v u h k)
+  g-entry v u h k = go (kind P (next M) after rowed-next (placed-next M) v u h k)
     where
-      go : Kind P next after v u → g ∣ natAbs (entry T1 v u)
+      go : Kind P (next M) after v u → g ∣ natAbs (entry T1 v u)
       go (none-there e) = rw (sym (F .of-entry v u h k) ∙ ap (λ z. F .by *ℤ z) e ∙ *ℤ-zero (F .by)) (dvd-zero g)
       go (own e) = rw (sym (F .of-entry v u h k) ∙ ap (λ z. F .by *ℤ z) e ∙ F .of-common) g-common
       go (cell-there i j a b e f) = rw (← e, ← f, ← mixed-flat i j a b)
@@ -128,7 +119,7 @@ module _ {P : Problem (ℤ × ℤ)} {t : Tableau} {s : State (ℤ × ℤ)} {r : 
       let a : rowAt m n k < P .m = rw (← M .stands .sized .rows-is) (row-live m n k h) in
       let b : columnAt m n k < P .n = rw (← M .stands .sized .columns-is) (column-live m n k h) in
       rw (cell-mixed k h, mixed-is M (rowAt m n k) (columnAt m n k) a b)
-      (divisor-divides N T1 .1 (basicAt next (rowAt m n k)) (nonbasicAt next (columnAt m n k))
+      (divisor-divides N T1 .1 (basicAt (next M) (rowAt m n k)) (nonbasicAt (next M) (columnAt m n k))
       (placed-next M .in-row (rowAt m n k) a .variable-in) (placed-next M .in-column (columnAt m n k) b .variable-in))
 
   pub divisor-is : g ≡ divisorSize N T1
@@ -142,16 +133,16 @@ module _ {P : Problem (ℤ × ℤ)} {t : Tableau} {s : State (ℤ × ℤ)} {r : 
 
   -- ---- the numbers afterwards
 
-  common-next : next .common ≡ common after
+  common-next : next M .common ≡ common after
   unfolding swappedAt pivotedLaid moved pivot reduced
   common-next = ap₂ quotZ product-is by-is
 
-  cell-live : (k : ℕ) → k < end t → cell next k ≡ quotZ (mixed k) (divisor N T1)
+  cell-live : (k : ℕ) → k < end t → cell (next M) k ≡ quotZ (mixed k) (divisor N T1)
   unfolding swappedAt pivotedLaid
   cell-live k h = filled-in mostEntries (pos 0) (end t) (quotients mixes part) k h
       ∙ ap₂ quotZ (cell-mixed k h) by-is
 
-  cell-past : (k : ℕ) → end t ≤ k → cell next k ≡ pos 0
+  cell-past : (k : ℕ) → end t ≤ k → cell (next M) k ≡ pos 0
   unfolding swappedAt pivotedLaid
   cell-past k h = filled-out mostEntries (pos 0) (end t) (quotients mixes part) k h
 
@@ -159,26 +150,26 @@ module _ {P : Problem (ℤ × ℤ)} {t : Tableau} {s : State (ℤ × ℤ)} {r : 
   unfolding moved pivot
   entry-next v u h k = reduced-entry N T1 v u h k
 
-  same-place : (i j : ℕ) → cellAt next i j ≡ cell next (flat m n i j)
+  same-place : (i j : ℕ) → cellAt (next M) i j ≡ cell (next M) (flat m n i j)
   unfolding swappedAt pivotedLaid
   same-place i j = refl
 
   cell-next : (i j : ℕ) → i < P .m → j < P .n →
-      cellAt next i j ≡ entry (after .tableau) (basicAt next i) (nonbasicAt next j)
+      cellAt (next M) i j ≡ entry (after .tableau) (basicAt (next M) i) (nonbasicAt (next M) j)
   cell-next i j h k =
       same-place i j ∙ cell-live (flat m n i j) (live-place (M .stands .sized) i j h k)
       ∙ ap (λ z. quotZ z (divisor N T1)) (mixed-flat i j h k)
-      ∙ sym (entry-next (basicAt next i) (nonbasicAt next j) (placed-next M .in-row i h .variable-in)
+      ∙ sym (entry-next (basicAt (next M) i) (nonbasicAt (next M) j) (placed-next M .in-row i h .variable-in)
       (placed-next M .in-column j k .variable-in))
 
-  unused-next : (k : ℕ) → live (P .m) (P .n) ≤ k → cell next k ≡ pos 0
+  unused-next : (k : ℕ) → live (P .m) (P .n) ≤ k → cell (next M) k ≡ pos 0
   unused-next k h = cell-past k (rw (M .stands .sized .rows-is, M .stands .sized .columns-is) h)
 
-  serves-next : Serves P (next .limits)
+  serves-next : Serves P (next M .limits)
   unfolding swappedAt pivotedLaid
   serves-next = M .stands .serves
 
-  pub stands-next : Stands P next after
+  pub stands-next : Stands P (next M) after
   stands-next = record {
     sized = sized-next M;
     placed = placed-next M;

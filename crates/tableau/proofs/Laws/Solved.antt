@@ -21,7 +21,7 @@ use Rattle.rules.proofs.Relation.{relation-own, relation-off}
 use Rattle.pivot.specs.Pivot.{mixedOf, mixedCell, mixedLaid}
 use Rattle.tableau.specs.declared.Tableau.{Tableau}
 use Rattle.tableau.specs.Parts.{cellAt, basicAt, nonbasicAt, columnOf}
-use Rattle.tableau.proofs.Laws.Turns.{Turn, rowPlace, columnPlace, nextAt, leaving-row, entering-column}
+use Rattle.tableau.proofs.Laws.Turns.{Turn, p, q, next, leaving-row, entering-column}
 use Rattle.tableau.proofs.Laws.Turns.{pivot-is, basic-left, basic-stays, nonbasic-entered, nonbasic-stays}
 
 -- ---- over plain numbers: D is common, p the pivot
@@ -48,15 +48,6 @@ module _ {P : Problem (ℤ × ℤ)} {t : Tableau} {s : State (ℤ × ℤ)} {r : 
   abbrev N : ℕ
   N = vars P
 
-  abbrev p : ℕ
-  p = rowPlace t r
-
-  abbrev q : ℕ
-  q = columnPlace t w
-
-  abbrev next : Tableau
-  next = nextAt P t r w
-
   abbrev T1 : rules.Tableau
   T1 = solved N T (r .variable) w
 
@@ -68,7 +59,7 @@ module _ {P : Problem (ℤ × ℤ)} {t : Tableau} {s : State (ℤ × ℤ)} {r : 
   entry-is v u h k =
       matrix-at N (λ v u. entry T (r .variable) w *ℤ entry T v u -ℤ entry T v w *ℤ relation T (r .variable) u) v u h k
 
-  w-elsewhere : (j : ℕ) → j < P .n → j ≢ q → nonbasicAt t j ≢ w
+  w-elsewhere : (j : ℕ) → j < P .n → j ≢ q M → nonbasicAt t j ≢ w
   w-elsewhere j h n e = n (sym (M .stands .placed .in-column j h .back) ∙ ap (columnOf t) e)
 
   seated-not-r : (j : ℕ) → j < P .n → nonbasicAt t j ≢ r .variable
@@ -85,17 +76,18 @@ module _ {P : Problem (ℤ × ℤ)} {t : Tableau} {s : State (ℤ × ℤ)} {r : 
   basic-zero-r : (v : ℕ) → v < N → entry T v (r .variable) ≡ pos 0
   basic-zero-r v h = M .rowed .basic-zero v (r .variable) h (M .left .variable) (M .left .was-basic)
 
-  above : (j : ℕ) → j < P .n → cellAt t p j ≡ entry T (r .variable) (nonbasicAt t j)
-  above j k = M .stands .numbers .cell-is p j (leaving-row M .in-rows) k
+  above : (j : ℕ) → j < P .n → cellAt t (p M) j ≡ entry T (r .variable) (nonbasicAt t j)
+  above j k = M .stands .numbers .cell-is (p M) j (leaving-row M .in-rows) k
       ∙ ap (λ v. entry T v (nonbasicAt t j)) (leaving-row M .holds)
 
-  beside : (i : ℕ) → i < P .m → cellAt t i q ≡ entry T (basicAt t i) w
-  beside i h = M .stands .numbers .cell-is i q h (entering-column M .in-columns)
+  beside : (i : ℕ) → i < P .m → cellAt t i (q M) ≡ entry T (basicAt t i) w
+  beside i h = M .stands .numbers .cell-is i (q M) h (entering-column M .in-columns)
       ∙ ap (entry T (basicAt t i)) (entering-column M .holds)
 
   pub mixed-is : (i j : ℕ) → i < P .m → j < P .n →
-      mixedCell (t .rows) (t .columns) (t .common) (t .entries) p q i j ≡ entry T1 (basicAt next i) (nonbasicAt next j)
-  mixed-is i j h k = mixed-cell t p q i j ∙ go (ℕ-discrete i p) (ℕ-discrete j q)
+      mixedCell (t .rows) (t .columns) (t .common) (t .entries) (p M) (q M) i j
+      ≡ entry T1 (basicAt (next M) i) (nonbasicAt (next M) j)
+  mixed-is i j h k = mixed-cell t (p M) (q M) i j ∙ go (ℕ-discrete i (p M)) (ℕ-discrete j (q M))
     where
       v-var : basicAt t i < N
       v-var = M .stands .placed .in-row i h .variable-in
@@ -103,19 +95,21 @@ module _ {P : Problem (ℤ × ℤ)} {t : Tableau} {s : State (ℤ × ℤ)} {r : 
       u-var : nonbasicAt t j < N
       u-var = M .stands .placed .in-column j k .variable-in
 
-      go : Dec (i ≡ p) → Dec (j ≡ q) →
-          mixedOf (eqb i p) (eqb j q) (t .common) (cellAt t p q) (cellAt t i j) (cellAt t i q) (cellAt t p j)
-          ≡ entry T1 (basicAt next i) (nonbasicAt next j)
+      go : Dec (i ≡ p M) → Dec (j ≡ q M) →
+          mixedOf (eqb i (p M)) (eqb j (q M)) (t .common) (cellAt t (p M) (q M)) (cellAt t i j) (cellAt t i (q M))
+          (cellAt t (p M) j)
+          ≡ entry T1 (basicAt (next M) i) (nonbasicAt (next M) j)
       go (yes e) (yes f) =
-          rw (eq-eqb i p e, eq-eqb j q f)
+          rw (eq-eqb i (p M) e, eq-eqb j (q M) f)
           (crossing (t .common) (entry T (r .variable) w)
-          ∙ sym (ap₂ (entry T1) (ap (basicAt next) e ∙ basic-left M) (ap (nonbasicAt next) f ∙ nonbasic-entered M)
+          ∙ sym (ap₂ (entry T1) (ap (basicAt (next M)) e ∙ basic-left M)
+          (ap (nonbasicAt (next M)) f ∙ nonbasic-entered M)
           ∙ entry-is w (r .variable) (M .entered .variable) (M .left .variable)
           ∙ (rw (basic-zero-r w (M .entered .variable), own-w, at-leaving) refl)))
       go (yes e) (no n) =
-          rw (eq-eqb i p e, ne-eqb j q n)
-          (in-leaving-row (t .common) (entry T (r .variable) w) (cellAt t p j)
-          ∙ sym (ap₂ (entry T1) (ap (basicAt next) e ∙ basic-left M) (nonbasic-stays M j n)
+          rw (eq-eqb i (p M) e, ne-eqb j (q M) n)
+          (in-leaving-row (t .common) (entry T (r .variable) w) (cellAt t (p M) j)
+          ∙ sym (ap₂ (entry T1) (ap (basicAt (next M)) e ∙ basic-left M) (nonbasic-stays M j n)
           ∙ entry-is w (nonbasicAt t j) (M .entered .variable) u-var
           ∙ (rw (
             M .rowed .own-zero w (nonbasicAt t j) (M .entered .value) (M .entered .variable) u-var
@@ -125,13 +119,13 @@ module _ {P : Problem (ℤ × ℤ)} {t : Tableau} {s : State (ℤ × ℤ)} {r : 
             above j k,
           ) refl)))
       go (no n) (yes f) =
-          rw (ne-eqb i p n, eq-eqb j q f)
-          (in-entering-column (t .common) (entry T (r .variable) w) (cellAt t i q)
-          ∙ sym (ap₂ (entry T1) (basic-stays M i n) (ap (nonbasicAt next) f ∙ nonbasic-entered M)
+          rw (ne-eqb i (p M) n, eq-eqb j (q M) f)
+          (in-entering-column (t .common) (entry T (r .variable) w) (cellAt t i (q M))
+          ∙ sym (ap₂ (entry T1) (basic-stays M i n) (ap (nonbasicAt (next M)) f ∙ nonbasic-entered M)
           ∙ entry-is (basicAt t i) (r .variable) v-var (M .left .variable)
           ∙ (rw (basic-zero-r (basicAt t i) v-var, at-leaving, beside i h) refl)))
       go (no n) (no m) =
-          rw (ne-eqb i p n, ne-eqb j q m)
+          rw (ne-eqb i (p M) n, ne-eqb j (q M) m)
           (sym (ap₂ (entry T1) (basic-stays M i n) (nonbasic-stays M j m)
           ∙ entry-is (basicAt t i) (nonbasicAt t j) v-var u-var
           ∙ (rw (

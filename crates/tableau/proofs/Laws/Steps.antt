@@ -15,7 +15,7 @@ use Rattle.whole.specs.Values.{pairs}
 use Rattle.rules.specs.Limit.{Limit, inset, lowerPair, present, upperPair}
 use Rattle.rules.specs.Problem.{Problem, mapped, vars}
 use Rattle.rules.specs.Sizes.{mostVariables, largestLimit}
-use Rattle.rules.specs.Step.{State, Side, below, above, Leaving, limitAt}
+use Rattle.rules.specs.Step.{State, Side, below, above, Leaving}
 use Rattle.rules.proofs.Leaves.{Outside, too-low, too-high}
 use Rattle.pivot.specs.Pivot.{Pivotable, smallBelow}
 use Rattle.tableau.specs.declared.Given.{Given}
@@ -30,7 +30,7 @@ use Rattle.tableau.proofs.Laws.Moves.{stands-next}
 use Rattle.tableau.proofs.Laws.Places.{value-here, value-other}
 use Rattle.tableau.proofs.Laws.Live.{end}
 use Rattle.tableau.proofs.Laws.Smalls.{cells-small}
-use Rattle.tableau.proofs.Laws.Turns.{Turn, rowPlace, columnPlace, turnedAt, nextAt, leaving-row}
+use Rattle.tableau.proofs.Laws.Turns.{Turn, p, q, x, turned, next, leaving-row}
 use Rattle.tableau.proofs.Laws.Turns.{entering-column, row-in-range, column-in-range}
 use Rattle.tableau.proofs.Laws.Turns.{pivot-nonzero, common-nonzero}
 
@@ -46,22 +46,10 @@ present-some f false l x e = absurd (Option·none-ne-some x e)
 
 module _ {P : Problem (ℤ × ℤ)} {t : Tableau} {s : State (ℤ × ℤ)} {r : Leaving (ℤ × ℤ)} {w : ℕ}
     (M : Turn P t s r w) where
-  abbrev p : ℕ
-  p = rowPlace t r
-
-  abbrev q : ℕ
-  q = columnPlace t w
-
-  abbrev x : ℤ × ℤ
-  x = limitAt pairs P r
-
-  abbrev next : Tableau
-  next = nextAt P t r w
-
   few : (v : ℕ) → v < vars P → v < mostVariables
   few v h = let a = M .stands .sized .few-rows in let b = M .stands .sized .few-columns in omega arith
 
-  pub pivotable : Cells t → Pivotable (t .rows) (t .columns) (t .entries) (t .common) p q
+  pub pivotable : Cells t → Pivotable (t .rows) (t .columns) (t .entries) (t .common) (p M) (q M)
   pivotable c = record {
     few-rows = rw (M .stands .sized .rows-is) (M .stands .sized .few-rows);
     few-columns = rw (M .stands .sized .columns-is) (M .stands .sized .few-columns);
@@ -73,12 +61,13 @@ module _ {P : Problem (ℤ × ℤ)} {t : Tableau} {s : State (ℤ × ℤ)} {r : 
     pivot-nonzero = pivot-nonzero M;
   }
 
-  pub swappable : Swappable t p q
+  pub swappable : Swappable t (p M) (q M)
   swappable = record {
     in-rows = row-in-range M;
     in-columns = column-in-range M;
-    leaving-seat = few (basicAt t p) (M .stands .placed .in-row p (leaving-row M .in-rows) .variable-in);
-    entering-seat = few (nonbasicAt t q) (M .stands .placed .in-column q (entering-column M .in-columns) .variable-in);
+    leaving-seat = few (basicAt t (p M)) (M .stands .placed .in-row (p M) (leaving-row M .in-rows) .variable-in);
+    entering-seat = few (nonbasicAt t (q M))
+        (M .stands .placed .in-column (q M) (entering-column M .in-columns) .variable-in);
   }
 
   -- ---- the limit that the leaving variable gets
@@ -86,7 +75,7 @@ module _ {P : Problem (ℤ × ℤ)} {t : Tableau} {s : State (ℤ × ℤ)} {r : 
   abbrev limit : Given → Limit
   limit g = record { plain = g .plain; strict = g .strict }
 
-  pub limit-is : limitNumber (r .side) (t .limits) (r .variable) ≡ x
+  pub limit-is : limitNumber (r .side) (t .limits) (r .variable) ≡ x M
   limit-is = go (M .left .outside)
     where
       go : {σ : Side} {y : ℤ × ℤ} → Outside pairs P s (r .variable) σ y → limitNumber σ (t .limits) (r .variable) ≡ y
@@ -99,21 +88,21 @@ module _ {P : Problem (ℤ × ℤ)} {t : Tableau} {s : State (ℤ × ℤ)} {r : 
           present-some upperPair (g .on) (limit g) y
           (sym (M .stands .serves .upper-is (r .variable) (M .left .variable)) ∙ e)
 
-  limit-within : Within (x .0) largestLimit
+  limit-within : Within (x M .0) largestLimit
   limit-within = rw (← limit-is) (go (r .side))
     where
       go : (σ : Side) → Within (limitNumber σ (t .limits) (r .variable) .0) largestLimit
       go below = M .stands .serves .lowers-within (r .variable)
       go above = M .stands .serves .uppers-within (r .variable)
 
-  limit-small : Within (x .1) 1
+  limit-small : Within (x M .1) 1
   limit-small = rw (← limit-is) (go (r .side))
     where
       go : (σ : Side) → Within (limitNumber σ (t .limits) (r .variable) .1) 1
       go below = inset-within (lowerGiven (t .limits) (r .variable) .strict)
       go above = outset-within (upperGiven (t .limits) (r .variable) .strict)
 
-  limit-plain : t .limits .strict ≡ false → x .1 ≡ pos 0
+  limit-plain : t .limits .strict ≡ false → x M .1 ≡ pos 0
   limit-plain e = rw (← limit-is) (go (r .side))
     where
       go : (σ : Side) → limitNumber σ (t .limits) (r .variable) .1 ≡ pos 0
@@ -123,27 +112,27 @@ module _ {P : Problem (ℤ × ℤ)} {t : Tableau} {s : State (ℤ × ℤ)} {r : 
   -- ---- afterwards
 
   -- what holds of every value, and of the limit, holds of every value then
-  each-next : (Q : ℤ × ℤ → Type 0) → ((j : ℕ) → Q (valueAt t j)) → Q x → (j : ℕ) → Q (valueAt next j)
-  each-next Q h k j = go (ℕ-discrete j q)
+  each-next : (Q : ℤ × ℤ → Type 0) → ((j : ℕ) → Q (valueAt t j)) → Q (x M) → (j : ℕ) → Q (valueAt (next M) j)
+  each-next Q h k j = go (ℕ-discrete j (q M))
     where
-      long : q < length (turnedAt t r w .values)
+      long : q M < length (turned M .values)
       long = unfold pivotedLaid in (rw (M .stands .sized .values-long) (column-in-range M))
 
-      small-long : q < length (turnedAt t r w .smalls)
+      small-long : q M < length (turned M .smalls)
       small-long = unfold pivotedLaid in (rw (M .stands .sized .smalls-long) (column-in-range M))
 
-      before : (j : ℕ) → Q (valueAt (turnedAt t r w) j)
+      before : (j : ℕ) → Q (valueAt (turned M) j)
       before = unfold pivotedLaid in h
 
-      go : Dec (j ≡ q) → Q (valueAt next j)
-      go (yes e) = subst Q (sym (ap (valueAt next) e ∙ value-here (turnedAt t r w) p q x long small-long)) k
-      go (no n) = subst Q (sym (value-other (turnedAt t r w) p q x j n)) (before j)
+      go : Dec (j ≡ q M) → Q (valueAt (next M) j)
+      go (yes e) = subst Q (sym (ap (valueAt (next M)) e ∙ value-here (turned M) (p M) (q M) (x M) long small-long)) k
+      go (no n) = subst Q (sym (value-other (turned M) (p M) (q M) (x M) j n)) (before j)
 
-  limits-next : next .limits ≡ t .limits
+  limits-next : next M .limits ≡ t .limits
   unfolding swappedAt pivotedLaid
   limits-next = refl
 
-  pub ranged-next : Ranged t → smallBelow (end next) (next .entries) (next .common) ≡ true → Ranged next
+  pub ranged-next : Ranged t → smallBelow (end (next M)) (next M .entries) (next M .common) ≡ true → Ranged (next M)
   ranged-next g e = record {
     cells = cells-small (stands-next M) e;
     values-within = each-next (λ z. Within (z .0) largestLimit) (g .values-within) limit-within;

@@ -1,6 +1,7 @@
 -- A pivot that the rules choose, by place: where the leaving and the entering variable sit, and who sits where then.
 --   Turn                                     a tableau, the state it stands for, and what leaves and enters there
---   nextAt                                   the tableau by place afterwards
+--   p, q, x                                  the row and the column of the pivot, and the value that leaves
+--   turned, next                             the tableau by place after the pivot, and after the exchange
 --   leaving-row, entering-column, pivot-is   the places of the pivot, and its entry
 --   pivot-nonzero, common-nonzero            neither is 0
 --   placed-next, sized-next                  the places afterwards
@@ -36,36 +37,24 @@ pub record Turn (P : Problem (ℤ × ℤ)) (t : Tableau) (s : State (ℤ × ℤ)
   pub left : Left pairs P s r
   pub entered : Entered pairs P s r w
 
--- the places of the leaving and the entering variable
-abbrev pub rowPlace : Tableau → Leaving (ℤ × ℤ) → ℕ
-rowPlace t r = rowOf t (r .variable)
-
-abbrev pub columnPlace : Tableau → ℕ → ℕ
-columnPlace t w = columnOf t w
-
-abbrev pub turnedAt : Tableau → Leaving (ℤ × ℤ) → ℕ → Tableau
-turnedAt t r w = pivotedAt t (rowPlace t r) (columnPlace t w)
-
--- after the pivot the two variables change places, and the leaving one gets the limit that it violates
-abbrev pub nextAt : Problem (ℤ × ℤ) → Tableau → Leaving (ℤ × ℤ) → ℕ → Tableau
-nextAt P t r w = swappedAt (turnedAt t r w) (rowPlace t r) (columnPlace t w) (limitAt pairs P r)
-
 module _ {P : Problem (ℤ × ℤ)} {t : Tableau} {s : State (ℤ × ℤ)} {r : Leaving (ℤ × ℤ)} {w : ℕ}
     (M : Turn P t s r w) where
-  abbrev p : ℕ
-  p = rowPlace t r
+  -- the places of the leaving and the entering variable, and the limit that the leaving one violates
+  abbrev pub p : ℕ
+  p = rowOf t (r .variable)
 
-  abbrev q : ℕ
-  q = columnPlace t w
+  abbrev pub q : ℕ
+  q = columnOf t w
 
-  abbrev x : ℤ × ℤ
+  abbrev pub x : ℤ × ℤ
   x = limitAt pairs P r
 
-  abbrev turned : Tableau
-  turned = turnedAt t r w
+  -- after the pivot the two variables change places, and the leaving one gets that limit
+  abbrev pub turned : Tableau
+  turned = pivotedAt t p q
 
-  abbrev next : Tableau
-  next = nextAt P t r w
+  abbrev pub next : Tableau
+  next = swappedAt turned p q x
 
   pub leaving-row : HasRow P t (r .variable)
   leaving-row = M .stands .placed .has-row (r .variable) (M .left .variable) (M .left .was-basic)

@@ -63,8 +63,8 @@ module _ (c : tie.In-loop Inv-loop μ-loop) where
   few = omega arith
 
   blockable : let a = start .args in
-      Blockable (a .entries .now) (a .size .rows) (a .size .columns) (toZ w32 (ofZ w32 (a .common))) (a .blocked .row .0)
-      (getD (a .t2) number nowhere)
+      Blockable (a .entries .now) (a .size .rows) (a .size .columns) (toZ w32 (ofZ w32 (a .common)))
+      (a .blocked .row .0) (getD (a .t2) number nowhere)
   blockable = simp (toZ-ofZ (start .fits .common)) (start .pre .1 number in-range)
 
 mul-seat : tie.Need-mul-seat Inv-loop μ-loop

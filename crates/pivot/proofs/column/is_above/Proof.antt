@@ -27,8 +27,8 @@ returns c =
     let a = c .before in
     let l = a .before .before in
     let s = l .before .args in
-    sym (above-here (s .entries .now) (s .besides .now) (s .column) (s .limit) (s .column .rows) (l .loop .i) (omega arith)
-    (subst (λ (n : ℕ). s .limit < n) (a .size-at .ensures) (c .if1 .taken)))
+    sym (above-here (s .entries .now) (s .besides .now) (s .column) (s .limit) (s .column .rows) (l .loop .i)
+    (omega arith) (subst (λ (n : ℕ). s .limit < n) (a .size-at .ensures) (c .if1 .taken)))
 
 add-i : tie.Need-add-i Inv-loop μ-loop
 add-i c = omega arith

@@ -115,8 +115,8 @@ returns c =
     let h = c .before in
     let s = h .before .before .before in
     let e : h .loop .step ≡ h .before .before .steps .result = omega arith in
-    line-all (s .args .asked .rows) (s .args .asked .columns) (cell s) (s .args .line) (e ∙ h .before .before .steps .ensures)
-    (h .loop .inv .1)
+    line-all (s .args .asked .rows) (s .args .asked .columns) (cell s) (s .args .line)
+    (e ∙ h .before .before .steps .ensures) (h .loop .inv .1)
 
 pub mixed-line-spec : {M : Type 1} → statement M
 mixed-line-spec =

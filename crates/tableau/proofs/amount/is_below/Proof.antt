@@ -17,7 +17,8 @@ less-requires c κs = search needs
 
 returns : tie.Need-returns
 returns c = c .less .ensures
-    ∙ ap₂ (λ a b. pairs .less (pairOf a) (pairOf b)) (c .before .before .widened .ensures) (c .before .widened2 .ensures)
+    ∙ ap₂ (λ a b. pairs .less (pairOf a) (pairOf b))
+    (c .before .before .widened .ensures) (c .before .widened2 .ensures)
 
 pub is-below-spec : {M : Type 1} → statement M
 is-below-spec = tie.close (tie.spec widened-requires widened-requires-2 less-requires returns)

@@ -5,23 +5,17 @@ use borrow.Author.Needs.{needs}
 use lib.Signed.{ltZ}
 use mir.Facts.{toZ-ofZ}
 use mir.Syntax.{w64}
-use mir.Val.{SFits}
 use Rattle.whole.specs.Values.{lexicographic}
+use Rattle.tableau.specs.Amounts.{pairOf}
+use Rattle.tableau.proofs.Laws.Parts.{Parted}
 use Rattle.tableau.proofs.amount.less.Statement.{statement}
 use Rattle.tableau.proofs.amount.less.Tie as tie
 
-module _ (s : tie.Start) where
-  fit-plain : SFits w64 (s .args .a .plain)
-  fit-plain = search needs
+fit-a : (s : tie.Start) → Parted w64 (pairOf (s .args .a))
+fit-a s = search needs
 
-  fit-small : SFits w64 (s .args .a .small)
-  fit-small = search needs
-
-  fit-other-plain : SFits w64 (s .args .b .plain)
-  fit-other-plain = search needs
-
-  fit-other-small : SFits w64 (s .args .b .small)
-  fit-other-small = search needs
+fit-b : (s : tie.Start) → Parted w64 (pairOf (s .args .b))
+fit-b s = search needs
 
 -- the order of pairs, without a branch
 told : (less more rest : Bool) → (less || (not more && rest)) ≡ lexicographic less more rest
@@ -31,7 +25,7 @@ told false false rest = refl
 
 returns : tie.Need-returns
 returns c = let s = c .before .before .before .before .before .before .before .before .before .before .before .before in
-    simp (toZ-ofZ (fit-plain s), toZ-ofZ (fit-small s), toZ-ofZ (fit-other-plain s), toZ-ofZ (fit-other-small s))
+    simp (toZ-ofZ (fit-a s .plain), toZ-ofZ (fit-a s .small), toZ-ofZ (fit-b s .plain), toZ-ofZ (fit-b s .small))
     (told (ltZ (s .args .a .plain) (s .args .b .plain)) (ltZ (s .args .b .plain) (s .args .a .plain))
     (ltZ (s .args .a .small) (s .args .b .small)))
 

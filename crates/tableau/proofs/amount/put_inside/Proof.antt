@@ -41,7 +41,8 @@ module _ (c : tie.After-is-below) where
   begun = c .before .before .before
 
   low-less : c .is-below .result ≡ pairs .less (value begun) (givenLower (lower begun))
-  low-less = c .is-below .ensures ∙ ap (λ x. pairs .less (value begun) (pairIn x)) (c .before .before .lower-value .ensures)
+  low-less = c .is-below .ensures
+      ∙ ap (λ x. pairs .less (value begun) (pairIn x)) (c .before .before .lower-value .ensures)
 
 returns : tie.Need-returns
 returns c =

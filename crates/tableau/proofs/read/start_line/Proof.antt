@@ -105,7 +105,8 @@ loop-less c = omega arith
 loop-again : tie.Need-loop-again Inv-loop μ-loop
 loop-again c = let i = here c in let s = start i in (
   omega arith,
-  simp (toZ-ofZ (fit c)) (line-more (m s) (n s) (cell s) (line s) (on-line i) (at-is i) (i .before .loop .inv .1) (right c)),
+  simp (toZ-ofZ (fit c))
+      (line-more (m s) (n s) (cell s) (line s) (on-line i) (at-is i) (i .before .loop .inv .1) (right c)),
 )
 
 returns : tie.Need-returns Inv-loop μ-loop
