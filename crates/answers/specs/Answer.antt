@@ -1,8 +1,10 @@
--- The words of an answer, from the struct: docs/RULES.md, "Refusal numbers and their order", the paragraph on answered output.
+-- The words of an answer, from the struct: docs/RULES.md, "Refusal numbers and their order", the paragraph on answered
+-- output.
 use mathlib.Core.Bool.{Bool, true, false}
 use mathlib.Core.List.{List, _∷_, _++_}
 use mathlib.Core.Path.{_≡_}
 use Prim.Native.Nat.{ℕ, _+_, _*_, _^_, _≤_, _<_}
+use lib.Dec.{ltb}
 use lib.IntN.{ℤ, pos, _*ℤ_}
 use lib.ListN.{getD, take, drop, replicate}
 use Rattle.whole.specs.Numbers.{Within}
@@ -15,6 +17,10 @@ use Rattle.tableau.specs.Parts.{nowhere}
 use Rattle.search.specs.Search.{rowSumLaid}
 use Rattle.answers.specs.declared.Verdict.{Verdict}
 use Rattle.answers.specs.declared.Verdict.the-variants as verdicts
+
+-- no room for the answer of N variables
+abbrev pub isShort : (room N : ℕ) → Bool
+isShort room N = ltb room (3 + 2 * N)
 
 -- word 0: 1 can, 2 cannot, 3 out of range
 unfoldable pub numberOf : Verdict → ℤ
@@ -84,7 +90,8 @@ mostCount = 3 ^ mostColumns * 2 ^ mostVariables
 
 -- verdict, count, denominator, and two words for each variable
 unfoldable pub wordsAt : Verdict → ℕ → ℤ → ℕ → List ℤ → List ℤ → List ℤ
-wordsAt verdict count denominator N lower upper = numberOf verdict ∷ pos count ∷ denominator ∷ firstOf N lower ++ firstOf N upper
+wordsAt verdict count denominator N lower upper =
+    numberOf verdict ∷ pos count ∷ denominator ∷ firstOf N lower ++ firstOf N upper
 
 -- the answer's words, and then the words that were there
 abbrev pub laidOver : ℕ → List ℤ → List ℤ → List ℤ

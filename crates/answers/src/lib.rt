@@ -5,7 +5,7 @@ ghost use lib.ListN.{getD, length};
 ghost use Rattle.rules.specs.Sizes.{mostColumns, mostRows, mostVariables};
 ghost use Rattle.tableau.specs.Parts.{nowhere};
 ghost use Rattle.answers.specs.Answer.{numberOf, Numerable, numeratorOf, numeratorsIn};
-ghost use Rattle.answers.specs.Answer.{copiedAt, mostCount, wordsAt, laidOver};
+ghost use Rattle.answers.specs.Answer.{copiedAt, isShort, mostCount, wordsAt, laidOver};
 use search::Size;
 use sides::product;
 use tableau::Seat;
@@ -25,6 +25,17 @@ pub struct Head {
     pub verdict: Verdict,
     pub count: usize,
     pub denominator: i64,
+}
+
+// The refusal of an output that is too short.
+pub const TOO_SHORT: u32 = 7;
+
+// Whether an output of so many words has no room for the answer of so many variables.
+pub fn is_short(room: usize, variables: usize) -> bool
+    requires { ⌜ variables ≤ mostVariables ⌝ }
+    ensures { λ r. ⌜ r ≡ isShort room variables ⌝ }
+{
+    room < 3 + 2 * variables
 }
 
 // The number of a verdict in an answer.

@@ -3,8 +3,7 @@
 use mathlib.Core.Bool.{Bool, true, false}
 use mathlib.Core.List.{List}
 use mathlib.Core.Path.{_≡_}
-use Prim.Native.Nat.{ℕ, zero, suc, _*_, _+_, _<_}
-use lib.Dec.{ltb}
+use Prim.Native.Nat.{ℕ, zero, suc, _<_}
 use lib.IntN.{ℤ}
 use lib.ListN.{getD, length}
 use Rattle.whole.specs.Values.{pairs}
@@ -19,6 +18,7 @@ use Rattle.tableau.specs.declared.Limits.{Limits}
 use Rattle.tableau.specs.Parts.{lowerGiven, upperGiven}
 use Rattle.tableau.specs.Stands.{Ranged, Stands}
 use Rattle.tableau.specs.Start.{startTableau}
+use Rattle.answers.specs.Answer.{isShort}
 use Rattle.solver.specs.Spend.{manyOf, outAt, spentAt}
 use Rattle.slices.specs.Slices.{startedProblem}
 use Rattle.session.specs.declared.Checked.{Checked}
@@ -97,10 +97,6 @@ pub record SwitchesAs (s : Session) (v : ℕ) (upper on : Bool) (r : Switched) :
 abbrev pub unlimited : ℕ
 unlimited = 18446744073709551615
 
--- with no room for an answer nothing is done
-abbrev pub isShort : Session → ℕ → Bool
-isShort s room = ltb room (3 + 2 * manyOf (s .tableau))
-
 abbrev pub checkedWhere : Bool → Session → Checked
 checkedWhere true s = record { refused = 7; session = s }
 checkedWhere false s = record { refused = 0; session = record { tableau = spentAt (s .tableau) 0 unlimited .tableau } }
@@ -109,11 +105,12 @@ abbrev pub outputWhere : Bool → Session → List ℤ → List ℤ
 outputWhere true s before = before
 outputWhere false s before = outAt (s .tableau) 0 unlimited before
 
+-- with no room for an answer nothing is done
 unfoldable pub checkedAt : Session → ℕ → Checked
-checkedAt s room = checkedWhere (isShort s room) s
+checkedAt s room = checkedWhere (isShort room (manyOf (s .tableau))) s
 
 unfoldable pub outputAt : Session → List ℤ → List ℤ
-outputAt s before = outputWhere (isShort s (length before)) s before
+outputAt s before = outputWhere (isShort (length before) (manyOf (s .tableau))) s before
 
 -- what a check means for a session that the struct stands for
 pub record CheckMeans (A : rules.Session (ℤ × ℤ)) (before : List ℤ) (r : Checked) (after : List ℤ) : Type 0 where

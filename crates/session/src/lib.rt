@@ -4,6 +4,7 @@ ghost use mathlib.Core.Path.{_≡_};
 ghost use lib.ListN.{length};
 ghost use Rattle.session.specs.Sessions.{ChecksAs, OpensAs, Standing, SwitchesAs, checkedAt, openedAt, outputAt};
 ghost use Rattle.session.specs.Sessions.{switchedAt};
+use answers::TOO_SHORT;
 use solver::spend;
 use tableau::Tableau;
 use tableau::Variable;
@@ -37,9 +38,6 @@ pub struct Checked {
     pub refused: u32,
     pub session: Session,
 }
-
-// The refusal of an output that is too short.
-const TOO_SHORT: u32 = 7;
 
 // The refusal of a variable that the problem does not have.
 const NO_VARIABLE: u32 = 41;
@@ -98,7 +96,7 @@ impl Session {
     {
         let tableau = self.tableau;
         let variables = tableau.rows + tableau.columns;
-        if out.len() < 3 + 2 * variables {
+        if answers::is_short(out.len(), variables) {
             return Checked {
                 refused: TOO_SHORT,
                 session: self,

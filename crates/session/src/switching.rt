@@ -9,6 +9,7 @@ ghost use Rattle.rules.specs.Sizes.{mostVariables};
 ghost use Rattle.tableau.specs.Amounts.{limitIn, pairIn, valueOf};
 ghost use Rattle.session.specs.Switching.{Settleable, allOff, flaggedAt, givenAt, limitRefusal, quietAt};
 ghost use Rattle.session.specs.Switching.{settledAt, switchedTo, turnedAt};
+use answers::conflict;
 use tableau::Given;
 use tableau::Limits;
 use tableau::Tableau;
@@ -123,18 +124,10 @@ fn moved(lower: Given, upper: Given, value: Value) -> Value
         ≡ valueOf (inside pairs (mapped lowerPair (limitIn lower)) (mapped upperPair (limitIn upper))
         (pairIn value)) ⌝ }
 {
-    let least = amount::lower_value(lower);
-    let most = amount::upper_value(upper);
-    if lower.on & upper.on & amount::less(amount::widened(most), amount::widened(least)) {
+    if conflict::is_crossed(lower, upper) {
         return value;
     }
-    if lower.on & amount::less(amount::widened(value), amount::widened(least)) {
-        return least;
-    }
-    if upper.on & amount::less(amount::widened(most), amount::widened(value)) {
-        return most;
-    }
-    value
+    amount::put_inside(lower, upper, value)
 }
 
 // The tableau with the value of one variable by the limits that are on. A basic one has no value of its own.

@@ -1,11 +1,10 @@
--- docs/RULES.md, "The run in slices", over the structs: what is handed back, by an equation, and what it means for every
--- state of the rules' run that a struct stands for.
+-- docs/RULES.md, "The run in slices", over the structs: what is handed back, by an equation, and what it means for
+-- every state of the rules' run that a struct stands for.
 use mathlib.Core.Bool.{Bool, true, false}
 use mathlib.Core.List.{List, [], _∷_}
 use mathlib.Core.Option.{Option, none}
 use mathlib.Core.Path.{_≡_}
-use Prim.Native.Nat.{ℕ, zero, suc, _*_, _+_}
-use lib.Dec.{ltb}
+use Prim.Native.Nat.{ℕ, zero, suc}
 use lib.IntN.{ℤ, pos}
 use lib.ListN.{length}
 use Rattle.whole.specs.Values.{pairs}
@@ -15,6 +14,7 @@ use Rattle.rules.specs.Refusal.{problemRefusal}
 use Rattle.rules.specs.Slices.{begun, continued, isAnswer, sliceAnswer, sliceLength, sliceOutput, sliceRefusal}
 use Rattle.rules.specs.Slices as rules
 use Rattle.tableau.specs.Start.{startTableau}
+use Rattle.answers.specs.Answer.{isShort}
 use Rattle.solver.specs.declared.spend.Spent.{Spent}
 use Rattle.solver.specs.Spend.{manyOf, outAt, spentAt}
 use Rattle.solver.specs.Spend as solver
@@ -56,10 +56,6 @@ pub record StartsAs (ws : List ℤ) (r : Begun) : Type 0 where
 
 -- ---- a continue
 
--- with no room for an answer nothing is done
-abbrev pub isShort : Slice → ℕ → Bool
-isShort s room = ltb room (3 + 2 * manyOf (s .tableau))
-
 abbrev pub wentOnBy : Spent → Continued
 wentOnBy p = record { refused = 0; answered = p .answered; slice = record { count = p .count; tableau = p .tableau } }
 
@@ -71,11 +67,12 @@ abbrev pub outputWhere : Bool → Slice → ℕ → List ℤ → List ℤ
 outputWhere true s b before = before
 outputWhere false s b before = outAt (s .tableau) (s .count) b before
 
+-- with no room for an answer nothing is done
 unfoldable pub wentOnAt : Slice → ℕ → ℕ → Continued
-wentOnAt s b room = wentOnWhere (isShort s room) s b
+wentOnAt s b room = wentOnWhere (isShort room (manyOf (s .tableau))) s b
 
 unfoldable pub outputAt : Slice → ℕ → List ℤ → List ℤ
-outputAt s b before = outputWhere (isShort s (length before)) s b before
+outputAt s b before = outputWhere (isShort (length before) (manyOf (s .tableau))) s b before
 
 -- .. by the rules: refused, the state stays and there is no answer
 abbrev pub stateBy : ℕ → rules.Slice (ℤ × ℤ) → ℕ → rules.Slice (ℤ × ℤ)

@@ -2,6 +2,7 @@
 ghost use mathlib.Core.Path.{_≡_};
 ghost use lib.ListN.{length};
 ghost use Rattle.slices.specs.Slices.{Standing, StartsAs, GoesOnAs, begunAt, outputAt, wentOnAt};
+use answers::TOO_SHORT;
 use solver::spend;
 use tableau::Tableau;
 
@@ -27,9 +28,6 @@ pub struct Continued {
     pub answered: bool,
     pub slice: Slice,
 }
-
-// The refusal of an output that is too short.
-const TOO_SHORT: u32 = 7;
 
 // The words of one variable without rows and limits.
 const IDLE: [i32; 5] = [1, 0, 0, 0, 0];
@@ -65,7 +63,7 @@ impl Slice {
     {
         let tableau = self.tableau;
         let variables = tableau.rows + tableau.columns;
-        if out.len() < 3 + 2 * variables {
+        if answers::is_short(out.len(), variables) {
             return Continued {
                 refused: TOO_SHORT,
                 answered: false,

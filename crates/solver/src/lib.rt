@@ -9,9 +9,6 @@ use words::count_at;
 mod run;
 pub mod spend;
 
-// The refusal of an output that is too short.
-const TOO_SHORT: u32 = 7;
-
 // Judges the words, and answers the problem that they are: the number of the refusal, or 0 with the answer in `out`.
 pub fn solve(words: &[i32], out: &mut [i64]) -> u32
     ensures number { λ r. ⌜ r ≡ refusal (now (words .entry)) (length (now (out .entry))) ⌝ }
@@ -22,8 +19,8 @@ pub fn solve(words: &[i32], out: &mut [i64]) -> u32
         return refused;
     }
     let variables = count_at(words, 0) + count_at(words, 1);
-    if out.len() < 3 + 2 * variables {
-        return TOO_SHORT;
+    if answers::is_short(out.len(), variables) {
+        return answers::TOO_SHORT;
     }
     let t = Tableau::new(words);
     let spent = spend::spend(t, 0, usize::MAX, out);

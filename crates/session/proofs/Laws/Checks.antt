@@ -6,9 +6,8 @@
 use mathlib.Core.Bool.{Bool, true, false}
 use mathlib.Core.List.{List, [], _++_}
 use mathlib.Core.Path.{_≡_, ap, refl, subst, subst₂, sym, _∙_}
-use Prim.Native.Nat.{ℕ, zero, suc, _*_, _+_, _<_, _≤_}
+use Prim.Native.Nat.{ℕ, zero, suc, _*_, _+_, _≤_}
 use native.Mathlib.Omega.{arith}
-use borrow.Author.Tests.{le-ltb, lt-ltb}
 use lib.Dec.{ltb}
 use lib.IntN.{ℤ}
 use lib.ListN.{drop, length}
@@ -35,6 +34,7 @@ use Rattle.search.specs.declared.Next.the-variants as nexts
 use Rattle.search.specs.Search.{nextLaid}
 use Rattle.answers.specs.declared.conflict.Crossed.{Crossed}
 use Rattle.answers.specs.declared.conflict.Crossed.the-variants as crossings
+use Rattle.answers.specs.Answer.{isShort}
 use Rattle.answers.specs.Conflict.{conflictAt}
 use Rattle.steps.specs.Step.{Course, admitAt, fitsByLaid, movedLaid, on, over, stepLaid, steppedAt, steppedLaid}
 use Rattle.solver.specs.Spend as solver
@@ -44,7 +44,7 @@ use Rattle.solver.proofs.Laws.Slices.{holds-more, many-is, out-is}
 use Rattle.session.specs.declared.Checked.{Checked}
 use Rattle.session.specs.declared.Session.{Session}
 use Rattle.session.specs.Sessions.{CheckMeans, ChecksAs, Flags, Holds, Offers, Standing}
-use Rattle.session.specs.Sessions.{checkedAt, checkedWhere, isShort, outputAt, outputWhere, unlimited}
+use Rattle.session.specs.Sessions.{checkedAt, checkedWhere, outputAt, outputWhere, unlimited}
 
 -- ---- a run keeps its limits
 
@@ -126,24 +126,27 @@ module _ (A : rules.Session (ℤ × ℤ)) (s : Session) (H : Holds A s) where
 -- ---- by whether there is room
 
 module _ (s : Session) (before : List ℤ) where
-  by-room : (x : Bool) → isShort s (length before) ≡ x →
+  abbrev short : Bool
+  short = isShort (length before) (manyOf (s .tableau))
+
+  by-room : (x : Bool) → short ≡ x →
       (checkedWhere x s ≡ checkedAt s (length before)) × (outputWhere x s before ≡ outputAt s before)
   unfolding checkedAt outputAt
   by-room x q = (ap (λ y. checkedWhere y s) (sym q), ap (λ y. outputWhere y s before) (sym q))
 
-  pub short-is : length before < 3 + 2 * manyOf (s .tableau) →
+  pub short-is : short ≡ true →
       (record { refused = 7; session = s } ≡ checkedAt s (length before)) × (before ≡ outputAt s before)
-  short-is h = by-room true (lt-ltb (length before) (3 + 2 * manyOf (s .tableau)) h)
+  short-is = by-room true
 
-  pub long-is : 3 + 2 * manyOf (s .tableau) ≤ length before →
+  pub long-is : short ≡ false →
       (checkedWhere false s ≡ checkedAt s (length before)) × (outAt (s .tableau) 0 unlimited before ≡ outputAt s before)
-  long-is h = by-room false (le-ltb (length before) (3 + 2 * manyOf (s .tableau)) h)
+  long-is = by-room false
 
   module _ (A : rules.Session (ℤ × ℤ)) (H : Holds A s) where
-    room-is : (x : Bool) → isShort s (length before) ≡ x → ltb (length before) (checkLength A) ≡ x
+    room-is : (x : Bool) → short ≡ x → ltb (length before) (checkLength A) ≡ x
     room-is x q = ap (λ N. ltb (length before) (3 + 2 * N)) (sym (many-is (slice-of A s H))) ∙ q
 
-    means-by : (x : Bool) → isShort s (length before) ≡ x →
+    means-by : (x : Bool) → short ≡ x →
         CheckMeans A before (checkedWhere x s) (outputWhere x s before)
     unfolding checkRefusal first
     means-by true q = record { number = sym (first-hit 7 [] (room-is true q)); output = refl; state = H }
@@ -155,7 +158,7 @@ module _ (s : Session) (before : List ℤ) where
 
     means-at : CheckMeans A before (checkedAt s (length before)) (outputAt s before)
     unfolding checkedAt outputAt
-    means-at = means-by (isShort s (length before)) refl
+    means-at = means-by (short) refl
 
   pub checks-as : Standing s → {r : Checked} {after : List ℤ} →
       r ≡ checkedAt s (length before) → after ≡ outputAt s before → ChecksAs s before r after

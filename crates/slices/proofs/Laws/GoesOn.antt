@@ -4,8 +4,7 @@
 use mathlib.Core.Bool.{Bool, true, false}
 use mathlib.Core.List.{List, []}
 use mathlib.Core.Path.{_≡_, ap, refl, subst₂, sym, _∙_}
-use Prim.Native.Nat.{ℕ, _*_, _+_, _<_, _≤_}
-use borrow.Author.Tests.{le-ltb, lt-ltb}
+use Prim.Native.Nat.{ℕ, _*_, _+_}
 use lib.Dec.{ltb}
 use lib.IntN.{ℤ}
 use lib.ListN.{length}
@@ -13,34 +12,38 @@ use Rattle.rules.specs.Slices.{sliceLength, sliceOutput, sliceRefusal}
 use Rattle.rules.specs.Slices as rules
 use Rattle.rules.proofs.First.{first-hit, first-skip}
 use Rattle.rules.specs.Refusal.{first}
+use Rattle.answers.specs.Answer.{isShort}
 use Rattle.solver.specs.Spend.{manyOf, outAt, spentAt}
 use Rattle.solver.proofs.Laws.Slices.{holds-more, many-is, out-is}
 use Rattle.slices.specs.declared.Continued.{Continued}
 use Rattle.slices.specs.declared.Slice.{Slice}
 use Rattle.slices.specs.Slices.{GoesOnAs, Holds, Means, Standing}
-use Rattle.slices.specs.Slices.{isShort, outputAt, outputWhere, wentOnAt, wentOnBy, wentOnWhere}
+use Rattle.slices.specs.Slices.{outputAt, outputWhere, wentOnAt, wentOnBy, wentOnWhere}
 
 module _ (s : Slice) (b : ℕ) (before : List ℤ) where
-  by-room : (x : Bool) → isShort s (length before) ≡ x →
+  abbrev short : Bool
+  short = isShort (length before) (manyOf (s .tableau))
+
+  by-room : (x : Bool) → short ≡ x →
       (wentOnWhere x s b ≡ wentOnAt s b (length before)) × (outputWhere x s b before ≡ outputAt s b before)
   unfolding wentOnAt outputAt
   by-room x q = (ap (λ y. wentOnWhere y s b) (sym q), ap (λ y. outputWhere y s b before) (sym q))
 
-  pub short-is : length before < 3 + 2 * manyOf (s .tableau) →
+  pub short-is : short ≡ true →
       (record { refused = 7; answered = false; slice = s } ≡ wentOnAt s b (length before))
       × (before ≡ outputAt s b before)
-  short-is h = by-room true (lt-ltb (length before) (3 + 2 * manyOf (s .tableau)) h)
+  short-is = by-room true
 
-  pub long-is : 3 + 2 * manyOf (s .tableau) ≤ length before →
+  pub long-is : short ≡ false →
       (wentOnBy (spentAt (s .tableau) (s .count) b) ≡ wentOnAt s b (length before))
       × (outAt (s .tableau) (s .count) b before ≡ outputAt s b before)
-  long-is h = by-room false (le-ltb (length before) (3 + 2 * manyOf (s .tableau)) h)
+  long-is = by-room false
 
   module _ (S : rules.Slice (ℤ × ℤ)) (H : Holds S s) where
-    room-is : (x : Bool) → isShort s (length before) ≡ x → ltb (length before) (sliceLength S) ≡ x
+    room-is : (x : Bool) → short ≡ x → ltb (length before) (sliceLength S) ≡ x
     room-is x q = ap (λ N. ltb (length before) (3 + 2 * N)) (sym (many-is H)) ∙ q
 
-    means-by : (x : Bool) → isShort s (length before) ≡ x →
+    means-by : (x : Bool) → short ≡ x →
         Means S b before (wentOnWhere x s b) (outputWhere x s b before)
     unfolding sliceRefusal sliceOutput first
     means-by true q =
@@ -54,7 +57,7 @@ module _ (s : Slice) (b : ℕ) (before : List ℤ) where
 
     means-at : Means S b before (wentOnAt s b (length before)) (outputAt s b before)
     unfolding wentOnAt outputAt
-    means-at = means-by (isShort s (length before)) refl
+    means-at = means-by (short) refl
 
   pub goes-on-as : Standing s → {r : Continued} {after : List ℤ} →
       r ≡ wentOnAt s b (length before) → after ≡ outputAt s b before → GoesOnAs s b before r after

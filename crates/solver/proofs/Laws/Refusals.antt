@@ -3,13 +3,14 @@
 --   written-refused    a refusal keeps the output
 --   begun-start, holds-start   accepted words are a tableau from which a check may start, a state with no pivots yet
 --   start-many, answered-is    as many variables as the words say, and the output that the rules ask for
+use mathlib.Core.Bool.{true}
 use mathlib.Core.List.{List, [], _∷_}
 use mathlib.Core.Logic.{_≢_}
 use mathlib.Core.Path.{_≡_, ap, refl, subst, sym, _∙_}
-use Prim.Native.Nat.{ℕ, zero, suc, _+_, _<_, _≤_}
+use Prim.Native.Nat.{ℕ, zero, suc, _+_, _≤_}
 use native.Mathlib.Nat.{add-comm}
 use native.Mathlib.Omega.{arith}
-use borrow.Author.Tests.{le-ltb, lt-ltb}
+use borrow.Author.Tests.{le-ltb}
 use lib.IntN.{ℤ}
 use Rattle.whole.specs.Values.{pairs}
 use Rattle.whole.proofs.Beside.{pairs-laws}
@@ -28,7 +29,7 @@ use Rattle.tableau.specs.Stands.{Ranged, Stands}
 use Rattle.tableau.specs.Start.{startTableau, startLaid}
 use Rattle.tableau.proofs.Laws.Fitting.{fitting-accepted, ranged-start}
 use Rattle.tableau.proofs.Laws.Started.{stands-start}
-use Rattle.answers.specs.Answer.{mostCount}
+use Rattle.answers.specs.Answer.{isShort, mostCount}
 use Rattle.solver.specs.Run.{Begun}
 use Rattle.solver.specs.Spend.{Holds, outAt}
 use Rattle.solver.proofs.Laws.Runs.{bound-small}
@@ -47,9 +48,9 @@ module _ (ws : List ℤ) (room : ℕ) where
   unfolding refusal problemRefusal
   after-problem e = first-passed 10 (problemTests mostRows ws) ((tooShort ws room, 7) ∷ []) (numbered ws) e
 
-  pub refusal-short : problemRefusal ws ≡ 0 → room < answerLength ws → 7 ≡ refusal ws room
+  pub refusal-short : problemRefusal ws ≡ 0 → isShort room (varsOf ws) ≡ true → 7 ≡ refusal ws room
   unfolding tooShort
-  refusal-short e h = sym (after-problem e ∙ first-hit 7 [] (lt-ltb room (answerLength ws) h))
+  refusal-short e h = sym (after-problem e ∙ first-hit 7 [] h)
 
   pub refusal-none : problemRefusal ws ≡ 0 → answerLength ws ≤ room → 0 ≡ refusal ws room
   unfolding tooShort first

@@ -1,16 +1,18 @@
 -- `solver::solve` meets its contract: the refusal of the problem, or 7, or the answer of the rules. Assumes nothing.
 use mathlib.Core.List.{List}
-use mathlib.Core.Path.{_≡_, sym, _∙_}
-use Prim.Native.Nat.{_≤_}
+use mathlib.Core.Path.{_≡_, ap₂, sym, _∙_}
+use Prim.Native.Nat.{_+_, _≤_}
 use native.Mathlib.Omega.{arith}
 use borrow.Author.Needs.{needs}
+use borrow.Author.Tests.{ltb-false}
 use lib.IntN.{ℤ}
 use lib.ListN.{length}
 use Rattle.whole.proofs.Order.{≤ℤ-trans}
-use Rattle.rules.specs.Problem.{answerLength, mOf, nOf}
+use Rattle.rules.specs.Problem.{answerLength, mOf, nOf, varsOf}
 use Rattle.rules.specs.Refusal.{Accepted, problemRefusal}
 use Rattle.rules.specs.Sizes.{mostColumns, mostRows}
 use Rattle.rules.proofs.Ranges.{m-few, n-few}
+use Rattle.answers.specs.Answer.{isShort}
 use Rattle.solver.proofs.Laws.Refusals.{
   accepted-of,
   answered-is,
@@ -71,47 +73,54 @@ module _ (c : tie.After-count-at2) where
 add-variables : tie.Need-add-variables
 add-variables c = let a = few-columns c in let b = few-rows c in omega arith
 
-mul-if2 : tie.Need-mul-if2
-mul-if2 c = let a = few-columns c in let b = few-rows c in omega arith
+is-short-requires : tie.Need-is-short-requires
+is-short-requires c κs = let a = few-columns c in let b = few-rows c in omega arith
 
-add-if2 : tie.Need-add-if2
-add-if2 c = let a = few-columns c in let b = few-rows c in omega arith
-
-returns-2 : tie.Need-returns-2
-returns-2 c = let o = c .before in let ws = words-at (accepted o) in let l = o .before .before .before .before .args .out .now in (
-  refusal-short ws (length l) (not-refused (accepted o)) (omega (arith, columns-are o, rows-are o, c .if2 .taken)),
-  written-refused 7 ws l (λ z. omega arith),
-)
-
-new-requires : tie.Need-new-requires
-new-requires c κs = not-refused (c .before .before .before)
-
--- the answer fits
-module _ (c : tie.Else2) where
+-- the output, and whether it is too short
+module _ (c : tie.After-is-short) where
   abbrev counted : tie.After-count-at2
   counted = c .before
 
   abbrev ws : List ℤ
   ws = words-at (accepted counted)
 
-  room : answerLength ws ≤ length (c .before .before .before .before .before .args .out .now)
-  room = omega (arith, columns-are counted, rows-are counted, c .if2 .left)
+  abbrev output : List ℤ
+  output = counted .before .before .before .before .args .out .now
+
+  short-is : c .is-short .result ≡ isShort (length output) (varsOf ws)
+  short-is = c .is-short .ensures
+      ∙ ap₂ (λ n m. isShort (length output) (n + m)) (columns-are counted) (rows-are counted)
+
+returns-2 : tie.Need-returns-2
+returns-2 c = let o = c .before in (
+  refusal-short (ws o) (length (output o)) (not-refused (accepted (counted o))) (sym (short-is o) ∙ c .if2 .taken),
+  written-refused 7 (ws o) (output o) (λ z. omega arith),
+)
+
+new-requires : tie.Need-new-requires
+new-requires c κs = not-refused (accepted (counted (c .before)))
+
+-- the answer fits
+module _ (c : tie.Else2) where
+  room : let o = c .before in answerLength (ws o) ≤ length (output o)
+  room = let o = c .before in
+      ltb-false (length (output o)) (answerLength (ws o)) (sym (short-is o) ∙ c .if2 .left)
 
 spend-requires : tie.Need-spend-requires
-spend-requires c κs = let o = c .before in let d = o .before in let f = not-refused (accepted (counted d)) in (
+spend-requires c κs = let o = c .before in let d = o .before .before in let f = not-refused (accepted (counted d)) in (
   record { slice = _; holds = holds-start (ws d) (o .new .result) (o .new .ensures) f },
-  (let a = room d in let b = start-many (ws d) (o .new .result) (o .new .ensures) f in omega arith),
+  (let a = room (o .before) in let b = start-many (ws d) (o .new .result) (o .new .ensures) f in omega arith),
 )
 
 same-length : tie.Need-same-length
 same-length c = search needs
 
 returns-3 : tie.Need-returns-3
-returns-3 c = let o = c .before .before .before in let d = o .before in let f = not-refused (accepted (counted d)) in
-    let l = d .before .before .before .before .before .args .out .now in (
-      refusal-none (ws d) (length l) f (room d),
+returns-3 c = let o = c .before .before .before in let d = o .before .before in
+    let f = not-refused (accepted (counted d)) in (
+      refusal-none (ws d) (length (output d)) f (room (o .before)),
       c .before .spend .ensures .1
-          ∙ answered-is (ws d) (o .new .result) (o .new .ensures) f 18446744073709551615 (omega arith) l,
+          ∙ answered-is (ws d) (o .new .result) (o .new .ensures) f 18446744073709551615 (omega arith) (output d),
     )
 
 pub solve-spec : {M : Type 1} → statement M
@@ -123,8 +132,7 @@ solve-spec =
     count-at-requires
     count-at-requires-2
     add-variables
-    mul-if2
-    add-if2
+    is-short-requires
     returns-2
     new-requires
     spend-requires

@@ -1,7 +1,12 @@
 -- `slices::Slice::go_on` meets its contract: 7 where there is no room for an answer, else what spending the pivots
 -- comes to. Assumes nothing.
-use mathlib.Core.Path.{ap, _∙_}
+use mathlib.Core.Bool.{false}
+use mathlib.Core.Path.{_≡_, ap, sym, _∙_}
 use borrow.Author.Needs.{needs}
+use borrow.Author.Tests.{ltb-false}
+use lib.ListN.{length}
+use Rattle.answers.specs.Answer.{isShort}
+use Rattle.solver.specs.Spend.{manyOf}
 use Rattle.slices.specs.Slices.{wentOnBy}
 use Rattle.slices.proofs.Laws.GoesOn.{goes-on-as, long-is, short-is}
 use Rattle.slices.proofs.Slice.go_on.Statement.{statement}
@@ -10,29 +15,34 @@ use Rattle.slices.proofs.Slice.go_on.Tie as tie
 add-variables : tie.Need-add-variables
 add-variables c = search needs
 
-mul-if1 : tie.Need-mul-if1
-mul-if1 c = search needs
-
-add-if1 : tie.Need-add-if1
-add-if1 c = search needs
+is-short-requires : tie.Need-is-short-requires
+is-short-requires c κs = search needs
 
 returns : tie.Need-returns
-returns c = let s = c .before .before .before in let a = s .args in
-    let e = short-is (a .self) (a .pivots) (a .out .now) (c .if1 .taken) in
+returns c = let o = c .before in let s = o .before .before .before in let a = s .args in
+    let e = short-is (a .self) (a .pivots) (a .out .now) (sym (o .is-short .ensures) ∙ c .if1 .taken) in
     (e .0, (e .1, goes-on-as (a .self) (a .pivots) (a .out .now) (s .pre) (e .0) (e .1)))
 
+-- there is room
+module _ (c : tie.Else1) where
+  abbrev start : tie.Start
+  start = c .before .before .before .before
+
+  room : isShort (length (start .args .out .now)) (manyOf (start .args .self .tableau)) ≡ false
+  room = sym (c .before .is-short .ensures) ∙ c .if1 .left
+
 spend-requires : tie.Need-spend-requires
-spend-requires c κs = search needs
+spend-requires c κs = let o = c .before in (start o .pre, ltb-false _ _ (room o))
 
 same-length : tie.Need-same-length
 same-length c = search needs
 
 returns-2 : tie.Need-returns-2
-returns-2 c = let o = c .before .before .before .before in let s = o .before .before .before in let a = s .args in
-    let e = long-is (a .self) (a .pivots) (a .out .now) (o .if1 .left) in
+returns-2 c = let o = c .before .before .before .before in let s = start o in let a = s .args in
+    let e = long-is (a .self) (a .pivots) (a .out .now) (room o) in
     let r = ap wentOnBy (c .before .before .spend .ensures .0) ∙ e .0 in
     let l = c .before .before .spend .ensures .1 ∙ e .1 in
     (r, (l, goes-on-as (a .self) (a .pivots) (a .out .now) (s .pre) r l))
 
 pub go-on-spec : {M : Type 1} → statement M
-go-on-spec = tie.close (tie.spec add-variables mul-if1 add-if1 returns spend-requires same-length returns-2)
+go-on-spec = tie.close (tie.spec add-variables is-short-requires returns spend-requires same-length returns-2)
