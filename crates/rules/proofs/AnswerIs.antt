@@ -16,10 +16,10 @@ use lib.IntN.{pos, ℤ}
 use Rattle.whole.proofs.Below.{lowest-passes, none-passes}
 use Rattle.whole.proofs.Bools.{true-false}
 use Rattle.whole.proofs.Beside.{pairs-laws}
-use Rattle.whole.proofs.Tells.{Tells, tells-false, tells-true}
-use Rattle.whole.proofs.Values.{Laws}
+use Rattle.whole.specs.Tells.{Tells}
+use Rattle.whole.proofs.Tells.{tells-false, tells-true}
+use Rattle.whole.specs.Values.{Laws, Lt, Values, pairs}
 use Rattle.whole.specs.Tables.{table}
-use Rattle.whole.specs.Values.{Lt, Values, pairs}
 use Rattle.rules.proofs.Bounded.{below-bound}
 use Rattle.rules.proofs.Ends.{ends}
 use Rattle.rules.proofs.Moved.{sound-after}

@@ -15,9 +15,8 @@ use lib.IntN.{one}
 use lib.ListN.{List·getD-eq-default, getD, length, length-set, set}
 use lib.Seq.{getD-set-other}
 use Rattle.whole.proofs.Tables.{table-at, tableFrom-length}
-use Rattle.whole.proofs.Values.{Laws}
 use Rattle.whole.specs.Tables.{table}
-use Rattle.whole.specs.Values.{Values}
+use Rattle.whole.specs.Values.{Laws, Values}
 use Rattle.rules.proofs.Arrangements.{Fits, OneOf, Three, at-most}
 use Rattle.rules.proofs.Enters.{Entered, entered, swap}
 use Rattle.rules.proofs.Leaves.{Left, Outside, left, too-high, too-low}

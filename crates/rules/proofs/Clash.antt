@@ -14,8 +14,9 @@ use lib.IntN.{pos, ℤ}
 use lib.Signed.{_<ℤ_}
 use Rattle.whole.proofs.Normal.{scale}
 use Rattle.whole.proofs.Order.{Sign, minus, null, plus, sign}
-use Rattle.whole.proofs.Values.{Laws, down, down-strict, le-le, le-lt-trans, lt-irrefl, lt-le-trans, same-le, scale-comm, scale-total, total-le, total-lt, total-same, up, up-strict, weaken}
-use Rattle.whole.specs.Values.{Le, Lt, Values, total}
+use Rattle.whole.proofs.Values.{down, down-strict, le-le, le-lt-trans, lt-irrefl, lt-le-trans, same-le, scale-comm}
+use Rattle.whole.proofs.Values.{scale-total, total-le, total-lt, total-same, up, up-strict, weaken}
+use Rattle.whole.specs.Values.{Laws, Le, Lt, Values, total}
 use Rattle.rules.specs.Step.{seated}
 
 module _ {X : Type 0} (𝓥 : Values X) where

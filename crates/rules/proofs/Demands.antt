@@ -20,9 +20,9 @@ use lib.ListN.{drop, length, length-append, length-drop}
 use lib.Seq.{getD-append-add, getD-drop}
 use Rattle.whole.proofs.Beside.{pairs-laws}
 use Rattle.whole.proofs.Tables.{table-at, table-length}
-use Rattle.whole.proofs.Values.{Laws, le-le, lt-irrefl, lt-le-trans, total-same, up-strict}
+use Rattle.whole.proofs.Values.{le-le, lt-irrefl, lt-le-trans, total-same, up-strict}
 use Rattle.whole.specs.Tables.{table}
-use Rattle.whole.specs.Values.{Values, pairs}
+use Rattle.whole.specs.Values.{Laws, Values, pairs}
 use Rattle.rules.proofs.AnswerIs.{Crosses, TheRun, answer-crossed, answer-run, crosses-exactly}
 use Rattle.rules.proofs.Answers.{Answered, answered, can-at, cannot-at, crossing, denominator-word, lower-part}
 use Rattle.rules.proofs.Answers.{other-verdict, range-at, upper-part}

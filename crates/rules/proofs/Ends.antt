@@ -9,9 +9,8 @@ use mathlib.Core.Path.{ap, refl, _∙_, _≡_}
 use Prim.Native.Nat.{suc, zero, ℕ, _+_, _-_, _<_, _≤_}
 use native.Mathlib.Decide.{ℕ-discrete}
 use native.Mathlib.Omega.{arith}
-use Rattle.whole.proofs.Values.{Laws}
 use Rattle.whole.specs.Tables.{tableFrom}
-use Rattle.whole.specs.Values.{Values}
+use Rattle.whole.specs.Values.{Laws, Values}
 use Rattle.rules.proofs.Bounded.{below-bound}
 use Rattle.rules.proofs.Sound.{Apart, Ready, Sound, howManySeated}
 use Rattle.rules.proofs.Started.{basic-row, housed-start, rowed-start, seated-problem}

@@ -16,7 +16,8 @@ use lib.Seq.{getD-set-other, getD-set-same}
 use lib.Signed.{<ℤ-irrefl, <ℤ-≤ℤ-trans, ltZ-yes, _<ℤ_}
 use Rattle.whole.proofs.Below.{lowest-passes, none-passes}
 use Rattle.whole.proofs.Bools.{true-false, zero-one}
-use Rattle.whole.proofs.Tells.{Tells, tells-missing}
+use Rattle.whole.proofs.Tells.{tells-missing}
+use Rattle.whole.specs.Tells.{Tells}
 use Rattle.whole.specs.Values.{Le, Lt, Values}
 use Rattle.rules.proofs.Leaves.{Left}
 use Rattle.rules.proofs.Swaps.{Swap}

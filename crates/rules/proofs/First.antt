@@ -11,7 +11,8 @@ use mathlib.Core.Logic.{inl, inr, _↔_, _≢_, _⊎_}
 use mathlib.Core.Path.{refl, sym, _∙_, _≡_}
 use Prim.Native.Nat.{ℕ, suc, _<_, _≤_}
 use native.Mathlib.Omega.{arith}
-use Rattle.whole.proofs.Tells.{Tells, tells-false, tells-true}
+use Rattle.whole.proofs.Tells.{tells-false, tells-true}
+use Rattle.whole.specs.Tells.{Tells}
 use Rattle.rules.specs.Refusal.{first}
 
 pub first-hit : {b : Bool} (k : ℕ) (ts : List (Bool × ℕ)) → b ≡ true → first ((b, k) ∷ ts) ≡ k

@@ -5,8 +5,8 @@ use mathlib.Core.Option.{Option, none, some}
 use mathlib.Core.Path.{refl, _≡_}
 use Prim.Native.Nat.{ℕ, _<_}
 use lib.IntN.{ℤ}
-use Rattle.whole.proofs.Values.{Laws, up}
-use Rattle.whole.specs.Values.{Le, Values}
+use Rattle.whole.proofs.Values.{up}
+use Rattle.whole.specs.Values.{Laws, Le, Values}
 use Rattle.rules.proofs.Clash.{Barred, barred}
 use Rattle.rules.proofs.Enters.{none-enters}
 use Rattle.rules.proofs.Leaves.{Left, left, none-leaves}

@@ -4,8 +4,8 @@
 --   gap-back               y, and the gap from it to x, make x
 use mathlib.Core.Path.{ap, sym, _∙_, _≡_}
 use lib.IntN.{negsuc, pos}
-use Rattle.whole.proofs.Values.{Laws, nil-plus}
-use Rattle.whole.specs.Values.{Values}
+use Rattle.whole.proofs.Values.{nil-plus}
+use Rattle.whole.specs.Values.{Laws, Values}
 use Rattle.rules.specs.Step.{gap}
 
 module _ {X : Type 0} (𝓥 : Values X) (law : Laws 𝓥) where

@@ -9,7 +9,8 @@ use native.Mathlib.Omega.{arith}
 use lib.IntN.{ℤ}
 use Rattle.whole.proofs.Below.{lowest-none, lowest-some}
 use Rattle.whole.proofs.Bools.{zero-one}
-use Rattle.whole.proofs.Tells.{Tells, tells-present}
+use Rattle.whole.proofs.Tells.{tells-present}
+use Rattle.whole.specs.Tells.{Tells}
 use Rattle.whole.specs.Values.{Le, Lt, Values}
 use Rattle.rules.specs.Problem.{Problem, vars}
 use Rattle.rules.specs.Step.{Leaving, Side, State, above, below, broken, common, leaves, leaving, limitAt, over, scaled, seat, seated, shortfallOf, under}

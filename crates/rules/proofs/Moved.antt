@@ -6,8 +6,8 @@ use mathlib.Core.Logic.{inl, inr, _≢_, _⊎_}
 use mathlib.Core.Option.{some}
 use mathlib.Core.Path.{refl, _≡_}
 use Prim.Native.Nat.{suc, zero, ℕ, _<_}
-use Rattle.whole.proofs.Values.{Laws, le-refl}
-use Rattle.whole.specs.Values.{Le, Values}
+use Rattle.whole.proofs.Values.{le-refl}
+use Rattle.whole.specs.Values.{Laws, Le, Values}
 use Rattle.rules.proofs.Enters.{Entered, entered}
 use Rattle.rules.proofs.Leaves.{Left, Outside, left, too-high, too-low}
 use Rattle.rules.proofs.Moves.{step-goes}

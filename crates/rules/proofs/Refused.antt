@@ -15,7 +15,9 @@ use native.Mathlib.Omega.{arith}
 use lib.IntN.{pos, ℤ}
 use lib.ListN.{length}
 use lib.Signed.{_<ℤ_, _≤ℤ_}
-use Rattle.whole.proofs.Tells.{Tells, tells-all, tells-eq, tells-eqZ, tells-lt, tells-not, tells-or, tells-outside, tells-some, tells-within}
+use Rattle.whole.specs.Tells.{Tells}
+use Rattle.whole.proofs.Tells.{tells-all, tells-eq, tells-eqZ, tells-lt, tells-not, tells-or, tells-outside, tells-some}
+use Rattle.whole.proofs.Tells.{tells-within}
 use Rattle.whole.proofs.Bools.{true-false}
 use Rattle.whole.specs.Numbers.{Within}
 use Rattle.rules.proofs.First.{AllFine, First, Test, Upto, first-exactly, first-fine, line}

@@ -17,8 +17,8 @@ use lib.Signed.{_<ℤ_}
 use Rattle.whole.proofs.Below.{lowest-empty, lowest-is, lowest-passes, none-passes}
 use Rattle.whole.proofs.Bools.{zero-one}
 use Rattle.whole.proofs.Tells.{tells-false, tells-true}
-use Rattle.whole.proofs.Values.{Laws, le-le, up, weaken}
-use Rattle.whole.specs.Values.{Le, Lt, Values}
+use Rattle.whole.proofs.Values.{le-le, up, weaken}
+use Rattle.whole.specs.Values.{Laws, Le, Lt, Values}
 use Rattle.rules.proofs.Enters.{Entered, Stuck, entered, none-enters, suits-tells}
 use Rattle.rules.proofs.Gaps.{gap-more}
 use Rattle.rules.proofs.Leaves.{Inside, Left, Outside, left, none-leaves, over-tells, too-high, too-low}

@@ -12,8 +12,7 @@ use lib.Signed.{_<ℤ_}
 use Rattle.whole.proofs.Instances.{turned-laws}
 use Rattle.whole.proofs.Normal.{scale}
 use Rattle.whole.proofs.Order.{neg-down, neg-down-back, neg-up, neg-up-back, plus}
-use Rattle.whole.proofs.Values.{Laws}
-use Rattle.whole.specs.Values.{Le, Lt, Values}
+use Rattle.whole.specs.Values.{Laws, Le, Lt, Values}
 use Rattle.rules.proofs.Enters.{Stuck, Suits, may-go-down, may-go-up}
 use Rattle.rules.proofs.Leaves.{Outside, too-high, too-low}
 use Rattle.rules.specs.Problem.{Problem}

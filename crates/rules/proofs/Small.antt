@@ -2,8 +2,9 @@
 --   small-tells    of `Small` and `Beyond`
 use mathlib.Core.Logic.{_⊎_}
 use Prim.Native.Nat.{ℕ, _<_}
-use Rattle.whole.proofs.Tells.{Tells, tells-all, tells-and, tells-within}
+use Rattle.whole.proofs.Tells.{tells-all, tells-and, tells-within}
 use Rattle.whole.specs.Numbers.{Within}
+use Rattle.whole.specs.Tells.{Tells}
 use Rattle.rules.specs.Sizes.{largestNumber}
 use Rattle.rules.specs.Tableau.{Tableau, entry, small}
 

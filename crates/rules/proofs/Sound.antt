@@ -13,9 +13,9 @@ use Prim.Native.Nat.{suc, ℕ, _+_, _<_}
 use lib.IntN.{pos, ℤ, _*ℤ_}
 use lib.ListN.{length}
 use lib.Signed.{_<ℤ_}
-use Rattle.whole.proofs.Values.{Laws, scale-total, sum-scale, total-one, total-same, total-swap}
+use Rattle.whole.proofs.Values.{scale-total, sum-scale, total-one, total-same, total-swap}
 use Rattle.whole.specs.Sums.{sum}
-use Rattle.whole.specs.Values.{Le, Values, total, whole}
+use Rattle.whole.specs.Values.{Laws, Le, Values, total, whole}
 use Rattle.rules.proofs.Units.{holds-of}
 use Rattle.rules.specs.Evidence.{Rows}
 use Rattle.rules.specs.Problem.{Problem, vars}

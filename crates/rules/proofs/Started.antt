@@ -13,9 +13,9 @@ use Rattle.whole.proofs.Below.{none-passes}
 use Rattle.whole.proofs.RingLaws.{*ℤ-idl, *ℤ-idr}
 use Rattle.whole.proofs.Sums.{sum-front, sum-one, sum-same, sum-zero}
 use Rattle.whole.proofs.Tables.{matrix-at, table-at, tableFrom-length}
-use Rattle.whole.proofs.Values.{Laws, le-refl}
+use Rattle.whole.proofs.Values.{le-refl}
 use Rattle.whole.specs.Sums.{sum}
-use Rattle.whole.specs.Values.{Le, Values, whole}
+use Rattle.whole.specs.Values.{Laws, Le, Values, whole}
 use Rattle.rules.proofs.Sound.{Apart, Housed, Rowed, Sound, sound-of}
 use Rattle.rules.proofs.Units.{ge-false, lt-true, problem-row, row-row, same-off, same-self}
 use Rattle.rules.specs.Evidence.{Rows}

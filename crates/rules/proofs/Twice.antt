@@ -6,8 +6,8 @@ use mathlib.Core.Path.{ap, refl, _∙_, _≡_}
 use Prim.Native.Nat.{suc, ℕ, _<_}
 use native.Mathlib.Omega.{arith}
 use lib.ListN.{getD}
-use Rattle.whole.proofs.Values.{Laws, up}
-use Rattle.whole.specs.Values.{Le, Values}
+use Rattle.whole.proofs.Values.{up}
+use Rattle.whole.specs.Values.{Laws, Le, Values}
 use Rattle.rules.proofs.Clash.{Facts, no-clash}
 use Rattle.rules.proofs.Enters.{Entered, entered, swap}
 use Rattle.rules.proofs.Leaves.{Left, left}

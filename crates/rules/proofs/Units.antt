@@ -13,9 +13,9 @@ use lib.IntN.{*ℤ-one, *ℤ-zero, one, pos, ℤ, _*ℤ_}
 use Rattle.whole.proofs.Bools.{T→false, T→true}
 use Rattle.whole.proofs.Normal.{scale}
 use Rattle.whole.proofs.Sums.{sum-one, sum-same}
-use Rattle.whole.proofs.Values.{Laws, scale-total, sum-scale, total-one, total-same, total-swap}
+use Rattle.whole.proofs.Values.{scale-total, sum-scale, total-one, total-same, total-swap}
 use Rattle.whole.specs.Sums.{sum}
-use Rattle.whole.specs.Values.{Values, total, whole}
+use Rattle.whole.specs.Values.{Laws, Values, total, whole}
 use Rattle.rules.specs.Evidence.{Rows}
 use Rattle.rules.specs.Problem.{Problem, vars}
 use Rattle.rules.specs.Step.{same, startEntry}

@@ -3,10 +3,9 @@
 --   beside-laws, pairs-laws    all laws hold of them
 use mathlib.Core.Path.{_≡_, refl, _∙_, ap, ap₂}
 use mathlib.Core.Bool.{Bool, true, false}
-use Rattle.whole.specs.Values.{Values, lexicographic, beside, pairs, Lt, Le}
+use Rattle.whole.specs.Values.{Values, lexicographic, beside, pairs, Lt, Le, Laws}
 use Rattle.whole.proofs.Bools.{true-false}
 use Rattle.whole.proofs.Instances.{whole-laws}
-use Rattle.whole.proofs.Values.{Laws}
 
 lexicographic-same : {a b c d e f : Bool} → a ≡ b → c ≡ d → e ≡ f → lexicographic a c e ≡ lexicographic b d f
 lexicographic-same {a} {b} {c} {d} {e} {f} p q r =

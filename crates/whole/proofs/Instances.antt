@@ -4,13 +4,12 @@ use mathlib.Core.Bool.{Bool, true, false}
 use mathlib.Core.List.{List, [], _∷_}
 use lib.IntN.{ℤ, pos, _+ℤ_, _-ℤ_, _*ℤ_, +ℤ-assoc, +ℤ-comm, +ℤ-idr, zero-*ℤ}
 use lib.Signed.{ltZ, _<ℤ_}
-use Rattle.whole.specs.Values.{Values, whole, turned}
+use Rattle.whole.specs.Values.{Values, whole, turned, Laws}
 use Rattle.whole.proofs.RingLaws.{*ℤ-idl, *ℤ-distribl, *ℤ-distribr, *ℤ-assoc}
 use Rattle.whole.proofs.Reify.{reify}
 use Rattle.whole.proofs.Nonneg.{of-le, of-lt, slk}
 use Rattle.whole.proofs.Tools.{le-at, lt-at}
 use Rattle.whole.proofs.Order.{true→lt, false→le, lt→true, le→false, ≤ℤ-trans, ≤ℤ-antisym, <ℤ→≤ℤ, times-up, times-up-strict, times-down, times-down-strict}
-use Rattle.whole.proofs.Values.{Laws}
 
 -- with the order turned round all laws hold again
 pub turned-laws : {X : Type 0} {𝓥 : Values X} → Laws 𝓥 → Laws (turned 𝓥)

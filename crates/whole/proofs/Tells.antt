@@ -1,5 +1,5 @@
 -- What a test tells: one fact where it is true, another where it is false, never both. Tests are put together as their facts are.
---   Tells b Yes No                           the test b is true exactly where Yes holds, and false exactly where No does
+--   Tells b Yes No                           specs/Tells: b is true exactly where Yes holds, and false exactly where No does
 --   tells-true, tells-false, tells-not       back from a fact to the test; the test turned round
 --   tells-and, tells-or, tells-all, -some    two tests, and one for each number below k
 --   tells-present, tells-missing             a test of something that may be missing
@@ -25,11 +25,7 @@ use Rattle.whole.proofs.Sizes.{within-hi, within-lo, within-of}
 use Rattle.whole.proofs.Tests.{leZ-false, leZ-true}
 use Rattle.whole.specs.Below.{allBelow, someBelow}
 use Rattle.whole.specs.Numbers.{Within, eqZ, outside, within}
-
-pub record Tells (b : Bool) (Yes No : Type 0) : Type 0 where
-  pub if-true : b ≡ true → Yes
-  pub if-false : b ≡ false → No
-  pub not-both : Yes → No → ⊥
+use Rattle.whole.specs.Tells.{Tells}
 
 module _ {b : Bool} {Yes No : Type 0} (t : Tells b Yes No) where
   pub tells-true : Yes → b ≡ true

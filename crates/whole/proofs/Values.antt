@@ -1,4 +1,4 @@
--- What is asked of the operations on values, and what follows from it: fourteen laws, chains of orders, multiples by sign, and sums.
+-- What follows from what is asked of the operations on values (`Laws` of specs/Values): chains of orders, multiples by sign, and sums.
 -- The order laws are equations on `less`, so that an order turned round computes.
 --   weaken, le-le, lt-le-trans, le-lt-trans, plus-mono, up, down, -strict    orders
 --   le-or-lt, plus-le, plus-lt                                               two cases; one value added to both
@@ -15,23 +15,7 @@ use lib.IntN.{ℤ, pos, _+ℤ_, _*ℤ_, *ℤ-zero, *ℤ-comm}
 use lib.Signed.{_<ℤ_}
 use Rattle.whole.proofs.Bools.{true-false}
 use Rattle.whole.specs.Sums.{sum, sumBy}
-use Rattle.whole.specs.Values.{Values, total, Lt, Le}
-
-pub record Laws {X : Type 0} (𝓥 : Values X) : Type 0 where
-  pub plus-assoc : (x y z : X) → 𝓥 .plus (𝓥 .plus x y) z ≡ 𝓥 .plus x (𝓥 .plus y z)
-  pub plus-comm : (x y : X) → 𝓥 .plus x y ≡ 𝓥 .plus y x
-  pub plus-nil : (x : X) → 𝓥 .plus x (𝓥 .nil) ≡ x
-  pub zero-scale : (x : X) → 𝓥 .scale (pos 0) x ≡ 𝓥 .nil
-  pub one-scale : (x : X) → 𝓥 .scale (pos 1) x ≡ x
-  pub scale-plus : (a : ℤ) (x y : X) → 𝓥 .scale a (𝓥 .plus x y) ≡ 𝓥 .plus (𝓥 .scale a x) (𝓥 .scale a y)
-  pub plus-scale : (a b : ℤ) (x : X) → 𝓥 .scale (a +ℤ b) x ≡ 𝓥 .plus (𝓥 .scale a x) (𝓥 .scale b x)
-  pub scale-times : (a b : ℤ) (x : X) → 𝓥 .scale (a *ℤ b) x ≡ 𝓥 .scale a (𝓥 .scale b x)
-  pub less-asym : (x y : X) → Lt 𝓥 x y → Le 𝓥 x y
-  pub le-trans : (x y z : X) → Le 𝓥 x y → Le 𝓥 y z → Le 𝓥 x z
-  pub le-antisym : (x y : X) → Le 𝓥 x y → Le 𝓥 y x → x ≡ y
-  pub less-plus : (x y z : X) → 𝓥 .less (𝓥 .plus x z) (𝓥 .plus y z) ≡ 𝓥 .less x y
-  pub less-up : (a : ℤ) (x y : X) → pos 0 <ℤ a → 𝓥 .less (𝓥 .scale a x) (𝓥 .scale a y) ≡ 𝓥 .less x y
-  pub less-down : (a : ℤ) (x y : X) → a <ℤ pos 0 → 𝓥 .less (𝓥 .scale a x) (𝓥 .scale a y) ≡ 𝓥 .less y x
+use Rattle.whole.specs.Values.{Laws, Values, total, Lt, Le}
 
 module _ {X : Type 0} {𝓥 : Values X} (L : Laws 𝓥) where
   open Values 𝓥 using (nil, plus, scale, less)

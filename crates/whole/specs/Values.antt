@@ -6,7 +6,7 @@ use mathlib.Core.Path.{_≡_}
 use mathlib.Core.Bool.{Bool, true, false}
 use Prim.Native.Nat.{ℕ}
 use lib.IntN.{ℤ, pos, _+ℤ_, _*ℤ_}
-use lib.Signed.{ltZ}
+use lib.Signed.{ltZ, _<ℤ_}
 use Rattle.whole.specs.Sums.{sumBy}
 
 -- the operations: 0, addition, a whole number times a value, and the order
@@ -54,3 +54,21 @@ Lt 𝓥 x y = 𝓥 .less x y ≡ true
 -- x is at most y: y is not less
 abbrev pub Le : {X : Type 0} → Values X → X → X → Type 0
 Le 𝓥 x y = 𝓥 .less y x ≡ false
+
+-- what is asked of the operations: fourteen laws, which whole numbers and pairs have (proofs/Instances, proofs/Beside).
+-- Those on the order are equations on `less`, so that an order turned round computes
+pub record Laws {X : Type 0} (𝓥 : Values X) : Type 0 where
+  pub plus-assoc : (x y z : X) → 𝓥 .plus (𝓥 .plus x y) z ≡ 𝓥 .plus x (𝓥 .plus y z)
+  pub plus-comm : (x y : X) → 𝓥 .plus x y ≡ 𝓥 .plus y x
+  pub plus-nil : (x : X) → 𝓥 .plus x (𝓥 .nil) ≡ x
+  pub zero-scale : (x : X) → 𝓥 .scale (pos 0) x ≡ 𝓥 .nil
+  pub one-scale : (x : X) → 𝓥 .scale (pos 1) x ≡ x
+  pub scale-plus : (a : ℤ) (x y : X) → 𝓥 .scale a (𝓥 .plus x y) ≡ 𝓥 .plus (𝓥 .scale a x) (𝓥 .scale a y)
+  pub plus-scale : (a b : ℤ) (x : X) → 𝓥 .scale (a +ℤ b) x ≡ 𝓥 .plus (𝓥 .scale a x) (𝓥 .scale b x)
+  pub scale-times : (a b : ℤ) (x : X) → 𝓥 .scale (a *ℤ b) x ≡ 𝓥 .scale a (𝓥 .scale b x)
+  pub less-asym : (x y : X) → Lt 𝓥 x y → Le 𝓥 x y
+  pub le-trans : (x y z : X) → Le 𝓥 x y → Le 𝓥 y z → Le 𝓥 x z
+  pub le-antisym : (x y : X) → Le 𝓥 x y → Le 𝓥 y x → x ≡ y
+  pub less-plus : (x y z : X) → 𝓥 .less (𝓥 .plus x z) (𝓥 .plus y z) ≡ 𝓥 .less x y
+  pub less-up : (a : ℤ) (x y : X) → pos 0 <ℤ a → 𝓥 .less (𝓥 .scale a x) (𝓥 .scale a y) ≡ 𝓥 .less x y
+  pub less-down : (a : ℤ) (x y : X) → a <ℤ pos 0 → 𝓥 .less (𝓥 .scale a x) (𝓥 .scale a y) ≡ 𝓥 .less y x

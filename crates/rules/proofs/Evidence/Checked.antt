@@ -14,7 +14,7 @@ use native.Mathlib.Omega.{arith}
 use lib.IntN.{ℤ}
 use lib.ListN.{length}
 use Rattle.whole.proofs.Bools.{true-false}
-use Rattle.whole.proofs.Tells.{Tells}
+use Rattle.whole.specs.Tells.{Tells}
 use Rattle.rules.proofs.Evidence.Same.{multipliers-same, numerators-same}
 use Rattle.rules.proofs.Evidence.Shows.{Shown, shown-tells}
 use Rattle.rules.proofs.First.{First, Test, first-exactly, first-kept, first-passed, line}

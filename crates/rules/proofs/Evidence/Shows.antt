@@ -12,9 +12,10 @@ use Prim.Native.Nat.{ℕ, _+_, _<_}
 use lib.IntN.{pos, ℤ, _*ℤ_, _-ℤ_}
 use lib.Signed.{leZ-yes, _<ℤ_, _≤ℤ_}
 use Rattle.whole.proofs.Bools.{and-of, and-true, not-true, true-false}
-use Rattle.whole.proofs.Tells.{Tells, tells-all, tells-and, tells-eqZ, tells-ltZ, tells-missing, tells-not, tells-or}
+use Rattle.whole.proofs.Tells.{tells-all, tells-and, tells-eqZ, tells-ltZ, tells-missing, tells-not, tells-or}
 use Rattle.whole.proofs.Tells.{tells-outside, tells-some, tells-true, tells-within}
 use Rattle.whole.specs.Numbers.{Within, eqZ}
+use Rattle.whole.specs.Tells.{Tells}
 use Rattle.whole.specs.Values.{Le, Lt, pairs, whole}
 use Rattle.rules.specs.Evidence.{Rows, accepted, atLeast, atMost, clears, column, contradicts, someStrict}
 use Rattle.rules.specs.Evidence.{strictNamed, denominatorOf, fair, lowerPart, rowSum, showsCan, showsCannot}

@@ -18,9 +18,9 @@ use Rattle.whole.proofs.Order.{<ℤ→≤ℤ, Sign, minus, neg-down, neg-up, nu
 use Rattle.whole.proofs.Reify.{reify}
 use Rattle.whole.proofs.Tells.{tells-eq, tells-false, tells-true}
 use Rattle.whole.proofs.Tools.{ring-at}
-use Rattle.whole.proofs.Values.{Laws, down, le-refl, lt-le-trans, nil-plus, same-le, scale-nil, scale-total, total-le}
+use Rattle.whole.proofs.Values.{down, le-refl, lt-le-trans, nil-plus, same-le, scale-nil, scale-total, total-le}
 use Rattle.whole.proofs.Values.{total-one, total-plus, total-same, up}
-use Rattle.whole.specs.Values.{Le, Lt, Values, total}
+use Rattle.whole.specs.Values.{Laws, Le, Lt, Values, total}
 use Rattle.rules.proofs.Blame.{positive-down}
 use Rattle.rules.proofs.Enters.{none-enters}
 use Rattle.rules.proofs.Evidence.Terms.{positive-yes, pull-is, turn}

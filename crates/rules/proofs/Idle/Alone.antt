@@ -9,8 +9,8 @@ use Prim.Native.Nat.{ℕ, _+_, _-_, _<_}
 use native.Mathlib.Decide.{decLt}
 use native.Mathlib.Omega.{arith}
 use lib.IntN.{pos, ℤ, _*ℤ_}
-use Rattle.whole.proofs.Values.{Laws, same-le}
-use Rattle.whole.specs.Values.{Values}
+use Rattle.whole.proofs.Values.{same-le}
+use Rattle.whole.specs.Values.{Laws, Values}
 use Rattle.rules.proofs.Idle.Blocked.{rows-times, square}
 use Rattle.rules.proofs.Idle.Kept.{Met, Within-side, meets-kept}
 use Rattle.rules.proofs.Units.{problem-row, row-row, same-self, unit-solves}

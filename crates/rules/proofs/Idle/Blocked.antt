@@ -16,8 +16,8 @@ use Rattle.whole.proofs.Nonneg.{of-lt, slk, _⊞_, _⊠_}
 use Rattle.whole.proofs.Order.{Sign, *ℤ-pos-pos, minus, null, plus, sign}
 use Rattle.whole.proofs.Reify.{reify}
 use Rattle.whole.proofs.Tools.{lt-at, ring-at}
-use Rattle.whole.proofs.Values.{Laws, same-le, scale-nil, scale-total, sum-scale, total-plus, total-same, up}
-use Rattle.whole.specs.Values.{Values, whole}
+use Rattle.whole.proofs.Values.{same-le, scale-nil, scale-total, sum-scale, total-plus, total-same, up}
+use Rattle.whole.specs.Values.{Laws, Values, whole}
 use Rattle.rules.proofs.Gaps.{gap-back}
 use Rattle.rules.proofs.Idle.Kept.{Within-side, meets-kept}
 use Rattle.rules.proofs.Leaves.{Left, Outside, too-high, too-low}

@@ -13,10 +13,9 @@ use Prim.Native.Nat.{suc, zero, ℕ, _+_, _<_}
 use native.Mathlib.Omega.{arith}
 use lib.ListN.{getD, length}
 use Rattle.whole.proofs.Tables.{table-at, table-length}
-use Rattle.whole.proofs.Values.{Laws}
 use Rattle.whole.specs.Numbers.{Within}
 use Rattle.whole.specs.Tables.{table, tableFrom}
-use Rattle.whole.specs.Values.{Values}
+use Rattle.whole.specs.Values.{Laws, Values}
 use Rattle.rules.proofs.AnswerIs.{ending-crossed, ending-run}
 use Rattle.rules.proofs.Ends.{ends, ready-start}
 use Rattle.rules.proofs.Kept.{kept-after, kept-start}

@@ -14,9 +14,8 @@ use native.Mathlib.Omega.{arith}
 use lib.ListN.{List·getD-eq-default, length, length-replicate, length-set}
 use Rattle.whole.proofs.Bools.{true-false, zero-one}
 use Rattle.whole.proofs.Tables.{table-length}
-use Rattle.whole.proofs.Values.{Laws}
 use Rattle.whole.specs.Numbers.{Within}
-use Rattle.whole.specs.Values.{Values}
+use Rattle.whole.specs.Values.{Laws, Values}
 use Rattle.rules.proofs.Evidence.Seats.{values-after, values-start}
 use Rattle.rules.proofs.Idle.Kept.{kept-some}
 use Rattle.rules.proofs.Sessions.Fair.{Fair, came, handed-fair, rested-after, within}

@@ -8,8 +8,8 @@ use mathlib.Core.Logic.{_↔_}
 use mathlib.Core.Option.{Option, Option·none-ne-some, none, some}
 use mathlib.Core.Path.{refl, subst, sym, _∙_, _≡_}
 use Rattle.whole.proofs.Bools.{true-false}
-use Rattle.whole.proofs.Values.{Laws, le-refl, lt-irrefl, lt-le-trans}
-use Rattle.whole.specs.Values.{Le, Lt, Values}
+use Rattle.whole.proofs.Values.{le-refl, lt-irrefl, lt-le-trans}
+use Rattle.whole.specs.Values.{Laws, Le, Lt, Values}
 use Rattle.rules.proofs.Started.{uncrossed}
 use Rattle.rules.specs.Run.{crossed}
 use Rattle.rules.specs.Session.{inside}

@@ -8,8 +8,7 @@ use Prim.Native.Nat.{ℕ, _≤_}
 use native.Mathlib.Omega.{arith}
 use lib.IntN.{ℤ}
 use Rattle.whole.proofs.Beside.{pairs-laws}
-use Rattle.whole.proofs.Values.{Laws}
-use Rattle.whole.specs.Values.{Values, pairs}
+use Rattle.whole.specs.Values.{Laws, Values, pairs}
 use Rattle.rules.proofs.AnswerIs.{ending-crossed, ending-run, spending-crossed, spending-run}
 use Rattle.rules.proofs.Bounded.{below-bound}
 use Rattle.rules.proofs.Ends.{ends}

@@ -17,10 +17,10 @@ use lib.ListN.{getD, length, length-set, set}
 use lib.Seq.{getD-set-other, getD-set-same}
 use Rattle.whole.proofs.Bools.{true-false}
 use Rattle.whole.proofs.Tables.{table-all, table-same}
-use Rattle.whole.proofs.Tells.{Tells, tells-and, tells-lt, tells-not}
-use Rattle.whole.proofs.Values.{Laws}
+use Rattle.whole.proofs.Tells.{tells-and, tells-lt, tells-not}
 use Rattle.whole.specs.Tables.{table}
-use Rattle.whole.specs.Values.{Values}
+use Rattle.whole.specs.Tells.{Tells}
+use Rattle.whole.specs.Values.{Laws, Values}
 use Rattle.rules.proofs.First.{AllFine, First, Test, first-exactly, first-fine, line}
 use Rattle.rules.proofs.Sessions.Fair.{Fair, seat-settled, within}
 use Rattle.rules.proofs.Sessions.Inside.{Lands, inside-exactly, inside-still, same-some}

@@ -7,8 +7,7 @@ use native.Mathlib.Omega.{arith}
 use native.Mathlib.Nat.{add-zero, add-suc}
 use lib.ListN.{length, take}
 use lib.Seq.{getD-take, getD-drop, slice, length-slice}
-use Rattle.whole.specs.Values.{Values}
-use Rattle.whole.proofs.Values.{Laws}
+use Rattle.whole.specs.Values.{Laws, Values}
 use Rattle.rules.specs.Walks.{Edges}
 use Rattle.rules.specs.Cycle.{row, Cycle, BadCycle}
 use Rattle.rules.proofs.Times.Traced.{Bettered}

@@ -18,11 +18,10 @@ use lib.Dec.{ltb}
 use lib.ListN.{length, getD, set, replicate, length-set, length-replicate, getD-replicate, List·getD-eq-default}
 use lib.Seq.{getD-set-same, getD-set-other, slice}
 use Rattle.whole.specs.Below.{foldBelow, someBelow}
-use Rattle.whole.specs.Values.{Values, Lt, Le}
+use Rattle.whole.specs.Values.{Values, Lt, Le, Laws}
 use Rattle.whole.proofs.Bools.{either, true-false}
 use Rattle.whole.proofs.Below.{some-none, some-at}
 use Rattle.whole.proofs.Pigeons.{pigeons}
-use Rattle.whole.proofs.Values.{Laws}
 use Rattle.rules.specs.Walks.{Edges, Ends, Shortest, ClosesBelow}
 use Rattle.rules.specs.Passes.{distance, through, betters, look, looks, passes, settled, distances, canMeet}
 use Rattle.rules.specs.Cycle.{row, Cycle, BadCycle}

@@ -8,8 +8,8 @@ use native.Mathlib.Omega.{arith}
 use native.Mathlib.Decide.{decLe}
 use lib.ListN.{length}
 use Rattle.whole.specs.Sums.{sumBy}
-use Rattle.whole.specs.Values.{Values, total, Lt, Le}
-use Rattle.whole.proofs.Values.{Laws, same-le, le-le, le-lt-trans, lt-le-trans, plus-le, plus-lt, nil-plus, gain-lt}
+use Rattle.whole.specs.Values.{Values, total, Lt, Le, Laws}
+use Rattle.whole.proofs.Values.{same-le, le-le, le-lt-trans, lt-le-trans, plus-le, plus-lt, nil-plus, gain-lt}
 use Rattle.rules.specs.Walks.{Edges}
 use Rattle.rules.specs.Passes.{through}
 use Rattle.rules.specs.Cycle.{row, Cycle, around}

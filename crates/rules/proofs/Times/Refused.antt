@@ -12,7 +12,8 @@ use lib.IntN.{ℤ, pos, natAbs}
 use lib.ListN.{length}
 use lib.Signed.{_≤ℤ_}
 use Rattle.whole.specs.Numbers.{Within}
-use Rattle.whole.proofs.Tells.{Tells, tells-eq, tells-lt, tells-not, tells-or, tells-outside, tells-some, tells-within}
+use Rattle.whole.specs.Tells.{Tells}
+use Rattle.whole.proofs.Tells.{tells-eq, tells-lt, tells-not, tells-or, tells-outside, tells-some, tells-within}
 use Rattle.whole.proofs.Tests.{above, own-size, under}
 use Rattle.rules.specs.Sizes.{mostVertices, mostTimeRows, largestLength}
 use Rattle.rules.specs.Problem.{word, nOf, mOf}

@@ -12,10 +12,10 @@ use Prim.Native.Nat.{ℕ, zero, suc, _-_, _≤_, _<_}
 use native.Mathlib.Omega.{arith}
 use lib.ListN.{length}
 use Rattle.whole.specs.Sums.{sumBy}
-use Rattle.whole.specs.Values.{Values, total, Lt, Le}
+use Rattle.whole.specs.Values.{Values, total, Lt, Le, Laws}
 use Rattle.whole.proofs.Bools.{true-false, not-true}
 use Rattle.whole.proofs.Below.{all-each, all-of}
-use Rattle.whole.proofs.Values.{Laws, same-le, le-le, lt-irrefl, plus-le, nil-plus, gain-le}
+use Rattle.whole.proofs.Values.{same-le, le-le, lt-irrefl, plus-le, nil-plus, gain-le}
 use Rattle.rules.specs.Walks.{Edges, Walk, stay, on, Shortest, ClosesBelow}
 use Rattle.rules.specs.Passes.{distance, through, betters, settled}
 use Rattle.rules.specs.Cycle.{row, Cycle, around, BadCycle}

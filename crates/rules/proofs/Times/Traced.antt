@@ -10,9 +10,9 @@ use native.Mathlib.Omega.{arith}
 use native.Mathlib.Decide.{ℕ-discrete, decLe}
 use borrow.Author.Tests.{eq-eqb, ne-eqb}
 use lib.Dec.{eqb}
-use Rattle.whole.specs.Values.{Values, Lt, Le}
+use Rattle.whole.specs.Values.{Values, Lt, Le, Laws}
 use Rattle.whole.proofs.Bools.{true-false}
-use Rattle.whole.proofs.Values.{Laws, same-le, le-refl, le-le, lt-le-trans, le-lt-trans, weaken, plus-le, plus-lt}
+use Rattle.whole.proofs.Values.{same-le, le-refl, le-le, lt-le-trans, le-lt-trans, weaken, plus-le, plus-lt}
 use Rattle.rules.specs.Walks.{Edges, Walk, stay, on}
 use Rattle.rules.specs.Passes.{through}
 use Rattle.rules.proofs.Times.Still.{Still}
