@@ -24,11 +24,12 @@ use Rattle.rules.proofs.Bounded.{below-bound}
 use Rattle.rules.proofs.Ends.{ends}
 use Rattle.rules.proofs.Moved.{sound-after}
 use Rattle.rules.proofs.Runs.{ends-only, run-is}
-use Rattle.rules.proofs.Sound.{Apart, Ready, Sound, howManySeated, ready-sound}
+use Rattle.rules.proofs.Sound.{ready-sound}
 use Rattle.rules.proofs.Started.{no-conflict}
 use Rattle.rules.specs.Answer.{answerFrom, wordsOf}
 use Rattle.rules.specs.Problem.{Problem, vars, word}
 use Rattle.rules.specs.Run.{Ending, Ends, after, bound, conflict, crossed, ending, run, spending}
+use Rattle.rules.specs.State.{Apart, Ready, Sound, howManySeated}
 use Rattle.rules.specs.Step.{Outcome, State, can, cannot, goes, range, same, step}
 
 module _ {X : Type 0} (𝓥 : Values X) where

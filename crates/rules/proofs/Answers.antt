@@ -17,11 +17,11 @@ use Rattle.rules.proofs.AnswerIs.{TheRun, answer-crossed, answer-run, e
 use Rattle.rules.proofs.Blame.{Blamed, cannot-blames}
 use Rattle.rules.proofs.Moved.{rowed-after}
 use Rattle.rules.proofs.Moves.{Stepped, is-can, is-cannot, is-goes, is-range, stepped}
-use Rattle.rules.proofs.Sound.{Ready, Rowed}
 use Rattle.rules.specs.Answer.{answerFrom, wordsOf}
 use Rattle.rules.specs.Evidence.{lowerPart, upperPart, verdictOf}
 use Rattle.rules.specs.Problem.{Problem, vars, word}
 use Rattle.rules.specs.Run.{Ended, after, conflict}
+use Rattle.rules.specs.State.{Ready, Rowed}
 use Rattle.rules.specs.Step.{Outcome, State, common, evidence, leaving, range, same, scaled, step}
 
 unfoldable pub laid : ℤ → ℤ → ℤ → List ℤ → List ℤ → List ℤ

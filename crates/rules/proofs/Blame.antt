@@ -21,8 +21,8 @@ use Rattle.whole.specs.Values.{Values}
 use Rattle.rules.proofs.Leaves.{left}
 use Rattle.rules.proofs.Moves.{step-cannot}
 use Rattle.rules.proofs.Relation.{relation-off, relation-own}
-use Rattle.rules.proofs.Sound.{Rowed}
 use Rattle.rules.specs.Problem.{Problem, vars, word}
+use Rattle.rules.specs.State.{Rowed}
 use Rattle.rules.specs.Step.{Leaving, Side, State, above, below, cannot, entering, evidence, leaving, positive, pull, step}
 use Rattle.rules.specs.Tableau.{Tableau, entry, relation}
 

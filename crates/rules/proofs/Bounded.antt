@@ -18,14 +18,14 @@ use Rattle.whole.proofs.Tables.{table-at, tableFrom-length}
 use Rattle.whole.specs.Tables.{table}
 use Rattle.whole.specs.Values.{Laws, Values}
 use Rattle.rules.proofs.Arrangements.{Fits, OneOf, Three, at-most}
-use Rattle.rules.proofs.Enters.{Entered, entered, swap}
-use Rattle.rules.proofs.Leaves.{Left, Outside, left, too-high, too-low}
+use Rattle.rules.proofs.Enters.{entered, swap}
+use Rattle.rules.proofs.Leaves.{left}
 use Rattle.rules.proofs.Moved.{sound-after, twice-never}
 use Rattle.rules.proofs.Moves.{step-goes}
-use Rattle.rules.proofs.Sound.{Apart, Rowed, Sound, howManySeated}
-use Rattle.rules.proofs.Swaps.{Swap}
 use Rattle.rules.specs.Problem.{Problem, vars}
+use Rattle.rules.specs.Rule.{Entered, Left, Outside, Swap, too-high, too-low}
 use Rattle.rules.specs.Run.{Runs, after, bound, choose, next}
+use Rattle.rules.specs.State.{Apart, Rowed, Sound, howManySeated}
 use Rattle.rules.specs.Step.{Leaving, Outcome, Side, State, can, cannot, goes, limitAt, moved, range, seat, seated, step}
 
 module _ {X : Type 0} where

@@ -35,7 +35,6 @@ use Rattle.rules.proofs.Evidence.Separate.{Fraction, FractionsMeet, uns
 use Rattle.rules.proofs.Fractions.{can-is-met, cannot-is-unmet}
 use Rattle.rules.proofs.Moved.{twice-never}
 use Rattle.rules.proofs.Shape.{answer-shaped}
-use Rattle.rules.proofs.Sound.{Apart, Ready, Sound}
 use Rattle.rules.proofs.Started.{no-conflict, sound-start}
 use Rattle.rules.specs.Answer.{answer, answerFrom, written}
 use Rattle.rules.specs.Evidence.{AtLeast, AtMost, Meets, Unmet, Unsatisfied, checked, denominatorOf, pairPart}
@@ -44,6 +43,7 @@ use Rattle.rules.specs.Problem.{Problem, inner, answerLength, problem, v
 use Rattle.rules.specs.Refusal.{Accepted, refusal}
 use Rattle.rules.specs.Run.{Runs, after, bound, conflict}
 use Rattle.rules.specs.Sizes.{mostRows}
+use Rattle.rules.specs.State.{Apart, Ready, Sound}
 use Rattle.rules.specs.Step.{State, common, positive, scaled, start}
 
 -- ---- fractions, in the answer from any state that is ready

@@ -12,10 +12,10 @@ use native.Mathlib.Omega.{arith}
 use Rattle.whole.specs.Tables.{tableFrom}
 use Rattle.whole.specs.Values.{Laws, Values}
 use Rattle.rules.proofs.Bounded.{below-bound}
-use Rattle.rules.proofs.Sound.{Apart, Ready, Sound, howManySeated}
 use Rattle.rules.proofs.Started.{basic-row, housed-start, rowed-start, seated-problem}
 use Rattle.rules.specs.Problem.{Problem, vars}
 use Rattle.rules.specs.Run.{Ended, Ends, Moves, Runs, after, bound}
+use Rattle.rules.specs.State.{Apart, Ready, Sound, howManySeated}
 use Rattle.rules.specs.Step.{Outcome, State, can, cannot, goes, range, start, startSeat, step}
 
 module _ {X : Type 0} (𝓥 : Values X) where

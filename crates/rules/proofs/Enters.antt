@@ -1,7 +1,7 @@
 -- What the search for the entering variable says: it is nonbasic and may move the right way, and no lower one may; and what a move swaps.
---   entered        of the variable that enters: `Entered`
---   none-enters    every nonbasic variable is stuck: `Stuck`
---   swap           the two seats that change, and that no other does: `Swap`
+--   entered        of the variable that enters: `Entered` of specs/Rule
+--   none-enters    every nonbasic variable is stuck: `Stuck` of specs/Rule
+--   swap           the two seats that change, and that no other does: `Swap` of specs/Rule
 use mathlib.Core.Bool.{false, true}
 use mathlib.Core.List.{List}
 use mathlib.Core.Logic.{_≢_}
@@ -19,31 +19,13 @@ use Rattle.whole.proofs.Bools.{true-false, zero-one}
 use Rattle.whole.proofs.Tells.{tells-missing}
 use Rattle.whole.specs.Tells.{Tells}
 use Rattle.whole.specs.Values.{Le, Lt, Values}
-use Rattle.rules.proofs.Leaves.{Left}
-use Rattle.rules.proofs.Swaps.{Swap}
 use Rattle.rules.specs.Problem.{Problem, vars}
+use Rattle.rules.specs.Rule.{Entered, Left, Stuck, Suits, Swap, may-go-down, may-go-up}
 use Rattle.rules.specs.Step.{Leaving, State, entering, limitAt, mayFall, mayRise, moved, pull, seat, suits}
 use Rattle.rules.specs.Tableau.{entry}
 
 module _ {X : Type 0} (𝓥 : Values X) where
   -- ---- the entering variable
-
-  -- w, seated at x, with the entry a (turned to rise), may move the right way
-  pub data Suits (P : Problem X) (w : ℕ) (a : ℤ) (x : X) : Type 0 where
-    may-go-up : pos 0 <ℤ a → ((u : X) → P .upper w ≡ some u → Lt 𝓥 x u) → Suits P w a x
-    may-go-down : a <ℤ pos 0 → ((l : X) → P .lower w ≡ some l → Lt 𝓥 l x) → Suits P w a x
-
-  pub record Stuck (P : Problem X) (w : ℕ) (a : ℤ) (x : X) : Type 0 where
-    pub no-rise : pos 0 <ℤ a → (u : X) × (P .upper w ≡ some u) × Le 𝓥 u x
-    pub no-fall : a <ℤ pos 0 → (l : X) × (P .lower w ≡ some l) × Le 𝓥 x l
-
-  pub record Entered (P : Problem X) (s : State X) (r : Leaving X) (w : ℕ) : Type 0 where
-    pub variable : w < vars P
-    pub value : X
-    pub was-seated : seat s w ≡ some value
-    pub suits : Suits P w (pull (r .side) (entry (s .tableau) (r .variable) w)) value
-    pub stuck : (u : ℕ) (x : X) → u < w → seat s u ≡ some x →
-        Stuck P u (pull (r .side) (entry (s .tableau) (r .variable) u)) x
 
   rise-tells : (x : X) (o : Option X) → Tells (mayRise 𝓥 x o) ((u : X) → o ≡ some u → Lt 𝓥 x u)
       ((u : X) × (o ≡ some u) × Le 𝓥 u x)
@@ -56,7 +38,7 @@ module _ {X : Type 0} (𝓥 : Values X) where
   fall-tells x = tells-missing (mayFall 𝓥 x) (λ l. 𝓥 .less l x) (λ l. refl) refl
 
   suits-yes : (P : Problem X) (w : ℕ) (a : ℤ) (x : X) → suits 𝓥 a (some x) (P .lower w) (P .upper w) ≡ true →
-      Suits P w a x
+      Suits 𝓥 P w a x
   unfolding suits
   suits-yes P w (pos zero) x e = let z : _≡_ {A = ℕ} 0 1 = cc in zero-one z
   suits-yes P w (pos (suc k)) x e = may-go-up (ltZ-yes (lt→ltb 0 (suc k) (omega arith)))
@@ -64,7 +46,7 @@ module _ {X : Type 0} (𝓥 : Values X) where
   suits-yes P w (negsuc k) x e = may-go-down (ltZ-yes tt) (fall-tells x (P .lower w) .if-true e)
 
   suits-no : (P : Problem X) (w : ℕ) (a : ℤ) (x : X) → suits 𝓥 a (some x) (P .lower w) (P .upper w) ≡ false →
-      Stuck P w a x
+      Stuck 𝓥 P w a x
   unfolding suits
   suits-no P w (pos zero) x e = record { no-rise = λ h. absurd (<ℤ-irrefl h); no-fall = λ h. absurd (<ℤ-irrefl h) }
   suits-no P w (pos (suc k)) x e = record {
@@ -77,20 +59,20 @@ module _ {X : Type 0} (𝓥 : Values X) where
   }
 
   pub suits-tells : (P : Problem X) (w : ℕ) (a : ℤ) (x : X) →
-      Tells (suits 𝓥 a (some x) (P .lower w) (P .upper w)) (Suits P w a x) (Stuck P w a x)
+      Tells (suits 𝓥 a (some x) (P .lower w) (P .upper w)) (Suits 𝓥 P w a x) (Stuck 𝓥 P w a x)
   suits-tells P w a x = record { if-true = suits-yes P w a x; if-false = suits-no P w a x; not-both = clash }
     where
-      clash : Suits P w a x → Stuck P w a x → ⊥
+      clash : Suits 𝓥 P w a x → Stuck 𝓥 P w a x → ⊥
       clash (may-go-up h f) S = let u = S .no-rise h in true-false (f (u .0) (u .1)) (u .2)
       clash (may-go-down h f) S = let l = S .no-fall h in true-false (f (l .0) (l .1)) (l .2)
 
   seated-suits : (P : Problem X) (w : ℕ) (a : ℤ) (o : Option X) → suits 𝓥 a o (P .lower w) (P .upper w) ≡ true →
-      (x : X) × (o ≡ some x) × Suits P w a x
+      (x : X) × (o ≡ some x) × Suits 𝓥 P w a x
   unfolding suits
   seated-suits P w a none e = let z : _≡_ {A = ℕ} 0 1 = cc in zero-one z
   seated-suits P w a (some x) e = (x, refl, suits-yes P w a x e)
 
-  pub entered : (P : Problem X) (s : State X) (r : Leaving X) (w : ℕ) → entering 𝓥 P s r ≡ some w → Entered P s r w
+  pub entered : (P : Problem X) (s : State X) (r : Leaving X) (w : ℕ) → entering 𝓥 P s r ≡ some w → Entered 𝓥 P s r w
   unfolding entering
   entered P s r w e =
       let f = lowest-passes (vars P) (λ u. suits 𝓥 (a u) (seat s u) (P .lower u) (P .upper u)) w .0 e in
@@ -109,7 +91,7 @@ module _ {X : Type 0} (𝓥 : Values X) where
   -- ---- the swap
 
   pub swap : (P : Problem X) (s : State X) (r : Leaving X) (w : ℕ) → length (s .seats) ≡ vars P → Left 𝓥 P s r →
-      Entered P s r w →
+      Entered 𝓥 P s r w →
       Swap (seat s) (seat (moved 𝓥 P s r w)) (r .variable) w (limitAt 𝓥 P r)
   unfolding moved
   swap P s r w n l e = record {
@@ -130,7 +112,7 @@ module _ {X : Type 0} (𝓥 : Values X) where
 
   pub none-enters : (P : Problem X) (s : State X) (r : Leaving X) → entering 𝓥 P s r ≡ none → (u : ℕ) (x : X) →
       u < vars P → seat s u ≡ some x →
-      Stuck P u (pull (r .side) (entry (s .tableau) (r .variable) u)) x
+      Stuck 𝓥 P u (pull (r .side) (entry (s .tableau) (r .variable) u)) x
   unfolding entering
   none-enters P s r e u x h q =
       suits-no P u (a u) x (rw q at (none-passes (vars P) (λ u. suits 𝓥 (a u) (seat s u) (P .lower u) (P .upper u)) .0 e

@@ -17,9 +17,10 @@ use Rattle.whole.specs.Numbers.{Within}
 use Rattle.whole.specs.Values.{Values}
 use Rattle.rules.proofs.Lowest.{divisor-divides, divisor-greatest}
 use Rattle.rules.proofs.Small.{small-tells}
-use Rattle.rules.proofs.Sound.{Rowed}
 use Rattle.rules.specs.Problem.{Problem, vars}
+use Rattle.rules.specs.Range.{EveryCell}
 use Rattle.rules.specs.Sizes.{largestNumber}
+use Rattle.rules.specs.State.{Rowed}
 use Rattle.rules.specs.Step.{State, common, seat}
 use Rattle.rules.specs.Tableau.{divisorSize, entry, small}
 
@@ -28,32 +29,27 @@ module _ {X : Type 0} (𝓥 : Values X) (P : Problem X) (s : State X) (S : Rowed
   abbrev pub Every : (ℤ → Type 0) → Type 0
   Every Q = Q (common s) × ((v : ℕ) → v < vars P → (u : ℕ) → u < vars P → Q (entry (s .tableau) v u))
 
-  -- of D and the entry of every basic row at every nonbasic variable
-  abbrev pub EveryCell : (ℤ → Type 0) → Type 0
-  EveryCell Q = Q (common s) × ((v w : ℕ) (x : X) → v < vars P → w < vars P → seat s v ≡ none → seat s w ≡ some x →
-      Q (entry (s .tableau) v w))
-
-  pub cells-all : (Q : ℤ → Type 0) → Q (pos 0) → Every Q ↔ EveryCell Q
+  pub cells-all : (Q : ℤ → Type 0) → Q (pos 0) → Every Q ↔ EveryCell P s Q
   cells-all Q zero-fine = (
     λ A. (A .0, λ v w x h k e f. A .1 v h w k),
     λ C. (C .0, λ v h u k. go C v u h k (seat s u) refl (seat s v) refl (ℕ-discrete u v)),
   )
     where
-      go : EveryCell Q → (v u : ℕ) → v < vars P → u < vars P → (o : Option X) → seat s u ≡ o → (p : Option X) →
+      go : EveryCell P s Q → (v u : ℕ) → v < vars P → u < vars P → (o : Option X) → seat s u ≡ o → (p : Option X) →
           seat s v ≡ p → Dec (u ≡ v) → Q (entry (s .tableau) v u)
       go C v u h k none e p f d = subst Q (sym (S .basic-zero v u h k e)) zero-fine
       go C v u h k (some x) e none f d = C .1 v u x h k f e
       go C v u h k (some x) e (some y) f (yes z) = rw z (subst Q (sym (S .own v y h f)) (C .0))
       go C v u h k (some x) e (some y) f (no n) = subst Q (sym (S .own-zero v u y h k f n)) zero-fine
 
-  pub divisor-of-cells : (d : ℕ) → (d ∣ divisorSize (vars P) (s .tableau)) ↔ EveryCell (λ z. d ∣ natAbs z)
+  pub divisor-of-cells : (d : ℕ) → (d ∣ divisorSize (vars P) (s .tableau)) ↔ EveryCell P s (λ z. d ∣ natAbs z)
   divisor-of-cells d = let c = cells-all (λ z. d ∣ natAbs z) (dvd-zero d) in
       let g = divisor-divides (vars P) (s .tableau) in (
         λ h. c .0 (dvd-trans d h (g .0), λ v p u q. dvd-trans d h (g .1 v u p q)),
         λ C. divisor-greatest (vars P) (s .tableau) d (C .0) (λ v u p q. c .1 C .1 v p u q),
       )
 
-  pub small-of-cells : (small (vars P) (s .tableau) ≡ true) ↔ EveryCell (λ z. Within z largestNumber)
+  pub small-of-cells : (small (vars P) (s .tableau) ≡ true) ↔ EveryCell P s (λ z. Within z largestNumber)
   small-of-cells = let c = cells-all (λ z. Within z largestNumber) (record { within = omega arith }) in
       let t = small-tells (vars P) (s .tableau) in
       (λ e. c .0 (t .if-true e), λ C. tells-true t (c .1 C))

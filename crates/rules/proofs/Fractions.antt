@@ -9,11 +9,13 @@ use Rattle.whole.proofs.Values.{up}
 use Rattle.whole.specs.Values.{Laws, Le, Values}
 use Rattle.rules.proofs.Clash.{Barred, barred}
 use Rattle.rules.proofs.Enters.{none-enters}
-use Rattle.rules.proofs.Leaves.{Left, left, none-leaves}
+use Rattle.rules.proofs.Leaves.{left, none-leaves}
 use Rattle.rules.proofs.Sides.{far, far-by, near, near-by, no-fall-by, no-rise-by, outside-by, sided, sided-laws}
-use Rattle.rules.proofs.Sound.{Sound, row-holds, seated-scaled, values-solve}
+use Rattle.rules.proofs.Sound.{row-holds, seated-scaled, values-solve}
 use Rattle.rules.specs.Evidence.{AtLeast, AtMost, Meets, Unmet}
 use Rattle.rules.specs.Problem.{Problem, vars}
+use Rattle.rules.specs.Rule.{Left}
+use Rattle.rules.specs.State.{Sound}
 use Rattle.rules.specs.Step.{Leaving, Side, State, common, entering, leaves, leaving, limitAt, positive, scaled, seat, seated}
 use Rattle.rules.specs.Tableau.{entry}
 

@@ -13,9 +13,9 @@ use Rattle.whole.proofs.Sums.{sum-one}
 use Rattle.whole.proofs.Values.{scale-total, sum-scale, total-same, total-swap}
 use Rattle.whole.specs.Sums.{sum}
 use Rattle.whole.specs.Values.{Values}
-use Rattle.rules.proofs.Sound.{Rowed}
 use Rattle.rules.proofs.Units.{problem-row, row-row, same-off, same-self, unit-solves}
 use Rattle.rules.specs.Problem.{Problem}
+use Rattle.rules.specs.State.{Rowed}
 use Rattle.rules.specs.Step.{State, common, startEntry}
 use Rattle.rules.specs.Tableau.{entry}
 

@@ -24,12 +24,12 @@ use Rattle.rules.proofs.Moves.{step-goes}
 use Rattle.rules.proofs.Pivoted.{lowest-moved}
 use Rattle.rules.proofs.Ranges.{coefficient-within, problem-m, problem-n}
 use Rattle.rules.proofs.Small.{small-tells}
-use Rattle.rules.proofs.Sound.{Kept, Rowed}
 use Rattle.rules.proofs.Started.{at-start, common-one}
 use Rattle.rules.specs.Problem.{Problem, inner, problem, vars}
 use Rattle.rules.specs.Refusal.{Accepted}
 use Rattle.rules.specs.Run.{after}
 use Rattle.rules.specs.Sizes.{largestCoefficient, largestNumber}
+use Rattle.rules.specs.State.{Kept, Rowed}
 use Rattle.rules.specs.Step.{State, goes, same, start, startEntry, step}
 
 module _ {X : Type 0} (𝓥 : Values X) where

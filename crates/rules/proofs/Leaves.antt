@@ -1,6 +1,6 @@
 -- What the search for the leaving variable says: it is basic and outside on its side, and no lower basic variable is outside.
---   left           of the variable that leaves: `Left`
---   none-leaves    no basic variable is outside: `Inside`
+--   left           of the variable that leaves: `Left` of specs/Rule
+--   none-leaves    no basic variable is outside: `Inside` of specs/Rule
 use mathlib.Core.Bool.{Bool, false, true}
 use mathlib.Core.Option.{Option, none, some}
 use mathlib.Core.Path.{refl, subst, _≡_}
@@ -13,19 +13,11 @@ use Rattle.whole.proofs.Tells.{tells-present}
 use Rattle.whole.specs.Tells.{Tells}
 use Rattle.whole.specs.Values.{Le, Lt, Values}
 use Rattle.rules.specs.Problem.{Problem, vars}
+use Rattle.rules.specs.Rule.{Inside, Left, Outside, too-high, too-low}
 use Rattle.rules.specs.Step.{Leaving, Side, State, above, below, broken, common, leaves, leaving, limitAt, over, scaled, seat, seated, shortfallOf, under}
 
 module _ {X : Type 0} (𝓥 : Values X) where
   -- ---- the leaving variable
-
-  pub record Inside (P : Problem X) (s : State X) (v : ℕ) : Type 0 where
-    pub low : (l : X) → P .lower v ≡ some l → Le 𝓥 (𝓥 .scale (common s) l) (scaled 𝓥 P s v)
-    pub high : (u : X) → P .upper v ≡ some u → Le 𝓥 (scaled 𝓥 P s v) (𝓥 .scale (common s) u)
-
-  -- outside its limit on that side, which is x
-  pub data Outside (P : Problem X) (s : State X) (v : ℕ) : Side → X → Type 0 where
-    too-low : {l : X} → P .lower v ≡ some l → Lt 𝓥 (scaled 𝓥 P s v) (𝓥 .scale (common s) l) → Outside P s v below l
-    too-high : {u : X} → P .upper v ≡ some u → Lt 𝓥 (𝓥 .scale (common s) u) (scaled 𝓥 P s v) → Outside P s v above u
 
   pub under-tells : (d : ℤ) (x : X) (o : Option X) →
       Tells (under 𝓥 d x o) ((l : X) × (o ≡ some l) × Lt 𝓥 x (𝓥 .scale d l))
@@ -39,13 +31,13 @@ module _ {X : Type 0} (𝓥 : Values X) where
   unfolding over
   over-tells d x = tells-present (over 𝓥 d x) (λ u. 𝓥 .less (𝓥 .scale d u) x) (λ u. refl) refl
 
-  broken-none : (P : Problem X) (s : State X) (v : ℕ) → broken 𝓥 P s v none ≡ none → Inside P s v
+  broken-none : (P : Problem X) (s : State X) (v : ℕ) → broken 𝓥 P s v none ≡ none → Inside 𝓥 P s v
   unfolding broken
   broken-none P s v e = go (under 𝓥 (common s) (scaled 𝓥 P s v) (P .lower v)) refl
       (over 𝓥 (common s) (scaled 𝓥 P s v) (P .upper v)) refl
     where
       go : (a : Bool) → under 𝓥 (common s) (scaled 𝓥 P s v) (P .lower v) ≡ a → (b : Bool) →
-          over 𝓥 (common s) (scaled 𝓥 P s v) (P .upper v) ≡ b → Inside P s v
+          over 𝓥 (common s) (scaled 𝓥 P s v) (P .upper v) ≡ b → Inside 𝓥 P s v
       go true p b q = let z : _≡_ {A = ℕ} 0 1 = cc (rw (p, broken) at e) in zero-one z
       go false p true q = let z : _≡_ {A = ℕ} 0 1 = cc (rw q at (rw (p, broken) at e)) in zero-one z
       go false p false q = record {
@@ -53,28 +45,21 @@ module _ {X : Type 0} (𝓥 : Values X) where
         high = over-tells (common s) (scaled 𝓥 P s v) (P .upper v) .if-false q;
       }
 
-  pub record Left (P : Problem X) (s : State X) (r : Leaving X) : Type 0 where
-    pub variable : r .variable < vars P
-    pub exact : r .shortfall ≡ shortfallOf 𝓥 P s (r .variable) (r .side)
-    pub was-basic : seat s (r .variable) ≡ none
-    pub outside : Outside P s (r .variable) (r .side) (limitAt 𝓥 P r)
-    pub inside : (u : ℕ) → u < r .variable → seat s u ≡ none → Inside P s u
-
   low-limit : (P : Problem X) (s : State X) (v : ℕ) →
       (l : X) × (P .lower v ≡ some l) × (Lt 𝓥 (scaled 𝓥 P s v) (𝓥 .scale (common s) l)) →
-      Outside P s v below (limitAt 𝓥 P (leaves v below (shortfallOf 𝓥 P s v below)))
+      Outside 𝓥 P s v below (limitAt 𝓥 P (leaves v below (shortfallOf 𝓥 P s v below)))
   unfolding limitAt seated
   low-limit P s v (l, e, h) = rw e (too-low e h)
 
   high-limit : (P : Problem X) (s : State X) (v : ℕ) →
       (u : X) × (P .upper v ≡ some u) × (Lt 𝓥 (𝓥 .scale (common s) u) (scaled 𝓥 P s v)) →
-      Outside P s v above (limitAt 𝓥 P (leaves v above (shortfallOf 𝓥 P s v above)))
+      Outside 𝓥 P s v above (limitAt 𝓥 P (leaves v above (shortfallOf 𝓥 P s v above)))
   unfolding limitAt seated
   high-limit P s v (u, e, h) = rw e (too-high e h)
 
   Blames : Problem X → State X → ℕ → Option X → Leaving X → Type 0
   Blames P s v o r = (o ≡ none) × (r .variable ≡ v) × (r .shortfall ≡ shortfallOf 𝓥 P s (r .variable) (r .side))
-      × Outside P s (r .variable) (r .side) (limitAt 𝓥 P r)
+      × Outside 𝓥 P s (r .variable) (r .side) (limitAt 𝓥 P r)
 
   broken-some : (P : Problem X) (s : State X) (v : ℕ) (o : Option X) (r : Leaving X) → broken 𝓥 P s v o ≡ some r →
       Blames P s v o r
@@ -101,7 +86,7 @@ module _ {X : Type 0} (𝓥 : Values X) where
           )
       go false p false q = let z : _≡_ {A = ℕ} 0 1 = cc (rw q at (rw (p, broken) at e)) in zero-one z
 
-  pub left : (P : Problem X) (s : State X) (r : Leaving X) → leaving 𝓥 P s ≡ some r → Left P s r
+  pub left : (P : Problem X) (s : State X) (r : Leaving X) → leaving 𝓥 P s ≡ some r → Left 𝓥 P s r
   unfolding leaving Blames
   left P s r e =
       let f = lowest-some (vars P) (λ v. broken 𝓥 P s v (seat s v)) r e in
@@ -116,6 +101,6 @@ module _ {X : Type 0} (𝓥 : Values X) where
       }
 
   pub none-leaves : (P : Problem X) (s : State X) → leaving 𝓥 P s ≡ none → (v : ℕ) → v < vars P → seat s v ≡ none →
-      Inside P s v
+      Inside 𝓥 P s v
   unfolding leaving
   none-leaves P s e v h n = broken-none P s v (rw n at (lowest-none (vars P) (λ v. broken 𝓥 P s v (seat s v)) e v h))

@@ -8,14 +8,15 @@ use mathlib.Core.Path.{refl, _≡_}
 use Prim.Native.Nat.{suc, zero, ℕ, _<_}
 use Rattle.whole.proofs.Values.{le-refl}
 use Rattle.whole.specs.Values.{Laws, Le, Values}
-use Rattle.rules.proofs.Enters.{Entered, entered}
-use Rattle.rules.proofs.Leaves.{Left, Outside, left, too-high, too-low}
+use Rattle.rules.proofs.Enters.{entered}
+use Rattle.rules.proofs.Leaves.{left}
 use Rattle.rules.proofs.Moves.{step-goes}
 use Rattle.rules.proofs.Pivoted.{rowed-moved, was-some}
-use Rattle.rules.proofs.Sound.{Apart, Rowed, Sound}
 use Rattle.rules.proofs.Twice.{apart, no-arrangement-twice}
 use Rattle.rules.specs.Problem.{Problem, vars}
+use Rattle.rules.specs.Rule.{Entered, Left, Outside, too-high, too-low}
 use Rattle.rules.specs.Run.{Runs, after, next}
+use Rattle.rules.specs.State.{Apart, Rowed, Sound}
 use Rattle.rules.specs.Step.{Leaving, Outcome, Side, State, can, cannot, goes, limitAt, moved, range, seat, step}
 
 module _ {X : Type 0} (𝓥 : Values X) where

@@ -1,10 +1,10 @@
 -- The tableau of a basic set is one: any tableau that every solution of the rows obeys, with the same variables basic,
 -- D above 0 and common divisor 1, has the numbers of the rule's. So the rule's next tableau does not depend on how the
 -- pivot is computed.
---   Obeyed, obeyed-of    every solution of the rows obeys the tableau; no more is asked of the other one
+--   obeyed-of       every solution of the rows obeys the tableau (`Obeyed` of specs/Unique); no more is asked of the other one
 --   crosswise       D of the one times an entry of the other, either way
 --   tableau-only    the numbers are equal
---   next-moved, next-only    the rule's next tableau is the one of the next basic set: `Next`
+--   next-moved, next-only    the rule's next tableau is the one of the next basic set: `Next` of specs/Unique
 use mathlib.Core.Logic.{inl, inr, _↔_, _≢_, _⊎_}
 use mathlib.Core.Option.{Option, Option·none-ne-some, none, some}
 use mathlib.Core.Path.{ap, refl, subst, sym, _∙_, _≡_}
@@ -18,41 +18,26 @@ use Rattle.whole.proofs.Sums.{sum-one}
 use Rattle.whole.proofs.Tests.{own-size}
 use Rattle.whole.specs.Sums.{sum}
 use Rattle.whole.specs.Values.{Values, whole}
-use Rattle.rules.proofs.Enters.{Entered, swap}
-use Rattle.rules.proofs.Leaves.{Left}
+use Rattle.rules.proofs.Enters.{swap}
 use Rattle.rules.proofs.Lowest.{divisor-times}
 use Rattle.rules.proofs.Pivoted.{lowest-moved, rowed-moved, was-none}
-use Rattle.rules.proofs.Sound.{Rowed}
-use Rattle.rules.proofs.Swaps.{Swap}
 use Rattle.rules.specs.Evidence.{Rows}
 use Rattle.rules.specs.Problem.{Problem, vars}
+use Rattle.rules.specs.Rule.{Entered, Left, Swap}
+use Rattle.rules.specs.State.{Rowed}
 use Rattle.rules.specs.Step.{Leaving, State, common, limitAt, moved, seat}
 use Rattle.rules.specs.Tableau.{Tableau, divisorSize, entry}
+use Rattle.rules.specs.Unique.{Next, Obeyed, SameBasis, SameNumbers}
 
 module _ {X : Type 0} (𝓥 : Values X) (P : Problem X) where
-  -- the same variables are basic
-  abbrev pub SameBasis : State X → State X → Type 0
-  SameBasis s t = (v : ℕ) → v < vars P → (seat s v ≡ none) ↔ (seat t v ≡ none)
-
-  -- the same numbers
-  abbrev pub SameNumbers : Tableau → Tableau → Type 0
-  SameNumbers t u = (t .common ≡ u .common) × ((v w : ℕ) → v < vars P → w < vars P → entry t v w ≡ entry u v w)
-
-  -- D times each variable is a sum over the nonbasic ones, for every solution of the rows
-  pub record Obeyed (s : State X) : Type 0 where
-    pub positive : pos 0 <ℤ common s
-    pub holds : (x : ℕ → ℤ) → Rows whole P x → (v : ℕ) → v < vars P →
-        common s *ℤ x v ≡ sum (vars P) (λ u. entry (s .tableau) v u *ℤ x u)
-    pub basic-zero : (v w : ℕ) → v < vars P → w < vars P → seat s w ≡ none → entry (s .tableau) v w ≡ pos 0
-
-  pub obeyed-of : (s : State X) → Rowed 𝓥 P s → Obeyed s
+  pub obeyed-of : (s : State X) → Rowed 𝓥 P s → Obeyed 𝓥 P s
   obeyed-of s S = record { positive = S .positive; holds = S .holds; basic-zero = S .basic-zero }
 
   -- D of the one times an entry of the other
   abbrev Proportional : Tableau → Tableau → Type 0
   Proportional t u = (v w : ℕ) → v < vars P → w < vars P → t .common *ℤ entry u v w ≡ entry t v w *ℤ u .common
 
-  pub crosswise : (s t : State X) → Obeyed s → Rowed 𝓥 P t → SameBasis s t → Proportional (s .tableau) (t .tableau)
+  pub crosswise : (s t : State X) → Obeyed 𝓥 P s → Rowed 𝓥 P t → SameBasis 𝓥 P s t → Proportional (s .tableau) (t .tableau)
   crosswise s t S T same v w h k = go (seat t w) refl
     where
       -- the entries of column w of t, in row v of s: nothing but at w itself
@@ -86,9 +71,9 @@ module _ {X : Type 0} (𝓥 : Values X) (P : Problem X) where
       sizes v w h k = sym (abs-* (t .common) (entry u v w)) ∙ ap natAbs (cross v w h k)
           ∙ abs-* (entry t v w) (u .common) ∙ mul-comm (natAbs (entry t v w)) b
 
-  pub tableau-only : (s t : State X) → Obeyed s → Rowed 𝓥 P t → SameBasis s t →
+  pub tableau-only : (s t : State X) → Obeyed 𝓥 P s → Rowed 𝓥 P t → SameBasis 𝓥 P s t →
       divisorSize (vars P) (s .tableau) ≡ 1 → divisorSize (vars P) (t .tableau) ≡ 1 →
-      SameNumbers (s .tableau) (t .tableau)
+      SameNumbers 𝓥 P (s .tableau) (t .tableau)
   tableau-only s t S T same p q = (D-same, λ v w h k. cancel (common s) _ _ (inl (S .positive)) (turn v w h k))
     where
       cross : Proportional (s .tableau) (t .tableau)
@@ -111,18 +96,12 @@ module _ {X : Type 0} (𝓥 : Values X) (P : Problem X) where
 
   -- ---- the next tableau
 
-  -- t has the lowest-form tableau of the basic set after w has entered for r's variable
-  pub record Next (s : State X) (r : Leaving X) (w : ℕ) (t : State X) : Type 0 where
-    pub obeyed : Obeyed t
-    pub lowest-form : divisorSize (vars P) (t .tableau) ≡ 1
-    pub basis : (v : ℕ) → v < vars P → (seat t v ≡ none) ↔ ((v ≡ w) ⊎ ((v ≢ r .variable) × (seat s v ≡ none)))
-
   module _ (s : State X) (S : Rowed 𝓥 P s) (r : Leaving X) (w : ℕ) (L : Left 𝓥 P s r) (E : Entered 𝓥 P s r w) where
     W : Swap (seat s) (seat (moved 𝓥 P s r w)) (r .variable) w (limitAt 𝓥 P r)
     W = swap 𝓥 P s r w (S .seats-many) L E
 
     -- the rule's next state is one such
-    pub next-moved : Next s r w (moved 𝓥 P s r w)
+    pub next-moved : Next 𝓥 P s r w (moved 𝓥 P s r w)
     next-moved = record {
       obeyed = obeyed-of (moved 𝓥 P s r w) (rowed-moved 𝓥 P s S r w L E);
       lowest-form = lowest-moved 𝓥 P s S r w L E;
@@ -135,7 +114,7 @@ module _ {X : Type 0} (𝓥 : Values X) (P : Problem X) where
             (λ z. Option·none-ne-some (E .value) (sym e ∙ ap (seat s) z ∙ E .was-seated)) ∙ e
 
     -- .. and any other has the same numbers
-    pub next-only : (t : State X) → Next s r w t → SameNumbers (t .tableau) (moved 𝓥 P s r w .tableau)
+    pub next-only : (t : State X) → Next 𝓥 P s r w t → SameNumbers 𝓥 P (t .tableau) (moved 𝓥 P s r w .tableau)
     next-only t T = tableau-only t (moved 𝓥 P s r w) (T .obeyed) (rowed-moved 𝓥 P s S r w L E)
         (λ v h. (λ e. next-moved .basis v h .1 (T .basis v h .0 e), λ e. T .basis v h .1 (next-moved .basis v h .0 e)))
         (T .lowest-form) (next-moved .lowest-form)

@@ -23,14 +23,13 @@ use Rattle.whole.proofs.Tables.{matrix-at}
 use Rattle.whole.proofs.Tools.{ring-at}
 use Rattle.whole.specs.Sums.{sum}
 use Rattle.whole.specs.Values.{Values, whole}
-use Rattle.rules.proofs.Enters.{Entered, Suits, may-go-down, may-go-up, swap}
-use Rattle.rules.proofs.Leaves.{Left}
+use Rattle.rules.proofs.Enters.{swap}
 use Rattle.rules.proofs.Lowest.{Factored, factored, reduced-one}
 use Rattle.rules.proofs.Relation.{relation-off, relation-own, solved-holds}
-use Rattle.rules.proofs.Sound.{Rowed}
-use Rattle.rules.proofs.Swaps.{Swap}
 use Rattle.rules.specs.Evidence.{Rows, rowSum}
 use Rattle.rules.specs.Problem.{Problem, vars}
+use Rattle.rules.specs.Rule.{Entered, Left, Suits, Swap, may-go-down, may-go-up}
+use Rattle.rules.specs.State.{Rowed}
 use Rattle.rules.specs.Step.{Leaving, Side, State, above, below, common, limitAt, moved, positive, pull, seat}
 use Rattle.rules.specs.Tableau.{Tableau, divisorSize, entry, pivot, reduced, relation, solved}
 

@@ -1,7 +1,6 @@
 -- Out of range, exactly: there are a leaving and an entering variable, and the lowest-form tableau of the next basic set, which is one, holds a
 -- number beyond the largest.
---   TooLarge         that, of a state
---   range-exactly    a step is out of range exactly then
+--   range-exactly    a step is out of range exactly then: `TooLarge` of specs/Range
 --   range-verdict    the verdict is 3 exactly where no limits cross and, for some k, the run has k pivots and the state after them is so
 --   range-words      the same of the answer to any words
 use mathlib.Core.Bool.{false}
@@ -24,32 +23,25 @@ use Rattle.rules.proofs.Enters.{entered}
 use Rattle.rules.proofs.Leaves.{left}
 use Rattle.rules.proofs.Moved.{rowed-after}
 use Rattle.rules.proofs.Moves.{step-range}
-use Rattle.rules.proofs.Only.{Next, SameNumbers, next-moved, next-only}
-use Rattle.rules.proofs.Small.{Beyond, small-tells}
-use Rattle.rules.proofs.Sound.{Ready, Rowed}
+use Rattle.rules.proofs.Only.{next-moved, next-only}
+use Rattle.rules.proofs.Small.{small-tells}
 use Rattle.rules.specs.Answer.{answer, answerFrom, wordsOf}
 use Rattle.rules.specs.Evidence.{verdictOf}
 use Rattle.rules.specs.Problem.{Problem, inner, problem, vars, word}
+use Rattle.rules.specs.Range.{Beyond, TooLarge}
 use Rattle.rules.specs.Run.{Runs, after, conflict}
 use Rattle.rules.specs.Sizes.{largestNumber}
+use Rattle.rules.specs.State.{Ready, Rowed}
 use Rattle.rules.specs.Step.{Leaving, Outcome, State, entering, leaving, moved, range, start, step}
 use Rattle.rules.specs.Tableau.{Tableau, small}
+use Rattle.rules.specs.Unique.{SameNumbers}
 
 module _ {X : Type 0} (𝓥 : Values X) (P : Problem X) where
-  pub record TooLarge (s : State X) : Type 0 where
-    pub out : Leaving X
-    pub into : ℕ
-    pub leaves : leaving 𝓥 P s ≡ some out
-    pub enters : entering 𝓥 P s out ≡ some into
-    pub next : State X
-    pub is-next : Next 𝓥 P s out into next
-    pub beyond : Beyond (vars P) (next .tableau)
-
   beyond-same : (t u : Tableau) → SameNumbers 𝓥 P t u → Beyond (vars P) t → Beyond (vars P) u
   beyond-same t u e (inl n) = inl (subst (λ z. ¬ Within z largestNumber) (e .0) n)
   beyond-same t u e (inr (v, h, (w, k, n))) = inr (v, h, (w, k, subst (λ z. ¬ Within z largestNumber) (e .1 v w h k) n))
 
-  pub range-exactly : (s : State X) → Rowed 𝓥 P s → (step 𝓥 P s ≡ range) ↔ TooLarge s
+  pub range-exactly : (s : State X) → Rowed 𝓥 P s → (step 𝓥 P s ≡ range) ↔ TooLarge 𝓥 P s
   range-exactly s S = (
     λ e. there (step-range 𝓥 P s .0 e),
     λ T. step-range 𝓥 P s .1 (
@@ -65,7 +57,7 @@ module _ {X : Type 0} (𝓥 : Values X) (P : Problem X) where
   )
     where
       there : (r : Leaving X) × (w : ℕ) × (leaving 𝓥 P s ≡ some r) × (entering 𝓥 P s r ≡ some w)
-          × (small (vars P) (moved 𝓥 P s r w .tableau) ≡ false) → TooLarge s
+          × (small (vars P) (moved 𝓥 P s r w .tableau) ≡ false) → TooLarge 𝓥 P s
       there (r, w, q, y, f) = record {
         out = r;
         into = w;

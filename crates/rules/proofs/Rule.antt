@@ -1,6 +1,4 @@
--- The rule in plain words, with no search function inside: who leaves, who enters, and what moves.
---   Left P s r       r's variable is basic and outside on r's side, and no lower basic variable is outside
---   Entered P s r w  w is nonbasic and may move the right way, and no lower one may
+-- The searches follow the rule in plain words (specs/Rule: `Left`, `Entered`, `Stuck`): who leaves, and who enters.
 --   leaving-of             whoever is so leaves; a variable above its upper limit must not be below its lower one too
 --   leaving-exactly        `leaving` gives r exactly then, where no limits cross
 --   none-leaving-exactly   it gives none exactly where every basic variable is inside
@@ -19,13 +17,13 @@ use Rattle.whole.proofs.Bools.{zero-one}
 use Rattle.whole.proofs.Tells.{tells-false, tells-true}
 use Rattle.whole.proofs.Values.{le-le, up, weaken}
 use Rattle.whole.specs.Values.{Laws, Le, Lt, Values}
-use Rattle.rules.proofs.Enters.{Entered, Stuck, entered, none-enters, suits-tells}
+use Rattle.rules.proofs.Enters.{entered, none-enters, suits-tells}
 use Rattle.rules.proofs.Gaps.{gap-more}
-use Rattle.rules.proofs.Leaves.{Inside, Left, Outside, left, none-leaves, over-tells, too-high, too-low}
-use Rattle.rules.proofs.Leaves.{under-tells}
-use Rattle.rules.proofs.Sides.{near, outside-by}
-use Rattle.rules.proofs.Sound.{Apart}
+use Rattle.rules.proofs.Leaves.{left, none-leaves, over-tells, under-tells}
+use Rattle.rules.specs.Keeping.{limitOf}
 use Rattle.rules.specs.Problem.{Problem, vars}
+use Rattle.rules.specs.Rule.{Entered, Inside, Left, Outside, Stuck, too-high, too-low}
+use Rattle.rules.specs.State.{Apart}
 use Rattle.rules.specs.Step.{Leaving, Side, State, above, below, broken, common, entering, leaves, leaving}
 use Rattle.rules.specs.Step.{limitAt, pull, scaled, seat, seated, shortfallBy, shortfallOf, suits}
 use Rattle.rules.specs.Tableau.{entry}
@@ -117,7 +115,8 @@ module _ {X : Type 0} (𝓥 : Values X) where
     )
 
     pub none-entering-exactly : (entering 𝓥 P s r ≡ none)
-        ↔ ((u : ℕ) (x : X) → u < vars P → seat s u ≡ some x → Stuck 𝓥 P u (turned-entry u) x)
+        ↔ ((u : ℕ) (x : X) → u < vars P → seat s u ≡ some x →
+        Stuck 𝓥 P u (pull (r .side) (entry (s .tableau) (r .variable) u)) x)
     unfolding entering
     none-entering-exactly = (
       none-enters 𝓥 P s r,
@@ -126,8 +125,12 @@ module _ {X : Type 0} (𝓥 : Values X) where
 
   -- the leaving variable's value afterwards is the limit that it violates
   pub limit-exactly : (P : Problem X) (s : State X) (r : Leaving X) → Left 𝓥 P s r →
-      near (r .side) P (r .variable) ≡ some (limitAt 𝓥 P r)
-  limit-exactly P s r L = outside-by 𝓥 P (L .outside) .0
+      limitOf P (r .side) (r .variable) ≡ some (limitAt 𝓥 P r)
+  limit-exactly P s r L = go (L .outside)
+    where
+      go : {v : ℕ} {σ : Side} {x : X} → Outside 𝓥 P s v σ x → limitOf P σ v ≡ some x
+      go (too-low e h) = e
+      go (too-high e h) = e
 
 -- ---- by how much: D times the limit and D times the value are that far apart, and it is above 0
 

@@ -16,11 +16,11 @@ use Rattle.whole.proofs.Tables.{table-length}
 use Rattle.whole.specs.Values.{pairs}
 use Rattle.rules.proofs.Answers.{Answered, answered, can-at, cannot-at, crossing, denominator-word, laid, laid-length, lower-part, range-at, upper-part, verdict-word}
 use Rattle.rules.proofs.Ends.{ready-start}
-use Rattle.rules.proofs.Sound.{Ready}
 use Rattle.rules.specs.Answer.{answer, answerFrom}
 use Rattle.rules.specs.Evidence.{denominatorOf, lowerPart, upperPart, verdictOf}
 use Rattle.rules.specs.Problem.{Problem, inner, problem, vars, varsOf, word}
 use Rattle.rules.specs.Run.{after}
+use Rattle.rules.specs.State.{Ready}
 use Rattle.rules.specs.Step.{State, same, scaled, start}
 
 pub data Shape (N : ℕ) (a : List ℤ) : Type 0 where

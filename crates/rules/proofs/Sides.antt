@@ -13,9 +13,8 @@ use Rattle.whole.proofs.Instances.{turned-laws}
 use Rattle.whole.proofs.Normal.{scale}
 use Rattle.whole.proofs.Order.{neg-down, neg-down-back, neg-up, neg-up-back, plus}
 use Rattle.whole.specs.Values.{Laws, Le, Lt, Values}
-use Rattle.rules.proofs.Enters.{Stuck, Suits, may-go-down, may-go-up}
-use Rattle.rules.proofs.Leaves.{Outside, too-high, too-low}
 use Rattle.rules.specs.Problem.{Problem}
+use Rattle.rules.specs.Rule.{Outside, Stuck, Suits, may-go-down, may-go-up, too-high, too-low}
 use Rattle.rules.specs.Step.{Side, State, above, below, common, pull, scaled}
 
 abbrev pub lessBy : {X : Type 0} → Side → (X → X → Bool) → X → X → Bool

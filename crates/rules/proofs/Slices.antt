@@ -26,11 +26,11 @@ use Rattle.rules.proofs.Bounded.{bound-some}
 use Rattle.rules.proofs.Ends.{ready-start}
 use Rattle.rules.proofs.Moved.{rowed-after}
 use Rattle.rules.proofs.Runs.{next-after, run-from, run-on}
-use Rattle.rules.proofs.Sound.{Ready, Rowed}
 use Rattle.rules.specs.Answer.{answer, answerFrom, wordsOf}
 use Rattle.rules.specs.Problem.{Problem, inner, problem, word}
 use Rattle.rules.specs.Run.{Ended, Ending, Ends, Moves, after, bound, conflict, run, spending}
 use Rattle.rules.specs.Slices.{Slice, begun, continued, continuedBy, sliceAnswer, told}
+use Rattle.rules.specs.State.{Ready, Rowed}
 use Rattle.rules.specs.Step.{Outcome, State, can, cannot, goes, range, start}
 
 -- all pivots of the numbers together

@@ -1,20 +1,13 @@
 -- What the range test of a tableau says: D and every entry are within the largest number, or one of them is beyond it.
---   small-tells    of `Small` and `Beyond`
+--   small-tells    `Small` and `Beyond` of specs/Range
 use mathlib.Core.Logic.{_⊎_}
 use Prim.Native.Nat.{ℕ, _<_}
 use Rattle.whole.proofs.Tells.{tells-all, tells-and, tells-within}
 use Rattle.whole.specs.Numbers.{Within}
 use Rattle.whole.specs.Tells.{Tells}
+use Rattle.rules.specs.Range.{Beyond, Small}
 use Rattle.rules.specs.Sizes.{largestNumber}
 use Rattle.rules.specs.Tableau.{Tableau, entry, small}
-
-abbrev pub Small : ℕ → Tableau → Type 0
-Small N t = Within (t .common) largestNumber × ((v : ℕ) → v < N → (u : ℕ) → u < N → Within (entry t v u) largestNumber)
-
-abbrev pub Beyond : ℕ → Tableau → Type 0
-Beyond N t =
-    (¬ Within (t .common) largestNumber)
-    ⊎ ((v : ℕ) × (v < N) × ((u : ℕ) × (u < N) × (¬ Within (entry t v u) largestNumber)))
 
 pub small-tells : (N : ℕ) (t : Tableau) → Tells (small N t) (Small N t) (Beyond N t)
 unfolding small

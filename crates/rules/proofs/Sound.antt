@@ -1,9 +1,7 @@
--- What is known of a state, in three parts, and what follows from the first: the values solve the rows, and rows hold of every solution.
---   Rowed     the rows and columns hold; no limits in it
---   Housed    a nonbasic variable whose limits do not cross sits within them
---   Kept      D and the entries are in lowest common form and in range, and n variables are seated
---   Ready     Rowed and Housed, n seated: a state from which a check may start
---   Sound     Rowed, and every nonbasic variable within its limits: `sound-of` where no limits cross
+-- What follows from what is known of a state (`Rowed`, `Housed`, `Ready`, `Sound` of specs/State).
+--   sound-of, ready-sound, housed-of    where no limits cross, `Sound` is `Rowed` and `Housed`
+--   values-solve, seated-scaled         the values solve the rows, and D times that of a nonbasic variable is its seat's
+--   row-holds                           a row holds of every solution of the rows
 use mathlib.Core.Bool.{false, true}
 use mathlib.Core.List.{List, [], _∷_}
 use mathlib.Core.Logic.{_≢_}
@@ -20,60 +18,12 @@ use Rattle.rules.proofs.Units.{holds-of}
 use Rattle.rules.specs.Evidence.{Rows}
 use Rattle.rules.specs.Problem.{Problem, vars}
 use Rattle.rules.specs.Run.{crossed}
+use Rattle.rules.specs.State.{Apart, Housed, Ready, Rowed, Sound}
 use Rattle.rules.specs.Step.{State, common, scaled, seat, seated}
 use Rattle.rules.specs.Tableau.{divisorSize, entry, small}
 
-module _ {X : Type 0} where
-  -- how many variables are nonbasic
-  abbrev pub howManySeated : List (Option X) → ℕ
-  howManySeated [] = 0
-  howManySeated (none ∷ l) = howManySeated l
-  howManySeated (some x ∷ l) = suc (howManySeated l)
-
 module _ {X : Type 0} (𝓥 : Values X) where
-  -- no variable's limits are crossed
-  abbrev pub Apart : Problem X → Type 0
-  Apart P = (v : ℕ) (l u : X) → v < vars P → P .lower v ≡ some l → P .upper v ≡ some u → Le 𝓥 l u
-
-  -- the rows and columns hold; no limits in it
-  pub record Rowed (P : Problem X) (s : State X) : Type 0 where
-    pub seats-many : length (s .seats) ≡ vars P
-    pub positive : pos 0 <ℤ common s
-    -- each column solves the rows, and each solution of the rows obeys the tableau
-    pub columns : (w : ℕ) → w < vars P → Rows whole P (λ v. entry (s .tableau) v w)
-    pub holds : (x : ℕ → ℤ) → Rows whole P x → (v : ℕ) → v < vars P →
-        common s *ℤ x v ≡ sum (vars P) (λ u. entry (s .tableau) v u *ℤ x u)
-    pub basic-zero : (v w : ℕ) → v < vars P → w < vars P → seat s w ≡ none → entry (s .tableau) v w ≡ pos 0
-    pub own : (v : ℕ) (x : X) → v < vars P → seat s v ≡ some x → entry (s .tableau) v v ≡ common s
-    pub own-zero : (v w : ℕ) (x : X) → v < vars P → w < vars P → seat s v ≡ some x → w ≢ v →
-        entry (s .tableau) v w ≡ pos 0
-
-  -- a nonbasic variable whose limits do not cross sits within them
-  pub record Housed (P : Problem X) (s : State X) : Type 0 where
-    pub low : (v : ℕ) (x l : X) → v < vars P → crossed 𝓥 (P .lower v) (P .upper v) ≡ false → seat s v ≡ some x →
-        P .lower v ≡ some l → Le 𝓥 l x
-    pub high : (v : ℕ) (x u : X) → v < vars P → crossed 𝓥 (P .lower v) (P .upper v) ≡ false → seat s v ≡ some x →
-        P .upper v ≡ some u → Le 𝓥 x u
-
-  -- the numbers: lowest common form, none too large, and n variables seated
-  pub record Kept (P : Problem X) (s : State X) : Type 0 where
-    pub lowest-form : divisorSize (vars P) (s .tableau) ≡ 1
-    pub in-range : small (vars P) (s .tableau) ≡ true
-    pub seated-many : howManySeated (s .seats) ≡ P .n
-
-  -- a state from which a check may start: crossed limits or not
-  pub record Ready (P : Problem X) (s : State X) : Type 0 where
-    pub rowed : Rowed P s
-    pub housed : Housed P s
-    pub seated-many : howManySeated (s .seats) ≡ P .n
-
-  -- rows that hold, and every nonbasic variable within its limits
-  pub record Sound (P : Problem X) (s : State X) : Type 0 where
-    pub rowed : Rowed P s
-    pub lowers : (v : ℕ) (x l : X) → v < vars P → seat s v ≡ some x → P .lower v ≡ some l → Le 𝓥 l x
-    pub uppers : (v : ℕ) (x u : X) → v < vars P → seat s v ≡ some x → P .upper v ≡ some u → Le 𝓥 x u
-
-  apart-uncrossed : (P : Problem X) → Apart P → (v : ℕ) → v < vars P → crossed 𝓥 (P .lower v) (P .upper v) ≡ false
+  apart-uncrossed : (P : Problem X) → Apart 𝓥 P → (v : ℕ) → v < vars P → crossed 𝓥 (P .lower v) (P .upper v) ≡ false
   unfolding crossed
   apart-uncrossed P A v h = go (P .lower v) (P .upper v) (λ l u. A v l u h)
     where
@@ -82,24 +32,24 @@ module _ {X : Type 0} (𝓥 : Values X) where
       go (some l) none f = refl
       go (some l) (some u) f = f l u refl refl
 
-  pub sound-of : (P : Problem X) (s : State X) → Apart P → Rowed P s → Housed P s → Sound P s
+  pub sound-of : (P : Problem X) (s : State X) → Apart 𝓥 P → Rowed 𝓥 P s → Housed 𝓥 P s → Sound 𝓥 P s
   sound-of P s A R H = record {
     rowed = R;
     lowers = λ v x l h e k. H .low v x l h (apart-uncrossed P A v h) e k;
     uppers = λ v x u h e k. H .high v x u h (apart-uncrossed P A v h) e k;
   }
 
-  pub ready-sound : (P : Problem X) (s : State X) → Apart P → Ready P s → Sound P s
+  pub ready-sound : (P : Problem X) (s : State X) → Apart 𝓥 P → Ready 𝓥 P s → Sound 𝓥 P s
   ready-sound P s A R = sound-of P s A (R .rowed) (R .housed)
 
-  pub housed-of : (P : Problem X) (s : State X) → Sound P s → Housed P s
+  pub housed-of : (P : Problem X) (s : State X) → Sound 𝓥 P s → Housed 𝓥 P s
   housed-of P s S = record {
     low = λ v x l h c e k. S .lowers v x l h e k;
     high = λ v x u h c e k. S .uppers v x u h e k;
   }
 
   -- the values solve the rows, and a seated variable has its value
-  module _ (L : Laws 𝓥) (P : Problem X) (s : State X) (S : Rowed P s) where
+  module _ (L : Laws 𝓥) (P : Problem X) (s : State X) (S : Rowed 𝓥 P s) where
     pub values-solve : Rows 𝓥 P (scaled 𝓥 P s)
     unfolding scaled
     values-solve i h =

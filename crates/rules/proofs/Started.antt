@@ -16,11 +16,12 @@ use Rattle.whole.proofs.Tables.{matrix-at, table-at, tableFrom-length}
 use Rattle.whole.proofs.Values.{le-refl}
 use Rattle.whole.specs.Sums.{sum}
 use Rattle.whole.specs.Values.{Laws, Le, Values, whole}
-use Rattle.rules.proofs.Sound.{Apart, Housed, Rowed, Sound, sound-of}
+use Rattle.rules.proofs.Sound.{sound-of}
 use Rattle.rules.proofs.Units.{ge-false, lt-true, problem-row, row-row, same-off, same-self}
 use Rattle.rules.specs.Evidence.{Rows}
 use Rattle.rules.specs.Problem.{Problem, vars}
 use Rattle.rules.specs.Run.{conflict, crossed}
+use Rattle.rules.specs.State.{Apart, Housed, Rowed, Sound}
 use Rattle.rules.specs.Step.{common, positive, same, seat, start, startEntry, startSeat, startValue}
 use Rattle.rules.specs.Tableau.{entry}
 

@@ -8,16 +8,9 @@ use mathlib.Core.Path.{refl, sym, _∙_, _≡_}
 use Prim.Native.Nat.{suc, zero, ℕ, _+_, _-_, _<_, _≤_}
 use native.Mathlib.Decide.{decLe, ℕ-discrete}
 use native.Mathlib.Omega.{arith}
+use Rattle.rules.specs.Rule.{Swap}
 use Rattle.rules.specs.Run.{after}
 use Rattle.rules.specs.Step.{seat}
-
--- one step: l leaves and gets the value x, e enters, and no other seat changes
-pub record Swap {X : Type 0} (before after : ℕ → Option X) (l e : ℕ) (x : X) : Type 0 where
-  pub was-basic : before l ≡ none
-  pub set-to : after l ≡ some x
-  pub was-seated : (y : X) × (before e ≡ some y)
-  pub now-basic : after e ≡ none
-  pub others : (v : ℕ) → v ≢ l → v ≢ e → after v ≡ before v
 
 pub none-some : {X : Type 0} {o : Option X} {x : X} → o ≡ none → o ≡ some x → ⊥
 none-some {x} p q = Option·none-ne-some x (sym p ∙ q)

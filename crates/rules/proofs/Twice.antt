@@ -9,15 +9,17 @@ use lib.ListN.{getD}
 use Rattle.whole.proofs.Values.{up}
 use Rattle.whole.specs.Values.{Laws, Le, Values}
 use Rattle.rules.proofs.Clash.{Facts, no-clash}
-use Rattle.rules.proofs.Enters.{Entered, entered, swap}
-use Rattle.rules.proofs.Leaves.{Left, left}
+use Rattle.rules.proofs.Enters.{entered, swap}
+use Rattle.rules.proofs.Leaves.{left}
 use Rattle.rules.proofs.Moves.{Goes, step-goes}
 use Rattle.rules.proofs.Runs.{next-after}
 use Rattle.rules.proofs.Sides.{either-by, far, far-by, near, near-by, no-fall-by, no-rise-by, outside-by, sided, sided-laws, suits-by}
-use Rattle.rules.proofs.Sound.{Sound, row-holds, seated-scaled, values-solve}
-use Rattle.rules.proofs.Swaps.{Clash, Swap, clash}
+use Rattle.rules.proofs.Sound.{row-holds, seated-scaled, values-solve}
+use Rattle.rules.proofs.Swaps.{Clash, clash}
 use Rattle.rules.specs.Problem.{Problem, vars}
+use Rattle.rules.specs.Rule.{Entered, Left, Swap}
 use Rattle.rules.specs.Run.{Moves, Runs, after}
+use Rattle.rules.specs.State.{Sound}
 use Rattle.rules.specs.Step.{Leaving, Side, State, above, below, common, entering, leaves, leaving, limitAt, scaled, seat, seated, step}
 use Rattle.rules.specs.Tableau.{entry}
 

@@ -5,11 +5,15 @@ pub mod Problem
 pub mod Refusal
 pub mod Tableau
 pub mod Step
+pub mod Rule
 pub mod Run
 pub mod Answer
 pub mod Plain
 pub mod Slices
 pub mod Evidence
+pub mod State
+pub mod Unique
+pub mod Range
 pub mod Keeping
 pub mod Session
 pub mod LiveWords

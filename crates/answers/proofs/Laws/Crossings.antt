@@ -20,7 +20,7 @@ use Rattle.rules.specs.Run.{conflict, crossed, spending}
 use Rattle.rules.specs.Sizes.{mostVariables}
 use Rattle.rules.specs.Step.{State}
 use Rattle.rules.proofs.AnswerIs.{crosses-exactly, spending-crossed}
-use Rattle.rules.proofs.Sound.{Rowed}
+use Rattle.rules.specs.State.{Rowed}
 use Rattle.tableau.specs.declared.Given.{Given}
 use Rattle.tableau.specs.declared.Tableau.{Tableau}
 use Rattle.tableau.specs.declared.Variable.{Variable}

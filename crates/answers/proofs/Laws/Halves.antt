@@ -21,9 +21,10 @@ use Rattle.rules.specs.Problem.{Problem, vars}
 use Rattle.rules.specs.Sizes.{mostVariables}
 use Rattle.rules.specs.Step.{Leaving, Side, State, above, below, positive, pull, same, scaled, seat}
 use Rattle.rules.specs.Tableau.{entry, relation}
-use Rattle.rules.proofs.Leaves.{Left}
+use Rattle.rules.specs.Rule.{Left}
 use Rattle.rules.proofs.Relation.{relation-off, relation-own}
-use Rattle.rules.proofs.Sound.{Rowed, seated-scaled}
+use Rattle.rules.specs.State.{Rowed}
+use Rattle.rules.proofs.Sound.{seated-scaled}
 use Rattle.tableau.specs.declared.Tableau.{Tableau}
 use Rattle.tableau.specs.Parts.{basicAt, cellAt, columnOf, plainAt, rowOf, seatAt, smallAt, valueAt}
 use Rattle.tableau.specs.Stands.{HasRow, Stands}

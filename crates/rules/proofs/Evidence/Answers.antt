@@ -33,7 +33,6 @@ use Rattle.rules.proofs.Moves.{Stepped, is-can, is-cannot, is-goes, is-
 use Rattle.rules.proofs.Ranges.{lower-within, n-few, upper-within}
 use Rattle.rules.proofs.Refused.{accepted-exactly, answered-exactly}
 use Rattle.rules.proofs.Shape.{Shape, answer-shaped, shape-can, shape-cannot, shape-range}
-use Rattle.rules.proofs.Sound.{Kept, Ready, Sound}
 use Rattle.rules.specs.Answer.{answer, answerFrom, wordsOf, written}
 use Rattle.rules.specs.Evidence.{checked, verdictOf}
 use Rattle.rules.specs.Limit.{Limit, inset, lowerPair, upperPair}
@@ -41,6 +40,7 @@ use Rattle.rules.specs.Problem.{Problem, inner, answerLength, problem, v
 use Rattle.rules.specs.Refusal.{Accepted, problemRefusal, refusal}
 use Rattle.rules.specs.Run.{after, conflict}
 use Rattle.rules.specs.Sizes.{largestLimit, mostColumns, mostRows}
+use Rattle.rules.specs.State.{Kept, Ready, Sound}
 use Rattle.rules.specs.Step.{Outcome, State, common, evidence, same, seat, start, step}
 
 abbrev pub Decided : List ℤ → Type 0

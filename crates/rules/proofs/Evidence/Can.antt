@@ -23,8 +23,9 @@ use Rattle.rules.proofs.Evidence.Seats.{sum-of-seated}
 use Rattle.rules.proofs.Evidence.Shows.{Numerators}
 use Rattle.rules.proofs.Evidence.Satisfied.{high-passes, low-passes, row-parts}
 use Rattle.rules.proofs.Fractions.{can-is-met}
-use Rattle.rules.proofs.Small.{Small, small-tells}
-use Rattle.rules.proofs.Sound.{Kept, Sound, howManySeated}
+use Rattle.rules.specs.Range.{Small}
+use Rattle.rules.proofs.Small.{small-tells}
+use Rattle.rules.specs.State.{Kept, Sound, howManySeated}
 use Rattle.rules.specs.Limit.{Limit}
 use Rattle.rules.specs.Problem.{Problem, inner, vars}
 use Rattle.rules.specs.Sizes.{largestLimit, largestNumber, largestNumerator, largestSmall, mostColumns}

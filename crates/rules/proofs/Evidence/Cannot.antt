@@ -22,10 +22,11 @@ use Rattle.rules.proofs.Evidence.Shows.{Multipliers}
 use Rattle.rules.proofs.Evidence.Stuck.{high-missing, low-missing}
 use Rattle.rules.proofs.Evidence.Gain.{stuck-contradicts}
 use Rattle.rules.proofs.Evidence.Terms.{positive-parts, positive-range, pull-is, turn}
-use Rattle.rules.proofs.Leaves.{Left}
+use Rattle.rules.specs.Rule.{Left}
 use Rattle.rules.proofs.Relation.{balanced, relation-off, relation-own}
-use Rattle.rules.proofs.Small.{Small, small-tells}
-use Rattle.rules.proofs.Sound.{Kept, Rowed}
+use Rattle.rules.specs.Range.{Small}
+use Rattle.rules.proofs.Small.{small-tells}
+use Rattle.rules.specs.State.{Kept, Rowed}
 use Rattle.rules.proofs.Units.{problem-row, same-off, same-self, unit-solves}
 use Rattle.rules.specs.Evidence.{column}
 use Rattle.rules.specs.Limit.{Limit, lowerPair, upperPair}

@@ -22,8 +22,8 @@ use Rattle.whole.specs.Sums.{sum, sumBy}
 use Rattle.whole.specs.Values.{Lt, total, lexicographic, pairs}
 use Rattle.whole.proofs.Beside.{pairs-laws}
 use Rattle.whole.proofs.Mixed.{total-parts}
-use Rattle.rules.proofs.Leaves.{Left}
-use Rattle.rules.proofs.Sound.{Rowed}
+use Rattle.rules.specs.Rule.{Left}
+use Rattle.rules.specs.State.{Rowed}
 use Rattle.rules.specs.Problem.{Problem, vars, inner, mapped}
 use Rattle.rules.specs.Step.{Leaving, State, entering, positive, pull, seated}
 use Rattle.rules.specs.Tableau.{relation}

@@ -16,15 +16,16 @@ use Rattle.whole.proofs.Sums.{sum-head, sum-within}
 use Rattle.whole.specs.Numbers.{Within}
 use Rattle.whole.specs.Sums.{sum}
 use Rattle.whole.specs.Values.{Values}
-use Rattle.rules.proofs.Enters.{Entered, entered}
-use Rattle.rules.proofs.Leaves.{Left, Outside, left, too-high, too-low}
+use Rattle.rules.proofs.Enters.{entered}
+use Rattle.rules.proofs.Leaves.{left}
 use Rattle.rules.proofs.Moved.{kept-along, rowed-goes}
 use Rattle.rules.proofs.Moves.{step-goes}
 use Rattle.rules.proofs.Pivoted.{was-some}
-use Rattle.rules.proofs.Sound.{Rowed, howManySeated}
 use Rattle.rules.proofs.Started.{rowed-start, seat-start, seated-problem}
 use Rattle.rules.specs.Problem.{Problem, vars}
+use Rattle.rules.specs.Rule.{Entered, Left, Outside, too-high, too-low}
 use Rattle.rules.specs.Run.{after}
+use Rattle.rules.specs.State.{Rowed, howManySeated}
 use Rattle.rules.specs.Step.{Leaving, Side, State, goes, limitAt, moved, seat, start, startValue, step}
 
 -- a sum over all variables whose terms at basic variables are 0

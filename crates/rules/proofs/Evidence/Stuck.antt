@@ -25,11 +25,11 @@ use Rattle.rules.proofs.Blame.{positive-down}
 use Rattle.rules.proofs.Enters.{none-enters}
 use Rattle.rules.proofs.Evidence.Terms.{positive-yes, pull-is, turn}
 use Rattle.rules.proofs.Gaps.{gap-less, gap-more}
-use Rattle.rules.proofs.Leaves.{Left, Outside, too-high, too-low}
 use Rattle.rules.proofs.Relation.{relation-off, relation-own}
-use Rattle.rules.proofs.Sound.{Rowed}
 use Rattle.rules.proofs.Units.{same-off, same-self}
 use Rattle.rules.specs.Problem.{Problem, vars}
+use Rattle.rules.specs.Rule.{Left, Outside, too-high, too-low}
+use Rattle.rules.specs.State.{Rowed}
 use Rattle.rules.specs.Step.{Leaving, Side, gap, State, common, entering, limitAt, positive, pull, same, scaled}
 use Rattle.rules.specs.Step.{seat, seated}
 use Rattle.rules.specs.Tableau.{entry, relation}

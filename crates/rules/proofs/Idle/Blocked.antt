@@ -20,11 +20,12 @@ use Rattle.whole.proofs.Values.{same-le, scale-nil, scale-total, sum-scale, tot
 use Rattle.whole.specs.Values.{Laws, Values, whole}
 use Rattle.rules.proofs.Gaps.{gap-back}
 use Rattle.rules.proofs.Idle.Kept.{Within-side, meets-kept}
-use Rattle.rules.proofs.Leaves.{Left, Outside, too-high, too-low}
-use Rattle.rules.proofs.Sound.{Sound, seated-scaled, values-solve}
+use Rattle.rules.proofs.Sound.{seated-scaled, values-solve}
 use Rattle.rules.specs.Evidence.{Meets, Rows}
 use Rattle.rules.specs.Keeping.{keeping, limitOf}
 use Rattle.rules.specs.Problem.{Problem, vars}
+use Rattle.rules.specs.Rule.{Left, Outside, too-high, too-low}
+use Rattle.rules.specs.State.{Sound}
 use Rattle.rules.specs.Step.{Leaving, Side, State, above, below, common, gap, limitAt, scaled, seat}
 use Rattle.rules.specs.Tableau.{entry}
 

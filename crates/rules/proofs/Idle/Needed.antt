@@ -13,7 +13,6 @@ use Rattle.rules.proofs.Ends.{ready-start}
 use Rattle.rules.proofs.Evidence.Satisfied.{pairs-satisfied}
 use Rattle.rules.proofs.Idle.Kept.{Met, keeping-inner}
 use Rattle.rules.proofs.Idle.Pairs.{met-from}
-use Rattle.rules.proofs.Sound.{Ready}
 use Rattle.rules.specs.Answer.{answer, answerFrom}
 use Rattle.rules.specs.Evidence.{Satisfiable, verdictOf}
 use Rattle.rules.specs.Idle.{NoBlank, isNamed, isOther, multiplier, named, without}
@@ -22,6 +21,7 @@ use Rattle.rules.specs.Limit.{Limit}
 use Rattle.rules.specs.Problem.{Problem, inner, problem, vars}
 use Rattle.rules.specs.Refusal.{Accepted}
 use Rattle.rules.specs.Sizes.{mostRows}
+use Rattle.rules.specs.State.{Ready}
 use Rattle.rules.specs.Step.{Side, State, start}
 
 -- what is left, read as pairs

@@ -26,16 +26,17 @@ use Rattle.rules.proofs.Answers.{laid, lower-part, upper-part}
 use Rattle.rules.proofs.Idle.Alone.{alone-meets}
 use Rattle.rules.proofs.Idle.Blocked.{pivot-meets, stay-meets}
 use Rattle.rules.proofs.Idle.Kept.{Met, keeping-twice, named-is, other-is}
-use Rattle.rules.proofs.Leaves.{Left, left}
+use Rattle.rules.proofs.Leaves.{left}
 use Rattle.rules.proofs.Moves.{Stepped, is-can, is-cannot, is-goes, is-range, stepped}
 use Rattle.rules.proofs.Relation.{relation-off, relation-own}
-use Rattle.rules.proofs.Sound.{Ready, Sound}
 use Rattle.rules.specs.Answer.{answerFrom, wordsOf}
 use Rattle.rules.specs.Evidence.{lowerPart, upperPart, verdictOf}
 use Rattle.rules.specs.Idle.{NoBlank, isNamed, isOther, multiplier, named, without}
 use Rattle.rules.specs.Keeping.{keeping, limitOf}
 use Rattle.rules.specs.Problem.{Problem, vars, word}
+use Rattle.rules.specs.Rule.{Left}
 use Rattle.rules.specs.Run.{Ending, after, bound, conflict, ending}
+use Rattle.rules.specs.State.{Ready, Sound}
 use Rattle.rules.specs.Step.{Leaving, Outcome, Side, State, above, below, cannot, pull, seat, step}
 use Rattle.rules.specs.Tableau.{Tableau, entry, relation}
 

@@ -28,16 +28,18 @@ use Rattle.rules.proofs.Bounded.{below-bound, bound-some}
 use Rattle.rules.proofs.Demands.{can-from, cannot-from}
 use Rattle.rules.proofs.First.{First, Test, first-exactly, line}
 use Rattle.rules.proofs.Moved.{twice-never}
-use Rattle.rules.proofs.Range.{TooLarge, range-verdict}
+use Rattle.rules.proofs.Range.{range-verdict}
 use Rattle.rules.proofs.Sessions.Fair.{Fair, fair-ready, rested-crossed, rested-run}
 use Rattle.rules.proofs.Shape.{Shaped, shaped}
-use Rattle.rules.proofs.Sound.{Apart, Ready, Sound, ready-sound}
+use Rattle.rules.proofs.Sound.{ready-sound}
 use Rattle.rules.proofs.Started.{no-conflict}
 use Rattle.rules.specs.Evidence.{Meets, Unmet, denominatorOf, pairPart, verdictOf}
 use Rattle.rules.specs.Problem.{Problem, vars, word}
+use Rattle.rules.specs.Range.{TooLarge}
 use Rattle.rules.specs.Run.{Runs, after, bound, conflict}
 use Rattle.rules.specs.Session.{Session, at, checkAnswer, checkLength, checkOutput, checkRefusal, live}
 use Rattle.rules.specs.Session.{rested, restedBy}
+use Rattle.rules.specs.State.{Apart, Ready, Sound}
 use Rattle.rules.specs.Step.{State, same}
 
 module _ (A : Session (ℤ × ℤ)) (F : Fair pairs A) where

@@ -35,7 +35,6 @@ use Rattle.rules.proofs.Sessions.Checked.{can-checked, cannot-checked}
 use Rattle.rules.proofs.Sessions.Fair.{Fair, fair-ready, handed-fair}
 use Rattle.rules.proofs.Sessions.Handed.{Limits-are, handed-given, values-handed}
 use Rattle.rules.proofs.Sessions.Live.{live-checked}
-use Rattle.rules.proofs.Sound.{Kept, Ready}
 use Rattle.rules.specs.Answer.{answerFrom}
 use Rattle.rules.specs.Evidence.{Satisfiable, Unmet, Unsatisfied, accepted, checked, denominatorOf, lowerPart}
 use Rattle.rules.specs.Evidence.{Meets, pairPart, upperPart, verdictOf}
@@ -47,6 +46,7 @@ use Rattle.rules.specs.Problem.{Problem, inner, problem, vars, varsOf}
 use Rattle.rules.specs.Refusal.{Accepted}
 use Rattle.rules.specs.Session.{Handed, Session, checkAnswer, isOn, live}
 use Rattle.rules.specs.Sizes.{largestCoefficient, largestLimit, mostColumns, mostRows}
+use Rattle.rules.specs.State.{Kept, Ready}
 use Rattle.rules.specs.Step.{Side, above, below, seat}
 
 -- ---- of a session whose problem is given with its marks

@@ -22,7 +22,7 @@ use Rattle.rules.proofs.Kept.{kept-after, kept-start}
 use Rattle.rules.proofs.Moved.{rowed-after, sound-after}
 use Rattle.rules.proofs.Sessions.Inside.{inside-high, inside-low}
 use Rattle.rules.proofs.Sessions.Opened.{opened-so}
-use Rattle.rules.proofs.Sound.{Housed, Kept, Ready, Rowed, housed-of, howManySeated, ready-sound}
+use Rattle.rules.proofs.Sound.{housed-of, ready-sound}
 use Rattle.rules.proofs.Started.{no-conflict}
 use Rattle.rules.specs.Keeping.{keeping, kept}
 use Rattle.rules.specs.Problem.{Problem, vars}
@@ -30,6 +30,7 @@ use Rattle.rules.specs.Run.{Ends, after, conflict}
 use Rattle.rules.specs.Session.{Handed, Session, at, flagged, from-check, from-opening, from-switch, inside}
 use Rattle.rules.specs.Session.{insideSeat, isOn, live, noneOn, opened, rested, settled, switchRefusal, switched}
 use Rattle.rules.specs.Sizes.{largestCoefficient}
+use Rattle.rules.specs.State.{Housed, Kept, Ready, Rowed, howManySeated}
 use Rattle.rules.specs.Step.{Side, State, above, below, seat}
 
 module _ {X : Type 0} (𝓥 : Values X) where

@@ -17,7 +17,7 @@ use Rattle.whole.proofs.Sums.{sum-same}
 use Rattle.rules.specs.Problem.{Problem, vars}
 use Rattle.rules.specs.Step.{State, scaled, seat, seated}
 use Rattle.rules.specs.Tableau.{entry}
-use Rattle.rules.proofs.Sound.{Rowed}
+use Rattle.rules.specs.State.{Rowed}
 use Rattle.tableau.specs.declared.Tableau.{Tableau}
 use Rattle.tableau.specs.Parts.{cellAt, nonbasicAt, valueAt, seatAt, rowOf, columnOf}
 use Rattle.tableau.specs.Stands.{HasRow, Ranged, Stands}

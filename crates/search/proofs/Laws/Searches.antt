@@ -32,8 +32,9 @@ use Rattle.rules.specs.Step.{
   under,
 }
 use Rattle.rules.specs.Tableau.{entry}
-use Rattle.rules.proofs.Leaves.{Left, left}
-use Rattle.rules.proofs.Sound.{Rowed}
+use Rattle.rules.specs.Rule.{Left}
+use Rattle.rules.proofs.Leaves.{left}
+use Rattle.rules.specs.State.{Rowed}
 use Rattle.tableau.specs.declared.Tableau.{Tableau}
 use Rattle.tableau.specs.Parts.{cellAt, valueAt, seatAt, rowOf, columnOf}
 use Rattle.tableau.specs.Stands.{HasRow, Stands}

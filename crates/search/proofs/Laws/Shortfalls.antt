@@ -20,7 +20,7 @@ use Rattle.rules.specs.Sizes.{largestNumber, largestShortfall, largestSmall, mo
 use Rattle.rules.specs.Step.{Leaving, Side, State, above, below, leaves, seated, shortfallBy}
 use Rattle.rules.proofs.Leaves.{left}
 use Rattle.rules.proofs.Rule.{shortfall-positive}
-use Rattle.rules.proofs.Sound.{Rowed}
+use Rattle.rules.specs.State.{Rowed}
 use Rattle.tableau.specs.declared.Given.{Given}
 use Rattle.tableau.specs.declared.Tableau.{Tableau}
 use Rattle.tableau.specs.Amounts.{limitIn}

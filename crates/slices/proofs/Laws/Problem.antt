@@ -15,7 +15,7 @@ use Rattle.rules.specs.Step.{State, common, seat}
 use Rattle.rules.specs.Tableau.{entry}
 use Rattle.rules.proofs.Holds.{rows-only}
 use Rattle.rules.proofs.Slices.{on-way-rowed}
-use Rattle.rules.proofs.Sound.{Rowed}
+use Rattle.rules.specs.State.{Rowed}
 use Rattle.tableau.specs.declared.Tableau.{Tableau}
 use Rattle.tableau.specs.Parts.{columnOf, rowOf}
 use Rattle.tableau.specs.Stands.{Stands}

@@ -13,7 +13,7 @@ use Rattle.rules.specs.Step.{Leaving, Outcome, State, can, evidence, goes, leav
 use Rattle.rules.specs.Tableau.{relation}
 use Rattle.rules.proofs.Moved.{rowed-goes}
 use Rattle.rules.proofs.Runs.{run-end, run-on}
-use Rattle.rules.proofs.Sound.{Rowed}
+use Rattle.rules.specs.State.{Rowed}
 use Rattle.tableau.specs.declared.Tableau.{Tableau}
 use Rattle.tableau.specs.Stands.{Ranged, Stands}
 use Rattle.search.specs.Search.{blockedAt}

@@ -17,7 +17,7 @@ use Rattle.rules.specs.Sizes.{mostColumns, mostRows, mostVariables}
 use Rattle.rules.specs.Run.{Moves, Runs, after, bound, choose, next}
 use Rattle.rules.specs.Step.{State, goes, step}
 use Rattle.rules.proofs.Moved.{rowed-after}
-use Rattle.rules.proofs.Sound.{Rowed}
+use Rattle.rules.specs.State.{Rowed}
 use Rattle.tableau.specs.declared.Tableau.{Tableau}
 use Rattle.tableau.specs.Stands.{Ranged, Stands}
 use Rattle.answers.specs.Answer.{mostCount}

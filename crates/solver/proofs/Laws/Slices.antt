@@ -21,7 +21,7 @@ use Rattle.rules.specs.Slices.{Slice, continued, isAnswer, sliceAnswer, sliceLe
 use Rattle.rules.specs.Step.{Outcome, cannot, evidence, same}
 use Rattle.rules.proofs.AnswerIs.{spending-crossed, spending-run}
 use Rattle.rules.proofs.Slices.{on-way-below, on-way-more, on-way-rowed, told-ended, told-moves}
-use Rattle.rules.proofs.Sound.{Rowed}
+use Rattle.rules.specs.State.{Rowed}
 use Rattle.tableau.specs.declared.Tableau.{Tableau}
 use Rattle.tableau.specs.declared.Variable.{Variable}
 use Rattle.tableau.specs.Stands.{Ranged, Stands}

@@ -12,7 +12,7 @@ use Rattle.rules.specs.Tableau.{small}
 use Rattle.rules.proofs.Enters.{entered}
 use Rattle.rules.proofs.Leaves.{left}
 use Rattle.rules.proofs.Pivoted.{rowed-moved}
-use Rattle.rules.proofs.Sound.{Rowed}
+use Rattle.rules.specs.State.{Rowed}
 use Rattle.tableau.specs.declared.Limits.{Limits}
 use Rattle.tableau.specs.declared.Tableau.{Tableau}
 use Rattle.tableau.specs.Parts.{columnOf, lowerGiven, rowOf, upperGiven}

@@ -19,7 +19,7 @@ use Rattle.rules.specs.Sizes.{largestLimit}
 use Rattle.rules.specs.Step.{Leaving, State, can, entering, evidence, goes, leaving, moved, range, step}
 use Rattle.rules.specs.Tableau.{relation}
 use Rattle.rules.proofs.Moves.{Stepped, is-can, is-cannot, is-goes, is-range, stepped}
-use Rattle.rules.proofs.Sound.{Rowed}
+use Rattle.rules.specs.State.{Rowed}
 use Rattle.layout.specs.declared.ColumnPlace.{ColumnPlace}
 use Rattle.layout.specs.declared.RowPlace.{RowPlace}
 use Rattle.tableau.specs.declared.Given.{Given}

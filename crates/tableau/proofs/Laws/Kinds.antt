@@ -8,7 +8,7 @@ use Rattle.whole.specs.Values.{pairs}
 use Rattle.rules.specs.Problem.{Problem, vars}
 use Rattle.rules.specs.Tableau.{entry}
 use Rattle.rules.specs.Step.{State, seat, common}
-use Rattle.rules.proofs.Sound.{Rowed}
+use Rattle.rules.specs.State.{Rowed}
 use Rattle.tableau.specs.declared.Tableau.{Tableau}
 use Rattle.tableau.specs.Parts.{basicAt, nonbasicAt, rowOf, columnOf}
 use Rattle.tableau.specs.Stands.{Placed}

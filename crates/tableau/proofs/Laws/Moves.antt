@@ -23,7 +23,7 @@ use Rattle.rules.specs.Tableau.{entry, solved, reduced, divisorSize, divisor, p
 use Rattle.rules.specs.Tableau as rules
 use Rattle.rules.proofs.Lowest.{Factored, factored, divisor-divides, divisor-greatest, reduced-entry}
 use Rattle.rules.proofs.Pivoted.{rowed-moved}
-use Rattle.rules.proofs.Sound.{Rowed}
+use Rattle.rules.specs.State.{Rowed}
 use Rattle.layout.specs.Layout.{mostEntries, flat, rowAt, columnAt, live}
 use Rattle.pivot.specs.Pivot.{mixedCell, mixedAt, signedBy, product, mix, by}
 use Rattle.layout.proofs.Laws.Layout.{row-live, column-live}

@@ -15,7 +15,8 @@ use lib.ListN.{length, getD, set, length-set}
 use lib.Seq.{getD-set-same, getD-set-other}
 use Rattle.rules.specs.Problem.{Problem, vars}
 use Rattle.rules.specs.Step.{State, seat}
-use Rattle.rules.proofs.Swaps.{Swap, none-some}
+use Rattle.rules.specs.Rule.{Swap}
+use Rattle.rules.proofs.Swaps.{none-some}
 use Rattle.layout.specs.Layout.{row, column}
 use Rattle.tableau.specs.declared.Variable.{Variable}
 use Rattle.tableau.specs.declared.Seat.{Seat}

@@ -17,7 +17,7 @@ use Rattle.rules.specs.Problem.{Problem, vars}
 use Rattle.rules.specs.Sizes.{largestNumber}
 use Rattle.rules.specs.Step.{State}
 use Rattle.rules.specs.Tableau.{entry, small}
-use Rattle.rules.proofs.Sound.{Rowed}
+use Rattle.rules.specs.State.{Rowed}
 use Rattle.layout.specs.Layout.{flat, rowAt, columnAt}
 use Rattle.pivot.specs.Pivot.{inRange, smallBelow}
 use Rattle.layout.proofs.Laws.Layout.{flat-back, row-live, column-live}

@@ -16,7 +16,7 @@ use Rattle.rules.specs.Limit.{Limit, inset, lowerPair, present, upperPair}
 use Rattle.rules.specs.Problem.{Problem, mapped, vars}
 use Rattle.rules.specs.Sizes.{mostVariables, largestLimit}
 use Rattle.rules.specs.Step.{State, Side, below, above, Leaving}
-use Rattle.rules.proofs.Leaves.{Outside, too-low, too-high}
+use Rattle.rules.specs.Rule.{Outside, too-high, too-low}
 use Rattle.pivot.specs.Pivot.{Pivotable, smallBelow}
 use Rattle.tableau.specs.declared.Given.{Given}
 use Rattle.tableau.specs.declared.Limits.{Limits}

@@ -18,11 +18,10 @@ use Rattle.rules.specs.Problem.{Problem}
 use Rattle.rules.specs.Sizes.{mostRows, mostColumns}
 use Rattle.rules.specs.Tableau.{entry}
 use Rattle.rules.specs.Step.{State, Leaving, seat, moved, limitAt}
-use Rattle.rules.proofs.Enters.{Entered, swap}
-use Rattle.rules.proofs.Leaves.{Left}
+use Rattle.rules.specs.Rule.{Entered, Left, Swap}
+use Rattle.rules.proofs.Enters.{swap}
 use Rattle.rules.proofs.Pivoted as pivoted
-use Rattle.rules.proofs.Sound.{Rowed}
-use Rattle.rules.proofs.Swaps.{Swap}
+use Rattle.rules.specs.State.{Rowed}
 use Rattle.tableau.specs.declared.Tableau.{Tableau}
 use Rattle.tableau.specs.Parts.{cellAt, basicAt, nonbasicAt, rowOf, columnOf}
 use Rattle.tableau.specs.Pivot.{pivotedAt, pivotedLaid, swappedAt}
