@@ -18,21 +18,12 @@ use Rattle.whole.proofs.Tells.{tells-eq}
 use Rattle.whole.specs.Numbers.{isPos}
 use Rattle.whole.specs.Tables.{table}
 use Rattle.whole.specs.Values.{Values}
+use Rattle.rules.specs.Blame.{Stopped, sideOf}
 use Rattle.rules.specs.Problem.{Problem, vars, word}
 use Rattle.rules.specs.Run.{conflict, spending}
 use Rattle.rules.specs.Step.{Outcome, Side, State, above, below, cannot, evidence, positive, pull, same}
 
--- the multipliers of a side
-abbrev pub sideOf : List ℤ → List ℤ → Side → List ℤ
-sideOf ls us below = ls
-sideOf ls us above = us
-
 -- ---- a violated row
-
--- a limit of that side stops a variable with this entry, turned to rise
-abbrev pub Stopped : Side → ℤ → Type 0
-Stopped below z = z <ℤ pos 0
-Stopped above z = pos 0 <ℤ z
 
 positive-some : (z : ℤ) → positive z ≢ pos 0 → pos 0 <ℤ z
 positive-some z n = go (isPos z) refl

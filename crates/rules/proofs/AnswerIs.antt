@@ -1,9 +1,9 @@
 -- The answer is the run: from a state that is ready, where no limits cross, it ends once, after fewer pivots than the bound, and the
 -- words are those of the state that it ends at; where some cross, the lowest such variable is the evidence, with no pivot.
---   Crosses, crosses-exactly, none-crosses    the lowest variable whose lower limit exceeds its upper; none
+--   crosses-exactly, none-crosses             the lowest variable whose lower limit exceeds its upper; none
 --   spending-run, spending-crossed            what a run with pivots to spend comes to, of any values
 --   ending-run, ending-crossed                .. and a check
---   answer-run : TheRun P s                   the one count, and the answer's words
+--   answer-run                                the one count, and the answer's words: `TheRun` of specs/TheRun
 --   answer-crossed                            the words where limits cross
 use mathlib.Core.Bool.{false}
 use mathlib.Core.List.{_++_, _∷_}
@@ -31,15 +31,12 @@ use Rattle.rules.specs.Problem.{Problem, vars, word}
 use Rattle.rules.specs.Run.{Ending, Ends, after, bound, conflict, crossed, ending, run, spending}
 use Rattle.rules.specs.State.{Apart, Ready, Sound, howManySeated}
 use Rattle.rules.specs.Step.{Outcome, State, can, cannot, goes, range, same, step}
+use Rattle.rules.specs.TheRun.{Crosses, TheRun, ended}
 
 module _ {X : Type 0} (𝓥 : Values X) where
   -- ---- crossed limits
 
-  -- its lower limit exceeds its upper
-  abbrev pub Crosses : Problem X → ℕ → Type 0
-  Crosses P v = (l : X) × (u : X) × (P .lower v ≡ some l) × (P .upper v ≡ some u) × Lt 𝓥 u l
-
-  crossed-tells : (P : Problem X) (v : ℕ) → Tells (crossed 𝓥 (P .lower v) (P .upper v)) (Crosses P v) (¬ Crosses P v)
+  crossed-tells : (P : Problem X) (v : ℕ) → Tells (crossed 𝓥 (P .lower v) (P .upper v)) (Crosses 𝓥 P v) (¬ Crosses 𝓥 P v)
   unfolding crossed
   crossed-tells P v = go (P .lower v) (P .upper v)
     where
@@ -65,23 +62,19 @@ module _ {X : Type 0} (𝓥 : Values X) where
           clash k w a b h e = let p : l ≡ k = cc in let q : u ≡ w = cc in true-false (rw (p, q) h) e
 
   pub crosses-exactly : (P : Problem X) (v : ℕ) →
-      (conflict 𝓥 P ≡ some v) ↔ ((v < vars P) × Crosses P v × ((u : ℕ) → u < v → ¬ Crosses P u))
+      (conflict 𝓥 P ≡ some v) ↔ ((v < vars P) × Crosses 𝓥 P v × ((u : ℕ) → u < v → ¬ Crosses 𝓥 P u))
   unfolding conflict
   crosses-exactly P v = let r = lowest-passes (vars P) (λ v. crossed 𝓥 (P .lower v) (P .upper v)) v in (
     λ e. let f = r .0 e in (f .0, crossed-tells P v .if-true (f .1), λ u h. crossed-tells P u .if-false (f .2 u h)),
     λ (h, c, first). r .1 (h, tells-true (crossed-tells P v) c, λ u k. tells-false (crossed-tells P u) (first u k)),
   )
 
-  pub none-crosses : (P : Problem X) → (conflict 𝓥 P ≡ none) ↔ ((v : ℕ) → v < vars P → ¬ Crosses P v)
+  pub none-crosses : (P : Problem X) → (conflict 𝓥 P ≡ none) ↔ ((v : ℕ) → v < vars P → ¬ Crosses 𝓥 P v)
   unfolding conflict
   none-crosses P = let r = none-passes (vars P) (λ v. crossed 𝓥 (P .lower v) (P .upper v)) in
       (λ e v h. crossed-tells P v .if-false (r .0 e v h), λ n. r .1 (λ v h. tells-false (crossed-tells P v) (n v h)))
 
   -- ---- what a check comes to
-
-  -- the run at k pivots
-  abbrev pub ended : Problem X → State X → ℕ → Ending X
-  ended P s k = record { how = step 𝓥 P (after 𝓥 P s k); pivots = k; last = after 𝓥 P s k }
 
   pub spending-crossed : (P : Problem X) (v : ℕ) → conflict 𝓥 P ≡ some v → (b : ℕ) (s : State X) (k : ℕ) →
       spending 𝓥 b P s k
@@ -101,23 +94,12 @@ module _ {X : Type 0} (𝓥 : Values X) where
 
   pub ending-run : Laws 𝓥 → (P : Problem X) (s : State X) → conflict 𝓥 P ≡ none → Sound 𝓥 P s →
       howManySeated (s .seats) ≡ P .n →
-      (k : ℕ) → Ends 𝓥 P s k → ending 𝓥 P s ≡ ended P s k
+      (k : ℕ) → Ends 𝓥 P s k → ending 𝓥 P s ≡ ended 𝓥 P s k
   unfolding ending
   ending-run law P s e S n k E = spending-run P e (bound P) s 0 ∙ (run-is 𝓥 P s (bound P) k
       (let h = below-bound 𝓥 law P s (no-conflict 𝓥 P e) S n k (E .runs) in omega arith) E)
 
 -- ---- the answer
-
--- the one count of pivots, and the words of the state that the run ends at
-pub record TheRun (P : Problem (ℤ × ℤ)) (s : State (ℤ × ℤ)) : Type 0 where
-  pub uncrossed : conflict pairs P ≡ none
-  pub count : ℕ
-  pub ends : Ends pairs P s count
-  pub sound : Sound pairs P (after pairs P s count)
-  pub only : (k : ℕ) → Ends pairs P s k → k ≡ count
-  pub below : count < bound P
-  pub words : answerFrom P s ≡ wordsOf P (ended pairs P s count)
-  pub word-1 : word (answerFrom P s) 1 ≡ pos count
 
 -- word 1 is the count, whatever the ending
 words-count : (P : Problem (ℤ × ℤ)) (e : Ending (ℤ × ℤ)) → word (wordsOf P e) 1 ≡ pos (e .pivots)

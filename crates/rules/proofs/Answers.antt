@@ -1,7 +1,6 @@
 -- The four answers there are, with what each knows: crossed limits, or the state at which the run ends.
---   laid                    an answer's words: verdict, count, word 2, and two words for each variable
---   verdict-word, count-word, denominator-word, lower-part, upper-part, laid-length    its parts
---   answered : Answered P s    of any state that is ready
+--   verdict-word, count-word, denominator-word, lower-part, upper-part, laid-length    the parts of its words, `laid`
+--   answered       `Answered` of specs/Answers, of any state that is ready
 use mathlib.Core.List.{List, _++_, _∷_}
 use mathlib.Core.Logic.{_≢_}
 use mathlib.Core.Option.{Option, none, some}
@@ -13,19 +12,18 @@ use lib.ListN.{List·getD-append, length, length-append, replicate, replicate-ap
 use lib.Seq.{getD-append-add}
 use Rattle.whole.specs.Tables.{table}
 use Rattle.whole.specs.Values.{pairs}
-use Rattle.rules.proofs.AnswerIs.{TheRun, answer-crossed, answer-run, ended}
-use Rattle.rules.proofs.Blame.{Blamed, cannot-blames}
+use Rattle.rules.proofs.AnswerIs.{answer-crossed, answer-run}
+use Rattle.rules.proofs.Blame.{cannot-blames}
 use Rattle.rules.proofs.Moved.{rowed-after}
 use Rattle.rules.proofs.Moves.{Stepped, is-can, is-cannot, is-goes, is-range, stepped}
 use Rattle.rules.specs.Answer.{answerFrom, wordsOf}
+use Rattle.rules.specs.Answers.{Answered, can-at, cannot-at, crossing, laid, range-at}
 use Rattle.rules.specs.Evidence.{lowerPart, upperPart, verdictOf}
 use Rattle.rules.specs.Problem.{Problem, vars, word}
 use Rattle.rules.specs.Run.{Ended, after, conflict}
 use Rattle.rules.specs.State.{Ready, Rowed}
 use Rattle.rules.specs.Step.{Outcome, State, common, evidence, leaving, range, same, scaled, step}
-
-unfoldable pub laid : ℤ → ℤ → ℤ → List ℤ → List ℤ → List ℤ
-laid a b c xs ys = a ∷ b ∷ c ∷ (xs ++ ys)
+use Rattle.rules.specs.TheRun.{TheRun, ended}
 
 module _ (a b c : ℤ) (xs ys : List ℤ) where
   pub verdict-word : word (laid a b c xs ys) 0 ≡ a
@@ -52,19 +50,6 @@ module _ (a b c : ℤ) (xs ys : List ℤ) where
   unfolding laid
   upper-part N v e = let z : 3 + N + v ≡ suc (suc (suc (length xs + v))) = omega arith in
       rw z (getD-append-add xs ys v (pos 0))
-
-pub data Answered (P : Problem (ℤ × ℤ)) (s : State (ℤ × ℤ)) : Type 0 where
-  crossing : (v : ℕ) → conflict pairs P ≡ some v →
-      answerFrom P s ≡ laid (pos 2) (pos 0) (pos 0) (table (vars P) (same v)) (table (vars P) (same v)) → Answered P s
-  can-at : (R : TheRun P s) → leaving pairs P (after pairs P s (R .count)) ≡ none →
-      answerFrom P s ≡ laid (pos 1) (pos (R .count)) (common (after pairs P s (R .count)))
-      (table (vars P) (λ v. scaled pairs P (after pairs P s (R .count)) v .0))
-      (table (vars P) (λ v. scaled pairs P (after pairs P s (R .count)) v .1)) → Answered P s
-  cannot-at : (R : TheRun P s) (ls us : List ℤ) → Blamed pairs P (after pairs P s (R .count)) ls us →
-      answerFrom P s ≡ laid (pos 2) (pos (R .count)) (pos 0) ls us → Answered P s
-  range-at : (R : TheRun P s) → step pairs P (after pairs P s (R .count)) ≡ range →
-      answerFrom P s ≡ laid (pos 3) (pos (R .count)) (pos 0) (replicate (vars P) (pos 0)) (replicate (vars P) (pos 0)) →
-      Answered P s
 
 module _ (P : Problem (ℤ × ℤ)) (s : State (ℤ × ℤ)) where
   words-at : (k : ℕ) (o : Outcome (ℤ × ℤ)) → step pairs P (after pairs P s k) ≡ o →

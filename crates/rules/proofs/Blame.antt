@@ -1,8 +1,6 @@
--- The multipliers of a violated row that nothing can move, in plain words: D on the violated limit; for every other variable the size of its
--- entry, on its upper limit where it would have had to increase, on its lower limit where to decrease; 0 elsewhere.
---   Blame          that, of two lists of multipliers
---   blame          of the lists of `evidence`; `pull σ a` is the entry with its sign swapped where the violated variable must fall
---   cannot-blames  of every step that ends in `cannot`: the variable that leaves, that none enters, and the blame: `Blamed`
+-- The multipliers of a violated row that nothing can move are those of the plain words (specs/Blame).
+--   blame          `Blame` of the lists of `evidence`
+--   cannot-blames  `Blamed` of every step that ends in `cannot`: the variable that leaves, that none enters, and the blame
 use mathlib.Core.Bool.{cond}
 use mathlib.Core.List.{List}
 use mathlib.Core.Logic.{_≢_}
@@ -21,21 +19,11 @@ use Rattle.whole.specs.Values.{Values}
 use Rattle.rules.proofs.Leaves.{left}
 use Rattle.rules.proofs.Moves.{step-cannot}
 use Rattle.rules.proofs.Relation.{relation-off, relation-own}
+use Rattle.rules.specs.Blame.{Blame, Blamed}
 use Rattle.rules.specs.Problem.{Problem, vars, word}
 use Rattle.rules.specs.State.{Rowed}
 use Rattle.rules.specs.Step.{Leaving, Side, State, above, below, cannot, entering, evidence, leaving, positive, pull, step}
 use Rattle.rules.specs.Tableau.{Tableau, entry, relation}
-
-pub record Blame (N : ℕ) (σ : Side) (r : ℕ) (t : Tableau) (ls us : List ℤ) : Type 0 where
-  pub many-lowers : length ls ≡ N
-  pub many-uppers : length us ≡ N
-  pub violated-lower : σ ≡ below → (word ls r ≡ t .common) × (word us r ≡ pos 0)
-  pub violated-upper : σ ≡ above → (word us r ≡ t .common) × (word ls r ≡ pos 0)
-  pub to-increase : (v : ℕ) → v < N → v ≢ r → pos 0 <ℤ pull σ (entry t r v) →
-      (word us v ≡ pos (natAbs (entry t r v))) × (word ls v ≡ pos 0)
-  pub to-decrease : (v : ℕ) → v < N → v ≢ r → pull σ (entry t r v) <ℤ pos 0 →
-      (word ls v ≡ pos (natAbs (entry t r v))) × (word us v ≡ pos 0)
-  pub elsewhere : (v : ℕ) → v < N → v ≢ r → entry t r v ≡ pos 0 → (word ls v ≡ pos 0) × (word us v ≡ pos 0)
 
 -- ---- one number
 
@@ -114,12 +102,6 @@ module _ (N : ℕ) (σ : Side) (r : ℕ) (t : Tableau) (r-var : r < N) (D-pos : 
   }
 
 -- ---- the step that ends so
-
-pub record Blamed {X : Type 0} (𝓥 : Values X) (P : Problem X) (s : State X) (ls us : List ℤ) : Type 0 where
-  pub out : Leaving X
-  pub leaves : leaving 𝓥 P s ≡ some out
-  pub none-enters : entering 𝓥 P s out ≡ none
-  pub blame : Blame (vars P) (out .side) (out .variable) (s .tableau) ls us
 
 pub cannot-blames : {X : Type 0} (𝓥 : Values X) (P : Problem X) (s : State X) (ls us : List ℤ) → Rowed 𝓥 P s →
     step 𝓥 P s ≡ cannot ls us → Blamed 𝓥 P s ls us

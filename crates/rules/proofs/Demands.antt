@@ -23,9 +23,8 @@ use Rattle.whole.proofs.Tables.{table-at, table-length}
 use Rattle.whole.proofs.Values.{le-le, lt-irrefl, lt-le-trans, total-same, up-strict}
 use Rattle.whole.specs.Tables.{table}
 use Rattle.whole.specs.Values.{Laws, Values, pairs}
-use Rattle.rules.proofs.AnswerIs.{Crosses, TheRun, answer-crossed, answer-run, crosses-exactly}
-use Rattle.rules.proofs.Answers.{Answered, answered, can-at, cannot-at, crossing, denominator-word, lower-part}
-use Rattle.rules.proofs.Answers.{other-verdict, range-at, upper-part}
+use Rattle.rules.proofs.AnswerIs.{answer-crossed, answer-run, crosses-exactly}
+use Rattle.rules.proofs.Answers.{answered, denominator-word, lower-part, other-verdict, upper-part}
 use Rattle.rules.proofs.Bounded.{below-bound, bound-some}
 use Rattle.rules.proofs.Ends.{ready-start, start-seated}
 use Rattle.rules.proofs.Evidence.Answers.{answer-accepted}
@@ -37,6 +36,7 @@ use Rattle.rules.proofs.Moved.{twice-never}
 use Rattle.rules.proofs.Shape.{answer-shaped}
 use Rattle.rules.proofs.Started.{no-conflict, sound-start}
 use Rattle.rules.specs.Answer.{answer, answerFrom, written}
+use Rattle.rules.specs.Answers.{Answered, can-at, cannot-at, crossing, range-at}
 use Rattle.rules.specs.Evidence.{AtLeast, AtMost, Meets, Unmet, Unsatisfied, checked, denominatorOf, pairPart}
 use Rattle.rules.specs.Evidence.{verdictOf}
 use Rattle.rules.specs.Problem.{Problem, inner, answerLength, problem, vars, word}
@@ -45,6 +45,7 @@ use Rattle.rules.specs.Run.{Runs, after, bound, conflict}
 use Rattle.rules.specs.Sizes.{mostRows}
 use Rattle.rules.specs.State.{Apart, Ready, Sound}
 use Rattle.rules.specs.Step.{State, common, positive, scaled, start}
+use Rattle.rules.specs.TheRun.{Crosses, TheRun, begin}
 
 -- ---- fractions, in the answer from any state that is ready
 
@@ -108,20 +109,17 @@ module _ (P : Problem (ℤ × ℤ)) (s : State (ℤ × ℤ)) (S : Ready pairs P 
 -- ---- the answer to words
 
 module _ (ws : List ℤ) where
-  abbrev pub begin : State (ℤ × ℤ)
-  begin = start pairs (inner (problem ws))
-
-  ready : Ready pairs (inner (problem ws)) begin
+  ready : Ready pairs (inner (problem ws)) (begin ws)
   ready = ready-start pairs pairs-laws (inner (problem ws))
 
   pub can-meets-limits : verdictOf (answer ws) ≡ pos 1 →
       Meets pairs (inner (problem ws)) (denominatorOf (answer ws)) (pairPart (vars (problem ws)) (answer ws))
   unfolding answer
-  can-meets-limits e = can-from (inner (problem ws)) begin ready e
+  can-meets-limits e = can-from (inner (problem ws)) (begin ws) ready e
 
   pub cannot-leaves-none : verdictOf (answer ws) ≡ pos 2 → Unmet pairs (inner (problem ws))
   unfolding answer
-  cannot-leaves-none e = cannot-from (inner (problem ws)) begin ready e
+  cannot-leaves-none e = cannot-from (inner (problem ws)) (begin ws) ready e
 
   pub can-satisfied : Accepted mostRows ws → verdictOf (answer ws) ≡ pos 1 → MetSmall (problem ws) (answer ws)
   can-satisfied A e = can-means ws (answer ws)
@@ -145,19 +143,19 @@ module _ (ws : List ℤ) where
     apart : Apart pairs (inner (problem ws))
     apart = no-conflict pairs (inner (problem ws)) c
 
-    sound : Sound pairs (inner (problem ws)) begin
+    sound : Sound pairs (inner (problem ws)) (begin ws)
     sound = sound-start pairs (inner (problem ws)) pairs-laws apart
 
-    pub no-twice : (i j : ℕ) → i < j → Runs pairs (inner (problem ws)) begin j →
-        after pairs (inner (problem ws)) begin i .seats ≢ after pairs (inner (problem ws)) begin j .seats
-    no-twice = twice-never pairs pairs-laws (inner (problem ws)) begin apart sound
+    pub no-twice : (i j : ℕ) → i < j → Runs pairs (inner (problem ws)) (begin ws) j →
+        after pairs (inner (problem ws)) (begin ws) i .seats ≢ after pairs (inner (problem ws)) (begin ws) j .seats
+    no-twice = twice-never pairs pairs-laws (inner (problem ws)) (begin ws) apart sound
 
-    pub few-pivots : (k : ℕ) → Runs pairs (inner (problem ws)) begin k → k < bound (inner (problem ws))
+    pub few-pivots : (k : ℕ) → Runs pairs (inner (problem ws)) (begin ws) k → k < bound (inner (problem ws))
     few-pivots =
-        below-bound pairs pairs-laws (inner (problem ws)) begin apart sound (start-seated pairs (inner (problem ws)))
+        below-bound pairs pairs-laws (inner (problem ws)) (begin ws) apart sound (start-seated pairs (inner (problem ws)))
 
-    pub run-ends : TheRun (inner (problem ws)) begin
-    run-ends = answer-run (inner (problem ws)) begin c ready
+    pub run-ends : TheRun (inner (problem ws)) (begin ws)
+    run-ends = answer-run (inner (problem ws)) (begin ws) c ready
 
   -- ---- the count, of any words
 
@@ -166,9 +164,9 @@ module _ (ws : List ℤ) where
   count-below = go (conflict pairs (inner (problem ws))) refl
     where
       go : (o : Option ℕ) → conflict pairs (inner (problem ws)) ≡ o →
-          (k : ℕ) × (word (answerFrom (inner (problem ws)) begin) 1 ≡ pos k) × (k < bound (inner (problem ws)))
+          (k : ℕ) × (word (answerFrom (inner (problem ws)) (begin ws)) 1 ≡ pos k) × (k < bound (inner (problem ws)))
       go (some v) e =
-          (0, ap (λ a. word a 1) (answer-crossed (inner (problem ws)) begin v e), bound-some (inner (problem ws)))
+          (0, ap (λ a. word a 1) (answer-crossed (inner (problem ws)) (begin ws) v e), bound-some (inner (problem ws)))
       go none e = let R = run-ends e in (R .count, R .word-1, R .below)
 
 -- ---- the output

@@ -16,8 +16,8 @@ use Rattle.whole.proofs.Beside.{pairs-laws}
 use Rattle.whole.proofs.Tells.{tells-false}
 use Rattle.whole.specs.Numbers.{Within}
 use Rattle.whole.specs.Values.{Values, pairs}
-use Rattle.rules.proofs.AnswerIs.{answer-run, ended}
-use Rattle.rules.proofs.Answers.{Answered, answered, can-at, cannot-at, crossing, other-verdict, range-at}
+use Rattle.rules.proofs.AnswerIs.{answer-run}
+use Rattle.rules.proofs.Answers.{answered, other-verdict}
 use Rattle.rules.proofs.Ends.{ready-start}
 use Rattle.rules.proofs.Enters.{entered}
 use Rattle.rules.proofs.Leaves.{left}
@@ -26,6 +26,7 @@ use Rattle.rules.proofs.Moves.{step-range}
 use Rattle.rules.proofs.Only.{next-moved, next-only}
 use Rattle.rules.proofs.Small.{small-tells}
 use Rattle.rules.specs.Answer.{answer, answerFrom, wordsOf}
+use Rattle.rules.specs.Answers.{Answered, can-at, cannot-at, crossing, range-at}
 use Rattle.rules.specs.Evidence.{verdictOf}
 use Rattle.rules.specs.Problem.{Problem, inner, problem, vars, word}
 use Rattle.rules.specs.Range.{Beyond, TooLarge}
@@ -34,6 +35,7 @@ use Rattle.rules.specs.Sizes.{largestNumber}
 use Rattle.rules.specs.State.{Ready, Rowed}
 use Rattle.rules.specs.Step.{Leaving, Outcome, State, entering, leaving, moved, range, start, step}
 use Rattle.rules.specs.Tableau.{Tableau, small}
+use Rattle.rules.specs.TheRun.{ended}
 use Rattle.rules.specs.Unique.{SameNumbers}
 
 module _ {X : Type 0} (𝓥 : Values X) (P : Problem X) where

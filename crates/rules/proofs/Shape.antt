@@ -1,6 +1,5 @@
 -- The shape of an answer: 3 + 2N words, a verdict 1, 2 or 3, never 0; word 2 and the zeros as docs/RULES.md says for each.
---   Shaped N a      that, of a list of words
---   shaped          of the answer from any state that is ready
+--   shaped          `Shaped` of specs/Answers, of the answer from any state that is ready
 --   answer-shaped   of the answer to any words
 --   never-zero      no verdict is 0
 use mathlib.Core.List.{List}
@@ -14,26 +13,16 @@ use Rattle.whole.proofs.Bools.{zero-one}
 use Rattle.whole.proofs.Beside.{pairs-laws}
 use Rattle.whole.proofs.Tables.{table-length}
 use Rattle.whole.specs.Values.{pairs}
-use Rattle.rules.proofs.Answers.{Answered, answered, can-at, cannot-at, crossing, denominator-word, laid, laid-length, lower-part, range-at, upper-part, verdict-word}
+use Rattle.rules.proofs.Answers.{answered, denominator-word, laid-length, lower-part, upper-part, verdict-word}
 use Rattle.rules.proofs.Ends.{ready-start}
 use Rattle.rules.specs.Answer.{answer, answerFrom}
+use Rattle.rules.specs.Answers.{Answered, Shape, Shaped, can-at, cannot-at, crossing, laid, range-at, shape-can}
+use Rattle.rules.specs.Answers.{shape-cannot, shape-range}
 use Rattle.rules.specs.Evidence.{denominatorOf, lowerPart, upperPart, verdictOf}
 use Rattle.rules.specs.Problem.{Problem, inner, problem, vars, varsOf, word}
 use Rattle.rules.specs.Run.{after}
 use Rattle.rules.specs.State.{Ready}
 use Rattle.rules.specs.Step.{State, same, scaled, start}
-
-pub data Shape (N : ℕ) (a : List ℤ) : Type 0 where
-  -- can: a denominator above 0
-  shape-can : verdictOf a ≡ pos 1 → pos 0 <ℤ denominatorOf a → Shape N a
-  shape-cannot : verdictOf a ≡ pos 2 → denominatorOf a ≡ pos 0 → Shape N a
-  -- out of range: zeros
-  shape-range : verdictOf a ≡ pos 3 → denominatorOf a ≡ pos 0 →
-      ((v : ℕ) → v < N → (lowerPart a v ≡ pos 0) × (upperPart N a v ≡ pos 0)) → Shape N a
-
-pub record Shaped (N : ℕ) (a : List ℤ) : Type 0 where
-  pub many : length a ≡ 3 + 2 * N
-  pub shape : Shape N a
 
 module _ (N : ℕ) where
   abbrev zeros : List ℤ

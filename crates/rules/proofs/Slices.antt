@@ -20,8 +20,7 @@ use native.Mathlib.Omega.{arith}
 use lib.IntN.{pos, ℤ}
 use Rattle.whole.proofs.Beside.{pairs-laws}
 use Rattle.whole.specs.Values.{Values, pairs}
-use Rattle.rules.proofs.AnswerIs.{TheRun, answer-crossed, answer-run, ended, ending-crossed, spending-crossed}
-use Rattle.rules.proofs.AnswerIs.{spending-run}
+use Rattle.rules.proofs.AnswerIs.{answer-crossed, answer-run, ending-crossed, spending-crossed, spending-run}
 use Rattle.rules.proofs.Bounded.{bound-some}
 use Rattle.rules.proofs.Ends.{ready-start}
 use Rattle.rules.proofs.Moved.{rowed-after}
@@ -32,6 +31,7 @@ use Rattle.rules.specs.Run.{Ended, Ending, Ends, Moves, after, bound, co
 use Rattle.rules.specs.Slices.{Slice, begun, continued, continuedBy, sliceAnswer, told}
 use Rattle.rules.specs.State.{Ready, Rowed}
 use Rattle.rules.specs.Step.{Outcome, State, can, cannot, goes, range, start}
+use Rattle.rules.specs.TheRun.{TheRun, ended}
 
 -- all pivots of the numbers together
 abbrev pub sum : List ℕ → ℕ

@@ -6,6 +6,7 @@ pub mod Refusal
 pub mod Tableau
 pub mod Step
 pub mod Rule
+pub mod Blame
 pub mod Run
 pub mod Answer
 pub mod Plain
@@ -14,6 +15,8 @@ pub mod Evidence
 pub mod State
 pub mod Unique
 pub mod Range
+pub mod TheRun
+pub mod Answers
 pub mod Keeping
 pub mod Session
 pub mod LiveWords

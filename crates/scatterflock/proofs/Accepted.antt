@@ -9,10 +9,11 @@ use native.Mathlib.Omega.{arith}
 use lib.IntN.{pos, ℤ}
 use lib.ListN.{List·getD-append, drop, length}
 use Rattle.whole.specs.Values.{pairs}
-use Rattle.rules.proofs.Evidence.Answers.{Decided, written-accepted}
+use Rattle.rules.proofs.Evidence.Answers.{written-accepted}
 use Rattle.rules.proofs.Sessions.Checked.{shaped-checked}
 use Rattle.rules.proofs.Sessions.Demands.{eight-checked, fair-words}
 use Rattle.rules.specs.Answer.{written}
+use Rattle.rules.specs.Answers.{Decided}
 use Rattle.rules.specs.Evidence.{checked, verdictOf}
 use Rattle.rules.specs.LiveWords.{liveWords}
 use Rattle.rules.specs.Problem.{inner, problem}

@@ -19,7 +19,6 @@ use Rattle.whole.proofs.Beside.{pairs-laws}
 use Rattle.whole.specs.Numbers.{Within}
 use Rattle.whole.specs.Values.{pairs}
 use Rattle.rules.proofs.AnswerIs.{answer-crossed, answer-run, crosses-exactly}
-use Rattle.rules.proofs.Answers.{laid}
 use Rattle.rules.proofs.Ends.{ready-start}
 use Rattle.rules.proofs.Evidence.Can.{can-shown}
 use Rattle.rules.proofs.Evidence.Cannot.{cannot-shown}
@@ -32,8 +31,9 @@ use Rattle.rules.proofs.Leaves.{left}
 use Rattle.rules.proofs.Moves.{Stepped, is-can, is-cannot, is-goes, is-range, stepped}
 use Rattle.rules.proofs.Ranges.{lower-within, n-few, upper-within}
 use Rattle.rules.proofs.Refused.{accepted-exactly, answered-exactly}
-use Rattle.rules.proofs.Shape.{Shape, answer-shaped, shape-can, shape-cannot, shape-range}
+use Rattle.rules.proofs.Shape.{answer-shaped}
 use Rattle.rules.specs.Answer.{answer, answerFrom, wordsOf, written}
+use Rattle.rules.specs.Answers.{Decided, Shape, laid, shape-can, shape-cannot, shape-range}
 use Rattle.rules.specs.Evidence.{checked, verdictOf}
 use Rattle.rules.specs.Limit.{Limit, inset, lowerPair, upperPair}
 use Rattle.rules.specs.Problem.{Problem, inner, answerLength, problem, vars, varsOf}
@@ -42,9 +42,6 @@ use Rattle.rules.specs.Run.{after, conflict}
 use Rattle.rules.specs.Sizes.{largestLimit, mostColumns, mostRows}
 use Rattle.rules.specs.State.{Kept, Ready, Sound}
 use Rattle.rules.specs.Step.{Outcome, State, common, evidence, same, seat, start, step}
-
-abbrev pub Decided : List ℤ → Type 0
-Decided a = (verdictOf a ≡ pos 1) ⊎ (verdictOf a ≡ pos 2)
 
 undecided : {A : Type 0} (v : ℕ) → v ≢ 1 → v ≢ 2 → (pos v ≡ pos 1) ⊎ (pos v ≡ pos 2) → A
 undecided v n m (inl d) = let z : v ≡ 1 = cc in absurd (n z)

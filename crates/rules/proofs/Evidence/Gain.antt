@@ -30,7 +30,8 @@ use Rattle.rules.specs.Tableau.{relation}
 use Rattle.rules.specs.Evidence.{plainOf, surplus}
 use Rattle.rules.specs.Limit.{Limit, inset, lowerPair, upperPair}
 use Rattle.rules.proofs.Evidence.Shows.{Contradiction, StrictNamed}
-use Rattle.rules.proofs.Evidence.Stuck.{gain, gives}
+use Rattle.rules.proofs.Evidence.Stuck.{gain}
+use Rattle.rules.specs.Blame.{gives}
 
 no-more : (a b : ℤ) → pos 0 <ℤ (a +ℤ b) → b ≤ℤ pos 0 → pos 0 <ℤ a
 no-more a b h k = lt-at (a ∷ b ∷ []) (of-lt h ⊞ of-le k) (search reify depth 30) slk
@@ -107,7 +108,7 @@ either-above a b h = go (ltZ (pos 0) b) refl
 
 module _ (P : Problem Limit) (lo up : ℕ → ℤ) where
   abbrev f : ℕ → ℤ × ℤ
-  f v = gives pairs pairs-laws (mapped lowerPair (P .lower v)) (mapped upperPair (P .upper v)) (lo v) (up v)
+  f v = gives pairs (mapped lowerPair (P .lower v)) (mapped upperPair (P .upper v)) (lo v) (up v)
 
   abbrev t : ℕ → ℤ
   t v = tiny (P .lower v) (lo v) +ℤ tiny (P .upper v) (up v)

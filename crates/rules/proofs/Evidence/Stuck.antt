@@ -3,7 +3,7 @@
 -- what the row is violated by.
 --   Stops                        what stops a variable
 --   low-missing, high-missing    where a limit is missing the multiplier is 0
---   gives, gain                  what a variable's two limits give; the sum
+--   gain                         the sum of what they give (`gives` of specs/Blame)
 use mathlib.Core.Bool.{cond}
 use mathlib.Core.List.{[], _∷_}
 use mathlib.Core.Logic.{_≢_}
@@ -27,6 +27,7 @@ use Rattle.rules.proofs.Evidence.Terms.{positive-yes, pull-is, turn}
 use Rattle.rules.proofs.Gaps.{gap-less, gap-more}
 use Rattle.rules.proofs.Relation.{relation-off, relation-own}
 use Rattle.rules.proofs.Units.{same-off, same-self}
+use Rattle.rules.specs.Blame.{gives}
 use Rattle.rules.specs.Problem.{Problem, vars}
 use Rattle.rules.specs.Rule.{Left, Outside, too-high, too-low}
 use Rattle.rules.specs.State.{Rowed}
@@ -42,16 +43,12 @@ module _ {X : Type 0} (𝓥 : Values X) (law : Laws 𝓥) where
     falls : z <ℤ pos 0 → (l : X) × (low ≡ some l) × Le 𝓥 e l
     rises : pos 0 <ℤ z → (u : X) × (high ≡ some u) × Le 𝓥 u e
 
-  -- what two limits give, each times its multiplier
-  abbrev pub gives : Option X → Option X → ℤ → ℤ → X
-  gives low high lo hi = 𝓥 .plus (scale lo (seated 𝓥 low)) (scale (negℤ hi) (seated 𝓥 high))
-
   least : (low high : Option X) (z : ℤ) (e : X) → Stops low high z e →
-      Le 𝓥 (scale (negℤ z) e) (gives low high (positive (negℤ z)) (positive z))
+      Le 𝓥 (scale (negℤ z) e) (gives 𝓥 low high (positive (negℤ z)) (positive z))
   unfolding seated
   least low high z e S = go (sign z)
     where
-      go : Sign z → Le 𝓥 (scale (negℤ z) e) (gives low high (positive (negℤ z)) (positive z))
+      go : Sign z → Le 𝓥 (scale (negℤ z) e) (gives 𝓥 low high (positive (negℤ z)) (positive z))
       go (plus h) = let (u, p, k) = S .rises h in
           subst (Le 𝓥 (scale (negℤ z) e))
           (sym (ap₂ (𝓥 .plus)
@@ -60,7 +57,7 @@ module _ {X : Type 0} (𝓥 : Values X) (law : Laws 𝓥) where
           (ap₂ (λ a o. scale (negℤ a) (seated 𝓥 o)) (positive-yes z h) p)
           ∙ nil-plus law (scale (negℤ z) u)))
           (down law (neg-up z h) k)
-      go (null p) = subst (λ z. Le 𝓥 (scale (negℤ z) e) (gives low high (positive (negℤ z)) (positive z))) (sym p)
+      go (null p) = subst (λ z. Le 𝓥 (scale (negℤ z) e) (gives 𝓥 low high (positive (negℤ z)) (positive z))) (sym p)
           (same-le law (law .zero-scale e
           ∙ sym (ap₂ (𝓥 .plus) (law .zero-scale (seated 𝓥 low)) (law .zero-scale (seated 𝓥 high)) ∙ law .plus-nil nil)))
       go (minus h) = let (l, p, k) = S .falls h in
@@ -214,7 +211,9 @@ module _ {X : Type 0} (𝓥 : Values X) (law : Laws 𝓥) where
         ∙ gap-more 𝓥 law (scaled 𝓥 P s q) (scale (common s) l) ∙ h
 
     pub gain :
-        Lt 𝓥 nil (total 𝓥 (vars P) (λ v. gives (P .lower v) (P .upper v) (positive (negℤ (z v))) (positive (z v))))
+        Lt 𝓥 nil (total 𝓥 (vars P) (λ v. gives 𝓥 (P .lower v) (P .upper v)
+        (positive (negℤ (pull (r .side) (relation (s .tableau) (r .variable) v))))
+        (positive (pull (r .side) (relation (s .tableau) (r .variable) v)))))
     gain = lt-le-trans law (rw turned-sum (violated (L .outside)))
         (total-le law (vars P) (λ v. scale (negℤ (z v)) (e v)) _ (λ v h.
         least (P .lower v) (P .upper v) (z v) (e v) (stops v h)))

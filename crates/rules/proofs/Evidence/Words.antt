@@ -10,9 +10,10 @@ use lib.IntN.{pos, ℤ}
 use lib.ListN.{List·getD-append, length, length-append}
 use Rattle.whole.proofs.Tables.{table-at, table-length}
 use Rattle.whole.specs.Tables.{table}
-use Rattle.rules.proofs.Answers.{laid, laid-length, lower-part, upper-part}
+use Rattle.rules.proofs.Answers.{laid-length, lower-part, upper-part}
 use Rattle.rules.proofs.Evidence.Same.{multipliers-same, numerators-same}
 use Rattle.rules.proofs.Evidence.Shows.{Multipliers, Numerators, Shown}
+use Rattle.rules.specs.Answers.{laid}
 use Rattle.rules.specs.Evidence.{lowerPart, upperPart}
 use Rattle.rules.specs.Limit.{Limit}
 use Rattle.rules.specs.Problem.{Problem, vars, word}

@@ -19,10 +19,9 @@ use Rattle.whole.proofs.Beside.{pairs-laws}
 use Rattle.whole.proofs.Bools.{and-true}
 use Rattle.whole.proofs.Order.{<ℤ→≤ℤ, neg-down-back, neg-up-back}
 use Rattle.whole.specs.Values.{pairs}
-use Rattle.rules.proofs.AllNamed.{Stopped, crossed-cannot, crossed-named, evidence-cannot, evidence-named}
-use Rattle.rules.proofs.AllNamed.{sideOf}
-use Rattle.rules.proofs.AnswerIs.{Crosses, TheRun, answer-run, crosses-exactly, ended}
-use Rattle.rules.proofs.Answers.{laid, lower-part, upper-part}
+use Rattle.rules.proofs.AllNamed.{crossed-cannot, crossed-named, evidence-cannot, evidence-named}
+use Rattle.rules.proofs.AnswerIs.{answer-run, crosses-exactly}
+use Rattle.rules.proofs.Answers.{lower-part, upper-part}
 use Rattle.rules.proofs.Idle.Alone.{alone-meets}
 use Rattle.rules.proofs.Idle.Blocked.{pivot-meets, stay-meets}
 use Rattle.rules.proofs.Idle.Kept.{Met, keeping-twice, named-is, other-is}
@@ -30,6 +29,8 @@ use Rattle.rules.proofs.Leaves.{left}
 use Rattle.rules.proofs.Moves.{Stepped, is-can, is-cannot, is-goes, is-range, stepped}
 use Rattle.rules.proofs.Relation.{relation-off, relation-own}
 use Rattle.rules.specs.Answer.{answerFrom, wordsOf}
+use Rattle.rules.specs.Answers.{laid}
+use Rattle.rules.specs.Blame.{Stopped, sideOf}
 use Rattle.rules.specs.Evidence.{lowerPart, upperPart, verdictOf}
 use Rattle.rules.specs.Idle.{NoBlank, isNamed, isOther, multiplier, named, without}
 use Rattle.rules.specs.Keeping.{keeping, limitOf}
@@ -39,6 +40,7 @@ use Rattle.rules.specs.Run.{Ending, after, bound, conflict, ending}
 use Rattle.rules.specs.State.{Ready, Sound}
 use Rattle.rules.specs.Step.{Leaving, Outcome, Side, State, above, below, cannot, pull, seat, step}
 use Rattle.rules.specs.Tableau.{Tableau, entry, relation}
+use Rattle.rules.specs.TheRun.{Crosses, TheRun, ended}
 
 -- ---- what is named, of a row that nothing can move
 

@@ -23,16 +23,17 @@ use Rattle.whole.proofs.Beside.{pairs-laws}
 use Rattle.whole.proofs.Tells.{tells-lt}
 use Rattle.whole.specs.Tables.{table}
 use Rattle.whole.specs.Values.{pairs}
-use Rattle.rules.proofs.AnswerIs.{TheRun, answer-crossed, answer-run}
+use Rattle.rules.proofs.AnswerIs.{answer-crossed, answer-run}
 use Rattle.rules.proofs.Bounded.{below-bound, bound-some}
 use Rattle.rules.proofs.Demands.{can-from, cannot-from}
 use Rattle.rules.proofs.First.{First, Test, first-exactly, line}
 use Rattle.rules.proofs.Moved.{twice-never}
 use Rattle.rules.proofs.Range.{range-verdict}
 use Rattle.rules.proofs.Sessions.Fair.{Fair, fair-ready, rested-crossed, rested-run}
-use Rattle.rules.proofs.Shape.{Shaped, shaped}
+use Rattle.rules.proofs.Shape.{shaped}
 use Rattle.rules.proofs.Sound.{ready-sound}
 use Rattle.rules.proofs.Started.{no-conflict}
+use Rattle.rules.specs.Answers.{Shaped}
 use Rattle.rules.specs.Evidence.{Meets, Unmet, denominatorOf, pairPart, verdictOf}
 use Rattle.rules.specs.Problem.{Problem, vars, word}
 use Rattle.rules.specs.Range.{TooLarge}
@@ -41,6 +42,7 @@ use Rattle.rules.specs.Session.{Session, at, checkAnswer, checkLength, c
 use Rattle.rules.specs.Session.{rested, restedBy}
 use Rattle.rules.specs.State.{Apart, Ready, Sound}
 use Rattle.rules.specs.Step.{State, same}
+use Rattle.rules.specs.TheRun.{TheRun}
 
 module _ (A : Session (ℤ × ℤ)) (F : Fair pairs A) where
   abbrev P : Problem (ℤ × ℤ)

@@ -20,7 +20,7 @@ use Rattle.whole.proofs.Beside.{pairs-laws}
 use Rattle.whole.proofs.Tells.{tells-true}
 use Rattle.whole.specs.Numbers.{Within}
 use Rattle.whole.specs.Values.{pairs}
-use Rattle.rules.proofs.Evidence.Answers.{Decided, Modest, answer-judged, high-modest, low-modest}
+use Rattle.rules.proofs.Evidence.Answers.{Modest, answer-judged, high-modest, low-modest}
 use Rattle.rules.proofs.Evidence.Crossed.{mapped-some}
 use Rattle.rules.proofs.Evidence.Means.{MetSmall, one-two}
 use Rattle.rules.proofs.Evidence.Satisfied.{pairs-satisfied, satisfied, unmet-none}
@@ -36,6 +36,7 @@ use Rattle.rules.proofs.Sessions.Fair.{Fair, fair-ready, handed-fair}
 use Rattle.rules.proofs.Sessions.Handed.{Limits-are, handed-given, values-handed}
 use Rattle.rules.proofs.Sessions.Live.{live-checked}
 use Rattle.rules.specs.Answer.{answerFrom}
+use Rattle.rules.specs.Answers.{Decided}
 use Rattle.rules.specs.Evidence.{Satisfiable, Unmet, Unsatisfied, accepted, checked, denominatorOf, lowerPart}
 use Rattle.rules.specs.Evidence.{Meets, pairPart, upperPart, verdictOf}
 use Rattle.rules.specs.Idle.{NoBlank, multiplier, named, without}
