@@ -28,15 +28,16 @@ use Rattle.rules.proofs.Sound.{ready-sound}
 use Rattle.rules.proofs.Started.{no-conflict}
 use Rattle.rules.specs.Answer.{answerFrom, wordsOf}
 use Rattle.rules.specs.Problem.{Problem, vars, word}
-use Rattle.rules.specs.Run.{Ending, Ends, after, bound, conflict, crossed, ending, run, spending}
+use Rattle.rules.specs.Run.{Ending, Ends, bound, conflict, crossed, ending, run, spending}
 use Rattle.rules.specs.State.{Apart, Ready, Sound, howManySeated}
-use Rattle.rules.specs.Step.{Outcome, State, can, cannot, goes, range, same, step}
+use Rattle.rules.specs.Step.{Outcome, State, can, cannot, goes, range, same}
 use Rattle.rules.specs.TheRun.{Crosses, TheRun, ended}
 
 module _ {X : Type 0} (𝓥 : Values X) where
   -- ---- crossed limits
 
-  crossed-tells : (P : Problem X) (v : ℕ) → Tells (crossed 𝓥 (P .lower v) (P .upper v)) (Crosses 𝓥 P v) (¬ Crosses 𝓥 P v)
+  crossed-tells : (P : Problem X) (v : ℕ) →
+      Tells (crossed 𝓥 (P .lower v) (P .upper v)) (Crosses 𝓥 P v) (¬ Crosses 𝓥 P v)
   unfolding crossed
   crossed-tells P v = go (P .lower v) (P .upper v)
     where

@@ -10,7 +10,6 @@ use native.Mathlib.Omega.{arith}
 use lib.IntN.{natAbs, pos, ℤ}
 use lib.ListN.{List·getD-append, length, length-append, replicate, replicate-append-replicate}
 use lib.Seq.{getD-append-add}
-use Rattle.whole.specs.Tables.{table}
 use Rattle.whole.specs.Values.{pairs}
 use Rattle.rules.proofs.AnswerIs.{answer-crossed, answer-run}
 use Rattle.rules.proofs.Blame.{cannot-blames}
@@ -22,7 +21,7 @@ use Rattle.rules.specs.Evidence.{lowerPart, upperPart, verdictOf}
 use Rattle.rules.specs.Problem.{Problem, vars, word}
 use Rattle.rules.specs.Run.{Ended, after, conflict}
 use Rattle.rules.specs.State.{Ready, Rowed}
-use Rattle.rules.specs.Step.{Outcome, State, common, evidence, leaving, range, same, scaled, step}
+use Rattle.rules.specs.Step.{Outcome, State, evidence, step}
 use Rattle.rules.specs.TheRun.{TheRun, ended}
 
 module _ (a b c : ℤ) (xs ys : List ℤ) where

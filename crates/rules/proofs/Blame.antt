@@ -1,6 +1,6 @@
 -- The multipliers of a violated row that nothing can move are those of the plain words (specs/Blame).
 --   blame          `Blame` of the lists of `evidence`
---   cannot-blames  `Blamed` of every step that ends in `cannot`: the variable that leaves, that none enters, and the blame
+--   cannot-blames  `Blamed` of every step that ends in `cannot`: who leaves, that none enters, and the blame
 use mathlib.Core.Bool.{cond}
 use mathlib.Core.List.{List}
 use mathlib.Core.Logic.{_≢_}
@@ -8,7 +8,6 @@ use mathlib.Core.Option.{none, some}
 use mathlib.Core.Path.{ap, refl, subst₂, sym, _∙_, _≡_}
 use Prim.Native.Nat.{ℕ, _<_}
 use lib.IntN.{natAbs, negsuc, negℤ, negℤ-negℤ, pos, ℤ}
-use lib.ListN.{length}
 use lib.Signed.{_<ℤ_, _≤ℤ_}
 use Rattle.whole.proofs.Order.{<ℤ→≤ℤ, le→false, lt→true, neg-down, neg-up}
 use Rattle.whole.proofs.Sizes.{abs-neg}

@@ -28,9 +28,9 @@ use Rattle.rules.proofs.Answers.{answered, denominator-word, lower-part
 use Rattle.rules.proofs.Bounded.{below-bound, bound-some}
 use Rattle.rules.proofs.Ends.{ready-start, start-seated}
 use Rattle.rules.proofs.Evidence.Answers.{answer-accepted}
-use Rattle.rules.proofs.Evidence.Means.{MetSmall, can-means}
+use Rattle.rules.proofs.Evidence.Means.{can-means}
 use Rattle.rules.proofs.Evidence.Satisfied.{pairs-satisfied, unmet-none}
-use Rattle.rules.proofs.Evidence.Separate.{Fraction, FractionsMeet, unsatisfied-fractions}
+use Rattle.rules.proofs.Evidence.Separate.{unsatisfied-fractions}
 use Rattle.rules.proofs.Fractions.{can-is-met, cannot-is-unmet}
 use Rattle.rules.proofs.Moved.{twice-never}
 use Rattle.rules.proofs.Shape.{answer-shaped}
@@ -39,12 +39,14 @@ use Rattle.rules.specs.Answer.{answer, answerFrom, written}
 use Rattle.rules.specs.Answers.{Answered, can-at, cannot-at, crossing, range-at}
 use Rattle.rules.specs.Evidence.{AtLeast, AtMost, Meets, Unmet, Unsatisfied, checked, denominatorOf, pairPart}
 use Rattle.rules.specs.Evidence.{verdictOf}
+use Rattle.rules.specs.Fractions.{Fraction, FractionsMeet}
 use Rattle.rules.specs.Problem.{Problem, inner, answerLength, problem, vars, word}
 use Rattle.rules.specs.Refusal.{Accepted, refusal}
 use Rattle.rules.specs.Run.{Runs, after, bound, conflict}
+use Rattle.rules.specs.Shows.{MetSmall}
 use Rattle.rules.specs.Sizes.{mostRows}
 use Rattle.rules.specs.State.{Apart, Ready, Sound}
-use Rattle.rules.specs.Step.{State, common, positive, scaled, start}
+use Rattle.rules.specs.Step.{State, common, positive, scaled}
 use Rattle.rules.specs.TheRun.{Crosses, TheRun, begin}
 
 -- ---- fractions, in the answer from any state that is ready
@@ -152,7 +154,8 @@ module _ (ws : List ℤ) where
 
     pub few-pivots : (k : ℕ) → Runs pairs (inner (problem ws)) (begin ws) k → k < bound (inner (problem ws))
     few-pivots =
-        below-bound pairs pairs-laws (inner (problem ws)) (begin ws) apart sound (start-seated pairs (inner (problem ws)))
+        below-bound pairs pairs-laws (inner (problem ws)) (begin ws) apart sound
+        (start-seated pairs (inner (problem ws)))
 
     pub run-ends : TheRun (inner (problem ws)) (begin ws)
     run-ends = answer-run (inner (problem ws)) (begin ws) c ready

@@ -13,7 +13,7 @@ use lib.Dec.{le→leb, lt→ltb}
 use lib.IntN.{negsuc, pos, ℤ}
 use lib.ListN.{length, length-set, set}
 use lib.Seq.{getD-set-other, getD-set-same}
-use lib.Signed.{<ℤ-irrefl, <ℤ-≤ℤ-trans, ltZ-yes, _<ℤ_}
+use lib.Signed.{<ℤ-irrefl, <ℤ-≤ℤ-trans, ltZ-yes}
 use Rattle.whole.proofs.Below.{lowest-passes, none-passes}
 use Rattle.whole.proofs.Bools.{true-false, zero-one}
 use Rattle.whole.proofs.Tells.{tells-missing}

@@ -1,18 +1,18 @@
 -- A list of tests with their numbers: the number that `first` gives is the one beside the first test whose meaning holds, or 0.
---   Test, line       a test, its number, what it means that it applies (Bad) and that it does not (Fine)
---   First ts k       in plain words: no earlier meaning holds, and k's does; or none does and k is 0
---   first-exactly    `first` gives k exactly where First says k
---   first-fine       `first` gives 0 exactly where every test is fine
+--   Tested           each test has the number of a line of a table (specs/Meanings), and tells what it says
+--   tested-then      two lists of tests, one after the other
+--   first-exactly    `first` gives k exactly where `First` of the table says k
+--   first-fine       `first` gives 0 exactly where every line is fine
 --   first-hit, first-skip    one test at a time
 --   first-kept, first-passed, Upto    a list in two parts: the first part has a number, or none
 use mathlib.Core.Bool.{Bool, false, true}
-use mathlib.Core.List.{List, [], map, _++_, _∷_}
-use mathlib.Core.Logic.{inl, inr, _↔_, _≢_, _⊎_}
+use mathlib.Core.List.{List, [], _++_, _∷_}
+use mathlib.Core.Logic.{inl, inr, _↔_, _≢_}
 use mathlib.Core.Path.{refl, sym, _∙_, _≡_}
 use Prim.Native.Nat.{ℕ, suc, _<_, _≤_}
 use native.Mathlib.Omega.{arith}
 use Rattle.whole.proofs.Tells.{tells-false, tells-true}
-use Rattle.whole.specs.Tells.{Tells}
+use Rattle.rules.specs.Meanings.{AllFine, First, Line, Tests}
 use Rattle.rules.specs.Refusal.{first}
 
 pub first-hit : {b : Bool} (k : ℕ) (ts : List (Bool × ℕ)) → b ≡ true → first ((b, k) ∷ ts) ≡ k
@@ -42,70 +42,54 @@ first-passed n [] us h e = refl
 first-passed n ((true, j) ∷ ts) us (l, m, h) e = let z : ⊥ = omega arith in absurd z
 first-passed n ((false, j) ∷ ts) us (l, m, h) e = first-passed n ts us h e
 
--- ---- tests with their meanings
+-- ---- a list of tests, and a table
 
-pub record Test : Type 1 where
-  pub test : Bool
-  pub number : ℕ
-  pub Bad : Type 0
-  pub Fine : Type 0
-  pub tells : Tells test Bad Fine
+-- each test has the number of its line, and tells what the line says
+pub data Tested : List (Bool × ℕ) → List Line → Type 1 where
+  no-test : Tested [] []
+  tested : {b : Bool} {l : Line} {ts : List (Bool × ℕ)} {ls : List Line} → Tests b l → Tested ts ls →
+      Tested ((b, l .number) ∷ ts) (l ∷ ls)
 
-abbrev pub line : {b : Bool} (k : ℕ) {Bad Fine : Type 0} → Tells b Bad Fine → Test
-line {b} k {Bad} {Fine} t = record { test = b; number = k; Bad = Bad; Fine = Fine; tells = t }
+pub tested-then : {ts us : List (Bool × ℕ)} {ls ms : List Line} → Tested ts ls → Tested us ms →
+    Tested (ts ++ us) (ls ++ ms)
+tested-then no-test U = U
+tested-then (tested h T) U = tested h (tested-then T U)
 
-abbrev pub tests : List Test → List (Bool × ℕ)
-tests ts = map (λ t. (t .test, t .number)) ts
-
-abbrev pub First : List Test → ℕ → Type 0
-First [] k = k ≡ 0
-First (t ∷ ts) k = (t .Bad × (k ≡ t .number)) ⊎ ((¬ t .Bad) × First ts k)
-
-pub first-exactly : (ts : List Test) (k : ℕ) → (first (tests ts) ≡ k) ↔ First ts k
+pub first-exactly : {ts : List (Bool × ℕ)} {ls : List Line} → Tested ts ls → (k : ℕ) → (first ts ≡ k) ↔ First ls k
 unfolding first
-first-exactly [] k = (λ e. sym e, λ e. sym e)
-first-exactly (t ∷ ts) k = both (first-exactly ts k)
+first-exactly no-test k = (λ e. sym e, λ e. sym e)
+first-exactly (tested {b} {l} {ts} {ls} h T) k = both (first-exactly T k)
   where
-    both : (first (tests ts) ≡ k) ↔ First ts k → (first (tests (t ∷ ts)) ≡ k) ↔ First (t ∷ ts) k
-    both r = (λ e. go (t .test) refl e, back)
+    both : (first ts ≡ k) ↔ First ls k → (first ((b, l .number) ∷ ts) ≡ k) ↔ First (l ∷ ls) k
+    both r = (λ e. go b refl e, back)
       where
-        go : (b : Bool) → t .test ≡ b → first (tests (t ∷ ts)) ≡ k → First (t ∷ ts) k
-        go true q e = inl (t .tells .if-true q, sym e ∙ first-hit (t .number) (tests ts) q)
-        go false q e = inr (
-          λ h. t .tells .not-both h (t .tells .if-false q),
-          r .0 (sym (first-skip (t .number) (tests ts) q) ∙ e),
-        )
+        go : (c : Bool) → b ≡ c → first ((b, l .number) ∷ ts) ≡ k → First (l ∷ ls) k
+        go true q e = inl (h .if-true q, sym e ∙ first-hit (l .number) ts q)
+        go false q e = inr (λ y. h .not-both y (h .if-false q), r .0 (sym (first-skip (l .number) ts q) ∙ e))
 
-        back : First (t ∷ ts) k → first (tests (t ∷ ts)) ≡ k
-        back (inl h) = first-hit (t .number) (tests ts) (tells-true (t .tells) (h .0)) ∙ sym (h .1)
-        back (inr h) = skip (t .test) refl
+        back : First (l ∷ ls) k → first ((b, l .number) ∷ ts) ≡ k
+        back (inl y) = first-hit (l .number) ts (tells-true h (y .0)) ∙ sym (y .1)
+        back (inr y) = skip b refl
           where
-            skip : (b : Bool) → t .test ≡ b → first (tests (t ∷ ts)) ≡ k
-            skip true q = absurd (h .0 (t .tells .if-true q))
-            skip false q = first-skip (t .number) (tests ts) q ∙ r .1 (h .1)
+            skip : (c : Bool) → b ≡ c → first ((b, l .number) ∷ ts) ≡ k
+            skip true q = absurd (y .0 (h .if-true q))
+            skip false q = first-skip (l .number) ts q ∙ r .1 (y .1)
 
 -- ---- 0
 
--- no test of the list has the number 0
-abbrev pub Numbered : List Test → Type 0
+-- no line has the number 0
+abbrev pub Numbered : List Line → Type 0
 Numbered [] = Unit {0}
-Numbered (t ∷ ts) = (t .number ≢ 0) × Numbered ts
+Numbered (l ∷ ls) = (l .number ≢ 0) × Numbered ls
 
-abbrev pub AllFine : List Test → Type 0
-AllFine [] = Unit {0}
-AllFine (t ∷ ts) = t .Fine × AllFine ts
-
-pub first-fine : (ts : List Test) → Numbered ts → (first (tests ts) ≡ 0) ↔ AllFine ts
+pub first-fine : {ts : List (Bool × ℕ)} {ls : List Line} → Tested ts ls → Numbered ls → (first ts ≡ 0) ↔ AllFine ls
 unfolding first
-first-fine [] n = (λ e. tt, λ u. refl)
-first-fine (t ∷ ts) n = both (first-fine ts (n .1))
+first-fine no-test n = (λ e. tt, λ u. refl)
+first-fine (tested {b} {l} {ts} {ls} h T) n = both (first-fine T (n .1))
   where
-    both : (first (tests ts) ≡ 0) ↔ AllFine ts → (first (tests (t ∷ ts)) ≡ 0) ↔ AllFine (t ∷ ts)
-    both r = (
-      λ e. go (t .test) refl e,
-      λ f. first-skip (t .number) (tests ts) (tells-false (t .tells) (f .0)) ∙ r .1 (f .1),
-    )
+    both : (first ts ≡ 0) ↔ AllFine ls → (first ((b, l .number) ∷ ts) ≡ 0) ↔ AllFine (l ∷ ls)
+    both r = (λ e. go b refl e, λ f. first-skip (l .number) ts (tells-false h (f .0)) ∙ r .1 (f .1))
       where
-        go : (b : Bool) → t .test ≡ b → first (tests (t ∷ ts)) ≡ 0 → AllFine (t ∷ ts)
-        go true q e = absurd (n .0 (sym (first-hit (t .number) (tests ts) q) ∙ e))
-        go false q e = (t .tells .if-false q, r .0 (sym (first-skip (t .number) (tests ts) q) ∙ e))
+        go : (c : Bool) → b ≡ c → first ((b, l .number) ∷ ts) ≡ 0 → AllFine (l ∷ ls)
+        go true q e = absurd (n .0 (sym (first-hit (l .number) ts q) ∙ e))
+        go false q e = (h .if-false q, r .0 (sym (first-skip (l .number) ts q) ∙ e))

@@ -14,7 +14,8 @@ use Rattle.whole.specs.Tells.{Tells}
 use Rattle.whole.specs.Values.{Le, Lt, Values}
 use Rattle.rules.specs.Problem.{Problem, vars}
 use Rattle.rules.specs.Rule.{Inside, Left, Outside, too-high, too-low}
-use Rattle.rules.specs.Step.{Leaving, Side, State, above, below, broken, common, leaves, leaving, limitAt, over, scaled, seat, seated, shortfallOf, under}
+use Rattle.rules.specs.Step.{Leaving, State, above, below, broken, common, leaves, leaving, limitAt, over, scaled}
+use Rattle.rules.specs.Step.{seat, seated, shortfallOf, under}
 
 module _ {X : Type 0} (𝓥 : Values X) where
   -- ---- the leaving variable

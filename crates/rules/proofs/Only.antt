@@ -1,27 +1,25 @@
 -- The tableau of a basic set is one: any tableau that every solution of the rows obeys, with the same variables basic,
 -- D above 0 and common divisor 1, has the numbers of the rule's. So the rule's next tableau does not depend on how the
 -- pivot is computed.
---   obeyed-of       every solution of the rows obeys the tableau (`Obeyed` of specs/Unique); no more is asked of the other one
+--   obeyed-of       every solution of the rows obeys the tableau; no more is asked of the other one (`Obeyed`)
 --   crosswise       D of the one times an entry of the other, either way
 --   tableau-only    the numbers are equal
---   next-moved, next-only    the rule's next tableau is the one of the next basic set: `Next` of specs/Unique
-use mathlib.Core.Logic.{inl, inr, _↔_, _≢_, _⊎_}
+--   next-moved, next-only    the rule's next tableau is the one of the next basic set: `Next`
+-- `Obeyed` and `Next` are in specs/Unique.
+use mathlib.Core.Logic.{inl, inr, _≢_, _⊎_}
 use mathlib.Core.Option.{Option, Option·none-ne-some, none, some}
 use mathlib.Core.Path.{ap, refl, subst, sym, _∙_, _≡_}
 use Prim.Native.Nat.{ℕ, _*_, _<_, _∣_}
 use native.Mathlib.Nat.{dvd-antisymm, dvd-mul-left, dvd-mul-right, mul-comm, mul-one}
-use lib.IntN.{*ℤ-comm, *ℤ-zero, natAbs, pos, zero-*ℤ, ℤ, _*ℤ_}
-use lib.Signed.{_<ℤ_}
+use lib.IntN.{*ℤ-comm, *ℤ-zero, natAbs, pos, zero-*ℤ, _*ℤ_}
 use Rattle.whole.proofs.Order.{<ℤ→≤ℤ, cancel}
 use Rattle.whole.proofs.Sizes.{abs-*}
 use Rattle.whole.proofs.Sums.{sum-one}
 use Rattle.whole.proofs.Tests.{own-size}
-use Rattle.whole.specs.Sums.{sum}
-use Rattle.whole.specs.Values.{Values, whole}
+use Rattle.whole.specs.Values.{Values}
 use Rattle.rules.proofs.Enters.{swap}
 use Rattle.rules.proofs.Lowest.{divisor-times}
 use Rattle.rules.proofs.Pivoted.{lowest-moved, rowed-moved, was-none}
-use Rattle.rules.specs.Evidence.{Rows}
 use Rattle.rules.specs.Problem.{Problem, vars}
 use Rattle.rules.specs.Rule.{Entered, Left, Swap}
 use Rattle.rules.specs.State.{Rowed}
@@ -37,7 +35,8 @@ module _ {X : Type 0} (𝓥 : Values X) (P : Problem X) where
   abbrev Proportional : Tableau → Tableau → Type 0
   Proportional t u = (v w : ℕ) → v < vars P → w < vars P → t .common *ℤ entry u v w ≡ entry t v w *ℤ u .common
 
-  pub crosswise : (s t : State X) → Obeyed 𝓥 P s → Rowed 𝓥 P t → SameBasis 𝓥 P s t → Proportional (s .tableau) (t .tableau)
+  pub crosswise : (s t : State X) → Obeyed 𝓥 P s → Rowed 𝓥 P t → SameBasis 𝓥 P s t →
+      Proportional (s .tableau) (t .tableau)
   crosswise s t S T same v w h k = go (seat t w) refl
     where
       -- the entries of column w of t, in row v of s: nothing but at w itself

@@ -5,7 +5,7 @@
 use mathlib.Core.List.{List}
 use mathlib.Core.Logic.{_≢_}
 use mathlib.Core.Path.{_∙_, _≡_}
-use Prim.Native.Nat.{ℕ, _*_, _+_, _<_}
+use Prim.Native.Nat.{ℕ, _<_}
 use lib.IntN.{pos, ℤ}
 use lib.ListN.{getD-replicate, length, length-replicate, replicate}
 use lib.Signed.{_<ℤ_}
@@ -18,7 +18,7 @@ use Rattle.rules.proofs.Ends.{ready-start}
 use Rattle.rules.specs.Answer.{answer, answerFrom}
 use Rattle.rules.specs.Answers.{Answered, Shape, Shaped, can-at, cannot-at, crossing, laid, range-at, shape-can}
 use Rattle.rules.specs.Answers.{shape-cannot, shape-range}
-use Rattle.rules.specs.Evidence.{denominatorOf, lowerPart, upperPart, verdictOf}
+use Rattle.rules.specs.Evidence.{verdictOf}
 use Rattle.rules.specs.Problem.{Problem, inner, problem, vars, varsOf, word}
 use Rattle.rules.specs.Run.{after}
 use Rattle.rules.specs.State.{Ready}

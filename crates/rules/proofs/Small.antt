@@ -1,9 +1,7 @@
 -- What the range test of a tableau says: D and every entry are within the largest number, or one of them is beyond it.
 --   small-tells    `Small` and `Beyond` of specs/Range
-use mathlib.Core.Logic.{_⊎_}
-use Prim.Native.Nat.{ℕ, _<_}
+use Prim.Native.Nat.{ℕ}
 use Rattle.whole.proofs.Tells.{tells-all, tells-and, tells-within}
-use Rattle.whole.specs.Numbers.{Within}
 use Rattle.whole.specs.Tells.{Tells}
 use Rattle.rules.specs.Range.{Beyond, Small}
 use Rattle.rules.specs.Sizes.{largestNumber}

@@ -1,26 +1,21 @@
 -- What follows from what is known of a state (`Rowed`, `Housed`, `Ready`, `Sound` of specs/State).
 --   sound-of, ready-sound, housed-of    where no limits cross, `Sound` is `Rowed` and `Housed`
---   values-solve, seated-scaled         the values solve the rows, and D times that of a nonbasic variable is its seat's
+--   values-solve, seated-scaled         the values solve the rows, and that of a nonbasic variable is in its seat
 --   row-holds                           a row holds of every solution of the rows
-use mathlib.Core.Bool.{false, true}
-use mathlib.Core.List.{List, [], _∷_}
-use mathlib.Core.Logic.{_≢_}
+use mathlib.Core.Bool.{false}
 use mathlib.Core.Option.{Option, none, some}
 use mathlib.Core.Path.{ap, refl, sym, _∙_, _≡_}
-use Prim.Native.Nat.{suc, ℕ, _+_, _<_}
-use lib.IntN.{pos, ℤ, _*ℤ_}
-use lib.ListN.{length}
-use lib.Signed.{_<ℤ_}
+use Prim.Native.Nat.{ℕ, _+_, _<_}
+use lib.IntN.{_*ℤ_}
 use Rattle.whole.proofs.Values.{scale-total, sum-scale, total-one, total-same, total-swap}
-use Rattle.whole.specs.Sums.{sum}
-use Rattle.whole.specs.Values.{Laws, Le, Values, total, whole}
+use Rattle.whole.specs.Values.{Laws, Le, Values, total}
 use Rattle.rules.proofs.Units.{holds-of}
 use Rattle.rules.specs.Evidence.{Rows}
 use Rattle.rules.specs.Problem.{Problem, vars}
 use Rattle.rules.specs.Run.{crossed}
 use Rattle.rules.specs.State.{Apart, Housed, Ready, Rowed, Sound}
 use Rattle.rules.specs.Step.{State, common, scaled, seat, seated}
-use Rattle.rules.specs.Tableau.{divisorSize, entry, small}
+use Rattle.rules.specs.Tableau.{entry}
 
 module _ {X : Type 0} (𝓥 : Values X) where
   apart-uncrossed : (P : Problem X) → Apart 𝓥 P → (v : ℕ) → v < vars P → crossed 𝓥 (P .lower v) (P .upper v) ≡ false

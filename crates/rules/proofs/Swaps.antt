@@ -9,7 +9,6 @@ use Prim.Native.Nat.{suc, zero, ℕ, _+_, _-_, _<_, _≤_}
 use native.Mathlib.Decide.{decLe, ℕ-discrete}
 use native.Mathlib.Omega.{arith}
 use Rattle.rules.specs.Rule.{Swap}
-use Rattle.rules.specs.Run.{after}
 use Rattle.rules.specs.Step.{seat}
 
 pub none-some : {X : Type 0} {o : Option X} {x : X} → o ≡ none → o ≡ some x → ⊥

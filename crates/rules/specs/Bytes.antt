@@ -2,11 +2,14 @@
 -- judged first. A byte is a number below 256.
 use mathlib.Core.Bool.{cond, not, _||_}
 use mathlib.Core.List.{List, [], _∷_}
-use Prim.Native.Nat.{ℕ, suc, _+_, _-_, _*_, _/_, _%_, _^_}
+use mathlib.Core.Logic.{_≢_, _⊎_}
+use mathlib.Core.Path.{_≡_}
+use Prim.Native.Nat.{ℕ, suc, _+_, _-_, _*_, _/_, _%_, _^_, _<_, _≤_}
 use lib.IntN.{ℤ, pos, negsuc, _-ℤ_}
 use lib.ListN.{length, getD}
 use lib.Dec.{ltb, eqb}
 use Rattle.whole.specs.Tables.{table}
+use Rattle.rules.specs.Meanings.{Line, line}
 use Rattle.rules.specs.Sizes.{mostBytes}
 use Rattle.rules.specs.Problem.{word}
 use Rattle.rules.specs.Refusal.{first}
@@ -48,7 +51,11 @@ byteOf u j = u / 256 ^ j % 256
 unfoldable pub bytesFrom : List ℤ → List ℕ
 bytesFrom ws = table (4 * length ws) (λ i. byteOf (unsigned (word ws (i / 4))) (i % 4))
 
--- ---- the byte count: the refusal's number, or 0
+-- ---- the byte count: the refusal's number, or 0; and the same in plain words (specs/Meanings)
 
 unfoldable pub countRefusal : ℕ → ℕ
 countRefusal count = first ((ltb count 8, 1) ∷ (not (eqb (count % 4) 0) || ltb mostBytes count, 3) ∷ [])
+
+-- under 8; not a multiple of four, or over the most
+abbrev pub countTable : ℕ → List Line
+countTable n = line 1 (n < 8) (8 ≤ n) ∷ line 3 ((n % 4 ≢ 0) ⊎ (mostBytes < n)) ((n % 4 ≡ 0) × (n ≤ mostBytes)) ∷ []

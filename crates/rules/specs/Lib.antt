@@ -3,6 +3,7 @@ pub mod Sizes
 pub mod Limit
 pub mod Problem
 pub mod Refusal
+pub mod Meanings
 pub mod Tableau
 pub mod Step
 pub mod Rule
@@ -12,6 +13,8 @@ pub mod Answer
 pub mod Plain
 pub mod Slices
 pub mod Evidence
+pub mod Fractions
+pub mod Shows
 pub mod State
 pub mod Unique
 pub mod Range
@@ -19,6 +22,7 @@ pub mod TheRun
 pub mod Answers
 pub mod Keeping
 pub mod Session
+pub mod SessionFacts
 pub mod LiveWords
 pub mod Idle
 pub mod Walks

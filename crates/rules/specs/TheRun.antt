@@ -1,6 +1,5 @@
--- docs/RULES.md, "The three demands", 3, and "The run": that the answer is the run. From a state that is ready, where no
--- limits cross, the run ends once, after fewer pivots than the bound, and the words are those of the state that it ends
--- at.
+-- docs/RULES.md, "The three demands", 3, and "The run": that the answer is the run. From a state that is ready, where
+-- no limits cross, the run ends once, after fewer pivots than the bound, and the words are those of its last state.
 --   Crosses    the lower limit of a variable exceeds its upper one
 --   ended      the run at k pivots
 --   begin      where the run of a problem's words starts

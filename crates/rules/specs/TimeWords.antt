@@ -1,6 +1,7 @@
 -- docs/RULES.md, "Time rows", first two paragraphs: the words n, m, then m rows x, y, strict, c; their refusals in order; and the edges that they are.
 use mathlib.Core.Bool.{Bool, _||_, not}
 use mathlib.Core.List.{List, [], _∷_, _++_}
+use mathlib.Core.Logic.{_≢_, _⊎_}
 use Prim.Native.Nat.{ℕ, _+_, _*_, _-_, _≤_, _<_}
 use mathlib.Core.Path.{_≡_}
 use lib.IntN.{ℤ, pos, natAbs, negℤ}
@@ -11,6 +12,7 @@ use Rattle.whole.specs.Below.{someBelow}
 use Rattle.whole.specs.Numbers.{Within, within, outside}
 use Rattle.rules.specs.Sizes.{mostVertices, mostTimeRows, largestLength}
 use Rattle.rules.specs.Problem.{word, nOf, mOf}
+use Rattle.rules.specs.Meanings.{InRange, Line, OutOfRange, line}
 use Rattle.rules.specs.Refusal.{first, tooFew}
 use Rattle.rules.specs.Walks.{Edges}
 
@@ -64,6 +66,24 @@ timeTests ws room =
 unfoldable pub timeRefusal : List ℤ → ℕ → ℕ
 timeRefusal ws room = first (timeTests ws room)
 
+-- ---- the table in plain words: specs/Meanings says how a table is read
+
+abbrev pub timesTable : List ℤ → ℕ → List Line
+timesTable ws room =
+    line 11 (length ws < 2) (2 ≤ length ws)
+    ∷ line 12 (OutOfRange 1 mostVertices (word ws 0) ⊎ OutOfRange 0 mostTimeRows (word ws 1))
+    (InRange 1 mostVertices (word ws 0) × InRange 0 mostTimeRows (word ws 1))
+    ∷ line 13 (length ws ≢ 2 + 4 * mOf ws) (length ws ≡ 2 + 4 * mOf ws)
+    -- an end of some row is no vertex
+    ∷ line 14
+    ((i : ℕ) × (i < mOf ws) × (OutOfRange 0 (nOf ws - 1) (fromWord ws i) ⊎ OutOfRange 0 (nOf ws - 1) (toWord ws i)))
+    ((i : ℕ) → i < mOf ws → InRange 0 (nOf ws - 1) (fromWord ws i) × InRange 0 (nOf ws - 1) (toWord ws i))
+    ∷ line 15 ((i : ℕ) × (i < mOf ws) × OutOfRange 0 1 (strictWord ws i))
+    ((i : ℕ) → i < mOf ws → InRange 0 1 (strictWord ws i))
+    ∷ line 16 ((i : ℕ) × (i < mOf ws) × (¬ Within (lengthWord ws i) largestLength))
+    ((i : ℕ) → i < mOf ws → Within (lengthWord ws i) largestLength)
+    ∷ line 17 (room < timesLength ws) (timesLength ws ≤ room) ∷ []
+
 -- ---- what they leave
 
 pub record AcceptedTimes (ws : List ℤ) (room : ℕ) : Type 0 where
@@ -82,7 +102,7 @@ pub record AcceptedTimes (ws : List ℤ) (room : ℕ) : Type 0 where
   pub lengths : (i : ℕ) → i < mOf ws → Within (lengthWord ws i) largestLength
   pub roomy : timesLength ws ≤ room
 
--- ---- what they mean
+-- ---- the edges that they are
 
 -- each row as an edge, x its tail and y its head. Its length is the pair of c and minus the strict word: one small
 -- amount less than c where the row is strict

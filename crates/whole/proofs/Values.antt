@@ -1,4 +1,5 @@
--- What follows from what is asked of the operations on values (`Laws` of specs/Values): chains of orders, multiples by sign, and sums.
+-- What follows from what is asked of the operations on values (`Laws` of specs/Values): chains of orders, multiples by
+-- sign, and sums.
 -- The order laws are equations on `less`, so that an order turned round computes.
 --   weaken, le-le, lt-le-trans, le-lt-trans, plus-mono, up, down, -strict    orders
 --   le-or-lt, plus-le, plus-lt                                               two cases; one value added to both
@@ -11,7 +12,7 @@ use mathlib.Core.Bool.{Bool, true, false}
 use Prim.Native.Nat.{ℕ, zero, suc, _+_, _<_}
 use native.Mathlib.Omega.{arith}
 use native.Mathlib.Decide.{ℕ-discrete}
-use lib.IntN.{ℤ, pos, _+ℤ_, _*ℤ_, *ℤ-zero, *ℤ-comm}
+use lib.IntN.{ℤ, pos, *ℤ-zero, *ℤ-comm}
 use lib.Signed.{_<ℤ_}
 use Rattle.whole.proofs.Bools.{true-false}
 use Rattle.whole.specs.Sums.{sum, sumBy}

@@ -1,5 +1,5 @@
--- What a test tells: one fact where it is true, another where it is false, never both. So the test is true exactly where
--- the first fact holds, and false exactly where the second does.
+-- What a test tells: one fact where it is true, another where it is false, never both. So the test is true exactly
+-- where the first fact holds, and false exactly where the second does.
 use mathlib.Core.Bool.{Bool, false, true}
 use mathlib.Core.Path.{_≡_}
 

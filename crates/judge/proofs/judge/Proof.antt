@@ -17,7 +17,8 @@ use Rattle.rules.specs.Sizes.{mostColumns, mostRows}
 use Rattle.rules.specs.Problem.{mOf, nOf, varsOf, word}
 use Rattle.rules.specs.Refusal.{badCoefficient, badKind, badSize, first, problemRefusal, problemTests}
 use Rattle.rules.proofs.First.{first-hit, first-skip}
-use Rattle.rules.proofs.Refused.{InRange, few-tells, length-tells, size-tells}
+use Rattle.rules.specs.Meanings.{InRange}
+use Rattle.rules.proofs.Refused.{few-tells, length-tells, size-tells}
 use Rattle.judge.specs.Words.{Framed}
 use Rattle.judge.proofs.judge.Statement.{statement}
 use Rattle.judge.proofs.judge.Tie as tie

@@ -20,7 +20,7 @@ use Rattle.whole.specs.Numbers.{Within}
 use Rattle.whole.specs.Sums.{sum}
 use Rattle.whole.specs.Values.{pairs}
 use Rattle.rules.proofs.Evidence.Seats.{sum-of-seated}
-use Rattle.rules.proofs.Evidence.Shows.{Numerators}
+use Rattle.rules.specs.Shows.{Numerators}
 use Rattle.rules.proofs.Evidence.Satisfied.{high-passes, low-passes, row-parts}
 use Rattle.rules.proofs.Fractions.{can-is-met}
 use Rattle.rules.specs.Range.{Small}

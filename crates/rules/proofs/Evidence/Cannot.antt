@@ -18,7 +18,7 @@ use Rattle.whole.specs.Sums.{sum}
 use Rattle.whole.proofs.Beside.{pairs-laws}
 use Rattle.whole.specs.Values.{pairs}
 use Rattle.rules.proofs.Evidence.Farkas.{rows-balance}
-use Rattle.rules.proofs.Evidence.Shows.{Multipliers}
+use Rattle.rules.specs.Shows.{Multipliers}
 use Rattle.rules.proofs.Evidence.Stuck.{high-missing, low-missing}
 use Rattle.rules.proofs.Evidence.Gain.{stuck-contradicts}
 use Rattle.rules.proofs.Evidence.Terms.{positive-parts, positive-range, pull-is, turn}

@@ -1,13 +1,14 @@
 -- The checker's number, exactly: 1 to 6 and 10 by the problem, 7 for an answer too short, 8 accepted, 9 not; nothing else.
---   Checks, checks, checks-only    each number with the facts that it stands for; `checked` is it, and no other is
---   checkerTable, checked-exactly  line by line: k where no earlier line's meaning holds and line k's does
+--   checked-exactly                line by line: k where no earlier line of `checkerTable` applies, and k's does
+--   checks, checks-only            `checked` is the number with the facts that it stands for, `Checks`, and no other is.
+--                                  The table and `Checks` are in specs/Shows
 --   checked-by-problem, checked-by-answer       the number from the problem's refusal, and else from the two tests of the answer
 --   checked-refused, -short, -accepted, -not    each number exactly when its facts hold
 --   checked-same                   word 1 and the words past 3 + 2N never matter
 --   check-only                     what is allowed to come out is one number
 use mathlib.Core.Bool.{Bool, cond, false, true}
 use mathlib.Core.List.{List, [], _++_, _∷_}
-use mathlib.Core.Logic.{inl, inr, _↔_, _≢_, _⊎_}
+use mathlib.Core.Logic.{inl, inr, _↔_, _≢_}
 use mathlib.Core.Path.{refl, sym, _∙_, _≡_}
 use Prim.Native.Nat.{suc, zero, ℕ, _*_, _+_, _<_, _≤_}
 use native.Mathlib.Omega.{arith}
@@ -16,20 +17,18 @@ use lib.ListN.{length}
 use Rattle.whole.proofs.Bools.{true-false}
 use Rattle.whole.specs.Tells.{Tells}
 use Rattle.rules.proofs.Evidence.Same.{multipliers-same, numerators-same}
-use Rattle.rules.proofs.Evidence.Shows.{Shown, shown-tells}
-use Rattle.rules.proofs.First.{First, Test, first-exactly, first-kept, first-passed, line}
-use Rattle.rules.proofs.Refused.{numbered, problemTable, room-tells}
+use Rattle.rules.proofs.Evidence.Shows.{shown-tells}
+use Rattle.rules.proofs.First.{Tested, first-exactly, first-kept, first-passed, no-test, tested, tested-then}
+use Rattle.rules.proofs.Refused.{numbered, problem-tested, room-tells}
 use Rattle.rules.specs.Evidence.{accepted, checked, denominatorOf, lowerPart, upperPart, verdictOf}
 use Rattle.rules.specs.Limit.{Limit}
+use Rattle.rules.specs.Meanings.{First}
 use Rattle.rules.specs.Problem.{Problem, answerLength, problem, vars, word}
 use Rattle.rules.specs.Refusal.{first, problemRefusal, problemTests, tooShort}
+use Rattle.rules.specs.Shows.{Checks, Own, Shown, checkerTable, refused, right, short, wrong}
 use Rattle.rules.specs.Sizes.{mostRows}
 
 -- ---- the first test that applies
-
--- suc k is a number of the problem's: 1 to 6, or 10
-abbrev Own : ℕ → Type 0
-Own k = (k < 6) ⊎ (k ≡ 9)
 
 abbrev AllOwn : List (Bool × ℕ) → Type 0
 AllOwn [] = Unit {0}
@@ -53,24 +52,20 @@ first-three false false = refl
 
 -- ---- the table: refusals 1 to 6 and 10, an answer too short, evidence, and nothing else
 
-abbrev pub checkerTable : List ℤ → List ℤ → List Test
-checkerTable ws a = problemTable mostRows ws
-    ++ (line 7 (room-tells ws (length a)) ∷ line 8 (shown-tells (problem ws) a) ∷ line 9 always ∷ [])
+checker-tested : (ws a : List ℤ) →
+    Tested (problemTests mostRows ws ++ ((tooShort ws (length a), 7) ∷ (accepted (problem ws) a, 8) ∷ (true, 9) ∷ []))
+    (checkerTable ws a)
+checker-tested ws a = tested-then (problem-tested mostRows ws)
+    (tested (room-tells ws (length a)) (tested (shown-tells (problem ws) a) (tested always no-test)))
   where
     always : Tells true (Unit {0}) ⊥
     always = record { if-true = λ e. tt; if-false = λ e. true-false refl e; not-both = λ y n. n }
 
 pub checked-exactly : (ws a : List ℤ) (k : ℕ) → (checked ws a ≡ k) ↔ First (checkerTable ws a) k
-unfolding checked problemTests
-checked-exactly ws a k = first-exactly (checkerTable ws a) k
+unfolding checked
+checked-exactly ws a k = first-exactly (checker-tested ws a) k
 
--- ---- each number, with its facts
-
-pub data Checks (ws a : List ℤ) : ℕ → Type 0 where
-  refused : (k : ℕ) → Own k → problemRefusal ws ≡ suc k → Checks ws a (suc k)
-  short : problemRefusal ws ≡ 0 → length a < answerLength ws → Checks ws a 7
-  right : problemRefusal ws ≡ 0 → answerLength ws ≤ length a → Shown (problem ws) a → Checks ws a 8
-  wrong : problemRefusal ws ≡ 0 → answerLength ws ≤ length a → ¬ Shown (problem ws) a → Checks ws a 9
+-- ---- each number, with its facts: `Checks`
 
 module _ (ws a : List ℤ) where
   pub checked-by-problem : (k : ℕ) → problemRefusal ws ≡ suc k → checked ws a ≡ suc k

@@ -20,11 +20,11 @@ use Rattle.whole.proofs.RingLaws.{*ℤ-idr}
 use Rattle.whole.proofs.Sums.{sum-one, sum-zero}
 use Rattle.whole.proofs.Tools.{lt-at}
 use Rattle.whole.specs.Values.{Lt, lexicographic, pairs}
-use Rattle.rules.proofs.Evidence.Shows.{Contradiction, Multiplier, Multipliers}
 use Rattle.rules.proofs.Units.{same-off, same-self}
 use Rattle.rules.specs.Evidence.{column, plainOf, surplus}
 use Rattle.rules.specs.Limit.{Limit, inset, lowerPair, upperPair}
 use Rattle.rules.specs.Problem.{Problem, inner, mapped, vars}
+use Rattle.rules.specs.Shows.{Contradiction, Multiplier, Multipliers}
 use Rattle.rules.specs.Step.{same}
 use Rattle.rules.specs.TheRun.{Crosses}
 

@@ -20,10 +20,10 @@ use Rattle.whole.proofs.Tools.{le-at, lt-at, ring-at}
 use Rattle.whole.proofs.Values.{total-lt}
 use Rattle.whole.specs.Sums.{sum}
 use Rattle.whole.specs.Values.{whole}
-use Rattle.rules.proofs.Evidence.Shows.{Contradiction, Multiplier, Multipliers, StrictNamed}
 use Rattle.rules.specs.Evidence.{Above, Below, Clears, Rows, Unsatisfied, column, plainOf, surplus}
 use Rattle.rules.specs.Limit.{Limit}
 use Rattle.rules.specs.Problem.{Problem, vars}
+use Rattle.rules.specs.Shows.{Contradiction, Multiplier, Multipliers, StrictNamed}
 
 -- sum over v of y v times x v is the sum over the columns of column j times x j
 pub rows-balance : {X : Type 0} (P : Problem X) (x y : ℕ → ℤ) → Rows whole P x →

@@ -29,7 +29,7 @@ use Rattle.rules.specs.Step.{Leaving, State, entering, positive, pull, s
 use Rattle.rules.specs.Tableau.{relation}
 use Rattle.rules.specs.Evidence.{plainOf, surplus}
 use Rattle.rules.specs.Limit.{Limit, inset, lowerPair, upperPair}
-use Rattle.rules.proofs.Evidence.Shows.{Contradiction, StrictNamed}
+use Rattle.rules.specs.Shows.{Contradiction, StrictNamed}
 use Rattle.rules.proofs.Evidence.Stuck.{gain}
 use Rattle.rules.specs.Blame.{gives}
 

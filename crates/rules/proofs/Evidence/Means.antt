@@ -1,35 +1,20 @@
 -- What the number 8 means. With verdict 1, put any fraction e / k above 0 and up to 1 / 17,179,869,177 for the small
 -- amount: the answer's pairs are then fractions that meet every row and limit, a strict one strictly. With verdict 2 no
 -- fractions do.
---   MetSmall                   every such fraction
---   Meant, accepted-means
+--   accepted-means             `Meant` of specs/Shows, with `MetSmall`: every such fraction
 --   can-means, cannot-means    the same for a known verdict
 use mathlib.Core.List.{List}
 use mathlib.Core.Logic.{inl, inr}
 use mathlib.Core.Path.{_≡_}
-use Prim.Native.Nat.{ℕ, suc}
+use Prim.Native.Nat.{ℕ}
 use native.Mathlib.Omega.{arith}
-use lib.IntN.{pos, ℤ, _*ℤ_}
-use lib.Signed.{_≤ℤ_, _<ℤ_}
-use Rattle.whole.specs.Values.{mixed}
+use lib.IntN.{pos, ℤ}
 use Rattle.rules.proofs.Evidence.Checked.{checked-accepted}
 use Rattle.rules.proofs.Evidence.Farkas.{farkas}
 use Rattle.rules.proofs.Evidence.Satisfied.{satisfied}
-use Rattle.rules.proofs.Evidence.Shows.{Shown}
-use Rattle.rules.specs.Evidence.{Satisfies, Unsatisfied, checked, denominatorOf, lowerPart, pairPart, upperPart}
-use Rattle.rules.specs.Evidence.{verdictOf}
-use Rattle.rules.specs.Limit.{Limit}
-use Rattle.rules.specs.Problem.{Problem, problem, vars}
-use Rattle.rules.specs.Sizes.{largestSmall}
-
--- each small enough positive fraction put for the small amount
-abbrev pub MetSmall : Problem Limit → List ℤ → Type 0
-MetSmall P a = (e k : ℤ) → pos 0 <ℤ e → (e *ℤ pos (suc largestSmall)) ≤ℤ k →
-    Satisfies P (k *ℤ denominatorOf a) (λ v. mixed e k (pairPart (vars P) a v))
-
-pub data Meant (P : Problem Limit) (a : List ℤ) : Type 0 where
-  can-be-met : verdictOf a ≡ pos 1 → MetSmall P a → Meant P a
-  cannot-be-met : verdictOf a ≡ pos 2 → Unsatisfied P → Meant P a
+use Rattle.rules.specs.Evidence.{Unsatisfied, checked, denominatorOf, lowerPart, upperPart, verdictOf}
+use Rattle.rules.specs.Problem.{problem, vars}
+use Rattle.rules.specs.Shows.{Meant, MetSmall, Shown, can-be-met, cannot-be-met}
 
 -- no word is both
 pub one-two : {A : Type 0} {z : ℤ} → z ≡ pos 1 → z ≡ pos 2 → A

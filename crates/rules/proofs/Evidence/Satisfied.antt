@@ -33,7 +33,7 @@ use Rattle.rules.specs.Evidence.{Satisfies, Unsatisfied}
 use Rattle.rules.specs.Problem.{Problem, vars, inner, mapped}
 use Rattle.rules.specs.Sizes.{largestSmall}
 use Rattle.rules.specs.Limit.{Limit, inset, lowerPair, upperPair}
-use Rattle.rules.proofs.Evidence.Shows.{Numerators, Passes}
+use Rattle.rules.specs.Shows.{Numerators, Passes}
 
 -- ---- the algebra: S is the largest small part, and e (S + 1) is at most k
 

@@ -1,9 +1,8 @@
 -- Fractions with separate denominators reduce to one: where fractions, each over a denominator of its own, meet the
 -- rows and limits, a strict one strictly, whole numbers over one denominator do. So `Unsatisfied` says that there are
 -- no fractions at all.
---   Fraction, fractions, Equal     a whole number over one above 0; sums and multiples; a / b = c / d is a d = c b
---   FractionsMeet                  rows and limits, of fractions
---   one-denominator, unsatisfied-fractions
+--   one-denominator            whole numbers over one denominator, with the values of the fractions
+--   unsatisfied-fractions      so where none of those meet a problem, no fractions do (specs/Fractions: `FractionsMeet`)
 use mathlib.Core.Bool.{Bool, cond, false, not, true}
 use mathlib.Core.List.{[], _∷_}
 use mathlib.Core.Option.{Option, none, some}
@@ -12,54 +11,18 @@ use Prim.Native.Nat.{suc, zero, ℕ, _+_, _<_, _≤_}
 use native.Mathlib.Omega.{arith}
 use lib.Dec.{ltb, ltb→lt, nltb→le}
 use lib.IntN.{*ℤ-zero, negℤ, pos, ℤ, _*ℤ_, _+ℤ_}
-use lib.Signed.{ltZ, ltZ-yes, _<ℤ_, _≤ℤ_}
+use lib.Signed.{ltZ-yes, _<ℤ_, _≤ℤ_}
 use Rattle.whole.proofs.Bools.{true→T}
 use Rattle.whole.proofs.Nonneg.{of-le, of-lt, slk, _⊞_, _⊠_}
 use Rattle.whole.proofs.Order.{*ℤ-cancel, *ℤ-pos-pos, false→le, true→lt}
 use Rattle.whole.proofs.Reify.{reify}
 use Rattle.whole.proofs.Tools.{eq-by, le-at, lt-at, of-≡, ring-at, _⊞₀_, _⊠₀_}
 use Rattle.whole.specs.Sums.{sum, sumBy}
-use Rattle.whole.specs.Values.{Le, Lt, Values, total, whole}
+use Rattle.whole.specs.Values.{total, whole}
 use Rattle.rules.specs.Evidence.{Above, Below, Clears, Satisfies, Unsatisfied, rowSum}
+use Rattle.rules.specs.Fractions.{Fraction, FractionsMeet, InOrder, fractions, overOne}
 use Rattle.rules.specs.Limit.{Limit}
 use Rattle.rules.specs.Problem.{Problem, vars}
-
-pub record Fraction : Type 0 where
-  pub top : ℤ
-  pub under : ℤ
-  pub positive : pos 0 <ℤ under
-
--- 0 is 0 / 1; a / b + c / d = (a d + c b) / b d; k (a / b) = k a / b; a / b < c / d is a d < c b
-abbrev pub fractions : Values Fraction
-fractions = record {
-  nil = record { top = pos 0; under = pos 1; positive = ltZ-yes tt };
-  plus = λ x y. record {
-    top = x .top *ℤ y .under +ℤ y .top *ℤ x .under;
-    under = x .under *ℤ y .under;
-    positive = *ℤ-pos-pos (x .positive) (y .positive);
-  };
-  scale = λ k x. record { top = k *ℤ x .top; under = x .under; positive = x .positive };
-  less = λ x y. ltZ (x .top *ℤ y .under) (y .top *ℤ x .under);
-}
-
-abbrev pub Equal : Fraction → Fraction → Type 0
-Equal x y = x .top *ℤ y .under ≡ y .top *ℤ x .under
-
--- a whole number as a fraction
-abbrev pub over-one : ℤ → Fraction
-over-one l = record { top = l; under = pos 1; positive = ltZ-yes tt }
-
--- strictly less, or at most
-abbrev pub InOrder : (strict : Bool) → Fraction → Fraction → Type 0
-InOrder true x y = Lt fractions x y
-InOrder false x y = Le fractions x y
-
-pub record FractionsMeet (P : Problem Limit) (x : ℕ → Fraction) : Type 0 where
-  pub rows : (i : ℕ) → i < P .m → Equal (x (P .n + i)) (rowSum fractions P x i)
-  pub lowers : (v : ℕ) → v < vars P → (l : Limit) → P .lower v ≡ some l →
-      InOrder (l .strict) (over-one (l .plain)) (x v)
-  pub uppers : (v : ℕ) → v < vars P → (u : Limit) → P .upper v ≡ some u →
-      InOrder (u .strict) (x v) (over-one (u .plain))
 
 -- whole numbers over one denominator that meet the problem, with the same values
 pub record OneDenominator (P : Problem Limit) (x : ℕ → Fraction) : Type 0 where
@@ -86,7 +49,7 @@ row-over d a b t u y s r q p =
     (search reify depth 30 fits 20000) refl
 
 -- f times a fraction t / u against a limit l: f u is the one denominator
-low-over : (b : Bool) (f l : ℤ) (x : Fraction) → pos 0 <ℤ f → InOrder b (over-one l) x →
+low-over : (b : Bool) (f l : ℤ) (x : Fraction) → pos 0 <ℤ f → InOrder b (overOne l) x →
     Clears b ((f *ℤ x .under) *ℤ l) (f *ℤ x .top)
 low-over true f l x p h = strictly f (x .under) (x .top) l p (true→lt h)
   where
@@ -98,7 +61,7 @@ low-over false f l x p h = weakly f (x .under) (x .top) l p (false→le h)
     weakly : (f u t l : ℤ) → pos 0 <ℤ f → (l *ℤ u) ≤ℤ (t *ℤ pos 1) → ((f *ℤ u) *ℤ l) ≤ℤ (f *ℤ t)
     weakly f u t l p h = le-at (f ∷ u ∷ t ∷ l ∷ []) (of-lt p ⊠ of-le h ⊞ of-le h) (search reify depth 30) slk
 
-high-over : (b : Bool) (f u : ℤ) (x : Fraction) → pos 0 <ℤ f → InOrder b x (over-one u) →
+high-over : (b : Bool) (f u : ℤ) (x : Fraction) → pos 0 <ℤ f → InOrder b x (overOne u) →
     Clears b (f *ℤ x .top) ((f *ℤ x .under) *ℤ u)
 high-over true f u x p h = strictly f (x .under) (x .top) u p (true→lt h)
   where
@@ -155,7 +118,7 @@ shared (suc k) q h = more (shared k q (λ v l. h v (omega arith)))
 
 module _ (P : Problem Limit) (x : ℕ → Fraction) (M : FractionsMeet P x) where
   S : Shared (vars P) (λ v. x v .under)
-  S = shared (vars P) (λ v. x v .under) (λ v h. x v .positive)
+  S = shared (vars P) (λ v. x v .under) (M .positive)
 
   abbrev d : ℤ
   d = S .common
@@ -178,6 +141,11 @@ module _ (P : Problem Limit) (x : ℕ → Fraction) (M : FractionsMeet P x) wher
       one-more d (partial c k .top) (partial c k .under) (sum k (λ j. c j *ℤ y j)) (c k) (x k .top) (x k .under) (y k)
       (same-sum k c (omega arith)) (same-value k (omega arith))
 
+  under-above : (k : ℕ) (c : ℕ → ℤ) → k ≤ vars P → pos 0 <ℤ partial c k .under
+  unfolding sumBy
+  under-above zero c h = ltZ-yes tt
+  under-above (suc k) c h = *ℤ-pos-pos (under-above k c (omega arith)) (M .positive k (omega arith))
+
   over-one-meets : Satisfies P d y
   over-one-meets = record {
     positive = S .common-pos;
@@ -189,7 +157,8 @@ module _ (P : Problem Limit) (x : ℕ → Fraction) (M : FractionsMeet P x) wher
       row : (i : ℕ) → i < P .m → (T : Fraction) → rowSum fractions P x i ≡ T → y (P .n + i) ≡ rowSum whole P y i
       row i h T e =
           let v : ℕ = P .n + i in
-          *ℤ-cancel (*ℤ-pos-pos (x v .positive) (T .positive))
+          *ℤ-cancel (*ℤ-pos-pos (M .positive v (omega arith))
+          (rw e at (under-above (P .n) (P .coefficient i) (omega arith))))
           (row-over d (x v .top) (x v .under) (T .top) (T .under) (y v) (rowSum whole P y i)
           (rw e at (M .rows i h)) (same-value v (omega arith))
           (rw e at (same-sum (P .n) (P .coefficient i) (omega arith))))

@@ -1,79 +1,28 @@
--- What the two tests of evidence say, in plain facts: docs/RULES.md, "The evidence checker", sentence by sentence.
---   ShowsCan, shows-can         verdict 1: `showsCan` passes exactly when `ShowsCan` holds
---   ShowsCannot, shows-cannot   verdict 2: likewise
---   Shown, shown-tells          the verdict with its evidence: `accepted` passes exactly when `Shown` holds
--- Both records are over the numbers that the words stand for, so that they speak of numbers that stand in no list too.
+-- The two tests of evidence say what the plain facts of specs/Shows do.
+--   shows-can       verdict 1: `showsCan` passes exactly when `ShowsCan` holds
+--   shows-cannot    verdict 2: likewise
+--   shown-tells     the verdict with its evidence: `accepted` passes exactly when `Shown` holds
 use mathlib.Core.Bool.{Bool, cond, false, not, true}
 use mathlib.Core.List.{List}
-use mathlib.Core.Logic.{inl, inr, _↔_, _≢_, _⊎_}
+use mathlib.Core.Logic.{inl, inr, _↔_}
 use mathlib.Core.Option.{Option, Option·none-ne-some, none, some}
 use mathlib.Core.Path.{ap, refl, sym, _≡_}
-use Prim.Native.Nat.{ℕ, _+_, _<_}
+use Prim.Native.Nat.{ℕ, _+_}
 use lib.IntN.{pos, ℤ, _*ℤ_, _-ℤ_}
-use lib.Signed.{leZ-yes, _<ℤ_, _≤ℤ_}
+use lib.Signed.{leZ-yes}
 use Rattle.whole.proofs.Bools.{and-of, and-true, not-true, true-false}
 use Rattle.whole.proofs.Tells.{tells-all, tells-and, tells-eqZ, tells-ltZ, tells-missing, tells-not, tells-or}
 use Rattle.whole.proofs.Tells.{tells-outside, tells-some, tells-true, tells-within}
-use Rattle.whole.specs.Numbers.{Within, eqZ}
+use Rattle.whole.specs.Numbers.{eqZ}
 use Rattle.whole.specs.Tells.{Tells}
-use Rattle.whole.specs.Values.{Le, Lt, pairs, whole}
-use Rattle.rules.specs.Evidence.{Rows, accepted, atLeast, atMost, clears, column, contradicts, someStrict}
-use Rattle.rules.specs.Evidence.{strictNamed, denominatorOf, fair, lowerPart, rowSum, showsCan, showsCannot}
-use Rattle.rules.specs.Evidence.{surplus, upperPart, verdictOf}
+use Rattle.whole.specs.Values.{pairs, whole}
+use Rattle.rules.specs.Evidence.{accepted, atLeast, atMost, clears, column, contradicts, someStrict, strictNamed}
+use Rattle.rules.specs.Evidence.{denominatorOf, fair, lowerPart, rowSum, showsCan, showsCannot, surplus}
+use Rattle.rules.specs.Evidence.{upperPart, verdictOf}
 use Rattle.rules.specs.Problem.{Problem, vars}
 use Rattle.rules.specs.Sizes.{largestNumber, largestNumerator, largestSmall}
 use Rattle.rules.specs.Limit.{Limit}
-
--- one pair is at most another, or strictly below it
-abbrev pub Passes : Bool → ℤ × ℤ → ℤ × ℤ → Type 0
-Passes true x y = Lt pairs x y
-Passes false x y = Le pairs x y
-
-pub record Numerators (P : Problem Limit) (d : ℤ) (x y : ℕ → ℤ) : Type 0 where
-  pub least : pos 1 ≤ℤ d
-  pub most : d ≤ℤ pos largestNumber
-  pub numerators : (v : ℕ) → v < vars P → Within (x v) largestNumerator
-  pub smalls : (v : ℕ) → v < vars P → Within (y v) largestSmall
-  pub rows : Rows whole P x
-  pub small-rows : Rows whole P y
-  pub lowers : (v : ℕ) → v < vars P → (l : Limit) → P .lower v ≡ some l →
-      Passes (l .strict) (d *ℤ l .plain, pos 0) (x v, y v)
-  pub uppers : (v : ℕ) → v < vars P → (u : Limit) → P .upper v ≡ some u →
-      Passes (u .strict) (x v, y v) (d *ℤ u .plain, pos 0)
-
--- k is a multiplier of a limit that may be missing
-pub record Multiplier (limit : Option Limit) (k : ℤ) : Type 0 where
-  pub least : pos 0 ≤ℤ k
-  pub most : k ≤ℤ pos largestNumber
-  pub missing : limit ≡ none → k ≡ pos 0
-
--- a strict limit with a multiplier other than 0
-abbrev pub StrictNamed : Option Limit → ℤ → Type 0
-StrictNamed o k = (l : Limit) × (o ≡ some l) × (l .strict ≡ true) × (k ≢ pos 0)
-
--- lo and up are the multipliers of the lower and upper limits: what they give in all is above 0; or it comes to 0, and
--- of the limits that they name one is strict
-abbrev pub Contradiction : Problem Limit → (lo up : ℕ → ℤ) → Type 0
-Contradiction P lo up = (pos 0 <ℤ surplus P lo up)
-    ⊎ ((surplus P lo up ≡ pos 0)
-    × ((v : ℕ) × (v < vars P) × (StrictNamed (P .lower v) (lo v) ⊎ StrictNamed (P .upper v) (up v))))
-
-pub record Multipliers (P : Problem Limit) (d : ℤ) (lo up : ℕ → ℤ) : Type 0 where
-  pub no-denominator : d ≡ pos 0
-  pub lowers : (v : ℕ) → v < vars P → Multiplier (P .lower v) (lo v)
-  pub uppers : (v : ℕ) → v < vars P → Multiplier (P .upper v) (up v)
-  pub cancels : (j : ℕ) → j < P .n → column P (λ v. lo v -ℤ up v) j ≡ pos 0
-  pub contradiction : Contradiction P lo up
-
-abbrev pub ShowsCan : Problem Limit → List ℤ → Type 0
-ShowsCan P a = Numerators P (denominatorOf a) (lowerPart a) (upperPart (vars P) a)
-
-abbrev pub ShowsCannot : Problem Limit → List ℤ → Type 0
-ShowsCannot P a = Multipliers P (denominatorOf a) (lowerPart a) (upperPart (vars P) a)
-
--- the verdict is 1 or 2, with its evidence
-abbrev pub Shown : Problem Limit → List ℤ → Type 0
-Shown P a = ((verdictOf a ≡ pos 1) × ShowsCan P a) ⊎ ((verdictOf a ≡ pos 2) × ShowsCannot P a)
+use Rattle.rules.specs.Shows.{Multiplier, Passes, Shown, ShowsCan, ShowsCannot, StrictNamed}
 
 -- ---- one limit
 

@@ -16,7 +16,6 @@ use Rattle.whole.specs.Numbers.{eqZ}
 use Rattle.rules.proofs.Evidence.Answers.{answer-accepted}
 use Rattle.rules.proofs.Evidence.Checked.{checked-accepted}
 use Rattle.rules.proofs.Evidence.Farkas.{farkas}
-use Rattle.rules.proofs.Evidence.Shows.{Contradiction, Multiplier, Shown, ShowsCannot, StrictNamed}
 use Rattle.rules.specs.Answer.{answer}
 use Rattle.rules.specs.Evidence.{Unsatisfied, checked, column, denominatorOf, lowerPart, plainOf, surplus}
 use Rattle.rules.specs.Evidence.{upperPart, verdictOf}
@@ -25,6 +24,7 @@ use Rattle.rules.specs.Keeping.{kept}
 use Rattle.rules.specs.Limit.{Limit}
 use Rattle.rules.specs.Problem.{Problem, problem, vars}
 use Rattle.rules.specs.Refusal.{Accepted}
+use Rattle.rules.specs.Shows.{Contradiction, Multiplier, Shown, ShowsCannot, StrictNamed}
 use Rattle.rules.specs.Sizes.{mostRows}
 
 -- ---- a limit, kept where its multiplier k is not 0

@@ -7,10 +7,10 @@
 --                                  are those of the end of the run
 --   rested-checked                 the state that is kept is the one at the run's end
 --   count-checked                  word 1 is below the bound, conflict or not
---   checkTable, check-exactly      7 exactly where the output is too short, and else 0
+--   check-exactly                  7 exactly where the output is too short, and else 0 (specs/SessionFacts: `checkTable`)
 --   output-length, output-past     an output keeps its length and the words past the answer
 --   check-only                     any two results that a check may have are equal
-use mathlib.Core.List.{List, [], _∷_, _++_}
+use mathlib.Core.List.{List, _∷_, _++_}
 use mathlib.Core.Logic.{_↔_, _≢_}
 use mathlib.Core.Option.{Option, none, some}
 use mathlib.Core.Path.{ap, refl, sym, _∙_, _≡_}
@@ -26,20 +26,22 @@ use Rattle.whole.specs.Values.{pairs}
 use Rattle.rules.proofs.AnswerIs.{answer-crossed, answer-run}
 use Rattle.rules.proofs.Bounded.{below-bound, bound-some}
 use Rattle.rules.proofs.Demands.{can-from, cannot-from}
-use Rattle.rules.proofs.First.{First, Test, first-exactly, line}
+use Rattle.rules.proofs.First.{first-exactly, no-test, tested}
 use Rattle.rules.proofs.Moved.{twice-never}
 use Rattle.rules.proofs.Range.{range-verdict}
-use Rattle.rules.proofs.Sessions.Fair.{Fair, fair-ready, rested-crossed, rested-run}
+use Rattle.rules.proofs.Sessions.Fair.{fair-ready, rested-crossed, rested-run}
 use Rattle.rules.proofs.Shape.{shaped}
 use Rattle.rules.proofs.Sound.{ready-sound}
 use Rattle.rules.proofs.Started.{no-conflict}
 use Rattle.rules.specs.Answers.{Shaped}
 use Rattle.rules.specs.Evidence.{Meets, Unmet, denominatorOf, pairPart, verdictOf}
+use Rattle.rules.specs.Meanings.{First}
 use Rattle.rules.specs.Problem.{Problem, vars, word}
 use Rattle.rules.specs.Range.{TooLarge}
 use Rattle.rules.specs.Run.{Runs, after, bound, conflict}
 use Rattle.rules.specs.Session.{Session, at, checkAnswer, checkLength, checkOutput, checkRefusal, live}
 use Rattle.rules.specs.Session.{rested, restedBy}
+use Rattle.rules.specs.SessionFacts.{Fair, checkTable}
 use Rattle.rules.specs.State.{Apart, Ready, Sound}
 use Rattle.rules.specs.Step.{State, same}
 use Rattle.rules.specs.TheRun.{TheRun}
@@ -126,12 +128,9 @@ module _ (A : Session (ℤ × ℤ)) (F : Fair pairs A) where
         ∙ getD-drop (checkLength A) before i (pos 0)
 
 module _ (A : Session (ℤ × ℤ)) where
-  abbrev pub checkTable : ℕ → List Test
-  checkTable room = line 7 (tells-lt room (checkLength A)) ∷ []
-
-  pub check-exactly : (room k : ℕ) → (checkRefusal A room ≡ k) ↔ First (checkTable room) k
+  pub check-exactly : (room k : ℕ) → (checkRefusal A room ≡ k) ↔ First (checkTable A room) k
   unfolding checkRefusal
-  check-exactly room k = first-exactly (checkTable room) k
+  check-exactly room k = first-exactly (tested (tells-lt room (checkLength A)) no-test) k
 
   -- number, session and output
   abbrev pub MayBe : List ℤ → ℕ → Session (ℤ × ℤ) → List ℤ → Type 0

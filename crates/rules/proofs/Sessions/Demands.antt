@@ -22,23 +22,24 @@ use Rattle.whole.specs.Numbers.{Within}
 use Rattle.whole.specs.Values.{pairs}
 use Rattle.rules.proofs.Evidence.Answers.{Modest, answer-judged, high-modest, low-modest}
 use Rattle.rules.proofs.Evidence.Crossed.{mapped-some}
-use Rattle.rules.proofs.Evidence.Means.{MetSmall, one-two}
+use Rattle.rules.proofs.Evidence.Means.{one-two}
 use Rattle.rules.proofs.Evidence.Satisfied.{pairs-satisfied, satisfied, unmet-none}
-use Rattle.rules.proofs.Evidence.Separate.{Fraction, FractionsMeet, unsatisfied-fractions}
-use Rattle.rules.proofs.Evidence.Shows.{Shown, shown-tells}
+use Rattle.rules.proofs.Evidence.Separate.{unsatisfied-fractions}
+use Rattle.rules.proofs.Evidence.Shows.{shown-tells}
 use Rattle.rules.proofs.Evidence.Words.{Judged}
 use Rattle.rules.proofs.Idle.Enough.{named-clash-shown}
 use Rattle.rules.proofs.Idle.Kept.{keeping-inner, kept-some}
 use Rattle.rules.proofs.Idle.Needed.{no-blanks, nothing-idle-from}
 use Rattle.rules.proofs.Ranges.{coefficient-within, lower-within, n-few, upper-within}
 use Rattle.rules.proofs.Sessions.Checked.{can-checked, cannot-checked}
-use Rattle.rules.proofs.Sessions.Fair.{Fair, fair-ready, handed-fair}
-use Rattle.rules.proofs.Sessions.Handed.{Limits-are, handed-given, values-handed}
+use Rattle.rules.proofs.Sessions.Fair.{fair-ready, handed-fair}
+use Rattle.rules.proofs.Sessions.Handed.{handed-given, values-handed}
 use Rattle.rules.proofs.Sessions.Live.{live-checked}
 use Rattle.rules.specs.Answer.{answerFrom}
 use Rattle.rules.specs.Answers.{Decided}
 use Rattle.rules.specs.Evidence.{Satisfiable, Unmet, Unsatisfied, accepted, checked, denominatorOf, lowerPart}
 use Rattle.rules.specs.Evidence.{Meets, pairPart, upperPart, verdictOf}
+use Rattle.rules.specs.Fractions.{Fraction, FractionsMeet}
 use Rattle.rules.specs.Idle.{NoBlank, multiplier, named, without}
 use Rattle.rules.specs.Keeping.{keeping, limitOf}
 use Rattle.rules.specs.Limit.{Limit, inset, lowerPair, upperPair}
@@ -46,6 +47,8 @@ use Rattle.rules.specs.LiveWords.{liveWords}
 use Rattle.rules.specs.Problem.{Problem, inner, problem, vars, varsOf}
 use Rattle.rules.specs.Refusal.{Accepted}
 use Rattle.rules.specs.Session.{Handed, Session, checkAnswer, isOn, live}
+use Rattle.rules.specs.SessionFacts.{Fair, LimitsAre, liveProblem}
+use Rattle.rules.specs.Shows.{MetSmall, Shown}
 use Rattle.rules.specs.Sizes.{largestCoefficient, largestLimit, mostColumns, mostRows}
 use Rattle.rules.specs.State.{Kept, Ready}
 use Rattle.rules.specs.Step.{Side, above, below, seat}
@@ -131,7 +134,7 @@ module _ (ws : List ℤ) (W : Accepted mostRows ws) (A : Session (ℤ × ℤ)) (
   pub fair-words : Fair pairs A
   fair-words = handed-fair pairs pairs-laws (inner (problem ws)) coefficients A H
 
-  limits-modest : Limits-are pairs Modest (inner (problem ws))
+  limits-modest : LimitsAre pairs Modest (inner (problem ws))
   unfolding problem
   limits-modest below v l h e = low-modest (problem ws) (lower-within W) v l h e
   limits-modest above v u h e = high-modest (problem ws) (upper-within W) v u h e
@@ -146,7 +149,7 @@ module _ (ws : List ℤ) (W : Accepted mostRows ws) (A : Session (ℤ × ℤ)) (
   unfolding problem
   values-plain n = values-handed pairs Plain pairs-laws (inner (problem ws)) coefficients refl plain A H
     where
-      plain : Limits-are pairs Plain (inner (problem ws))
+      plain : LimitsAre pairs Plain (inner (problem ws))
       plain below v x h e = let (l, p, q) = mapped-some lowerPair (problem ws .lower v) x e in
           rw q (ap inset (n below v l h p))
       plain above v x h e = let (u, p, q) = mapped-some upperPair (problem ws .upper v) x e in
@@ -162,11 +165,7 @@ module _ (ws : List ℤ) (W : Accepted mostRows ws) (A : Session (ℤ × ℤ)) (
   unfolding problem
   few-words = n-few W
 
-  -- the limits that are on, with their marks
-  abbrev pub liveProblem : Problem Limit
-  liveProblem = keeping (isOn A) (problem ws)
-
-  pub checked-judged : Decided (checkAnswer A) → accepted liveProblem (checkAnswer A) ≡ true
+  pub checked-judged : Decided (checkAnswer A) → accepted (liveProblem ws A) (checkAnswer A) ≡ true
   checked-judged = accepted-on (problem ws) A fair-words given-words few-words within-words values-modest
 
   pub eight-checked : (rest : List ℤ) → Decided (checkAnswer A) →
@@ -174,22 +173,23 @@ module _ (ws : List ℤ) (W : Accepted mostRows ws) (A : Session (ℤ × ℤ)) (
   eight-checked rest d = live-checked (isOn A) ws W (checkAnswer A ++ rest)
       (judged-on (problem ws) A fair-words given-words few-words within-words values-modest rest d)
 
-  pub can-live : verdictOf (checkAnswer A) ≡ pos 1 → MetSmall liveProblem (checkAnswer A)
+  pub can-live : verdictOf (checkAnswer A) ≡ pos 1 → MetSmall (liveProblem ws A) (checkAnswer A)
   can-live = can-satisfied-on (problem ws) A fair-words given-words few-words within-words values-modest
 
-  pub cannot-live : verdictOf (checkAnswer A) ≡ pos 2 → Unsatisfied liveProblem
+  pub cannot-live : verdictOf (checkAnswer A) ≡ pos 2 → Unsatisfied (liveProblem ws A)
   cannot-live = cannot-satisfied-on (problem ws) A fair-words given-words
 
-  pub cannot-fractions-live : verdictOf (checkAnswer A) ≡ pos 2 → (x : ℕ → Fraction) → ¬ FractionsMeet liveProblem x
-  cannot-fractions-live e = unsatisfied-fractions liveProblem (cannot-live e)
+  pub cannot-fractions-live : verdictOf (checkAnswer A) ≡ pos 2 → (x : ℕ → Fraction) →
+      ¬ FractionsMeet (liveProblem ws A) x
+  cannot-fractions-live e = unsatisfied-fractions (liveProblem ws A) (cannot-live e)
 
-  pub never-both-live : verdictOf (checkAnswer A) ≡ pos 1 → Unsatisfied liveProblem → ⊥
+  pub never-both-live : verdictOf (checkAnswer A) ≡ pos 1 → Unsatisfied (liveProblem ws A) → ⊥
   never-both-live e U = let (d, x, S) = satisfiable-on (problem ws) A fair-words given-words e in U d x S
 
   pub nothing-idle-live : verdictOf (checkAnswer A) ≡ pos 2 → (σ : Side) (w : ℕ) → w < vars (problem ws) →
       multiplier (vars (problem ws)) (checkAnswer A) σ w ≢ pos 0 →
-      Satisfiable (without σ w (named (checkAnswer A) liveProblem))
+      Satisfiable (without σ w (named (checkAnswer A) (liveProblem ws A)))
   nothing-idle-live = nothing-idle-on (problem ws) A fair-words given-words (no-blanks ws W)
 
-  pub named-clash-live : verdictOf (checkAnswer A) ≡ pos 2 → Unsatisfied (named (checkAnswer A) liveProblem)
+  pub named-clash-live : verdictOf (checkAnswer A) ≡ pos 2 → Unsatisfied (named (checkAnswer A) (liveProblem ws A))
   named-clash-live = named-clash-on (problem ws) A fair-words given-words few-words within-words values-modest

@@ -1,7 +1,8 @@
--- Every session that opening or an operation handed back is `Fair`: a check may start from it, whatever is on.
+-- Every session that opening or an operation handed back is `Fair` (specs/SessionFacts): a check may start from it,
+-- whatever is on.
 --   rows-kept, numbers-kept    rows and numbers do not ask which limits count
 --   Alike, rowed-alike, kept-alike    the same tableau, and the same variables basic
---   Fair, fair-ready           what is known of a session, and that a check may start from it
+--   fair-ready                 from a session of which this is known a check may start
 --   seat-settled, came         where a switch seats a variable, and where it came from
 --   rested-run, rested-crossed, rested-after    what a check keeps: the state at the end of its run
 --   fair-opened, fair-switched, fair-rested, handed-fair
@@ -29,6 +30,7 @@ use Rattle.rules.specs.Problem.{Problem, vars}
 use Rattle.rules.specs.Run.{Ends, after, conflict}
 use Rattle.rules.specs.Session.{Handed, Session, at, flagged, from-check, from-opening, from-switch, inside}
 use Rattle.rules.specs.Session.{insideSeat, isOn, live, noneOn, opened, rested, settled, switchRefusal, switched}
+use Rattle.rules.specs.SessionFacts.{Fair}
 use Rattle.rules.specs.Sizes.{largestCoefficient}
 use Rattle.rules.specs.State.{Housed, Kept, Ready, Rowed, howManySeated}
 use Rattle.rules.specs.Step.{Side, State, above, below, seat}
@@ -108,12 +110,7 @@ module _ {X : Type 0} (𝓥 : Values X) where
 
   -- ---- what is known of a session
 
-  pub record Fair (A : Session X) : Type 0 where
-    pub rowed : Rowed 𝓥 (live A) (A .state)
-    pub housed : Housed 𝓥 (live A) (A .state)
-    pub kept : Kept 𝓥 (live A) (A .state)
-
-  pub fair-ready : (A : Session X) → Fair A → Ready 𝓥 (live A) (A .state)
+  pub fair-ready : (A : Session X) → Fair 𝓥 A → Ready 𝓥 (live A) (A .state)
   fair-ready A F = record { rowed = F .rowed; housed = F .housed; seated-many = F .kept .seated-many }
 
   -- ---- a switch
@@ -162,7 +159,7 @@ module _ {X : Type 0} (𝓥 : Values X) where
     }
 
     -- settling keeps rows and numbers, and houses every variable
-    fair-settled : Laws 𝓥 → Rowed 𝓥 (live A) (A .state) → Kept 𝓥 (live A) (A .state) → Fair (settled 𝓥 A)
+    fair-settled : Laws 𝓥 → Rowed 𝓥 (live A) (A .state) → Kept 𝓥 (live A) (A .state) → Fair 𝓥 (settled 𝓥 A)
     unfolding settled
     fair-settled law R K = record {
       rowed = rowed-alike (live A) (A .state) (settled 𝓥 A .state) like R;
@@ -173,7 +170,8 @@ module _ {X : Type 0} (𝓥 : Values X) where
         like : Alike (vars (A .given)) (A .state) (settled 𝓥 A .state)
         like = alike-settled (R .seats-many)
 
-  fair-flagged : Laws 𝓥 → (A : Session X) (v : ℕ) (σ : Side) (on : Bool) → Fair A → Fair (settled 𝓥 (flagged A v σ on))
+  fair-flagged : Laws 𝓥 → (A : Session X) (v : ℕ) (σ : Side) (on : Bool) → Fair 𝓥 A →
+      Fair 𝓥 (settled 𝓥 (flagged A v σ on))
   unfolding flagged
   fair-flagged law A v below on F = let B : Session X = flagged A v below on in
       fair-settled B law (rows-kept (A .given) (isOn A) (isOn B) (A .state) (F .rowed))
@@ -182,17 +180,17 @@ module _ {X : Type 0} (𝓥 : Values X) where
       fair-settled B law (rows-kept (A .given) (isOn A) (isOn B) (A .state) (F .rowed))
       (numbers-kept (A .given) (isOn A) (isOn B) (A .state) (F .kept))
 
-  pub fair-switched : Laws 𝓥 → (A : Session X) (v : ℕ) (σ : Side) (on : Bool) → Fair A → Fair (switched 𝓥 A v σ on)
+  pub fair-switched : Laws 𝓥 → (A : Session X) (v : ℕ) (σ : Side) (on : Bool) → Fair 𝓥 A → Fair 𝓥 (switched 𝓥 A v σ on)
   unfolding switched
   fair-switched law A v σ on F = go (switchRefusal A v σ on) refl
     where
-      go : (k : ℕ) → switchRefusal A v σ on ≡ k → Fair (switched 𝓥 A v σ on)
+      go : (k : ℕ) → switchRefusal A v σ on ≡ k → Fair 𝓥 (switched 𝓥 A v σ on)
       go zero e = rw (e, switched) (fair-flagged law A v σ on F)
       go (suc k) e = rw (e, switched) F
 
   -- ---- a check
 
-  module _ (law : Laws 𝓥) (A : Session X) (F : Fair A) where
+  module _ (law : Laws 𝓥) (A : Session X) (F : Fair 𝓥 A) where
     abbrev P : Problem X
     P = live A
 
@@ -222,7 +220,7 @@ module _ {X : Type 0} (𝓥 : Values X) where
         go (some v) e = (0, ap (λ B. B .state) (rested-crossed v e))
         go none e = let (k, E) = the-end e in (k, ap (λ B. B .state) (rested-run e k E))
 
-    fair-after : conflict 𝓥 P ≡ none → (k : ℕ) → Fair (at A (after 𝓥 P s k))
+    fair-after : conflict 𝓥 P ≡ none → (k : ℕ) → Fair 𝓥 (at A (after 𝓥 P s k))
     fair-after e k = record {
       rowed = rowed-after 𝓥 P s (F .rowed) k;
       housed = housed-of 𝓥 P (after 𝓥 P s k) (sound-after 𝓥 law P s (no-conflict 𝓥 P e)
@@ -230,18 +228,18 @@ module _ {X : Type 0} (𝓥 : Values X) where
       kept = kept-after 𝓥 P s (F .rowed) (F .kept) k;
     }
 
-    pub fair-rested : Fair (rested 𝓥 A)
+    pub fair-rested : Fair 𝓥 (rested 𝓥 A)
     fair-rested = go (conflict 𝓥 P) refl
       where
-        go : (o : Option ℕ) → conflict 𝓥 P ≡ o → Fair (rested 𝓥 A)
-        go (some v) e = subst Fair (sym (rested-crossed v e)) F
-        go none e = let (k, E) = the-end e in subst Fair (sym (rested-run e k E)) (fair-after e k)
+        go : (o : Option ℕ) → conflict 𝓥 P ≡ o → Fair 𝓥 (rested 𝓥 A)
+        go (some v) e = subst (Fair 𝓥) (sym (rested-crossed v e)) F
+        go none e = let (k, E) = the-end e in subst (Fair 𝓥) (sym (rested-run e k E)) (fair-after e k)
 
   -- ---- opening, and every session handed back
 
   module _ (law : Laws 𝓥) (P : Problem X)
       (C : (i j : ℕ) → i < P .m → j < P .n → Within (P .coefficient i j) largestCoefficient) where
-    pub fair-opened : Fair (opened 𝓥 P)
+    pub fair-opened : Fair 𝓥 (opened 𝓥 P)
     unfolding opened
     fair-opened = record {
       rowed = rows-kept P noneOn (isOn (opened 𝓥 P)) (opened 𝓥 P .state) (ready-start 𝓥 law (keeping noneOn P) .rowed);
@@ -255,7 +253,7 @@ module _ {X : Type 0} (𝓥 : Values X) where
         off : (σ : Side) (v : ℕ) (o : Option X) → kept (isOn (opened 𝓥 P) σ v) o ≡ none
         off σ v o = ap (λ b. kept b o) (opened-so 𝓥 P .all-off σ v) ∙ (unfold kept in refl)
 
-    pub handed-fair : (A : Session X) → Handed 𝓥 P A → Fair A
+    pub handed-fair : (A : Session X) → Handed 𝓥 P A → Fair 𝓥 A
     handed-fair A (from-opening) = fair-opened
     handed-fair A (from-switch {A = B} v σ on H) = fair-switched law B v σ on (handed-fair B H)
     handed-fair A (from-check {A = B} H) = fair-rested law B (handed-fair B H)

@@ -1,7 +1,7 @@
 -- What every session handed back has, beside being fair.
 --   handed-given      its problem is the one handed in
---   Sworn             as many flags as variables, and a limit that is on is there
---   sworn-opened, sworn-switched, sworn-rested, handed-sworn
+--   sworn-opened, sworn-switched, sworn-rested, handed-sworn    as many flags as variables, and a limit that is on is
+--                     there: `Sworn` of specs/SessionFacts
 --   values-opened, values-switched, values-rested, values-handed    what holds of 0 and of every limit handed in holds
 --                     of every value of a nonbasic variable
 use mathlib.Core.Bool.{Bool, false, true}
@@ -18,8 +18,8 @@ use Rattle.whole.specs.Numbers.{Within}
 use Rattle.whole.specs.Values.{Laws, Values}
 use Rattle.rules.proofs.Evidence.Seats.{values-after, values-start}
 use Rattle.rules.proofs.Idle.Kept.{kept-some}
-use Rattle.rules.proofs.Sessions.Fair.{Fair, came, handed-fair, rested-after, within}
-use Rattle.rules.proofs.Sessions.Inside.{Lands, lands, stays-crossed, stays-within, to-lower, to-upper}
+use Rattle.rules.proofs.Sessions.Fair.{came, handed-fair, rested-after, within}
+use Rattle.rules.proofs.Sessions.Inside.{lands}
 use Rattle.rules.proofs.Sessions.Opened.{opened-so}
 use Rattle.rules.proofs.Sessions.Switched.{flag-elsewhere, given-flagged, state-flagged, switch-fine}
 use Rattle.rules.proofs.Sessions.Switched.{switched-done, switched-refused}
@@ -27,8 +27,10 @@ use Rattle.rules.specs.Keeping.{keeping, limitOf}
 use Rattle.rules.specs.Problem.{Problem, vars}
 use Rattle.rules.specs.Session.{Handed, Session, flagged, from-check, from-opening, from-switch, isOn}
 use Rattle.rules.specs.Session.{live, noneOn, opened, rested, settled, switchRefusal, switched}
+use Rattle.rules.specs.SessionFacts.{Fair, Lands, LimitsAre, Sworn, ValuesAre, stays-crossed, stays-within}
+use Rattle.rules.specs.SessionFacts.{to-lower, to-upper}
 use Rattle.rules.specs.Sizes.{largestCoefficient}
-use Rattle.rules.specs.Step.{Side, above, below, seat}
+use Rattle.rules.specs.Step.{Side, above, below}
 
 module _ {X : Type 0} (𝓥 : Values X) where
   -- ---- a switch changes what one that is not refused does
@@ -60,12 +62,7 @@ module _ {X : Type 0} (𝓥 : Values X) where
 
   -- ---- its flags
 
-  pub record Sworn (A : Session X) : Type 0 where
-    pub lowers-many : length (A .lowersOn) ≡ vars (A .given)
-    pub uppers-many : length (A .uppersOn) ≡ vars (A .given)
-    pub there : (σ : Side) (v : ℕ) → isOn A σ v ≡ true → (l : X) × (limitOf (A .given) σ v ≡ some l)
-
-  pub sworn-opened : (P : Problem X) → Sworn (opened 𝓥 P)
+  pub sworn-opened : (P : Problem X) → Sworn 𝓥 (opened 𝓥 P)
   unfolding opened
   sworn-opened P = record {
     lowers-many = length-replicate (vars P) false;
@@ -83,9 +80,9 @@ module _ {X : Type 0} (𝓥 : Values X) where
   same-place above below w v = inr (λ e. let z : _≡_ {A = ℕ} 0 1 = cc in zero-one z)
   same-place above above w v = by-number above w v (ℕ-discrete w v)
 
-  pub sworn-switched : (A : Session X) (v : ℕ) (σ : Side) (on : Bool) → Sworn A → Sworn (switched 𝓥 A v σ on)
+  pub sworn-switched : (A : Session X) (v : ℕ) (σ : Side) (on : Bool) → Sworn 𝓥 A → Sworn 𝓥 (switched 𝓥 A v σ on)
   unfolding settled
-  sworn-switched A v σ on S = by-refusal Sworn A v σ on S (λ e. record {
+  sworn-switched A v σ on S = by-refusal (Sworn 𝓥) A v σ on S (λ e. record {
     lowers-many = lowers σ;
     uppers-many = uppers σ;
     there = λ τ w q. is τ w (switch-fine A v σ on .0 e .1 .0) q (same-place τ σ w v);
@@ -104,11 +101,11 @@ module _ {X : Type 0} (𝓥 : Values X) where
       is τ w (l, t) q (inl (s, z)) = rw (given-flagged A v on σ, s, z) (l, t)
       is τ w t q (inr n) = rw (given-flagged A v on σ) (S .there τ w (sym (flag-elsewhere A v on σ τ w n) ∙ q))
 
-  pub sworn-rested : (A : Session X) → Sworn A → Sworn (rested 𝓥 A)
+  pub sworn-rested : (A : Session X) → Sworn 𝓥 A → Sworn 𝓥 (rested 𝓥 A)
   unfolding rested
   sworn-rested A S = record { lowers-many = S .lowers-many; uppers-many = S .uppers-many; there = S .there }
 
-  pub handed-sworn : (P : Problem X) (A : Session X) → Handed 𝓥 P A → Sworn A
+  pub handed-sworn : (P : Problem X) (A : Session X) → Handed 𝓥 P A → Sworn 𝓥 A
   handed-sworn P A (from-opening) = sworn-opened P
   handed-sworn P A (from-switch {A = B} v σ on H) = sworn-switched B v σ on (handed-sworn P B H)
   handed-sworn P A (from-check {A = B} H) = sworn-rested B (handed-sworn P B H)
@@ -116,27 +113,20 @@ module _ {X : Type 0} (𝓥 : Values X) where
   -- ---- its values
 
   module _ (Q : X → Type 0) where
-    -- of every limit handed in, and of every value of a nonbasic variable
-    abbrev pub Limits-are : Problem X → Type 0
-    Limits-are P = (σ : Side) (v : ℕ) (l : X) → v < vars P → limitOf P σ v ≡ some l → Q l
-
-    abbrev pub Values-are : Session X → Type 0
-    Values-are A = (v : ℕ) (x : X) → seat (A .state) v ≡ some x → Q x
-
     -- .. so of the limits that are kept
-    lower-are : (P : Problem X) (on : Side → ℕ → Bool) → Limits-are P → (v : ℕ) (l : X) → v < vars P →
+    lower-are : (P : Problem X) (on : Side → ℕ → Bool) → LimitsAre 𝓥 Q P → (v : ℕ) (l : X) → v < vars P →
         keeping on P .lower v ≡ some l → Q l
     lower-are P on L v l h e = L below v l h (kept-some (on below v) (P .lower v) l e .1)
 
-    upper-are : (P : Problem X) (on : Side → ℕ → Bool) → Limits-are P → (v : ℕ) (u : X) → v < vars P →
+    upper-are : (P : Problem X) (on : Side → ℕ → Bool) → LimitsAre 𝓥 Q P → (v : ℕ) (u : X) → v < vars P →
         keeping on P .upper v ≡ some u → Q u
     upper-are P on L v u h e = L above v u h (kept-some (on above v) (P .upper v) u e .1)
 
-    pub values-opened : (P : Problem X) → Q (𝓥 .nil) → Limits-are P → Values-are (opened 𝓥 P)
+    pub values-opened : (P : Problem X) → Q (𝓥 .nil) → LimitsAre 𝓥 Q P → ValuesAre 𝓥 Q (opened 𝓥 P)
     unfolding opened
     values-opened P z L = values-start 𝓥 (keeping noneOn P) Q (lower-are P noneOn L) (upper-are P noneOn L) z
 
-    values-settled : (A : Session X) → Limits-are (A .given) → Values-are A → Values-are (settled 𝓥 A)
+    values-settled : (A : Session X) → LimitsAre 𝓥 Q (A .given) → ValuesAre 𝓥 Q A → ValuesAre 𝓥 Q (settled 𝓥 A)
     unfolding settled
     values-settled A L S v y e = go (decLt v (vars (A .given)))
       where
@@ -154,20 +144,20 @@ module _ {X : Type 0} (𝓥 : Values X) where
             absurd (Option·none-ne-some y
             (sym (List·getD-eq-default (settled 𝓥 A .state .seats) none {n = v} (omega arith)) ∙ e))
 
-    pub values-switched : (A : Session X) (v : ℕ) (σ : Side) (on : Bool) → Limits-are (A .given) → Values-are A →
-        Values-are (switched 𝓥 A v σ on)
-    values-switched A v σ on L S = by-refusal Values-are A v σ on S (λ e.
+    pub values-switched : (A : Session X) (v : ℕ) (σ : Side) (on : Bool) → LimitsAre 𝓥 Q (A .given) → ValuesAre 𝓥 Q A →
+        ValuesAre 𝓥 Q (switched 𝓥 A v σ on)
+    values-switched A v σ on L S = by-refusal (ValuesAre 𝓥 Q) A v σ on S (λ e.
         values-settled (flagged A v σ on) (rw (given-flagged A v on σ) L) (rw (state-flagged A v on σ) S))
 
-    pub values-rested : Laws 𝓥 → (A : Session X) → Fair 𝓥 A → Limits-are (A .given) → Values-are A →
-        Values-are (rested 𝓥 A)
+    pub values-rested : Laws 𝓥 → (A : Session X) → Fair 𝓥 A → LimitsAre 𝓥 Q (A .given) → ValuesAre 𝓥 Q A →
+        ValuesAre 𝓥 Q (rested 𝓥 A)
     values-rested law A F L S = let (k, e) = rested-after 𝓥 law A F in
         rw e (values-after 𝓥 (live A) Q (lower-are (A .given) (isOn A) L) (upper-are (A .given) (isOn A) L)
         (A .state) (F .rowed) S k)
 
     pub values-handed : Laws 𝓥 → (P : Problem X) →
         ((i j : ℕ) → i < P .m → j < P .n → Within (P .coefficient i j) largestCoefficient) →
-        Q (𝓥 .nil) → Limits-are P → (A : Session X) → Handed 𝓥 P A → Values-are A
+        Q (𝓥 .nil) → LimitsAre 𝓥 Q P → (A : Session X) → Handed 𝓥 P A → ValuesAre 𝓥 Q A
     values-handed law P C z L A (from-opening) = values-opened P z L
     values-handed law P C z L A (from-switch {A = B} v σ on H) =
         values-switched B v σ on (rw (handed-given P B H) L) (values-handed law P C z L B H)

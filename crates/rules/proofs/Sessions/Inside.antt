@@ -1,6 +1,5 @@
 -- Where a nonbasic variable goes after a switch, in plain words.
---   Lands              from x to y: to a limit that it is outside of, while the two do not conflict; else it stays
---   inside-exactly     `inside` gives y exactly then
+--   inside-exactly     `inside` takes x to y exactly where `Lands` of specs/SessionFacts says so
 --   inside-low, inside-high    so it is within limits that do not conflict
 --   inside-still       and where it was within them, it stays
 use mathlib.Core.Bool.{Bool, cond, false, true}
@@ -13,37 +12,32 @@ use Rattle.whole.specs.Values.{Laws, Le, Lt, Values}
 use Rattle.rules.proofs.Started.{uncrossed}
 use Rattle.rules.specs.Run.{crossed}
 use Rattle.rules.specs.Session.{inside}
+use Rattle.rules.specs.SessionFacts.{Lands, stays-crossed, stays-within, to-lower, to-upper}
 
 module _ {X : Type 0} (𝓥 : Values X) where
-  pub data Lands (o p : Option X) (x y : X) : Type 0 where
-    to-lower : (l : X) → o ≡ some l → crossed 𝓥 o p ≡ false → Lt 𝓥 x l → y ≡ l → Lands o p x y
-    to-upper : (u : X) → p ≡ some u → crossed 𝓥 o p ≡ false → Lt 𝓥 u x → y ≡ u → Lands o p x y
-    stays-crossed : crossed 𝓥 o p ≡ true → y ≡ x → Lands o p x y
-    stays-within : ((l : X) → o ≡ some l → Le 𝓥 l x) → ((u : X) → p ≡ some u → Le 𝓥 x u) → y ≡ x → Lands o p x y
-
   pub same-some : {x y : X} → some x ≡ some y → x ≡ y
   same-some e = cc
 
-  pub lands : (o p : Option X) (x : X) → Lands o p x (inside 𝓥 o p x)
+  pub lands : (o p : Option X) (x : X) → Lands 𝓥 o p x (inside 𝓥 o p x)
   unfolding inside crossed
   lands none none x = stays-within (λ l e. absurd (Option·none-ne-some l e))
       (λ u e. absurd (Option·none-ne-some u e)) refl
   lands (some l) none x = go (𝓥 .less x l) refl
     where
-      go : (b : Bool) → 𝓥 .less x l ≡ b → Lands (some l) none x (cond b l x)
+      go : (b : Bool) → 𝓥 .less x l ≡ b → Lands 𝓥 (some l) none x (cond b l x)
       go true q = to-lower l refl refl q refl
       go false q = stays-within (λ k e. subst (λ z. Le 𝓥 z x) (same-some e) q)
           (λ u e. absurd (Option·none-ne-some u e)) refl
   lands none (some u) x = go (𝓥 .less u x) refl
     where
-      go : (b : Bool) → 𝓥 .less u x ≡ b → Lands none (some u) x (cond b u x)
+      go : (b : Bool) → 𝓥 .less u x ≡ b → Lands 𝓥 none (some u) x (cond b u x)
       go true q = to-upper u refl refl q refl
       go false q = stays-within (λ l e. absurd (Option·none-ne-some l e))
           (λ k e. subst (λ z. Le 𝓥 x z) (same-some e) q) refl
   lands (some l) (some u) x = go (𝓥 .less u l) refl (𝓥 .less x l) refl (𝓥 .less u x) refl
     where
       go : (c : Bool) → 𝓥 .less u l ≡ c → (b : Bool) → 𝓥 .less x l ≡ b → (d : Bool) → 𝓥 .less u x ≡ d →
-          Lands (some l) (some u) x (cond c x (cond b l (cond d u x)))
+          Lands 𝓥 (some l) (some u) x (cond c x (cond b l (cond d u x)))
       go true r b q d s = stays-crossed r refl
       go false r true q d s = to-lower l refl r q refl
       go false r false q true s = to-upper u refl r s refl
@@ -67,7 +61,7 @@ module _ {X : Type 0} (𝓥 : Values X) where
     not-both : (l u x : X) → Le 𝓥 l u → Lt 𝓥 x l → Lt 𝓥 u x → ⊥
     not-both l u x c h g = lt-irrefl law (lt-le-trans law g (law .less-asym x u (lt-le-trans law h c)))
 
-    lands-is : (o p : Option X) (x y : X) → Lands o p x y → inside 𝓥 o p x ≡ y
+    lands-is : (o p : Option X) (x y : X) → Lands 𝓥 o p x y → inside 𝓥 o p x ≡ y
     unfolding inside crossed
     lands-is o p x y (to-lower l e c h q) = at-lower o p e c ∙ sym q
       where
@@ -93,13 +87,13 @@ module _ {X : Type 0} (𝓥 : Values X) where
         at-rest (some l) (some u) c = rw c refl
     lands-is o p x y (stays-within f g q) = still o p x f g ∙ sym q
 
-    pub inside-exactly : (o p : Option X) (x y : X) → (inside 𝓥 o p x ≡ y) ↔ Lands o p x y
-    inside-exactly o p x y = (λ e. subst (Lands o p x) e (lands o p x), lands-is o p x y)
+    pub inside-exactly : (o p : Option X) (x y : X) → (inside 𝓥 o p x ≡ y) ↔ Lands 𝓥 o p x y
+    inside-exactly o p x y = (λ e. subst (Lands 𝓥 o p x) e (lands o p x), lands-is o p x y)
 
     pub inside-low : (o p : Option X) (x l : X) → crossed 𝓥 o p ≡ false → o ≡ some l → Le 𝓥 l (inside 𝓥 o p x)
     inside-low o p x l c e = go (inside 𝓥 o p x) (lands o p x)
       where
-        go : (y : X) → Lands o p x y → Le 𝓥 l y
+        go : (y : X) → Lands 𝓥 o p x y → Le 𝓥 l y
         go y (to-lower k f d h q) = rw (q, same-some (sym f ∙ e)) (le-refl law l)
         go y (to-upper u f d h q) = rw q (uncrossed 𝓥 o p c l u e f)
         go y (stays-crossed d q) = true-false d c
@@ -108,7 +102,7 @@ module _ {X : Type 0} (𝓥 : Values X) where
     pub inside-high : (o p : Option X) (x u : X) → crossed 𝓥 o p ≡ false → p ≡ some u → Le 𝓥 (inside 𝓥 o p x) u
     inside-high o p x u c e = go (inside 𝓥 o p x) (lands o p x)
       where
-        go : (y : X) → Lands o p x y → Le 𝓥 y u
+        go : (y : X) → Lands 𝓥 o p x y → Le 𝓥 y u
         go y (to-lower l f d h q) = rw q (uncrossed 𝓥 o p c l u f e)
         go y (to-upper k f d h q) = rw (q, same-some (sym f ∙ e)) (le-refl law u)
         go y (stays-crossed d q) = true-false d c

@@ -9,10 +9,10 @@ use Prim.Native.Nat.{ℕ, _+_, _<_}
 use lib.IntN.{ℤ, _*ℤ_, _+ℤ_, _-ℤ_}
 use Rattle.whole.proofs.Sums.{sum-same}
 use Rattle.whole.specs.Values.{whole}
-use Rattle.rules.proofs.Evidence.Shows.{Contradiction, Multiplier, Multipliers, Numerators, Shown, StrictNamed}
 use Rattle.rules.specs.Evidence.{Rows, column, plainOf, surplus}
 use Rattle.rules.specs.Limit.{Limit}
 use Rattle.rules.specs.Problem.{Problem}
+use Rattle.rules.specs.Shows.{Contradiction, Multiplier, Multipliers, Numerators, Shown, StrictNamed}
 
 module _ (n m : ℕ) (a b : ℕ → ℕ → ℤ) (l u l′ u′ : ℕ → Option Limit) where
   abbrev P : Problem Limit

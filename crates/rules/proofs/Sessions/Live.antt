@@ -18,7 +18,6 @@ use lib.ListN.{length}
 use lib.Signed.{leZ-yes, _≤ℤ_}
 use Rattle.whole.proofs.Tables.{table-at, table-length}
 use Rattle.rules.proofs.Evidence.Checked.{checked-accepted}
-use Rattle.rules.proofs.Evidence.Shows.{Shown}
 use Rattle.rules.proofs.Evidence.Words.{Judged}
 use Rattle.rules.proofs.Refused.{accepted-exactly}
 use Rattle.rules.proofs.Sessions.Like.{Agree, shown-alike}
@@ -30,6 +29,7 @@ use Rattle.rules.specs.LiveWords.{kindOf, liveKind, liveLimit, liveWord,
 use Rattle.rules.specs.Problem.{Problem, coefficientWord, kind, kindPlace, lowerWord, mOf, nOf, problem}
 use Rattle.rules.specs.Problem.{upperWord, varsOf, word}
 use Rattle.rules.specs.Refusal.{Accepted, FineLimit, problemRefusal}
+use Rattle.rules.specs.Shows.{Shown}
 use Rattle.rules.specs.Sizes.{mostRows}
 use Rattle.rules.specs.Step.{Side, above, below}
 

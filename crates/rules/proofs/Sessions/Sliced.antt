@@ -13,13 +13,14 @@ use Rattle.rules.proofs.AnswerIs.{ending-crossed, ending-run, spending-
 use Rattle.rules.proofs.Bounded.{below-bound}
 use Rattle.rules.proofs.Ends.{ends}
 use Rattle.rules.proofs.Runs.{run-is}
-use Rattle.rules.proofs.Sessions.Fair.{Fair, fair-ready}
+use Rattle.rules.proofs.Sessions.Fair.{fair-ready}
 use Rattle.rules.proofs.Slices.{Sliced, answer-by, first, sliced}
 use Rattle.rules.proofs.Sound.{ready-sound}
 use Rattle.rules.proofs.Started.{no-conflict}
 use Rattle.rules.specs.Problem.{Problem}
 use Rattle.rules.specs.Run.{bound, conflict, ending, spending}
 use Rattle.rules.specs.Session.{Session, checkAnswer, live, rested}
+use Rattle.rules.specs.SessionFacts.{Fair}
 use Rattle.rules.specs.Slices.{continued, continuedBy, sliceAnswer}
 use Rattle.rules.specs.State.{Ready}
 use Rattle.rules.specs.Step.{State}

@@ -1,12 +1,13 @@
 -- What a switch does: its number exactly, and what it changes.
---   switchTable, switch-exactly    41 to 44, line by line: each number exactly when its meaning is the first that holds
+--   switch-exactly                 41 to 44, each exactly where its line of `switchTable` is the first that applies
 --   switch-fine                    0 exactly where none does
 --   switched-refused, switched-done    refused, nothing changes; else one flag does, and values are settled
 --   flag-there, flag-elsewhere     that flag, and every other
 --   settled-one, seats-one         no variable moves but the one that was switched
---   Switches, switched-so          all that a switch does that is not refused; moved-exactly: which value becomes which
+--   switched-so                    all that a switch does that is not refused: `Switches`
+-- The table and `Switches` are in specs/SessionFacts.
 use mathlib.Core.Bool.{Bool, false, true}
-use mathlib.Core.List.{List, [], _∷_}
+use mathlib.Core.List.{List}
 use mathlib.Core.Logic.{_↔_, _≢_}
 use mathlib.Core.Option.{Option, Option·none-ne-some, Option·some-ne-none, none, some}
 use mathlib.Core.Path.{ap, ap₂, refl, subst, sym, _∙_, _≡_}
@@ -21,13 +22,15 @@ use Rattle.whole.proofs.Tells.{tells-and, tells-lt, tells-not}
 use Rattle.whole.specs.Tables.{table}
 use Rattle.whole.specs.Tells.{Tells}
 use Rattle.whole.specs.Values.{Laws, Values}
-use Rattle.rules.proofs.First.{AllFine, First, Test, first-exactly, first-fine, line}
-use Rattle.rules.proofs.Sessions.Fair.{Fair, seat-settled, within}
-use Rattle.rules.proofs.Sessions.Inside.{Lands, inside-exactly, inside-still, same-some}
+use Rattle.rules.proofs.First.{Tested, first-exactly, first-fine, no-test, tested}
+use Rattle.rules.proofs.Sessions.Fair.{seat-settled, within}
+use Rattle.rules.proofs.Sessions.Inside.{inside-exactly, inside-still, same-some}
 use Rattle.rules.specs.Keeping.{kept, limitOf}
+use Rattle.rules.specs.Meanings.{AllFine, First}
 use Rattle.rules.specs.Problem.{vars}
 use Rattle.rules.specs.Session.{Session, bySide, flagged, inside, insideSeat, isMissing, isOn, live, settled}
 use Rattle.rules.specs.Session.{switchRefusal, switchTests, switched}
+use Rattle.rules.specs.SessionFacts.{Fair, Lands, Switches, switchTable}
 use Rattle.rules.specs.Step.{Side, above, below, seat}
 
 -- ---- the numbers
@@ -48,19 +51,20 @@ pub tells-itself : (b : Bool) → Tells b (b ≡ true) (b ≡ false)
 tells-itself b = record { if-true = λ e. e; if-false = λ e. e; not-both = λ y n. true-false y n }
 
 module _ {X : Type 0} (A : Session X) (v : ℕ) (σ : Side) (on : Bool) where
-  abbrev pub switchTable : List Test
-  switchTable =
-      line 41 (tells-not (tells-lt v (vars (A .given)))) ∷ line 42 (tells-absent (limitOf (A .given) σ v))
-      ∷ line 43 (tells-and (tells-itself on) (tells-itself (isOn A σ v)))
-      ∷ line 44 (tells-and (tells-not (tells-itself on)) (tells-not (tells-itself (isOn A σ v)))) ∷ []
+  switch-tested : Tested (switchTests A v σ on) (switchTable A v σ on)
+  unfolding switchTests
+  switch-tested =
+      tested (tells-not (tells-lt v (vars (A .given)))) (tested (tells-absent (limitOf (A .given) σ v))
+      (tested (tells-and (tells-itself on) (tells-itself (isOn A σ v)))
+      (tested (tells-and (tells-not (tells-itself on)) (tells-not (tells-itself (isOn A σ v)))) no-test)))
 
-  pub switch-exactly : (k : ℕ) → (switchRefusal A v σ on ≡ k) ↔ First switchTable k
-  unfolding switchRefusal switchTests
-  switch-exactly k = first-exactly switchTable k
+  pub switch-exactly : (k : ℕ) → (switchRefusal A v σ on ≡ k) ↔ First (switchTable A v σ on) k
+  unfolding switchRefusal
+  switch-exactly k = first-exactly switch-tested k
 
-  pub switch-fine : (switchRefusal A v σ on ≡ 0) ↔ AllFine switchTable
-  unfolding switchRefusal switchTests
-  switch-fine = first-fine switchTable (omega arith)
+  pub switch-fine : (switchRefusal A v σ on ≡ 0) ↔ AllFine (switchTable A v σ on)
+  unfolding switchRefusal
+  switch-fine = first-fine switch-tested (omega arith)
 
 -- ---- the flags
 
@@ -149,20 +153,7 @@ module _ {X : Type 0} (𝓥 : Values X) (A : Session X) (v : ℕ) (σ : Side) (o
       each i k (no n) = sym (seat-settled 𝓥 B i (rw (given-flagged A v on σ) k)) ∙ settled-one law F i k n
           ∙ sym (getD-set-other (A .state .seats) v i o none n)
 
-  -- what a switch that is not refused does
-  pub record Switches (C : Session X) : Type 0 where
-    pub given-stays : C .given ≡ A .given
-    pub tableau-stays : C .state .tableau ≡ A .state .tableau
-    pub flag : v < length (bySide σ (A .lowersOn) (A .uppersOn)) → isOn C σ v ≡ on
-    pub flags-stay : (τ : Side) (w : ℕ) → (τ ≡ σ → w ≢ v) → isOn C τ w ≡ isOn A τ w
-    -- a basic variable stays basic, and a nonbasic one is where it was or goes to a limit, by those that are on now
-    pub basic-exactly : (w : ℕ) → w < vars (A .given) → (seat (C .state) w ≡ none) ↔ (seat (A .state) w ≡ none)
-    pub moved-exactly : (w : ℕ) (y : X) → w < vars (A .given) → (seat (C .state) w ≡ some y)
-        ↔ ((x : X) × (seat (A .state) w ≡ some x) × Lands 𝓥 (live C .lower w) (live C .upper w) x y)
-    -- in a session handed back only the variable that was switched can move
-    pub others-stay : Fair 𝓥 A → (w : ℕ) → w < vars (A .given) → w ≢ v → seat (C .state) w ≡ seat (A .state) w
-
-  settled-so : Laws 𝓥 → Switches (settled 𝓥 B)
+  settled-so : Laws 𝓥 → Switches 𝓥 A v σ on (settled 𝓥 B)
   unfolding settled insideSeat
   settled-so law = record {
     given-stays = given-flagged A v on σ;
@@ -196,5 +187,5 @@ module _ {X : Type 0} (𝓥 : Values X) (A : Session X) (v : ℕ) (σ : Side) (o
       there w y none q e = absurd (Option·none-ne-some y e)
       there w y (some x) q e = (x, q, inside-exactly 𝓥 law (live B .lower w) (live B .upper w) x y .0 (same-some 𝓥 e))
 
-  pub switched-so : Laws 𝓥 → switchRefusal A v σ on ≡ 0 → Switches (switched 𝓥 A v σ on)
-  switched-so law e = subst Switches (sym (switched-done e)) (settled-so law)
+  pub switched-so : Laws 𝓥 → switchRefusal A v σ on ≡ 0 → Switches 𝓥 A v σ on (switched 𝓥 A v σ on)
+  switched-so law e = subst (Switches 𝓥 A v σ on) (sym (switched-done e)) (settled-so law)

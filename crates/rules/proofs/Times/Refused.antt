@@ -1,10 +1,10 @@
--- docs/RULES.md, "Time rows", the table of refusals, line by line: what each test means, and that the refusal is the first that applies.
---   timesTable                    the lines of the table: the test, its number, its meaning
+-- docs/RULES.md, "Time rows", the table of refusals, line by line: each test is true exactly where its line applies
+-- (`timesTable` of specs/TimeWords), and the refusal is the first that applies.
 --   times-refusal-exactly         the refusal is k exactly where no earlier line's meaning holds and line k's does, and 0 where none does
 --   times-accepted-exactly        it is 0 exactly for accepted words with room enough
 --   accepted-ends, n-few, ..      what accepted words hold, as facts about their sizes and their edges
 use mathlib.Core.Path.{_≡_}
-use mathlib.Core.List.{List, [], _∷_}
+use mathlib.Core.List.{List}
 use mathlib.Core.Logic.{_↔_, _≢_, _⊎_, inl, inr}
 use Prim.Native.Nat.{ℕ, zero, suc, _+_, _*_, _-_, _≤_, _<_}
 use native.Mathlib.Omega.{arith}
@@ -18,9 +18,12 @@ use Rattle.whole.proofs.Tests.{above, own-size, under}
 use Rattle.rules.specs.Sizes.{mostVertices, mostTimeRows, largestLength}
 use Rattle.rules.specs.Problem.{word, nOf, mOf}
 use Rattle.rules.specs.Walks.{Ends}
-use Rattle.rules.specs.TimeWords.{fromWord, toWord, strictWord, lengthWord, timesLength, badTimeSize, badWordCount, badEnd, badStrict, badRowLength, noRoom, timeTests, timeRefusal, AcceptedTimes, timeEdges}
-use Rattle.rules.proofs.First.{AllFine, First, Test, first-exactly, first-fine, line}
-use Rattle.rules.proofs.Refused.{OutOfRange, InRange, few-tells}
+use Rattle.rules.specs.TimeWords.{fromWord, toWord, strictWord, lengthWord, timesLength, badTimeSize}
+use Rattle.rules.specs.TimeWords.{badWordCount, badEnd, badStrict, badRowLength, noRoom, timeTests, timeRefusal}
+use Rattle.rules.specs.TimeWords.{AcceptedTimes, timeEdges, timesTable}
+use Rattle.rules.proofs.First.{Tested, first-exactly, first-fine, no-test, tested}
+use Rattle.rules.proofs.Refused.{few-tells}
+use Rattle.rules.specs.Meanings.{AllFine, First, InRange, OutOfRange}
 
 module _ (ws : List ℤ) where
   pub size-tells : Tells (badTimeSize ws) (OutOfRange 1 mostVertices (word ws 0) ⊎ OutOfRange 0 mostTimeRows (word ws 1))
@@ -52,17 +55,18 @@ module _ (ws : List ℤ) where
 
 -- ---- the table
 
-abbrev pub timesTable : List ℤ → ℕ → List Test
-timesTable ws room =
-    line 11 (few-tells ws) ∷ line 12 (size-tells ws) ∷ line 13 (count-tells ws)
-    ∷ line 14 (tells-some (mOf ws) (badEnd ws) (λ i h. end-tells ws i))
-    ∷ line 15 (tells-some (mOf ws) (badStrict ws) (λ i h. strict-tells ws i))
-    ∷ line 16 (tells-some (mOf ws) (badRowLength ws) (λ i h. span-tells ws i))
-    ∷ line 17 (room-tells ws room) ∷ []
+times-tested : (ws : List ℤ) (room : ℕ) → Tested (timeTests ws room) (timesTable ws room)
+unfolding timeTests
+times-tested ws room =
+    tested (few-tells ws) (tested (size-tells ws) (tested (count-tells ws)
+    (tested (tells-some (mOf ws) (badEnd ws) (λ i h. end-tells ws i))
+    (tested (tells-some (mOf ws) (badStrict ws) (λ i h. strict-tells ws i))
+    (tested (tells-some (mOf ws) (badRowLength ws) (λ i h. span-tells ws i))
+    (tested (room-tells ws room) no-test))))))
 
 pub times-refusal-exactly : (ws : List ℤ) (room k : ℕ) → (timeRefusal ws room ≡ k) ↔ First (timesTable ws room) k
-unfolding timeRefusal timeTests
-times-refusal-exactly ws room k = first-exactly (timesTable ws room) k
+unfolding timeRefusal
+times-refusal-exactly ws room k = first-exactly (times-tested ws room) k
 
 fine-accepted : (ws : List ℤ) (room : ℕ) → AllFine (timesTable ws room) → AcceptedTimes ws room
 fine-accepted ws room (few, (size, (exact, (ends, (stricts, (lengths, (fits, end))))))) = record {
@@ -98,8 +102,8 @@ accepted-fine ws room A = (
 )
 
 pub times-accepted-exactly : (ws : List ℤ) (room : ℕ) → (timeRefusal ws room ≡ 0) ↔ AcceptedTimes ws room
-unfolding timeRefusal timeTests
-times-accepted-exactly ws room = let r = first-fine (timesTable ws room) (omega arith) in
+unfolding timeRefusal
+times-accepted-exactly ws room = let r = first-fine (times-tested ws room) (omega arith) in
     (λ e. fine-accepted ws room (r .0 e), λ A. r .1 (accepted-fine ws room A))
 
 -- ---- what accepted words hold

@@ -21,7 +21,8 @@ use Rattle.rules.specs.Session as rules
 use Rattle.rules.specs.Session.{inside, insideSeat, isOn, live, settled}
 use Rattle.rules.specs.Sizes.{largestLimit, mostColumns}
 use Rattle.rules.specs.Step.{seat}
-use Rattle.rules.proofs.Sessions.Fair.{Fair, seat-settled}
+use Rattle.rules.specs.SessionFacts.{Fair}
+use Rattle.rules.proofs.Sessions.Fair.{seat-settled}
 use Rattle.tableau.specs.declared.Given.{Given}
 use Rattle.tableau.specs.declared.Limits.{Limits}
 use Rattle.tableau.specs.declared.Tableau.{Tableau}

@@ -28,7 +28,8 @@ use Rattle.rules.specs.Session.{flagged, isMissing, isOn, live, settled, switch
 use Rattle.rules.specs.Sizes.{mostColumns, mostVariables}
 use Rattle.rules.specs.Step.{above, below, seat}
 use Rattle.rules.proofs.First.{first-hit, first-skip}
-use Rattle.rules.proofs.Sessions.Fair.{Fair, fair-switched}
+use Rattle.rules.specs.SessionFacts.{Fair}
+use Rattle.rules.proofs.Sessions.Fair.{fair-switched}
 use Rattle.rules.proofs.Sessions.Switched.{settled-one, switched-done, switched-refused}
 use Rattle.tableau.specs.declared.Given.{Given}
 use Rattle.tableau.specs.declared.Tableau.{Tableau}

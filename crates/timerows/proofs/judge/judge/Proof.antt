@@ -16,7 +16,7 @@ use Rattle.rules.specs.Problem.{word, nOf, mOf}
 use Rattle.rules.specs.Refusal.{first, tooFew}
 use Rattle.rules.specs.TimeWords.{timesLength, badTimeSize, badWordCount, noRoom, rowTests, timeTests, timeRefusal}
 use Rattle.rules.proofs.First.{first-hit, first-skip}
-use Rattle.rules.proofs.Refused.{InRange}
+use Rattle.rules.specs.Meanings.{InRange}
 use Rattle.rules.proofs.Times.Refused.{size-tells}
 use Rattle.timerows.specs.Judged.{Framed, rowsNumber}
 use Rattle.timerows.proofs.Laws.Numbers.{rows-refuse, rows-pass}
