@@ -3,13 +3,14 @@
 --   told-ended, told-moves   where a step ends the run the words are told, and else nothing
 --   answer-whole, answer-short     the answer comes with the last pivot, and is that of the uncut run; none comes before
 --   conflict-slice           crossed limits: finished at 0
---   Sliced, sliced           all of it, of any problem and state from which a check may start, crossed limits or not
+--   sliced                   all of it, of any problem and state from which a check may start, crossed limits or not
 --   cut-by, answer-by, none-by     continues one after the other, however the numbers are chosen
 --   finished-again           a finished state stays, and answers the same
 --   slices-only              once the numbers reach the end, the state is the same
---   OnWay                    what every state has that is handed back: `on-way-start`, `on-way-more`
+--   on-way-start, on-way-more    every state that is handed back is on the way of its run
 --   on-way-rowed, on-way-below, on-way-answer, on-way-none     .. and what follows
 --   sliced-words, cut-answer       of words
+-- `cutAt`, `Sliced` and `OnWay` are in specs/Cut.
 use mathlib.Core.List.{List, [], _∷_}
 use mathlib.Core.Option.{Option, none, some}
 use mathlib.Core.Path.{ap, refl, subst, sym, _∙_, _≡_}
@@ -17,7 +18,7 @@ use Prim.Native.Nat.{min, suc, zero, ℕ, _+_, _-_, _<_, _≤_}
 use native.Mathlib.Decide.{decLt}
 use native.Mathlib.Nat.{add-zero}
 use native.Mathlib.Omega.{arith}
-use lib.IntN.{pos, ℤ}
+use lib.IntN.{ℤ}
 use Rattle.whole.proofs.Beside.{pairs-laws}
 use Rattle.whole.specs.Values.{Values, pairs}
 use Rattle.rules.proofs.AnswerIs.{answer-crossed, answer-run, ending-crossed, spending-crossed, spending-run}
@@ -26,6 +27,7 @@ use Rattle.rules.proofs.Ends.{ready-start}
 use Rattle.rules.proofs.Moved.{rowed-after}
 use Rattle.rules.proofs.Runs.{next-after, run-from, run-on}
 use Rattle.rules.specs.Answer.{answer, answerFrom, wordsOf}
+use Rattle.rules.specs.Cut.{OnWay, Sliced, cut, cutAt, first, sum}
 use Rattle.rules.specs.Problem.{Problem, inner, problem, word}
 use Rattle.rules.specs.Run.{Ended, Ending, Ends, Moves, after, bound, conflict, run, spending}
 use Rattle.rules.specs.Slices.{Slice, begun, continued, continuedBy, sliceAnswer, told}
@@ -33,16 +35,7 @@ use Rattle.rules.specs.State.{Ready, Rowed}
 use Rattle.rules.specs.Step.{Outcome, State, can, cannot, goes, range, start}
 use Rattle.rules.specs.TheRun.{TheRun, ended}
 
--- all pivots of the numbers together
-abbrev pub sum : List ℕ → ℕ
-sum [] = 0
-sum (b ∷ bs) = b + sum bs
-
 module _ {X : Type 0} (𝓥 : Values X) (P : Problem X) (s : State X) where
-  -- the run from s, i pivots on
-  abbrev pub cutAt : ℕ → Slice X
-  cutAt i = record { problem = P; state = after 𝓥 P s i; count = i }
-
   module _ (k : ℕ) (E : Ends 𝓥 P s k) where
     run-cut : (f i : ℕ) → i + f ≤ k → run 𝓥 f P (after 𝓥 P s i) i ≡ ended 𝓥 P s (i + f)
     unfolding run
@@ -61,7 +54,7 @@ module _ {X : Type 0} (𝓥 : Values X) (P : Problem X) (s : State X) where
               ∙ ap (ended 𝓥 P s) (let z : k ≡ min k (i + b) = omega arith in z)
           go (no h) = run-cut b i (omega arith) ∙ ap (ended 𝓥 P s) (let z : i + b ≡ min k (i + b) = omega arith in z)
 
-      pub cut-at : (b i : ℕ) → i ≤ k → continued 𝓥 (cutAt i) b ≡ cutAt (min k (i + b))
+      pub cut-at : (b i : ℕ) → i ≤ k → continued 𝓥 (cutAt 𝓥 P s i) b ≡ cutAt 𝓥 P s (min k (i + b))
       unfolding continued
       cut-at b i g = ap (λ (e : Ending X). record { problem = P; state = e .last; count = e .pivots }) (spent-to b i g)
 
@@ -111,22 +104,7 @@ module _ (P : Problem (ℤ × ℤ)) (s : State (ℤ × ℤ)) (T : TheRun P s) (b
 -- ---- of any problem and state
 
 module _ (P : Problem (ℤ × ℤ)) (s : State (ℤ × ℤ)) where
-  abbrev cut : ℕ → Slice (ℤ × ℤ)
-  cut = cutAt pairs P s
-
-  abbrev pub first : Slice (ℤ × ℤ)
-  first = record { problem = P; state = s; count = 0 }
-
-  -- what a continue comes to, i pivots on with b to spend: the pivots up to the count of the uncut run, and the answer exactly then
-  pub record Sliced : Type 0 where
-    pub count : ℕ
-    pub word-1 : word (answerFrom P s) 1 ≡ pos count
-    pub below : count < bound P
-    pub moves : (b i : ℕ) → i ≤ count → continued pairs (cut i) b ≡ cut (min count (i + b))
-    pub answers : (b i : ℕ) → i ≤ count → count ≤ i + b → sliceAnswer (cut i) b ≡ some (answerFrom P s)
-    pub goes-on : (b i : ℕ) → i + b < count → sliceAnswer (cut i) b ≡ none
-
-  of-run : TheRun P s → Sliced
+  of-run : TheRun P s → Sliced P s
   of-run T = record {
     count = T .count;
     word-1 = T .word-1;
@@ -138,7 +116,8 @@ module _ (P : Problem (ℤ × ℤ)) (s : State (ℤ × ℤ)) where
 
   module _ (v : ℕ) (e : conflict pairs P ≡ some v) where
     -- finished at 0
-    pub conflict-slice : (b : ℕ) → (continued pairs first b ≡ first) × (sliceAnswer first b ≡ some (answerFrom P s))
+    pub conflict-slice : (b : ℕ) →
+        (continued pairs (first P s) b ≡ first P s) × (sliceAnswer (first P s) b ≡ some (answerFrom P s))
     unfolding sliceAnswer answerFrom
     conflict-slice b = (
       crossed-stays pairs P s v e 0 b,
@@ -146,66 +125,62 @@ module _ (P : Problem (ℤ × ℤ)) (s : State (ℤ × ℤ)) where
           ∙ ap (λ d. some (wordsOf P d)) (sym (ending-crossed pairs P s v e)),
     )
 
-    of-crossed : Sliced
+    of-crossed : Sliced P s
     unfolding after
     of-crossed = record {
       count = 0;
       word-1 = ap (λ a. word a 1) (answer-crossed P s v e);
       below = bound-some P;
-      moves = λ b i h. let z : i ≡ 0 = omega arith in ap (λ j. continued pairs (cut j) b) z ∙ conflict-slice b .0
-          ∙ ap cut (let y : 0 ≡ min 0 (i + b) = omega arith in y);
-      answers = λ b i h k. let z : i ≡ 0 = omega arith in ap (λ j. sliceAnswer (cut j) b) z ∙ conflict-slice b .1;
+      moves = λ b i h. let z : i ≡ 0 = omega arith in ap (λ j. continued pairs (cut P s j) b) z ∙ conflict-slice b .0
+          ∙ ap (cut P s) (let y : 0 ≡ min 0 (i + b) = omega arith in y);
+      answers = λ b i h k. let z : i ≡ 0 = omega arith in ap (λ j. sliceAnswer (cut P s j) b) z ∙ conflict-slice b .1;
       goes-on = λ b i h. let z : ⊥ = omega arith in absurd z;
     }
 
-  pub sliced : Ready pairs P s → Sliced
+  pub sliced : Ready pairs P s → Sliced P s
   sliced R = go (conflict pairs P) refl
     where
-      go : (o : Option ℕ) → conflict pairs P ≡ o → Sliced
+      go : (o : Option ℕ) → conflict pairs P ≡ o → Sliced P s
       go none e = of-run (answer-run P s e R)
       go (some v) e = of-crossed v e
 
-  module _ (S : Sliced) where
+  module _ (S : Sliced P s) where
     -- however the numbers are chosen
-    from-by : (bs : List ℕ) (i : ℕ) → i ≤ S .count → continuedBy pairs (cut i) bs ≡ cut (min (S .count) (i + sum bs))
+    from-by : (bs : List ℕ) (i : ℕ) → i ≤ S .count →
+        continuedBy pairs (cut P s i) bs ≡ cut P s (min (S .count) (i + sum bs))
     unfolding continuedBy
-    from-by [] i h = ap cut (let z : i ≡ min (S .count) (i + 0) = omega arith in z)
+    from-by [] i h = ap (cut P s) (let z : i ≡ min (S .count) (i + 0) = omega arith in z)
     from-by (b ∷ bs) i h = ap (λ A. continuedBy pairs A bs) (S .moves b i h)
         ∙ from-by bs (min (S .count) (i + b)) (omega arith)
-        ∙ ap cut (let z : min (S .count) (min (S .count) (i + b) + sum bs) ≡ min (S .count) (i + (b + sum bs)) = omega arith in z)
+        ∙ ap (cut P s) (let z : min (S .count) (min (S .count) (i + b) + sum bs)
+        ≡ min (S .count) (i + (b + sum bs)) = omega arith in z)
 
-    pub cut-by : (bs : List ℕ) → continuedBy pairs first bs ≡ cut (min (S .count) (sum bs))
+    pub cut-by : (bs : List ℕ) → continuedBy pairs (first P s) bs ≡ cut P s (min (S .count) (sum bs))
     unfolding after
-    cut-by bs = from-by bs 0 (omega arith) ∙ ap (λ j. cut (min (S .count) j)) (let z : 0 + sum bs ≡ sum bs = omega arith in z)
+    cut-by bs = from-by bs 0 (omega arith)
+        ∙ ap (λ j. cut P s (min (S .count) j)) (let z : 0 + sum bs ≡ sum bs = omega arith in z)
 
     pub answer-by : (bs : List ℕ) (b : ℕ) → S .count ≤ sum bs + b →
-        sliceAnswer (continuedBy pairs first bs) b ≡ some (answerFrom P s)
+        sliceAnswer (continuedBy pairs (first P s) bs) b ≡ some (answerFrom P s)
     answer-by bs b h = ap (λ A. sliceAnswer A b) (cut-by bs)
         ∙ S .answers b (min (S .count) (sum bs)) (omega arith) (omega arith)
 
-    pub none-by : (bs : List ℕ) (b : ℕ) → sum bs + b < S .count → sliceAnswer (continuedBy pairs first bs) b ≡ none
+    pub none-by : (bs : List ℕ) (b : ℕ) → sum bs + b < S .count →
+        sliceAnswer (continuedBy pairs (first P s) bs) b ≡ none
     none-by bs b h = ap (λ A. sliceAnswer A b) (cut-by bs) ∙ S .goes-on b (min (S .count) (sum bs)) (omega arith)
 
     pub finished-again : (b : ℕ) →
-        (continued pairs (cut (S .count)) b ≡ cut (S .count)) × (sliceAnswer (cut (S .count)) b ≡ some (answerFrom P s))
+        (continued pairs (cut P s (S .count)) b ≡ cut P s (S .count))
+        × (sliceAnswer (cut P s (S .count)) b ≡ some (answerFrom P s))
     finished-again b = let z : min (S .count) (S .count + b) ≡ S .count = omega arith in
-        (S .moves b (S .count) (omega arith) ∙ ap cut z, S .answers b (S .count) (omega arith) (omega arith))
+        (S .moves b (S .count) (omega arith) ∙ ap (cut P s) z, S .answers b (S .count) (omega arith) (omega arith))
 
     pub slices-only : (bs cs : List ℕ) → S .count ≤ sum bs → S .count ≤ sum cs →
-        continuedBy pairs first bs ≡ continuedBy pairs first cs
+        continuedBy pairs (first P s) bs ≡ continuedBy pairs (first P s) cs
     slices-only bs cs h k = let z : min (S .count) (sum bs) ≡ min (S .count) (sum cs) = omega arith in
-        cut-by bs ∙ ap cut z ∙ sym (cut-by cs)
+        cut-by bs ∙ ap (cut P s) z ∙ sym (cut-by cs)
 
 -- ---- a state on the way of its run: what every state has that a start or a continue hands back
-
-pub record OnWay (S : Slice (ℤ × ℤ)) : Type 0 where
-  -- where the run began
-  pub from : State (ℤ × ℤ)
-  pub ready : Ready pairs (S .problem) from
-  pub run : Sliced (S .problem) from
-  -- the state is that of the run after as many pivots as are counted, which are not more than it has
-  pub state-is : S .state ≡ after pairs (S .problem) from (S .count)
-  pub reached : S .count ≤ run .count
 
 pub on-way-start : (P : Problem (ℤ × ℤ)) (s : State (ℤ × ℤ)) → Ready pairs P s → OnWay (first P s)
 unfolding after

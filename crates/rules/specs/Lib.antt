@@ -16,6 +16,7 @@ pub mod Evidence
 pub mod Fractions
 pub mod Shows
 pub mod State
+pub mod Cut
 pub mod Unique
 pub mod Range
 pub mod TheRun

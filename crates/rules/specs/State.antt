@@ -1,5 +1,5 @@
--- docs/RULES.md, "The run", "What a tableau is": what is known of a state. Theorems on runs and sessions say this of it,
--- or ask it.
+-- docs/RULES.md, "The run", "What a tableau is": what is known of a state. Theorems on runs and sessions say this of
+-- it, or ask it.
 --   Rowed     rows and columns hold; limits play no part
 --   Housed    a nonbasic variable whose limits do not cross sits within them
 --   Kept      D and the entries are in lowest common form and in range, and n variables are nonbasic

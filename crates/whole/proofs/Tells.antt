@@ -1,5 +1,5 @@
 -- What a test tells: one fact where it is true, another where it is false, never both. Tests are put together as their facts are.
---   Tells b Yes No                           specs/Tells: b is true exactly where Yes holds, false exactly where No does
+--   Tells b Yes No                           specs/Tells: b is true exactly where Yes holds, false where No does
 --   tells-true, tells-false, tells-not       back from a fact to the test; the test turned round
 --   tells-and, tells-or, tells-all, -some    two tests, and one for each number below k
 --   tells-present, tells-missing             a test of something that may be missing

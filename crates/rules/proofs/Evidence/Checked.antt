@@ -1,6 +1,6 @@
 -- The checker's number, exactly: 1 to 6 and 10 by the problem, 7 for an answer too short, 8 accepted, 9 not; nothing else.
 --   checked-exactly                line by line: k where no earlier line of `checkerTable` applies, and k's does
---   checks, checks-only            `checked` is the number with the facts that it stands for, `Checks`, and no other is.
+--   checks, checks-only            `checked` is the number with the facts that it stands for, `Checks`; no other is.
 --                                  The table and `Checks` are in specs/Shows
 --   checked-by-problem, checked-by-answer       the number from the problem's refusal, and else from the two tests of the answer
 --   checked-refused, -short, -accepted, -not    each number exactly when its facts hold

@@ -2,7 +2,7 @@
 -- rows and limits, a strict one strictly, whole numbers over one denominator do. So `Unsatisfied` says that there are
 -- no fractions at all.
 --   one-denominator            whole numbers over one denominator, with the values of the fractions
---   unsatisfied-fractions      so where none of those meet a problem, no fractions do (specs/Fractions: `FractionsMeet`)
+--   unsatisfied-fractions      where none of those meet a problem, no fractions do (`FractionsMeet`, specs/Fractions)
 use mathlib.Core.Bool.{Bool, cond, false, not, true}
 use mathlib.Core.List.{[], _∷_}
 use mathlib.Core.Option.{Option, none, some}

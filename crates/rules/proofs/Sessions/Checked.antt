@@ -7,7 +7,7 @@
 --                                  are those of the end of the run
 --   rested-checked                 the state that is kept is the one at the run's end
 --   count-checked                  word 1 is below the bound, conflict or not
---   check-exactly                  7 exactly where the output is too short, and else 0 (specs/SessionFacts: `checkTable`)
+--   check-exactly                  7 exactly where the output is too short, else 0 (`checkTable`, specs/SessionFacts)
 --   output-length, output-past     an output keeps its length and the words past the answer
 --   check-only                     any two results that a check may have are equal
 use mathlib.Core.List.{List, _∷_, _++_}
