@@ -29,6 +29,7 @@ pub mod Idle
 pub mod Walks
 pub mod Passes
 pub mod Cycle
+pub mod Traces
 pub mod TimeWords
 pub mod Times
 pub mod Expected
@@ -41,3 +42,4 @@ pub mod Cases
 pub mod Bytes
 pub mod Text
 pub mod Program
+pub mod ProgramCases

@@ -5,10 +5,10 @@ use Prim.Native.String.{String}
 use Prim.Native.Char.{code}
 use mathlib.Core.Bool.{true, false, cond}
 use mathlib.Core.List.{List, [], _∷_, _++_}
-use Prim.Native.Nat.{ℕ, zero, suc, _+_, _/_, _%_}
-use lib.IntN.{ℤ, pos, negsuc}
-use lib.Dec.{leb, ltb}
-use lib.ListN.{length, drop}
+use Prim.Native.Nat.{ℕ, zero, suc, _+_, _-_, _*_, _/_, _%_}
+use lib.IntN.{ℤ, pos, negsuc, negℤ}
+use lib.Dec.{eqb, leb, ltb}
+use lib.ListN.{length, drop, getD}
 use Rattle.whole.specs.Numbers.{eqZ}
 use Rattle.rules.specs.Problem.{word}
 
@@ -39,6 +39,15 @@ digits n = digitsTurns n n
 unfoldable pub decimal : ℤ → List ℕ
 decimal (pos n) = digits n
 decimal (negsuc k) = 45 ∷ digits (suc k)
+
+-- read back: the number so far, and then the digits of a text
+unfoldable pub reading : ℕ → List ℕ → ℕ
+reading n [] = n
+reading n (d ∷ t) = reading (10 * n + (d - 48)) t
+
+-- a minus sign first, or none
+unfoldable pub number : List ℕ → ℤ
+number t = cond (eqb (getD t 0 0) 45) (negℤ (pos (reading 0 (drop 1 t)))) (pos (reading 0 t))
 
 -- ---- lines
 

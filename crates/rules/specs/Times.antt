@@ -11,7 +11,7 @@ use Rattle.whole.specs.Numbers.{eqZ}
 use Rattle.whole.specs.Values.{pairs, mixed}
 use Rattle.rules.specs.Problem.{nOf, mOf, word}
 use Rattle.rules.specs.Walks.{Shortest}
-use Rattle.rules.specs.Passes.{distances, canMeet}
+use Rattle.rules.specs.Passes.{canMeet, distance, distances}
 use Rattle.rules.specs.Cycle.{BadCycle, row}
 use Rattle.rules.specs.TimeWords.{strictWord, lengthWord, timesLength, timeRefusal, timeEdges}
 
@@ -21,6 +21,11 @@ plainTime d = negℤ (d .0)
 
 abbrev pub smallTime : ℤ × ℤ → ℤ
 smallTime d = negℤ (d .1)
+
+-- the time of v: minus its shortest distance
+abbrev pub timeOf : List ℤ → ℕ → ℤ × ℤ
+timeOf ws v =
+    let d : ℤ × ℤ = distance pairs (timeEdges ws) (distances pairs (timeEdges ws)) v in (plainTime d, smallTime d)
 
 -- the times: minus the shortest distances, first all plain parts, then how often the small amount is added
 unfoldable pub timesOf : List ℤ → List ℤ
@@ -47,6 +52,13 @@ pub record Timed (ws before : List ℤ) (r : ℕ) (after : List ℤ) : Type 0 wh
   pub rows : List ℕ
   pub written : after ≡ timesWritten r ws rows before
   pub named : r ≡ 0 → canMeet pairs (timeEdges ws) ≡ false → BadCycle pairs (timeEdges ws) rows
+
+-- where two results that it allows may differ: each names a bad cycle
+pub record Free (ws : List ℤ) (r : ℕ) (rows other : List ℕ) : Type 0 where
+  pub answered : r ≡ 0
+  pub cannot : canMeet pairs (timeEdges ws) ≡ false
+  pub bad : BadCycle pairs (timeEdges ws) rows
+  pub other-bad : BadCycle pairs (timeEdges ws) other
 
 -- what a row says of the difference z of two times: at most c, and a strict row less than c
 abbrev pub RowSays : Bool → ℤ → ℤ → Type 0

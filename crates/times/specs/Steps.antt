@@ -14,7 +14,7 @@ use Rattle.rules.specs.Problem.{nOf, mOf}
 use Rattle.rules.specs.Passes.{distance, distances, canMeet}
 use Rattle.rules.specs.Cycle.{BadCycle}
 use Rattle.rules.specs.TimeWords.{timeEdges}
-use Rattle.rules.proofs.Times.Traced.{Traced}
+use Rattle.rules.specs.Traces.{Traced}
 use Rattle.lengths.specs.declared.answer.Way.{Way}
 use Rattle.lengths.specs.declared.Length.{Length}
 use Rattle.lengths.specs.Answer.{AllPassed, rowsOf}

@@ -72,13 +72,14 @@ module _ (A : Session (ℤ × ℤ)) (F : Fair pairs A) where
   shaped-checked = shaped P s ready
 
   pub range-checked : (verdictOf (checkAnswer A) ≡ pos 3)
-      ↔ ((conflict pairs P ≡ none) × ((k : ℕ) × Runs pairs P s k × TooLarge pairs P (after pairs P s k)))
+      ↔ ((conflict pairs (live A) ≡ none)
+      × ((k : ℕ) × Runs pairs (live A) (A .state) k × TooLarge pairs (live A) (after pairs (live A) (A .state) k)))
   unfolding checkAnswer
   range-checked = range-verdict P s ready
 
   -- ---- limits that conflict
 
-  pub conflict-checked : (v : ℕ) → conflict pairs P ≡ some v →
+  pub conflict-checked : (v : ℕ) → conflict pairs (live A) ≡ some v →
       (checkAnswer A ≡ pos 2 ∷ pos 0 ∷ pos 0 ∷ table (vars (A .given)) (same v) ++ table (vars (A .given)) (same v))
       × (rested pairs A ≡ A)
   unfolding checkAnswer
@@ -86,25 +87,26 @@ module _ (A : Session (ℤ × ℤ)) (F : Fair pairs A) where
 
   -- ---- demand 3, where none do
 
-  module _ (c : conflict pairs P ≡ none) where
+  module _ (c : conflict pairs (live A) ≡ none) where
     apart : Apart pairs P
     apart = no-conflict pairs P c
 
     sound : Sound pairs P s
     sound = ready-sound pairs P s apart ready
 
-    pub twice-checked : (i j : ℕ) → i < j → Runs pairs P s j → after pairs P s i .seats ≢ after pairs P s j .seats
+    pub twice-checked : (i j : ℕ) → i < j → Runs pairs (live A) (A .state) j →
+        after pairs (live A) (A .state) i .seats ≢ after pairs (live A) (A .state) j .seats
     twice-checked = twice-never pairs pairs-laws P s apart sound
 
     -- the bound is that of the problem handed in, whatever is on
-    pub few-checked : (k : ℕ) → Runs pairs P s k → k < bound (A .given)
+    pub few-checked : (k : ℕ) → Runs pairs (live A) (A .state) k → k < bound (A .given)
     unfolding bound
     few-checked = below-bound pairs pairs-laws P s apart sound (F .kept .seated-many)
 
-    pub run-checked : TheRun P s
+    pub run-checked : TheRun (live A) (A .state)
     run-checked = answer-run P s c ready
 
-    pub rested-checked : rested pairs A ≡ at A (after pairs P s (run-checked .count))
+    pub rested-checked : rested pairs A ≡ at A (after pairs (live A) (A .state) (run-checked .count))
     rested-checked = rested-run pairs pairs-laws A F c (run-checked .count) (run-checked .ends)
 
   pub count-checked : (k : ℕ) × (word (checkAnswer A) 1 ≡ pos k) × (k < bound (A .given))

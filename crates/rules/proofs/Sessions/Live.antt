@@ -178,7 +178,7 @@ module _ {rows : ℕ} (on : Side → ℕ → Bool) (ws : List ℤ) (A : Accepted
   variable-of : {v : ℕ} → v < varsOf K → v < varsOf ws
   variable-of h = rw (← n-is, ← m-is) h
 
-  pub live-accepted : Accepted rows K
+  pub live-accepted : Accepted rows (liveWords on ws)
   live-accepted = record {
     enough = rw (live-length on ws (A .exact)) (A .enough);
     n-least = rw (live-front on ws (A .exact) 0 (omega arith)) (A .n-least);

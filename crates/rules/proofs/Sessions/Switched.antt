@@ -114,7 +114,7 @@ module _ {X : Type 0} (𝓥 : Values X) (A : Session X) (v : ℕ) (σ : Side) (o
 
   -- .. and it was within them, so it stays: a switch moves no variable but, at most, its own
   pub settled-one : Laws 𝓥 → Fair 𝓥 A → (w : ℕ) → w < vars (A .given) → w ≢ v →
-      seat (settled 𝓥 B .state) w ≡ seat (A .state) w
+      seat (settled 𝓥 (flagged A v σ on) .state) w ≡ seat (A .state) w
   unfolding insideSeat
   settled-one law F w h n = seat-settled 𝓥 B w (rw (given-flagged A v on σ) h)
       ∙ ap (λ s. insideSeat 𝓥 (live B .lower w) (live B .upper w) (seat s w)) (state-flagged A v on σ)

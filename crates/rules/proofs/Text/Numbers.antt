@@ -1,11 +1,10 @@
 -- Numbers as text.
 --   digits-one, digits-more      how the digits of a number come about, with no fuel
---   number, decimal-reads        a reader; what `decimal` writes reads back
+--   decimal-reads                what `decimal` writes reads back: `number` of specs/Text
 --   decimal-only                 so two numbers of one text are equal
 --   decimal-below, decimal-above  a number's text, by its sign
 --   digits-short, decimal-short  how many bytes a number takes; one of 64 bits takes at most 20
 use mathlib.Core.Path.{_≡_, refl, sym, _∙_, ap}
-use mathlib.Core.Bool.{cond}
 use mathlib.Core.List.{List, [], _∷_, _++_}
 use Prim.Native.Nat.{ℕ, zero, suc, _+_, _-_, _*_, _/_, _%_, _^_, _≤_, _<_}
 use native.Mathlib.Omega.{arith}
@@ -14,12 +13,12 @@ use native.Mathlib.Decide.{decLt}
 use borrow.Author.Tests.{lt-ltb, le-ltb, ne-eqb}
 use lib.IntN.{ℤ, pos, negsuc, negℤ, natAbs}
 use lib.Signed.{_<ℤ_, _≤ℤ_}
-use lib.ListN.{length, getD, drop, length-append}
-use lib.Dec.{eqb, ltb→lt}
+use lib.ListN.{length, getD, length-append}
+use lib.Dec.{ltb→lt}
 use mir.Syntax.{w64}
 use mir.Val.{SFits}
 use Rattle.rules.specs.Sizes.{mostDecimal}
-use Rattle.rules.specs.Text.{digit, digitsTurns, digits, decimal}
+use Rattle.rules.specs.Text.{digit, digitsTurns, digits, decimal, number, reading}
 
 -- ---- the digits, with no fuel
 
@@ -72,16 +71,7 @@ module _ (P : ℕ → List ℕ → Type 0) (one : (n : ℕ) → n < 10 → P n (
   by-digits : (n : ℕ) → P n (digits n)
   by-digits n = by-turns n n (omega arith)
 
--- ---- a reader
-
--- the number so far, and then the digits of a text
-unfoldable pub reading : ℕ → List ℕ → ℕ
-reading n [] = n
-reading n (d ∷ t) = reading (10 * n + (d - 48)) t
-
--- a minus sign first, or none
-unfoldable pub number : List ℕ → ℤ
-number t = cond (eqb (getD t 0 0) 45) (negℤ (pos (reading 0 (drop 1 t)))) (pos (reading 0 t))
+-- ---- the reader
 
 reading-last : (n : ℕ) (s : List ℕ) (d : ℕ) → reading n (s ++ (d ∷ [])) ≡ 10 * reading n s + (d - 48)
 unfolding reading

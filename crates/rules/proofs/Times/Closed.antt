@@ -10,9 +10,8 @@ use lib.Seq.{getD-take, getD-drop, slice, length-slice}
 use Rattle.whole.specs.Values.{Laws, Values}
 use Rattle.rules.specs.Walks.{Edges}
 use Rattle.rules.specs.Cycle.{row, Cycle, BadCycle}
-use Rattle.rules.proofs.Times.Traced.{Bettered}
+use Rattle.rules.specs.Traces.{Bettered, Trail}
 use Rattle.rules.proofs.Times.Falling.{falling-below}
-use Rattle.rules.proofs.Times.Trail.{Trail}
 
 -- row k of the rows from f up to t
 pub slice-at : (f t k : ℕ) (l : List ℕ) → k < t - f → row (slice f t l) k ≡ row l (f + k)
@@ -86,5 +85,5 @@ module _ {X : Type 0} {𝓥 : Values X} (L : Laws 𝓥) (E : Edges X) (time : �
   goes-round : Cycle E rows
   goes-round = record { listed = λ k h. taken k h .listed; linked = link; closed = shut; apart = apart }
 
-  pub trail-cycle : BadCycle 𝓥 E rows
+  pub trail-cycle : BadCycle 𝓥 E (slice j (suc p) path)
   trail-cycle = record { cycle = goes-round; below = falling-below L E rows goes-round time D taken (omega (arith, rows-length, from)) }

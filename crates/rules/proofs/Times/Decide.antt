@@ -25,9 +25,12 @@ use Rattle.whole.proofs.Pigeons.{pigeons}
 use Rattle.rules.specs.Walks.{Edges, Ends, Shortest, ClosesBelow}
 use Rattle.rules.specs.Passes.{distance, through, betters, look, looks, passes, settled, distances, canMeet}
 use Rattle.rules.specs.Cycle.{row, Cycle, BadCycle}
-use Rattle.rules.proofs.Times.Still.{Still, settled-still, still-settled, still-shortest, shortest-only, still-open, bad-closes, bad-no-still}
-use Rattle.rules.proofs.Times.Traced.{Put, put, put-put, Traced, traced-start, traced-kept, traced-taken, traced-pass, traced-still}
-use Rattle.rules.proofs.Times.Trail.{Trail, trail-start, trail-left, trail-more}
+use Rattle.rules.specs.Traces.{Still, Traced, Trail}
+use Rattle.rules.proofs.Times.Still.{settled-still, still-settled, still-shortest, shortest-only, still-open}
+use Rattle.rules.proofs.Times.Still.{bad-closes, bad-no-still}
+use Rattle.rules.proofs.Times.Traced.{Put, put, put-put, traced-start, traced-kept, traced-taken, traced-pass}
+use Rattle.rules.proofs.Times.Traced.{traced-still}
+use Rattle.rules.proofs.Times.Trail.{trail-start, trail-left, trail-more}
 use Rattle.rules.proofs.Times.Closed.{trail-cycle}
 
 pub cycle-short : {X : Type 0} (E : Edges X) (rows : List ℕ) → Ends E → Cycle E rows → length rows ≤ E .vertices

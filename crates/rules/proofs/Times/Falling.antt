@@ -13,7 +13,7 @@ use Rattle.whole.proofs.Values.{same-le, le-le, le-lt-trans, lt-le-trans, plus-
 use Rattle.rules.specs.Walks.{Edges}
 use Rattle.rules.specs.Passes.{through}
 use Rattle.rules.specs.Cycle.{row, Cycle, around}
-use Rattle.rules.proofs.Times.Traced.{Bettered}
+use Rattle.rules.specs.Traces.{Bettered}
 
 module _ {X : Type 0} {𝓥 : Values X} (L : Laws 𝓥) (E : Edges X) (rows : List ℕ) (c : Cycle E rows) (time : ℕ → ℕ) (D : ℕ → X)
     (each : (k : ℕ) → k < length rows → Bettered 𝓥 E time D (E .head (row rows k)) (row rows k)) where

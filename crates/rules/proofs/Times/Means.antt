@@ -33,9 +33,10 @@ use Rattle.rules.specs.Walks.{Edges, Ends, Shortest}
 use Rattle.rules.specs.Passes.{distance, distances, canMeet}
 use Rattle.rules.specs.Cycle.{row, Cycle, around, BadCycle}
 use Rattle.rules.specs.TimeWords.{strictWord, lengthWord, AcceptedTimes, timeEdges}
-use Rattle.rules.specs.Times.{plainTime, smallTime, RowSays, MeetsRows, MeetsSmall, NoFractions}
+use Rattle.rules.specs.Times.{RowSays, MeetsRows, MeetsSmall, NoFractions, timeOf}
 use Rattle.rules.proofs.Times.Still.{bad-no-still}
-use Rattle.rules.proofs.Times.Smalls.{NoneOrOne, smalls-few}
+use Rattle.rules.specs.Traces.{NoneOrOne}
+use Rattle.rules.proofs.Times.Smalls.{smalls-few}
 use Rattle.rules.proofs.Times.Decide.{can-still, distances-low, can-shortest, cannot-cycle}
 use Rattle.rules.proofs.Times.Refused.{n-some, accepted-ends, strict-is}
 
@@ -106,15 +107,11 @@ module _ {ws : List ℤ} {room : ℕ} (A : AcceptedTimes ws room) where
   abbrev D : ℕ → ℤ × ℤ
   D v = distance pairs E (distances pairs E) v
 
-  -- minus the distance of each vertex, part by part
-  abbrev pub timeOf : ℕ → ℤ × ℤ
-  timeOf v = (plainTime (D v), smallTime (D v))
-
   pub some-vertex : pos 0 <ℤ pos (nOf ws)
   some-vertex = record { lt = le→leb 1 (nOf ws) (n-some A) }
 
-  pub times-shortest : canMeet pairs E ≡ true → (v : ℕ) →
-      Shortest pairs E v (negℤ (timeOf v .0), negℤ (timeOf v .1))
+  pub times-shortest : canMeet pairs (timeEdges ws) ≡ true → (v : ℕ) →
+      Shortest pairs (timeEdges ws) v (negℤ (timeOf ws v .0), negℤ (timeOf ws v .1))
   times-shortest e v =
       subst (Shortest pairs E v) (sym (ap₂ (λ a b. (a, b)) (negℤ-negℤ (D v .0)) (negℤ-negℤ (D v .1))))
       (can-shortest pairs-laws E ends e v)
@@ -128,17 +125,17 @@ module _ {ws : List ℤ} {room : ℕ} (A : AcceptedTimes ws room) where
       go (inl e) = inl (ap negℤ e)
       go (inr e) = inr (ap negℤ e)
 
-  module _ (can : canMeet pairs E ≡ true) where
-    pub times-few : (v : ℕ) → v < nOf ws → (pos 0 ≤ℤ timeOf v .1) × (timeOf v .1 <ℤ pos (nOf ws))
+  module _ (can : canMeet pairs (timeEdges ws) ≡ true) where
+    pub times-few : (v : ℕ) → v < nOf ws → (pos 0 ≤ℤ timeOf ws v .1) × (timeOf ws v .1 <ℤ pos (nOf ws))
     times-few v h =
         let q = smalls-few E ends none-or-one D (can-still pairs-laws E ends can) (distances-low pairs-laws E ends) v h
         (can-shortest pairs-laws E ends can v .walk) in
-        let e : timeOf v .1 ≡ pos (q .0) = ap negℤ (q .2) ∙ negℤ-negℤ (pos (q .0)) in (
+        let e : timeOf ws v .1 ≡ pos (q .0) = ap negℤ (q .2) ∙ negℤ-negℤ (pos (q .0)) in (
           subst (λ z. pos 0 ≤ℤ z) (sym e) (record { le = le→leb 0 (q .0) (omega arith) }),
           subst (λ z. z <ℤ pos (nOf ws)) (sym e) (record { lt = le→leb (suc (q .0)) (nOf ws) (q .1) }),
         )
 
-    pub times-meet : MeetsSmall ws timeOf
+    pub times-meet : MeetsSmall ws (timeOf ws)
     times-meet e k p m i h =
         let x : ℤ × ℤ = D (E .tail i) in
         let y : ℤ × ℤ = D (E .head i) in
@@ -151,7 +148,7 @@ module _ {ws : List ℤ} {room : ℕ} (A : AcceptedTimes ws room) where
         (times-few (E .tail i) (ends .tail-in i h) .1) (A .strict-most i h) m)
         (can-still pairs-laws E ends can i h)))
 
-    pub times-actual : MeetsRows ws (pos (nOf ws)) (λ v. mixed (pos 1) (pos (nOf ws)) (timeOf v))
+    pub times-actual : MeetsRows ws (pos (nOf ws)) (λ v. mixed (pos 1) (pos (nOf ws)) (timeOf ws v))
     times-actual = times-meet (pos 1) (pos (nOf ws)) (record { lt = tt }) (once (pos (nOf ws)))
 
   -- ---- a bad cycle
@@ -194,7 +191,7 @@ module _ {ws : List ℤ} {room : ℕ} (A : AcceptedTimes ws room) where
       go false p false q k =
           barely (z .0) (z .1) (false→le {a = z .0} {b = pos 0} q) (true→lt {a = z .1} {b = pos 0} k)
 
-  pub cycle-no-fractions : (rows : List ℕ) → BadCycle pairs E rows → NoFractions ws
+  pub cycle-no-fractions : (rows : List ℕ) → BadCycle pairs (timeEdges ws) rows → NoFractions ws
   cycle-no-fractions rows b d h t m = bad-no-still whole-laws (over d) rows bad (λ v. negℤ (t v)) (λ i k.
       le→false {a = negℤ (t (E .head i))} {b = negℤ (t (E .tail i)) +ℤ mixed (pos 1) d (E .size i)}
       (turned-back (t (E .tail i)) (t (E .head i)) (mixed (pos 1) d (E .size i))
@@ -218,17 +215,17 @@ module _ {ws : List ℤ} {room : ℕ} (A : AcceptedTimes ws room) where
 
   -- ---- exactly one of the two
 
-  pub one-answer : (MeetsSmall ws timeOf × ((rows : List ℕ) → ¬ BadCycle pairs E rows))
-      ⊎ (((rows : List ℕ) × BadCycle pairs E rows) × NoFractions ws)
+  pub one-answer : (MeetsSmall ws (timeOf ws) × ((rows : List ℕ) → ¬ BadCycle pairs (timeEdges ws) rows))
+      ⊎ (((rows : List ℕ) × BadCycle pairs (timeEdges ws) rows) × NoFractions ws)
   one-answer = go (either (canMeet pairs E))
     where
       go : (canMeet pairs E ≡ true) ⊎ (canMeet pairs E ≡ false) →
-          (MeetsSmall ws timeOf × ((rows : List ℕ) → ¬ BadCycle pairs E rows))
+          (MeetsSmall ws (timeOf ws) × ((rows : List ℕ) → ¬ BadCycle pairs E rows))
           ⊎ (((rows : List ℕ) × BadCycle pairs E rows) × NoFractions ws)
       go (inl e) = inl (
         times-meet e,
         λ rows b.
-            cycle-no-fractions rows b (pos (nOf ws)) some-vertex (λ v. mixed (pos 1) (pos (nOf ws)) (timeOf v))
+            cycle-no-fractions rows b (pos (nOf ws)) some-vertex (λ v. mixed (pos 1) (pos (nOf ws)) (timeOf ws v))
             (times-actual e),
       )
       go (inr e) = let c = cannot-cycle pairs-laws E ends e in inr (c, cycle-no-fractions (c .0) (c .1))

@@ -1,5 +1,6 @@
 -- What the promise of `times` leaves open, and what it does not.
---   times-only      two allowed results are equal, but where no times meet all rows each may name its own bad cycle
+--   times-only      two allowed results are equal, but where no times meet all rows each may name its own bad cycle:
+--                   `Free` of specs/Times
 --   answer-long     the answer has 2 + 2n words
 --   times-length    the output is as long as before
 --   times-past      words past 2 + 2n are as they were
@@ -19,7 +20,7 @@ use Rattle.rules.specs.Problem.{nOf}
 use Rattle.rules.specs.Passes.{distances, canMeet}
 use Rattle.rules.specs.Cycle.{BadCycle}
 use Rattle.rules.specs.TimeWords.{timesLength, AcceptedTimes, timeEdges}
-use Rattle.rules.specs.Times.{plainTime, smallTime, timesOf, cycleWords, timesAnswer, timesWritten, Timed}
+use Rattle.rules.specs.Times.{plainTime, smallTime, timesOf, cycleWords, timesAnswer, timesWritten, Timed, Free}
 use Rattle.rules.proofs.Times.Decide.{cycle-short, distances-long}
 use Rattle.rules.proofs.Times.Refused.{accepted-ends, times-accepted-exactly}
 
@@ -44,13 +45,6 @@ met-same : (ws : List ℤ) (rows other : List ℕ) (before : List ℤ) → canMe
     timesWritten 0 ws rows before ≡ timesWritten 0 ws other before
 unfolding timesWritten
 met-same ws rows other before e = ap (λ l. l ++ drop (timesLength ws) before) (answer-can ws rows e ∙ sym (answer-can ws other e))
-
--- where two outputs may differ: each names a bad cycle
-pub record Free (ws : List ℤ) (r : ℕ) (rows other : List ℕ) : Type 0 where
-  pub answered : r ≡ 0
-  pub cannot : canMeet pairs (timeEdges ws) ≡ false
-  pub bad : BadCycle pairs (timeEdges ws) rows
-  pub other-bad : BadCycle pairs (timeEdges ws) other
 
 pub times-only : (ws before : List ℤ) (r q : ℕ) (a c : List ℤ) (x : Timed ws before r a) (y : Timed ws before q c) →
     (r ≡ q) × ((a ≡ c) ⊎ Free ws r (x .rows) (y .rows))

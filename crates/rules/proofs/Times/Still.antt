@@ -1,4 +1,4 @@
--- Distances that no row betters.
+-- Distances that no row betters (`Still` of specs/Traces).
 --   settled-still, still-settled    the test, and back
 --   still-walk, still-least         along a walk; from the added vertex
 --   still-shortest, shortest-only   lengths of walks that no row betters are the shortest distances; these are unique
@@ -19,16 +19,14 @@ use Rattle.whole.proofs.Values.{same-le, le-le, lt-irrefl, plus-le, nil-plus, g
 use Rattle.rules.specs.Walks.{Edges, Walk, stay, on, Shortest, ClosesBelow}
 use Rattle.rules.specs.Passes.{distance, through, betters, settled}
 use Rattle.rules.specs.Cycle.{row, Cycle, around, BadCycle}
+use Rattle.rules.specs.Traces.{Still}
 
 module _ {X : Type 0} (𝓥 : Values X) (E : Edges X) where
-  abbrev pub Still : (ℕ → X) → Type 0
-  Still D = (i : ℕ) → i < E .count → Le 𝓥 (D (E .head i)) (through 𝓥 E D i)
-
-  pub settled-still : (ds : List X) → settled 𝓥 E ds ≡ true → Still (distance 𝓥 E ds)
+  pub settled-still : (ds : List X) → settled 𝓥 E ds ≡ true → Still 𝓥 E (distance 𝓥 E ds)
   unfolding settled
   settled-still ds e i h = not-true (betters 𝓥 E (distance 𝓥 E ds) i) (all-each (E .count) _ e i h)
 
-  pub still-settled : (ds : List X) → Still (distance 𝓥 E ds) → settled 𝓥 E ds ≡ true
+  pub still-settled : (ds : List X) → Still 𝓥 E (distance 𝓥 E ds) → settled 𝓥 E ds ≡ true
   unfolding settled
   still-settled ds s = all-of (E .count) _ (λ i h. ap not (s i h))
 

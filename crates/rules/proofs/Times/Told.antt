@@ -21,13 +21,13 @@ use Rattle.rules.specs.Walks.{Shortest}
 use Rattle.rules.specs.Passes.{distances, canMeet}
 use Rattle.rules.specs.Cycle.{BadCycle, row}
 use Rattle.rules.specs.TimeWords.{timesLength, AcceptedTimes, timeEdges, strictWord, lengthWord}
-use Rattle.rules.specs.Times.{plainTime, smallTime, timesOf, cycleWords, timesAnswer, timesWritten}
-use Rattle.rules.specs.Times.{Timed, RowSays, MeetsSmall, timeIn, TimesTold, CycleTold, BothNamed}
+use Rattle.rules.specs.Times.{plainTime, smallTime, timesOf, cycleWords, timesAnswer, timesWritten, Timed}
+use Rattle.rules.specs.Times.{RowSays, MeetsSmall, timeIn, TimesTold, CycleTold, BothNamed, timeOf, Free}
 use Rattle.rules.proofs.Times.Decide.{cycle-short}
-use Rattle.rules.proofs.Times.Means.{timeOf, some-vertex, once, times-few, times-meet, times-shortest}
+use Rattle.rules.proofs.Times.Means.{some-vertex, once, times-few, times-meet, times-shortest}
 use Rattle.rules.proofs.Times.Means.{cycle-no-fractions}
-use Rattle.rules.proofs.Times.Only.{Free, times-only, answer-can, answer-cannot}
-use Rattle.rules.proofs.Times.Only.{half-long, times-long, times-length, times-past, cycle-long}
+use Rattle.rules.proofs.Times.Only.{times-only, answer-can, answer-cannot, half-long, times-long, times-length}
+use Rattle.rules.proofs.Times.Only.{times-past, cycle-long}
 use Rattle.rules.proofs.Times.Refused.{accepted-ends, times-accepted-exactly}
 
 -- past the first two words
@@ -66,19 +66,19 @@ module _ (ws before after : List ℤ) (x : Timed ws before 0 after) where
     word-at k h = ap (λ l. word l (2 + k)) met ∙ later (pos 1) (pos (nOf ws)) (timesOf ws ++ rest) k
         ∙ List·getD-append (timesOf ws) rest (pos 0) k (omega (arith, times-long A))
 
-    plain-at : (v : ℕ) → v < nOf ws → timeOf A v .0 ≡ word after (2 + v)
+    plain-at : (v : ℕ) → v < nOf ws → timeOf ws v .0 ≡ word after (2 + v)
     plain-at v h = sym (word-at v (omega arith)
         ∙ List·getD-append plains smalls (pos 0) v (omega (arith, half-long A plainTime))
         ∙ List·getD-map plainTime (distances pairs (timeEdges ws)) v (pairs .nil))
 
-    small-at : (v : ℕ) → v < nOf ws → timeOf A v .1 ≡ word after (2 + nOf ws + v)
+    small-at : (v : ℕ) → v < nOf ws → timeOf ws v .1 ≡ word after (2 + nOf ws + v)
     small-at v h = sym (ap (word after) (let z : 2 + nOf ws + v ≡ 2 + (nOf ws + v) = omega arith in z)
         ∙ word-at (nOf ws + v) (omega arith)
         ∙ ap (λ n. word (plains ++ smalls) (n + v)) (sym (half-long A plainTime))
         ∙ getD-append-add plains smalls v (pos 0)
         ∙ List·getD-map smallTime (distances pairs (timeEdges ws)) v (pairs .nil))
 
-    time-at : (v : ℕ) → v < nOf ws → timeOf A v ≡ timeIn ws after v
+    time-at : (v : ℕ) → v < nOf ws → timeOf ws v ≡ timeIn ws after v
     time-at v h = ap₂ (λ a b. (a, b)) (plain-at v h) (small-at v h)
 
     meets : MeetsSmall ws (timeIn ws after)

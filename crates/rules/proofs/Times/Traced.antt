@@ -1,5 +1,4 @@
--- What looking at rows keeps, in whatever arrays distances are held: walks have the distances, and the row that bettered a vertex last is known.
--- `Traced b i time D last` stands after b looks, a whole number of passes, and those at the rows below i.
+-- What looking at rows keeps (`Traced` of specs/Traces), in whatever arrays distances are held.
 --   traced-start, traced-kept, traced-taken, traced-pass   no look; a row that betters nothing, or its head; the next pass begins
 --   traced-still                                           a pass that bettered nothing leaves distances that no row betters
 use mathlib.Core.Path.{_≡_, refl, sym, _∙_, ap, subst, subst₂}
@@ -15,7 +14,7 @@ use Rattle.whole.proofs.Bools.{true-false}
 use Rattle.whole.proofs.Values.{same-le, le-refl, le-le, lt-le-trans, le-lt-trans, weaken, plus-le, plus-lt}
 use Rattle.rules.specs.Walks.{Edges, Walk, stay, on}
 use Rattle.rules.specs.Passes.{through}
-use Rattle.rules.proofs.Times.Still.{Still}
+use Rattle.rules.specs.Traces.{Bettered, Still, Traced}
 
 -- f′ is f but at y, where it is a
 pub record Put {A : Type 0} (f f′ : ℕ → A) (y : ℕ) (a : A) : Type 0 where
@@ -31,26 +30,6 @@ put-put f y a = record {
   here = ap (λ b. cond b a (f y)) (eq-eqb y y refl);
   there = λ v n. ap (λ b. cond b a (f v)) (ne-eqb v y n);
 }
-
-module _ {X : Type 0} (𝓥 : Values X) (E : Edges X) where
-  -- row i bettered v last. `time` has for each vertex the number of the look, from 1, that bettered it last, or 0
-  pub record Bettered (time : ℕ → ℕ) (D : ℕ → X) (v i : ℕ) : Type 0 where
-    pub listed : i < E .count
-    pub leads : E .head i ≡ v
-    -- its tail was bettered at most a pass earlier
-    pub soon : time v ≤ time (E .tail i) + E .count
-    -- what the row offers now is at most what it gave, and less if its tail was bettered since
-    pub most : Le 𝓥 (through 𝓥 E D i) (D v)
-    pub since : time v ≤ time (E .tail i) → Lt 𝓥 (through 𝓥 E D i) (D v)
-
-  pub record Traced (b i : ℕ) (time : ℕ → ℕ) (D : ℕ → X) (last : ℕ → ℕ) : Type 0 where
-    pub walk : (v : ℕ) → (u : ℕ) × (k : ℕ) × Walk 𝓥 E u k v (D v)
-    pub low : (v : ℕ) → Le 𝓥 (D v) (𝓥 .nil)
-    pub recent : (v : ℕ) → time v ≤ b + i
-    pub bettered : (v : ℕ) → 0 < time v → Bettered time D v (last v)
-    -- a row betters nothing unless its tail was bettered since it was looked at, in this pass or in the one before
-    pub looked : (j : ℕ) → j < i → j < E .count → time (E .tail j) ≤ b + j → Le 𝓥 (D (E .head j)) (through 𝓥 E D j)
-    pub unlooked : (j : ℕ) → i ≤ j → j < E .count → time (E .tail j) + E .count ≤ b + j → Le 𝓥 (D (E .head j)) (through 𝓥 E D j)
 
 module _ {X : Type 0} {𝓥 : Values X} (L : Laws 𝓥) (E : Edges X) where
   open Values 𝓥 using (nil, plus)

@@ -18,20 +18,7 @@ use Rattle.whole.specs.Values.{Values}
 use Rattle.whole.proofs.Pigeons.{pigeons}
 use Rattle.rules.specs.Walks.{Edges, Ends}
 use Rattle.rules.specs.Cycle.{row}
-use Rattle.rules.proofs.Times.Traced.{Bettered, Traced}
-
-module _ {X : Type 0} (𝓥 : Values X) (E : Edges X) (time : ℕ → ℕ) (D : ℕ → X) where
-  -- The way has come to `here`, with j places left. `path` holds the rows that it took, from j up to `top`; `seen`
-  -- holds 1 + the place of the row that leads to a vertex, for each vertex that it met, and 0 for every other.
-  pub record Trail (top spare : ℕ) (path seen : List ℕ) (here j : ℕ) : Type 0 where
-    pub most : j ≤ top
-    pub vertex : here < E .vertices
-    pub late : (q : ℕ) → spare + suc q ≡ j → E .count * q < time here
-    pub brings : (q : ℕ) → j ≤ q → q < top → Bettered 𝓥 E time D (E .head (row path q)) (row path q)
-    pub linked : (q : ℕ) → j ≤ q → suc q < top → E .head (row path q) ≡ E .tail (row path (suc q))
-    pub starts : j < top → E .tail (row path j) ≡ here
-    pub marked : (q : ℕ) → j ≤ q → q < top → row seen (E .head (row path q)) ≡ suc q
-    pub marks : (u q : ℕ) → row seen u ≡ suc q → (j ≤ q) × (q < top) × (E .head (row path q) ≡ u)
+use Rattle.rules.specs.Traces.{Bettered, Traced, Trail}
 
 zeros : (n u : ℕ) → row (replicate n 0) u ≡ 0
 zeros n u = go (decLt u n)
@@ -58,7 +45,8 @@ module _ {X : Type 0} {𝓥 : Values X} (E : Edges X) (ends : Ends E) (b i : ℕ
     marks = λ u q e. let z : 0 ≡ suc q = sym (zeros n u) ∙ e in let y : ⊥ = omega arith in absurd y;
   }
 
-  pub trail-ends : (path seen : List ℕ) (here j : ℕ) → At path seen here j → time here ≡ 0 → j ≤ spare
+  pub trail-ends : (path seen : List ℕ) (here j : ℕ) → Trail 𝓥 E time D top spare path seen here j →
+      time here ≡ 0 → j ≤ spare
   trail-ends path seen here j r z = go (decLt spare j)
     where
       go : Dec (spare < j) → j ≤ spare

@@ -29,8 +29,8 @@ use Rattle.rules.specs.Passes.{through, betters, distance, distances}
 use Rattle.rules.specs.TimeWords.{timeEdges}
 use Rattle.rules.proofs.Times.Decide.{set-put, still-can, still-distance}
 use Rattle.rules.proofs.Times.Refused.{n-few, m-few, accepted-ends}
-use Rattle.rules.proofs.Times.Still.{Still}
-use Rattle.rules.proofs.Times.Traced.{Put, put, put-put, Traced, traced-start, traced-kept, traced-taken, traced-pass}
+use Rattle.rules.specs.Traces.{Still, Traced}
+use Rattle.rules.proofs.Times.Traced.{Put, put, put-put, traced-start, traced-kept, traced-taken, traced-pass}
 use Rattle.rules.proofs.Times.Traced.{traced-still}
 use Rattle.lengths.specs.declared.Length.{Length}
 use Rattle.lengths.specs.Lengths.{unit, lengthOf, noRows, keyOf, looks, Near, lengthAt, at}

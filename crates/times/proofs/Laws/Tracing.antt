@@ -23,7 +23,8 @@ use Rattle.rules.specs.Cycle.{row}
 use Rattle.rules.specs.TimeWords.{timeEdges}
 use Rattle.rules.proofs.Times.Closed.{trail-cycle}
 use Rattle.rules.proofs.Times.Refused.{n-few, m-few, accepted-ends}
-use Rattle.rules.proofs.Times.Trail.{Trail, trail-start, trail-left, trail-ends, trail-more}
+use Rattle.rules.specs.Traces.{Trail}
+use Rattle.rules.proofs.Times.Trail.{trail-start, trail-left, trail-ends, trail-more}
 use Rattle.times.specs.Steps.{rowAt, noRow, Looked, Closing, Went}
 
 module _ {ws : List ℤ} {last : List ℕ} {passes v : ℕ} (c : Closing ws last passes v) where
