@@ -51,9 +51,6 @@ mixedCell = mixedLaid inUse
 abbrev pub mixedAt : ℕ → ℕ → ℤ → List ℤ → ℕ → ℕ → ℕ → ℤ
 mixedAt m n common l p q k = mixedCell m n common l p q (rowAt m n k) (columnAt m n k)
 
-abbrev pub mixedEntries : ℕ → ℕ → ℤ → List ℤ → ℕ → ℕ → List ℤ
-mixedEntries = mixLaid inUse
-
 -- .. the first k cells alone; the others are 0
 abbrev pub mixedUpTo : ℕ → ℕ → ℤ → List ℤ → ℕ → ℕ → ℕ → List ℤ
 mixedUpTo m n common l p q k = filled mostEntries (pos 0) k (mixedAt m n common l p q)

@@ -1,6 +1,6 @@
 -- The answer is the run: from a state that is ready, where no limits cross, it ends once, after fewer pivots than the bound, and the
 -- words are those of the state that it ends at; where some cross, the lowest such variable is the evidence, with no pivot.
---   crosses-exactly, none-crosses             the lowest variable whose lower limit exceeds its upper; none
+--   crosses-exactly                           the lowest variable whose lower limit exceeds its upper
 --   spending-run, spending-crossed            what a run with pivots to spend comes to, of any values
 --   ending-run, ending-crossed                .. and a check
 --   answer-run                                the one count, and the answer's words: `TheRun` of specs/TheRun
@@ -69,11 +69,6 @@ module _ {X : Type 0} (𝓥 : Values X) where
     λ e. let f = r .0 e in (f .0, crossed-tells P v .if-true (f .1), λ u h. crossed-tells P u .if-false (f .2 u h)),
     λ (h, c, first). r .1 (h, tells-true (crossed-tells P v) c, λ u k. tells-false (crossed-tells P u) (first u k)),
   )
-
-  pub none-crosses : (P : Problem X) → (conflict 𝓥 P ≡ none) ↔ ((v : ℕ) → v < vars P → ¬ Crosses 𝓥 P v)
-  unfolding conflict
-  none-crosses P = let r = none-passes (vars P) (λ v. crossed 𝓥 (P .lower v) (P .upper v)) in
-      (λ e v h. crossed-tells P v .if-false (r .0 e v h), λ n. r .1 (λ v h. tells-false (crossed-tells P v) (n v h)))
 
   -- ---- what a check comes to
 

@@ -1,5 +1,5 @@
 -- The four answers there are, with what each knows: crossed limits, or the state at which the run ends.
---   verdict-word, count-word, denominator-word, lower-part, upper-part, laid-length    the parts of its words, `laid`
+--   verdict-word, denominator-word, lower-part, upper-part, laid-length    the parts of its words, `laid`
 --   answered       `Answered` of specs/Answers, of any state that is ready
 use mathlib.Core.List.{List, _++_, _∷_}
 use mathlib.Core.Logic.{_≢_}
@@ -28,10 +28,6 @@ module _ (a b c : ℤ) (xs ys : List ℤ) where
   pub verdict-word : word (laid a b c xs ys) 0 ≡ a
   unfolding laid
   verdict-word = refl
-
-  pub count-word : word (laid a b c xs ys) 1 ≡ b
-  unfolding laid
-  count-word = refl
 
   pub denominator-word : word (laid a b c xs ys) 2 ≡ c
   unfolding laid

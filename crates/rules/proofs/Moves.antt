@@ -1,7 +1,7 @@
 -- What one step comes to, by the variables that it chooses and the range test of the pivoted tableau.
 --   stepped        the four cases with their choices: `Stepped`
---   step-can, step-cannot, step-range    a step ends so exactly where the choices are these
---   step-goes, goes-step    a step goes to t exactly where the choices are those of `Goes`
+--   step-cannot, step-range    a step ends so exactly where the choices are these
+--   step-goes      where a step goes to t the choices are those of `Goes`
 use mathlib.Core.Bool.{Bool, false, true}
 use mathlib.Core.List.{List}
 use mathlib.Core.Logic.{_↔_}
@@ -42,16 +42,6 @@ module _ {X : Type 0} (𝓥 : Values X) where
               fit-by false f = is-range r w q y f (rw (q, step) (rw y (rw (f, admit))))
 
   -- ---- a step that ends
-
-  pub step-can : (P : Problem X) (s : State X) → (step 𝓥 P s ≡ can) ↔ (leaving 𝓥 P s ≡ none)
-  unfolding step evidence
-  step-can P s = (λ e. go e (stepped P s), λ q. rw (q, step))
-    where
-      go : step 𝓥 P s ≡ can → Stepped P s → leaving 𝓥 P s ≡ none
-      go e (is-can q z) = q
-      go e (is-cannot r q y z) = let c : _≡_ {A = ℕ} 0 1 = cc in zero-one c
-      go e (is-range r w q y f z) = let c : _≡_ {A = ℕ} 0 1 = cc in zero-one c
-      go e (is-goes r w q y f z) = let c : _≡_ {A = ℕ} 0 1 = cc in zero-one c
 
   pub step-cannot : (P : Problem X) (s : State X) (ls us : List ℤ) → (step 𝓥 P s ≡ cannot ls us)
       ↔ ((r : Leaving X) × (leaving 𝓥 P s ≡ some r) × (entering 𝓥 P s r ≡ none)
@@ -101,9 +91,3 @@ module _ {X : Type 0} (𝓥 : Values X) where
       go (is-range r w q y f z) = let c : _≡_ {A = ℕ} 0 1 = cc in zero-one c
       go (is-goes r w q y f z) = let g : t ≡ moved 𝓥 P s r w = cc in
           record { out = r; into = w; leaves = q; enters = y; next-is = g; fits = rw g f }
-
-  pub goes-step : (P : Problem X) (s t : State X) → Goes P s t → step 𝓥 P s ≡ goes t
-  unfolding step admit
-  goes-step P s t g =
-      let f : small (vars P) (moved 𝓥 P s (g .out) (g .into) .tableau) ≡ true = rw (← (g .next-is)) (g .fits) in
-      (rw (g .leaves, step) (rw (g .enters) (rw (f, admit)))) ∙ ap goes (sym (g .next-is))

@@ -1,5 +1,5 @@
 -- What accepted words hold, as facts about their sizes and their problem.
---   n-some, n-few, m-few, n-is, m-is        n is 1 to 8, m at most the rows; the two words are these numbers
+--   n-few, m-few                            n is at most 8, m at most the rows
 --   coefficient-within                      every coefficient is within its range
 --   lower-within, upper-within              every present limit is within its range
 --   problem-n, problem-m, problem-vars      the problem's sizes are the words'
@@ -38,20 +38,11 @@ present-within true s z l h e = let q : _≡_ {A = Limit} (record { plain = z; s
 present-within false s z l h e = absurd (Option·none-ne-some l e)
 
 module _ {rows : ℕ} {ws : List ℤ} (A : Accepted rows ws) where
-  pub n-some : 1 ≤ nOf ws
-  n-some = above 1 (word ws 0) (A .n-least)
-
   pub n-few : nOf ws ≤ mostColumns
   n-few = under mostColumns 1 (word ws 0) (A .n-least) (A .n-most)
 
   pub m-few : mOf ws ≤ rows
   m-few = under rows 0 (word ws 1) (A .m-least) (A .m-most)
-
-  pub n-is : word ws 0 ≡ pos (nOf ws)
-  n-is = own-size 1 (word ws 0) (A .n-least)
-
-  pub m-is : word ws 1 ≡ pos (mOf ws)
-  m-is = own-size 0 (word ws 1) (A .m-least)
 
   pub coefficient-within : (i j : ℕ) → i < mOf ws → j < nOf ws → Within (problem ws .coefficient i j) largestCoefficient
   unfolding problem

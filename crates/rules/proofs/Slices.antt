@@ -8,7 +8,7 @@
 --   finished-again           a finished state stays, and answers the same
 --   slices-only              once the numbers reach the end, the state is the same
 --   on-way-start, on-way-more    every state that is handed back is on the way of its run
---   on-way-rowed, on-way-below, on-way-answer, on-way-none     .. and what follows
+--   on-way-rowed, on-way-below     .. and what follows
 --   sliced-words, cut-answer       of words
 -- `cutAt`, `Sliced` and `OnWay` are in specs/Cut.
 use mathlib.Core.List.{List, [], _∷_}
@@ -208,13 +208,6 @@ module _ (S : Slice (ℤ × ℤ)) (W : OnWay S) where
   pub on-way-more : (b : ℕ) → OnWay (continued pairs S b)
   on-way-more b = subst OnWay (sym (continued-is b))
       (record { from = W .from; ready = W .ready; run = W .run; state-is = refl; reached = omega arith })
-
-  -- the answer exactly where the pivots reach the count, and that of the uncut run
-  pub on-way-answer : (b : ℕ) → W .run .count ≤ S .count + b → sliceAnswer S b ≡ some (answerFrom P (W .from))
-  on-way-answer b h = ap (λ A. sliceAnswer A b) slice-is ∙ W .run .answers b (S .count) (W .reached) h
-
-  pub on-way-none : (b : ℕ) → S .count + b < W .run .count → sliceAnswer S b ≡ none
-  on-way-none b h = ap (λ A. sliceAnswer A b) slice-is ∙ W .run .goes-on b (S .count) h
 
 -- ---- of words
 

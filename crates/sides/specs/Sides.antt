@@ -59,9 +59,6 @@ lowerIn p = leastIn (p .lower)
 abbrev pub upperIn : LimitPair → Option (ℤ × ℤ)
 upperIn p = mostIn (p .upper)
 
-abbrev pub pairAt : Limits → ℕ → LimitPair
-pairAt l v = record { lower = lowerGiven l v; upper = upperGiven l v }
-
 -- D, and D times a value, against two limits
 abbrev pub breachAt : ℤ → ℤ × ℤ → Option (ℤ × ℤ) → Option (ℤ × ℤ) → Breach
 breachAt d x l u = asBreach (sideOf d x l u) (shortfallBy pairs d x l u)

@@ -1,6 +1,6 @@
 -- Division of ℤ toward zero, as the code's `/` does it (lib.Signed.quotZ), where the divisor divides.
 --   exact-up, exact-down    by a positive and by a negative divisor: divisor times quotient is the number again
---   quot-of, quot-zero      the quotient of a product, and of 0
+--   quot-of                 the quotient of a product
 --   abs-quot, within-quot   a quotient is no larger
 --   bits-nonzero            a divisor other than 0 is not 0 as bits
 --   size-quot               the size of a quotient is the quotient of sizes
@@ -38,10 +38,6 @@ quot-neg (suc m) g = refl
 pub quot-of : (a : ℤ) (g : ℕ) → zero < g → quotZ (a *ℤ pos g) (pos g) ≡ a
 quot-of (pos n) g h = ap pos (mul-div-cancel n h)
 quot-of (negsuc n) g h = quot-neg (suc n * g) g ∙ ap (λ x. negℤ (pos x)) (mul-div-cancel (suc n) h)
-
-pub quot-zero : (g : ℤ) → quotZ (pos 0) g ≡ pos 0
-quot-zero (pos g) = ap pos (zero-div g)
-quot-zero (negsuc g) = ap (λ n. negℤ (pos n)) (zero-div (suc g))
 
 pub size-quot : (z g : ℤ) → natAbs (quotZ z g) ≡ natAbs z / natAbs g
 size-quot (pos a) (pos g) = refl

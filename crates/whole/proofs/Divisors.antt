@@ -1,10 +1,9 @@
 -- Greatest common divisors of natural numbers.
 --   gcd-dvd-l, gcd-dvd-r, gcd-greatest, gcd-only    it divides both, is greatest, and is the only such number
---   gcd-zero, gcd-step, gcd-one                     Euclid's steps, and that 1 stays
+--   gcd-zero, gcd-step                              Euclid's steps
 --   gcd-times                                       what divides f times both divides f times the divisor
 --   fold-dvd, fold-greatest, fold-times             over the numbers below k and a start
 --   fold-pos, fold-most                             above 0, and no more than the start
---   fold-lowest                                     dividing all by it leaves divisor 1
 --   gcdList-dvd, -greatest, -only, -lowest          the same over a list
 use mathlib.Core.Path.{_≡_, refl, sym, _∙_, ap, subst}
 use mathlib.Core.List.{List, [], _∷_, map}
@@ -88,9 +87,6 @@ gcd-step a (suc b) h =
     let m : a % suc b < suc b = mod-lt a (zero-lt-suc b) in
     fuel (suc b) (suc (a % suc b)) (suc b) (a % suc b) m (omega arith)
 
-pub gcd-one : (a : ℕ) → gcd a 1 ≡ 1
-gcd-one a = gcd-step a 1 (omega arith) ∙ ap (gcd 1) (mod-one a) ∙ gcd-zero 1
-
 -- ---- the numbers x below k, and a start a
 
 pub fold-dvd : (k : ℕ) (x : ℕ → ℕ) (a : ℕ) →
@@ -121,37 +117,6 @@ fold-pos k x a h = pos-of-dvd-of-pos (fold-dvd k x a .0) h
 pub fold-most : (k : ℕ) (x : ℕ → ℕ) (a : ℕ) → 0 < a → foldBelow k (λ u h. gcd (x u) h) a ≤ a
 fold-most k x a h = le-of-dvd h (fold-dvd k x a .0)
 
-exact : (a g : ℕ) → g ∣ a → a / g * g ≡ a
-exact a g d = let z : a % g ≡ 0 = mod-eq-zero-of-dvd g d in omega (arith, div-add-mod' a g)
-
--- d of a quotient by g is d g of the number
-lifted : (d g a : ℕ) → g ∣ a → d ∣ a / g → d * g ∣ a
-lifted d g a p q = subst (λ z. d * g ∣ z) (exact a g p) (times d (a / g) q)
-  where
-    times : (d b : ℕ) → d ∣ b → d * g ∣ b * g
-    times d b h = subst (λ z. d * g ∣ z * g) (exact b d h) (subst (λ z. d * g ∣ z) (regroup (b / d) d g) (dvd-mul-left (d * g) (b / d)))
-      where
-        regroup : (k d g : ℕ) → k * (d * g) ≡ k * d * g
-        regroup k d g = sym (mul-assoc k d g)
-
-pub fold-lowest : (k : ℕ) (x : ℕ → ℕ) (a g : ℕ) → 0 < a → g ≡ foldBelow k (λ u h. gcd (x u) h) a →
-    foldBelow k (λ u h. gcd (x u / g) h) (a / g) ≡ 1
-fold-lowest k x a g h e = dvd-one .0 (dvd-of-mul-dvd-mul-right D {n = 1} g-pos (subst (λ z. D * g ∣ z) (sym (one-mul g)) D-g))
-  where
-    D : ℕ
-    D = foldBelow k (λ u h. gcd (x u / g) h) (a / g)
-
-    g-pos : 0 < g
-    g-pos = rw e (fold-pos k x a h)
-
-    parts : (D ∣ a / g) × ((u : ℕ) → u < k → D ∣ x u / g)
-    parts = fold-dvd k (λ u. x u / g) (a / g)
-
-    D-g : D * g ∣ g
-    D-g = subst (λ z. D * g ∣ z) (sym e) (fold-greatest k x a (D * g)
-        (lifted D g a (rw e (fold-dvd k x a .0)) (parts .0))
-        (λ u l. lifted D g (x u) (rw e (fold-dvd k x a .1 u l)) (parts .1 u l)))
-
 -- ---- a list
 
 pub gcdList-start : (d : ℕ) (l : List ℤ) → gcdList d l ∣ d
@@ -174,29 +139,3 @@ gcdList-greatest d (z ∷ l) e p q =
 pub gcdList-only : (d : ℕ) (l : List ℤ) (g : ℕ) → g ∣ d → ((k : ℕ) → k < length l → g ∣ natAbs (getD l k (pos 0))) →
     ((e : ℕ) → e ∣ d → ((k : ℕ) → k < length l → e ∣ natAbs (getD l k (pos 0))) → e ∣ g) → g ≡ gcdList d l
 gcdList-only d l g p q h = dvd-antisymm (gcdList-greatest d l g p q) (h (gcdList d l) (gcdList-start d l) (gcdList-dvd d l))
-
--- dividing all of the list by the divisor leaves divisor 1
-pub gcdList-lowest : (d : ℕ) (l : List ℤ) (g : ℕ) → 0 < d → g ≡ gcdList d l →
-    gcdList (d / g) (map (λ z. quotZ z (pos g)) l) ≡ 1
-gcdList-lowest d l g h e =
-    dvd-one .0 (dvd-of-mul-dvd-mul-right D {n = 1} g-pos (subst (λ z. D * g ∣ z) (sym (one-mul g)) D-g))
-  where
-    quotients : List ℤ
-    quotients = map (λ z. quotZ z (pos g)) l
-
-    D : ℕ
-    D = gcdList (d / g) quotients
-
-    g-pos : 0 < g
-    g-pos = rw e (pos-of-dvd-of-pos (gcdList-start d l) h)
-
-    each : (k : ℕ) → k < length l → D ∣ natAbs (getD l k (pos 0)) / g
-    each k q = subst (λ z. D ∣ z)
-        (ap (λ z. natAbs (getD quotients k z)) (sym (ap pos (zero-div g)))
-        ∙ ap natAbs (List·getD-map (λ z. quotZ z (pos g)) l k (pos 0)) ∙ size-quot (getD l k (pos 0)) (pos g))
-        (gcdList-dvd (d / g) quotients k (rw (length-map l (λ z. quotZ z (pos g))) q))
-
-    D-g : D * g ∣ g
-    D-g = subst (λ z. D * g ∣ z) (sym e) (gcdList-greatest d l (D * g)
-        (lifted D g d (rw e (gcdList-start d l)) (gcdList-start (d / g) quotients))
-        (λ k q. lifted D g (natAbs (getD l k (pos 0))) (rw e (gcdList-dvd d l k q)) (each k q)))

@@ -76,10 +76,6 @@ add-sub a n = ring! (a ∷ n ∷ []) (search reify depth 30) (search reify depth
 sub-add : (a b : ℤ) → a +ℤ (b -ℤ a) ≡ b
 sub-add a b = ring! (a ∷ b ∷ []) (search reify depth 30) (search reify depth 30) refl
 
--- the same with `pos n` for an atom
-add-sub-n : (a : ℤ) (n : ℕ) → a +ℤ pos n -ℤ a ≡ pos n
-add-sub-n a n = ring! (a ∷ pos n ∷ []) (search reify·atoms depth 30) (search reify·atoms depth 30) refl
-
 pub of-le : {a b : ℤ} → a ≤ℤ b → NN (b -ℤ a)
 of-le {a} {b} h =
     let w = wit a b (h .le) in
@@ -132,10 +128,6 @@ _⊠_ {a} {b} h k = record { nn = go a b (h .nn) (k .nn) }
 -- a constant factor
 pub _⊡_ : (n : ℕ) {a : ℤ} → NN a → NN (pos n *ℤ a)
 n ⊡ h = _⊠_ {a = pos n} (record { nn = tt }) h
-
-pub nn-sq : (a : ℤ) → NN (a *ℤ a)
-nn-sq (pos a) = record { nn = tt }
-nn-sq (negsuc a) = record { nn = tt }
 
 pub nn-nat : (n : ℕ) → NN (pos n)
 nn-nat n = record { nn = tt }

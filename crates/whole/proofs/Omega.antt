@@ -85,19 +85,6 @@ le-nat {m} {n} h = leb→le m n ((to-le {a = pos m} {b = pos n} h) .le)
 nat-le : {m n : ℕ} → m ≤ n → NN (pos n -ℤ pos m)
 nat-le {m} {n} h = of-le {a = pos m} {b = pos n} (record { le = le→leb m n h })
 
--- a fact of ℤ as one of ℕ, and back
-pub le-out : (ρ : List ℤ) {a b : ℤ} → a ≤ℤ b → (p : Q ρ a) (q : Q ρ b) → P ρ (p .ex) + M ρ (q .ex) ≤ P ρ (q .ex) + M ρ (p .ex)
-le-out ρ {a} {b} h p q = le-nat (subst NN (ap₂ (λ x y. y -ℤ x) (sym (p .ex-ok) ∙ PM ρ (p .ex)) (sym (q .ex-ok) ∙ PM ρ (q .ex)) ∙ sh (pos (P ρ (q .ex))) (pos (M ρ (q .ex))) (pos (P ρ (p .ex))) (pos (M ρ (p .ex)))) (of-le h))
-  where
-    sh : (c d a b : ℤ) → (c -ℤ d) -ℤ (a -ℤ b) ≡ (c +ℤ b) -ℤ (a +ℤ d)
-    sh c d a b = ring-at (a ∷ b ∷ c ∷ d ∷ []) (search reify depth 30) refl
-
-pub le-in : (ρ : List ℤ) {a b : ℤ} (p : Q ρ a) (q : Q ρ b) → P ρ (p .ex) + M ρ (q .ex) ≤ P ρ (q .ex) + M ρ (p .ex) → a ≤ℤ b
-le-in ρ {a} {b} p q h = to-le (subst NN (sym (ap₂ (λ x y. y -ℤ x) (sym (p .ex-ok) ∙ PM ρ (p .ex)) (sym (q .ex-ok) ∙ PM ρ (q .ex)) ∙ sh (pos (P ρ (q .ex))) (pos (M ρ (q .ex))) (pos (P ρ (p .ex))) (pos (M ρ (p .ex))))) (nat-le h))
-  where
-    sh : (c d a b : ℤ) → (c -ℤ d) -ℤ (a -ℤ b) ≡ (c +ℤ b) -ℤ (a +ℤ d)
-    sh c d a b = ring-at (a ∷ b ∷ c ∷ d ∷ []) (search reify depth 30) refl
-
 -- ---- one search for each fact: `out ρ (of-le h) (search reify depth 30) : M .. ≤ P ..`
 pub out : (ρ : List ℤ) {z : ℤ} → NN z → (q : Q ρ z) → M ρ (q .ex) ≤ P ρ (q .ex)
 out ρ h q = le-nat (subst NN (sym (q .ex-ok) ∙ PM ρ (q .ex)) h)
@@ -107,15 +94,3 @@ into ρ q h = subst NN (sym (sym (q .ex-ok) ∙ PM ρ (q .ex))) (nat-le h)
 
 pub le-ω : (ρ : List ℤ) {a b : ℤ} (q : Q ρ (b -ℤ a)) → M ρ (q .ex) ≤ P ρ (q .ex) → a ≤ℤ b
 le-ω ρ q h = to-le (into ρ q h)
-
-pub lt-ω : (ρ : List ℤ) {a b : ℤ} (q : Q ρ (b -ℤ (a +ℤ pos 1))) → M ρ (q .ex) ≤ P ρ (q .ex) → a <ℤ b
-lt-ω ρ q h = to-lt (into ρ q h)
-
-pub eq-ω : (ρ : List ℤ) {a b : ℤ} (q : Q ρ (b -ℤ a)) → M ρ (q .ex) ≡ P ρ (q .ex) → a ≡ b
-eq-ω ρ {a} {b} q h = ≤ℤ-antisym (to-le (into ρ q (omega arith))) (to-le (subst NN (swap a b) (nn-neg ρ q h)))
-  where
-    swap : (a b : ℤ) → negℤ (b -ℤ a) ≡ a -ℤ b
-    swap a b = ring-at (a ∷ b ∷ []) (search reify depth 30) refl
-
-    nn-neg : (ρ : List ℤ) {z : ℤ} (q : Q ρ z) → M ρ (q .ex) ≡ P ρ (q .ex) → NN (negℤ z)
-    nn-neg ρ q h = subst NN (ap negℤ (sym (PM ρ (q .ex)) ∙ q .ex-ok)) (subst NN (sym (r~ (pos (P ρ (q .ex))) (pos (M ρ (q .ex))))) (nat-le {m = P ρ (q .ex)} {n = M ρ (q .ex)} (omega arith)))

@@ -3,7 +3,7 @@
 --   cmp a b : Cmp a b, sign a : Sign a                       the three cases
 --   ≤ℤ-+, <ℤ-+                                               sums
 --   times-up, times-down, -strict, *ℤ-pos-pos, ..            products by sign
---   *ℤ-cancel-≤, *ℤ-cancel, cancel                           a factor taken off
+--   *ℤ-cancel, cancel                                        a factor taken off
 --   true→lt, false→le, lt→true, le→false, leZ-no             between a test and a fact
 use mathlib.Core.Path.{_≡_, refl, sym, _∙_, ap, subst}
 use mathlib.Core.Logic.{_≢_, _⊎_, inl, inr}
@@ -131,22 +131,10 @@ times-down {a} {x} {y} h k = le-at (a ∷ x ∷ y ∷ []) (of-lt h ⊠ of-le k �
 pub times-down-strict : {a x y : ℤ} → a <ℤ pos 0 → x <ℤ y → (a *ℤ y) <ℤ (a *ℤ x)
 times-down-strict {a} {x} {y} h k = lt-at (a ∷ x ∷ y ∷ []) (of-lt h ⊠ of-lt k ⊞ of-lt h ⊞ of-lt k) (search reify depth 30) slk
 
-pub *ℤ-nonneg : {a b : ℤ} → pos 0 ≤ℤ a → pos 0 ≤ℤ b → pos 0 ≤ℤ (a *ℤ b)
-*ℤ-nonneg {a} {b} h k = le-at (a ∷ b ∷ []) (of-le h ⊠ of-le k) (search reify depth 30) slk
-
 pub *ℤ-pos-pos : {a b : ℤ} → pos 0 <ℤ a → pos 0 <ℤ b → pos 0 <ℤ (a *ℤ b)
 *ℤ-pos-pos {a} {b} h k = lt-at (a ∷ b ∷ []) (of-lt h ⊠ of-lt k ⊞ of-lt h ⊞ of-lt k) (search reify depth 30) slk
 
 -- ---- a factor taken off
-
-pub *ℤ-cancel-≤ : {a b c : ℤ} → pos 0 <ℤ c → (a *ℤ c) ≤ℤ (b *ℤ c) → a ≤ℤ b
-*ℤ-cancel-≤ {a} {b} {c} h k = go (cmp a b)
-  where
-    go : Cmp a b → a ≤ℤ b
-    go (low l) = <ℤ→≤ℤ l
-    go (same e) = to-le (of-eq e)
-    go (high l) =
-        absurd (contra (a ∷ b ∷ c ∷ []) (of-le k ⊞ of-lt l ⊠ of-lt h ⊞ of-lt l ⊞ of-lt h) (search reify depth 30) blw)
 
 abbrev pub Nonzero : ℤ → Type 0
 Nonzero b = (pos 0 <ℤ b) ⊎ (b <ℤ pos 0)

@@ -1,6 +1,6 @@
 -- A list that a loop writes from the front, and what it then holds.
---   length-prefix, set-prefix, prefix-all      `take i s ++ drop i t`: s written over t
---   front, front-next, front-set, front-all    a list mapped in place
+--   set-prefix, prefix-all                     `take i s ++ drop i t`: s written over t
+--   front, front-next, front-all               a list mapped in place
 --   table-next, set-table                      `table k f ++ drop k l`: a list filled by a function
 --   filled-start, filled-more, filled-all      an array filled by a function: nothing, one element more, all of it
 --   filled-same, filled-rest                   .. by functions that are equal there; what is past the filled part
@@ -17,9 +17,6 @@ use Rattle.whole.specs.Tables.{table, tableFrom, filled}
 use Rattle.whole.proofs.Tables.{table-length, table-last, table-same}
 
 module _ {A : Type 0} where
-  pub length-prefix : (s t : List A) (i : ℕ) → i ≤ length s → length s ≤ length t → length (take i s ++ drop i t) ≡ length t
-  length-prefix s t i h k = simp (length-append, length-take, length-drop) (omega arith)
-
   prefix-suc : (s t : List A) (i : ℕ) (d : A) → i < length s → length s ≤ length t → set (take i s ++ drop i t) i (getD s i d) ≡ take (suc i) s ++ drop (suc i) t
   prefix-suc [] t i d h k = absurd (omega arith)
   prefix-suc (a ∷ s) [] i d h k = absurd (omega arith)
@@ -56,9 +53,6 @@ module _ {A : Type 0} (f : A → A) where
   front-suc [] k d h = absurd (omega arith)
   front-suc (a ∷ l) zero d h = refl
   front-suc (a ∷ l) (suc k) d h = ap (λ (m : List A). f a ∷ m) (front-suc l k d (le-of-suc-le-suc h))
-
-  pub front-set : (l : List A) (k : ℕ) (d : A) → k < length l → set (front k l) k (f (getD (front k l) k d)) ≡ front (k + 1) l
-  front-set l k d h = rw (add-one, front-next) (front-suc l k d h)
 
   pub front-all : (l : List A) (k : ℕ) → length l ≤ k → front k l ≡ map f l
   front-all [] zero h = refl

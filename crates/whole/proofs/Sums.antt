@@ -1,13 +1,13 @@
 -- Sums of whole numbers over the numbers below k: the laws of `total` at ℤ, and what only ℤ has.
---   sum-none, sum-more, sum-head   no term; the last, the first term taken off; sum-step for a loop
+--   sum-more, sum-head             the last, the first term taken off; sum-step for a loop
 --   sum-same, sum-plus, sum-times  equal terms; sum of sums; a factor
 --   sum-swap, sum-zero, sum-one    two sums swapped; all terms 0; all but one
 --   sum-split                      one index taken out
 --   sum-front, sum-parts           the terms from n on are 0; the first n terms, and the others
---   sum-nonneg, sum-zero-each      terms not below 0; .. whose sum is 0 are all 0
+--   sum-nonneg                     terms not below 0
 --   sum-mono                       terms in order
---   sum-within, sum-within-most    k terms each within b: the sum is within k times b, and within n times b for k up to n
---   dot-sum, reduce-row            of lists; a row divided by a common factor
+--   sum-within                     k terms each within b: the sum is within k times b
+--   dot-sum                        of lists
 use mathlib.Core.Path.{_≡_, refl, sym, _∙_, ap, ap₂, subst}
 use mathlib.Core.Logic.{_≢_}
 use mathlib.Core.Bool.{Bool, true, false}
@@ -29,10 +29,6 @@ use Rattle.whole.proofs.Order.{≤ℤ-antisym, ≤ℤ-+, *ℤ-cancel}
 use Rattle.whole.proofs.Sizes.{within-+, within-le}
 use Rattle.whole.proofs.Values.{total-same, total-plus, scale-total, total-swap, total-zero, total-one}
 use Rattle.whole.proofs.Instances.{whole-laws}
-
-pub sum-none : (f : ℕ → ℤ) → sum 0 f ≡ pos 0
-unfolding sumBy
-sum-none f = refl
 
 pub sum-more : (n : ℕ) (f : ℕ → ℤ) → sum (suc n) f ≡ sum n f +ℤ f n
 unfolding sumBy
@@ -151,21 +147,6 @@ unfolding sumBy
 sum-nonneg zero h = nn-nat 0
 sum-nonneg (suc n) h = sum-nonneg n (λ k l. h k (omega arith)) ⊞ h n (le-refl (suc n))
 
-zero-parts : {a b : ℤ} → NN a → NN b → a +ℤ b ≡ pos 0 → a ≡ pos 0
-zero-parts {a} {b} h k e = ≤ℤ-antisym {a = a} {b = pos 0}
-    (subst (λ z. a ≤ℤ z) e (le-at (a ∷ b ∷ []) k (search reify depth 30) slk))
-    (le-at (a ∷ b ∷ []) h (search reify depth 30) slk)
-
-pub sum-zero-each : (n : ℕ) {f : ℕ → ℤ} → ((k : ℕ) → k < n → NN (f k)) → sum n f ≡ pos 0 → (k : ℕ) → k < n → f k ≡ pos 0
-sum-zero-each n {f} h e k l = zero-parts (h k l) (sum-nonneg n (λ i m. but-nn i m)) (sym (sum-split n k f l) ∙ e)
-  where
-    but-nn : (i : ℕ) → i < n → NN (but k f i)
-    but-nn i m = go (eqb i k)
-      where
-        go : (b : Bool) → NN (drop-if b (f i))
-        go true = nn-nat 0
-        go false = h i m
-
 pub sum-mono : (n : ℕ) {f g : ℕ → ℤ} → ((k : ℕ) → k < n → f k ≤ℤ g k) → sum n f ≤ℤ sum n g
 unfolding sumBy
 sum-mono zero h = ≤ℤ-refl (pos 0)
@@ -178,10 +159,6 @@ unfolding sumBy
 sum-within zero h = record { within = omega arith }
 sum-within (suc k) {f} {b} h =
     within-le (within-+ (sum-within k (λ i l. h i (omega arith))) (h k (omega arith))) (omega arith)
-
--- every partial sum of n terms
-pub sum-within-most : (k n : ℕ) {f : ℕ → ℤ} {b : ℕ} → k ≤ n → ((i : ℕ) → i < k → Within (f i) b) → Within (sum k f) (n * b)
-sum-within-most k n {b = b} l h = within-le (sum-within k h) (mul-le-mul l (le-refl b))
 
 -- ---- lists
 
@@ -201,13 +178,3 @@ dot-sum (suc n) (a ∷ x) [] p q = absurd (no′ n q)
     no′ : (n : ℕ) → zero ≡ suc n → ⊥
     no′ n e = omega arith
 dot-sum (suc n) (a ∷ x) (b ∷ y) p q = ap (λ z. a *ℤ b +ℤ z) (dot-sum n x y (suc-inj p) (suc-inj q)) ∙ sym (sum-head n (λ k. getD (a ∷ x) k (pos 0) *ℤ getD (b ∷ y) k (pos 0)))
-
--- a row divided by a common factor of its denominator and coefficients
-pub reduce-row : (n : ℕ) (g D D′ v : ℤ) (a a′ x : ℕ → ℤ) → pos 0 <ℤ g → D ≡ D′ *ℤ g → ((k : ℕ) → k < n → a k ≡ a′ k *ℤ g) → D *ℤ v ≡ sum n (λ k. a k *ℤ x k) → D′ *ℤ v ≡ sum n (λ k. a′ k *ℤ x k)
-reduce-row n g D D′ v a a′ x h e f r = *ℤ-cancel h (swap D′ v g ∙ ap (λ z. z *ℤ v) (sym e) ∙ r ∙ sum-same n (λ k. a k *ℤ x k) (λ k. g *ℤ (a′ k *ℤ x k)) (λ k l. point (a k) (a′ k) (x k) (f k l)) ∙ sum-times n g (λ k. a′ k *ℤ x k) ∙ *ℤ-comm g (sum n (λ k. a′ k *ℤ x k)))
-  where
-    swap : (D v g : ℤ) → (D *ℤ v) *ℤ g ≡ (D *ℤ g) *ℤ v
-    swap D v g = ring-at (D ∷ v ∷ g ∷ []) (search reify depth 30) refl
-
-    point : (a a′ x : ℤ) → a ≡ a′ *ℤ g → a *ℤ x ≡ g *ℤ (a′ *ℤ x)
-    point a a′ x e = eq-by (a ∷ a′ ∷ x ∷ g ∷ []) (x ⊠₀ of-≡ e) (search reify depth 30) refl

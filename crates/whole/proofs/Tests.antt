@@ -1,7 +1,7 @@
 -- What a test of two signed locals says. The flag of a branch is `ltZ (toZ w (ofZ w a)) (toZ w (ofZ w b))`, since a signed local holds bits.
---   test-lt, test-nlt, test-le, test-nle, test-eq   the branch, as an order of the two numbers, at any width
+--   test-lt, test-nlt, test-eq                      the branch, as an order of the two numbers, at any width
 --   leZ-true, leZ-false                             the same of a plain test
---   above, own-size, under, between, not-neg        what an order says of a number's size, which omega reads
+--   above, own-size, under, not-neg                 what an order says of a number's size, which omega reads
 use mathlib.Core.Path.{_≡_, refl, sym, _∙_, ap, ap₂}
 use mathlib.Core.Bool.{Bool, true, false, not}
 use Prim.Native.Nat.{ℕ, zero, suc, _≤_, _<_, suc-le-suc}
@@ -27,12 +27,6 @@ module _ (w : Width) {a b : ℤ} (f : SFits w a) (g : SFits w b) where
   pub test-nlt : ltZ (toZ w (ofZ w a)) (toZ w (ofZ w b)) ≡ false → b ≤ℤ a
   test-nlt e = false→le {a = b} {b = a} (ap₂ ltZ (sym (toZ-ofZ f)) (sym (toZ-ofZ g)) ∙ e)
 
-  pub test-le : leZ (toZ w (ofZ w a)) (toZ w (ofZ w b)) ≡ true → a ≤ℤ b
-  test-le e = leZ-true (ap₂ leZ (sym (toZ-ofZ f)) (sym (toZ-ofZ g)) ∙ e)
-
-  pub test-nle : leZ (toZ w (ofZ w a)) (toZ w (ofZ w b)) ≡ false → b <ℤ a
-  test-nle e = leZ-false {a = a} {b = b} (ap₂ leZ (sym (toZ-ofZ f)) (sym (toZ-ofZ g)) ∙ e)
-
   pub test-eq : ofZ w a ≡ ofZ w b → a ≡ b
   test-eq e = sym (toZ-ofZ f) ∙ ap (toZ w) e ∙ toZ-ofZ g
 
@@ -49,11 +43,6 @@ own-size k (negsuc n) h = absurd (h .le)
 pub under : (k l : ℕ) (z : ℤ) → pos l ≤ℤ z → z ≤ℤ pos k → natAbs z ≤ k
 under k l (pos n) g h = leb→le n k (h .le)
 under k l (negsuc n) g h = absurd (g .le)
-
--- at least -(k + 1) and at most k + 1
-pub between : (k : ℕ) (z : ℤ) → negsuc k ≤ℤ z → z ≤ℤ pos (suc k) → natAbs z ≤ suc k
-between k (pos n) g h = leb→le n (suc k) (h .le)
-between k (negsuc n) g h = suc-le-suc (leb→le n k (g .le))
 
 pub not-neg : (k : ℕ) (z : ℤ) → pos k ≤ℤ z → T (nonNeg z)
 not-neg k (pos n) h = tt

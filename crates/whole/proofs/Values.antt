@@ -2,7 +2,7 @@
 -- sign, and sums.
 -- The order laws are equations on `less`, so that an order turned round computes.
 --   weaken, le-le, lt-le-trans, le-lt-trans, plus-mono, up, down, -strict    orders
---   le-or-lt, plus-le, plus-lt                                               two cases; one value added to both
+--   plus-le, plus-lt                                                         one value added to both
 --   gain-le, gain-lt                                                         what is added, where the sum is not less, or less
 --   total-same, total-plus, scale-total, total-swap, total-zero, total-one   sums
 --   total-le, total-lt                                                       sums in order
@@ -53,13 +53,6 @@ module _ {X : Type 0} {𝓥 : Values X} (L : Laws 𝓥) where
       go : (b : Bool) → less x z ≡ b → less x z ≡ true
       go true e = e
       go false e = true-false q (L .le-trans z x y e p)
-
-  pub le-or-lt : (x y : X) → Le 𝓥 x y ⊎ Lt 𝓥 y x
-  le-or-lt x y = go (less y x) refl
-    where
-      go : (b : Bool) → less y x ≡ b → Le 𝓥 x y ⊎ Lt 𝓥 y x
-      go true e = inr e
-      go false e = inl e
 
   pub plus-le : {x y : X} (z : X) → Le 𝓥 x y → Le 𝓥 (plus x z) (plus y z)
   plus-le {x} {y} z p = L .less-plus y x z ∙ p

@@ -3,7 +3,7 @@
 --   checks, checks-only            `checked` is the number with the facts that it stands for, `Checks`; no other is.
 --                                  The table and `Checks` are in specs/Shows
 --   checked-by-problem, checked-by-answer       the number from the problem's refusal, and else from the two tests of the answer
---   checked-refused, -short, -accepted, -not    each number exactly when its facts hold
+--   checked-accepted               8 exactly when its facts hold
 --   checked-same                   word 1 and the words past 3 + 2N never matter
 --   check-only                     what is allowed to come out is one number
 use mathlib.Core.Bool.{Bool, cond, false, true}
@@ -141,24 +141,6 @@ module _ (ws a : List ℤ) where
 
   -- ---- each number exactly
 
-  pub checked-refused : (k : ℕ) → Own k → (checked ws a ≡ suc k) ↔ (problemRefusal ws ≡ suc k)
-  checked-refused k h = (λ e. out checks e, λ e. checks-only (suc k) (refused k h e))
-    where
-      out : {r : ℕ} → Checks ws a r → r ≡ suc k → problemRefusal ws ≡ suc k
-      out (refused j l f) e = f ∙ e
-      out (short f l) e = absurd (own-clash h (omega arith) (omega arith))
-      out (right f l s) e = absurd (own-clash h (omega arith) (omega arith))
-      out (wrong f l s) e = absurd (own-clash h (omega arith) (omega arith))
-
-  pub checked-short : (checked ws a ≡ 7) ↔ ((problemRefusal ws ≡ 0) × (length a < answerLength ws))
-  checked-short = (λ e. out checks e, λ h. checks-only 7 (short (h .0) (h .1)))
-    where
-      out : {r : ℕ} → Checks ws a r → r ≡ 7 → (problemRefusal ws ≡ 0) × (length a < answerLength ws)
-      out (refused j l f) e = absurd (own-clash l (omega arith) (omega arith))
-      out (short f l) e = (f, l)
-      out (right f l s) e = let z : ⊥ = omega arith in absurd z
-      out (wrong f l s) e = let z : ⊥ = omega arith in absurd z
-
   pub checked-accepted : (checked ws a ≡ 8)
       ↔ ((problemRefusal ws ≡ 0) × (answerLength ws ≤ length a) × Shown (problem ws) a)
   checked-accepted = (λ e. out checks e, λ h. checks-only 8 (right (h .0) (h .1) (h .2)))
@@ -169,17 +151,6 @@ module _ (ws a : List ℤ) where
       out (short f l) e = let z : ⊥ = omega arith in absurd z
       out (right f l s) e = (f, l, s)
       out (wrong f l s) e = let z : ⊥ = omega arith in absurd z
-
-  pub checked-not : (checked ws a ≡ 9)
-      ↔ ((problemRefusal ws ≡ 0) × (answerLength ws ≤ length a) × (¬ Shown (problem ws) a))
-  checked-not = (λ e. out checks e, λ h. checks-only 9 (wrong (h .0) (h .1) (h .2)))
-    where
-      out : {r : ℕ} → Checks ws a r → r ≡ 9 → (problemRefusal ws ≡ 0) × (answerLength ws ≤ length a)
-          × (¬ Shown (problem ws) a)
-      out (refused j l f) e = absurd (own-clash l (omega arith) (omega arith))
-      out (short f l) e = let z : ⊥ = omega arith in absurd z
-      out (right f l s) e = let z : ⊥ = omega arith in absurd z
-      out (wrong f l s) e = (f, l, s)
 
   -- what may come out is one number
   pub check-only : (r t : ℕ) → r ≡ checked ws a → t ≡ checked ws a → r ≡ t

@@ -2,7 +2,7 @@
 -- amount: the answer's pairs are then fractions that meet every row and limit, a strict one strictly. With verdict 2 no
 -- fractions do.
 --   accepted-means             `Meant` of specs/Shows, with `MetSmall`: every such fraction
---   can-means, cannot-means    the same for a known verdict
+--   can-means                  the same for verdict 1
 use mathlib.Core.List.{List}
 use mathlib.Core.Logic.{inl, inr}
 use mathlib.Core.Path.{_≡_}
@@ -37,10 +37,3 @@ module _ (ws a : List ℤ) (c : checked ws a ≡ 8) where
       go : Meant (problem ws) a → MetSmall (problem ws) a
       go (can-be-met w M) = M
       go (cannot-be-met w U) = one-two v w
-
-  pub cannot-means : verdictOf a ≡ pos 2 → Unsatisfied (problem ws)
-  cannot-means v = go accepted-means
-    where
-      go : Meant (problem ws) a → Unsatisfied (problem ws)
-      go (can-be-met w M) = one-two w v
-      go (cannot-be-met w U) = U

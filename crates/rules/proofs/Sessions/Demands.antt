@@ -1,6 +1,5 @@
 -- The demands of each check of a session handed back, of actual fractions and over words.
---   values-modest, values-plain    every value of a nonbasic variable: a limit's pair, or 0
---   checked-judged           the answer with verdict 1 or 2 passes the checker's rule for the limits that are on
+--   values-modest            every value of a nonbasic variable: a limit's pair, or 0
 --   eight-checked            and gets 8 for the words with the others taken out
 --   can-live                 verdict 1: whatever small enough fraction is put for the small amount, its fractions meet
 --                            the limits that are on, a strict one strictly
@@ -98,9 +97,6 @@ module _ (P : Problem Limit) (A : Session (ℤ × ℤ)) (F : Fair pairs A) (give
     shown-on : Decided (checkAnswer A) → Shown Q (checkAnswer A)
     shown-on d = subst (Shown Q) (append-nil (checkAnswer A)) (judged-on [] d .judged)
 
-    pub accepted-on : Decided (checkAnswer A) → accepted Q (checkAnswer A) ≡ true
-    accepted-on d = tells-true (shown-tells Q (checkAnswer A)) (shown-on d)
-
     pub can-satisfied-on : verdictOf (checkAnswer A) ≡ pos 1 → MetSmall Q (checkAnswer A)
     can-satisfied-on e = go (shown-on (inl e))
       where
@@ -117,10 +113,6 @@ module _ (P : Problem Limit) (A : Session (ℤ × ℤ)) (F : Fair pairs A) (give
         go (inr (v, S)) = named-clash-shown Q (checkAnswer A) S
 
 -- ---- of every session handed back, over the words that opened it
-
--- a pair without small part
-abbrev Plain : ℤ × ℤ → Type 0
-Plain x = x .1 ≡ pos 0
 
 module _ (ws : List ℤ) (W : Accepted mostRows ws) (A : Session (ℤ × ℤ)) (H : Handed pairs (inner (problem ws)) A) where
   coefficients : (i j : ℕ) → i < problem ws .m → j < problem ws .n →
@@ -143,18 +135,6 @@ module _ (ws : List ℤ) (W : Accepted mostRows ws) (A : Session (ℤ × ℤ)) (
   values-modest = values-handed pairs Modest pairs-laws (inner (problem ws)) coefficients
       (record { within = omega arith }, record { within = omega arith }) limits-modest A H
 
-  -- where no limit handed in is strict there are no small parts
-  pub values-plain : ((σ : Side) (v : ℕ) (l : Limit) → v < varsOf ws → limitOf (problem ws) σ v ≡ some l →
-      l .strict ≡ false) → (v : ℕ) (x : ℤ × ℤ) → seat (A .state) v ≡ some x → x .1 ≡ pos 0
-  unfolding problem
-  values-plain n = values-handed pairs Plain pairs-laws (inner (problem ws)) coefficients refl plain A H
-    where
-      plain : LimitsAre pairs Plain (inner (problem ws))
-      plain below v x h e = let (l, p, q) = mapped-some lowerPair (problem ws .lower v) x e in
-          rw q (ap inset (n below v l h p))
-      plain above v x h e = let (u, p, q) = mapped-some upperPair (problem ws .upper v) x e in
-          rw q (ap (λ b. negℤ (inset b)) (n above v u h p))
-
   within-words : (σ : Side) (v : ℕ) (l : Limit) → v < vars (problem ws) → limitOf (problem ws) σ v ≡ some l →
       Within (l .plain) largestLimit
   unfolding problem
@@ -164,9 +144,6 @@ module _ (ws : List ℤ) (W : Accepted mostRows ws) (A : Session (ℤ × ℤ)) (
   few-words : problem ws .n ≤ mostColumns
   unfolding problem
   few-words = n-few W
-
-  pub checked-judged : Decided (checkAnswer A) → accepted (liveProblem ws A) (checkAnswer A) ≡ true
-  checked-judged = accepted-on (problem ws) A fair-words given-words few-words within-words values-modest
 
   pub eight-checked : (rest : List ℤ) → Decided (checkAnswer A) →
       checked (liveWords (isOn A) ws) (checkAnswer A ++ rest) ≡ 8

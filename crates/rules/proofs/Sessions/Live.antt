@@ -95,9 +95,6 @@ module _ (on : Side → ℕ → Bool) (ws : List ℤ) (exact : length ws ≡ 2 +
   place-live : (v : ℕ) → kindPlace L v ≡ kindPlace ws v
   place-live v = ap₂ (λ m n. 2 + m * n + 3 * v) m-live n-live
 
-  vars-live : varsOf L ≡ varsOf ws
-  vars-live = ap₂ _+_ n-live m-live
-
   -- word r of the three of variable v
   limit-word : (v r : ℕ) → v < varsOf ws → r < 3 → word L (kindPlace L v + r) ≡ liveLimit on ws v r
   limit-word v r h k = ap (λ p. word L (p + r)) (place-live v) ∙ live-limit v r h k

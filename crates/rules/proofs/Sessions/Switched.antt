@@ -3,7 +3,7 @@
 --   switch-fine                    0 exactly where none does
 --   switched-refused, switched-done    refused, nothing changes; else one flag does, and values are settled
 --   flag-there, flag-elsewhere     that flag, and every other
---   settled-one, seats-one         no variable moves but the one that was switched
+--   settled-one                    no variable moves but the one that was switched
 --   switched-so                    all that a switch does that is not refused: `Switches`
 -- The table and `Switches` are in specs/SessionFacts.
 use mathlib.Core.Bool.{Bool, false, true}
@@ -125,33 +125,6 @@ module _ {X : Type 0} (𝓥 : Values X) (A : Session X) (v : ℕ) (σ : Side) (o
       at-rest none e = refl
       at-rest (some x) e = ap some (inside-still 𝓥 law (live A .lower w) (live A .upper w) x
           (λ c l k. F .housed .low w x l h c e k) (λ c u k. F .housed .high w x u h c e k))
-
-  -- .. so the seats are the old ones, but for that one
-  pub seats-one : Laws 𝓥 → Fair 𝓥 A → v < vars (A .given) →
-      settled 𝓥 B .state .seats
-      ≡ set (A .state .seats) v (insideSeat 𝓥 (live B .lower v) (live B .upper v) (seat (A .state) v))
-  unfolding settled
-  seats-one law F h =
-      ap (λ k. table k (within 𝓥 B)) (ap vars (given-flagged A v on σ) ∙ sym many)
-      ∙ table-same (length new) (within 𝓥 B) (λ i. getD new i none) (λ i k.
-      each i (let z = many in omega arith) (ℕ-discrete i v)) ∙ table-all new none
-    where
-      o : Option X
-      o = insideSeat 𝓥 (live B .lower v) (live B .upper v) (seat (A .state) v)
-
-      new : List (Option X)
-      new = set (A .state .seats) v o
-
-      many : length new ≡ vars (A .given)
-      many = length-set (A .state .seats) v o ∙ F .rowed .seats-many
-
-      each : (i : ℕ) → i < vars (A .given) → Dec (i ≡ v) → within 𝓥 B i ≡ getD new i none
-      each i k (yes e) = ap (within 𝓥 B) e
-          ∙ ap (λ s. insideSeat 𝓥 (live B .lower v) (live B .upper v) (seat s v)) (state-flagged A v on σ)
-          ∙ sym (getD-set-same (A .state .seats) v o none (let z = F .rowed .seats-many in omega arith))
-          ∙ ap (λ j. getD new j none) (sym e)
-      each i k (no n) = sym (seat-settled 𝓥 B i (rw (given-flagged A v on σ) k)) ∙ settled-one law F i k n
-          ∙ sym (getD-set-other (A .state .seats) v i o none n)
 
   settled-so : Laws 𝓥 → Switches 𝓥 A v σ on (settled 𝓥 B)
   unfolding settled insideSeat

@@ -207,10 +207,6 @@ module _ {X : Type 0} {𝓥 : Values X} (L : Laws 𝓥) (E : Edges X) (ends : En
       go (inl e) = absurd (bad-no-still L E rows b (distance 𝓥 E (distances 𝓥 E)) (can-still e))
       go (inr e) = e
 
-  -- word 0 is 1 exactly when no walk closes below 0
-  pub can-open : canMeet 𝓥 E ≡ true → ClosesBelow 𝓥 E → ⊥
-  can-open e = still-open L E (distance 𝓥 E (distances 𝓥 E)) (can-still e)
-
   pub open-can : (ClosesBelow 𝓥 E → ⊥) → canMeet 𝓥 E ≡ true
   open-can n = go (either (canMeet 𝓥 E))
     where
