@@ -53,7 +53,7 @@ impl Length {
     }
 
     // .. its minutes, and its small amounts.
-    pub fn plain_time(self) -> i64
+    fn plain_time(self) -> i64
         requires { ⌜ Passed self ⌝ }
         ensures { λ r. ⌜ r ≡ plainPart self ⌝ }
     {
@@ -61,7 +61,7 @@ impl Length {
         (time / (Length::UNIT as u64)) as i64
     }
 
-    pub fn small_time(self) -> i64
+    fn small_time(self) -> i64
         requires { ⌜ Passed self ⌝ }
         ensures { λ r. ⌜ r ≡ smallPart self ⌝ }
     {

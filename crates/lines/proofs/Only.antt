@@ -3,17 +3,7 @@
 -- Each is of the answer and of every byte of the slice.
 use mathlib.Core.Path.{_≡_}
 use Rattle.lines.proofs.Texts.{printed-only}
-use Rattle.lines.proofs.write_answer.Reads as write-answer
-use Rattle.lines.proofs.write_refusal.Reads as write-refusal
 use Rattle.lines.proofs.respond.respond.Reads as respond
-
-pub write-answer-only : (κs : _) (x : _) (a b : _) (e f : _) → write-answer.Post κs x a e →
-    write-answer.Post κs x b f → (e .1 .1 .0 .now ≡ f .1 .1 .0 .now) × (a ≡ b)
-write-answer-only κs x a b e f h k = printed-only h k
-
-pub write-refusal-only : (κs : _) (x : _) (a b : _) (e f : _) → write-refusal.Post κs x a e →
-    write-refusal.Post κs x b f → (e .1 .0 .now ≡ f .1 .0 .now) × (a ≡ b)
-write-refusal-only κs x a b e f h k = printed-only h k
 
 pub respond-only : (κs : _) (x : _) (a b : _) (e f : _) → respond.Post κs x a e → respond.Post κs x b f →
     (e .1 .0 .now ≡ f .1 .0 .now) × (a ≡ b)

@@ -20,7 +20,7 @@ pub enum Written {
 
 // The text of an answer of so many variables, from its words. It is measured first, by putting it into a slice that is
 // too short.
-pub fn write_answer(answer: &[i64], variables: usize, out: &mut [u8]) -> Written
+fn write_answer(answer: &[i64], variables: usize, out: &mut [u8]) -> Written
     requires { ⌜ (variables ≤ mostVariables) × (3 + 2 * variables ≤ length (now answer)) ⌝ }
     ensures { λ r. ⌜ Printed (answerText (now (answer .entry)) variables) (now (out .entry)) (now (out .exit)) r ⌝ }
 {
@@ -34,7 +34,7 @@ pub fn write_answer(answer: &[i64], variables: usize, out: &mut [u8]) -> Written
 }
 
 // The line of a refusal.
-pub fn write_refusal(number: u32, out: &mut [u8]) -> Written
+fn write_refusal(number: u32, out: &mut [u8]) -> Written
     ensures { λ r. ⌜ Printed (refusalText number) (now (out .entry)) (now (out .exit)) r ⌝ }
 {
     let mut scratch = [0u8; 1];

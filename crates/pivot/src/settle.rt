@@ -19,7 +19,7 @@ use crate::guess;
 use crate::numbers;
 
 // What a divisor that is tried comes to: all quotients are right, or one of a column is not.
-pub enum Tried {
+enum Tried {
     Exact,
     Wrong(usize),
 }

@@ -18,7 +18,7 @@ use layout::Spot;
 
 // The numbers that one cell is made of: `own` is its entry, `beside` stands in its row and the entering column, `above`
 // in its column and the leaving row.
-pub struct Parts {
+struct Parts {
     pub pivot: i32,
     pub own: i32,
     pub beside: i32,

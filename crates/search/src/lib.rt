@@ -99,7 +99,7 @@ pub fn row_value<'a>(
 }
 
 // .. and its small part, of the small values. Where no limit is strict these are all 0, and no row is read.
-pub fn row_small<'a>(
+fn row_small<'a>(
     entries: &'a [i32; Tableau::MOST_ENTRIES],
     smalls: &'a [i32; Tableau::MOST_COLUMNS],
     size: Size,

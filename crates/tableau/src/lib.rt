@@ -66,4 +66,4 @@ impl Tableau {
 }
 
 pub mod amount;
-pub mod read;
+mod read;

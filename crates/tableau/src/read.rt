@@ -25,7 +25,7 @@ use layout::RowPlace;
 use words::count_at;
 
 // The values of the problem variables: plain parts and small parts.
-pub struct Starts {
+struct Starts {
     pub values: [i32; Tableau::MOST_COLUMNS],
     pub smalls: [i32; Tableau::MOST_COLUMNS],
 }

@@ -15,7 +15,7 @@ const MOST_BYTES: usize = 4 * MOST_WORDS;
 
 const MOST_OUT: usize = 136;
 
-pub fn line(number: u32, out: &[i64]) {
+fn line(number: u32, out: &[i64]) {
     io::print_decimal(1, number as u64);
     io::write_all(1, b":");
     print::words(out, 0);

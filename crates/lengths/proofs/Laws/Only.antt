@@ -7,8 +7,6 @@ use Rattle.lengths.specs.declared.answer.Halves.{Halves}
 use Rattle.lengths.proofs.Length.of.Reads as of
 use Rattle.lengths.proofs.Length.plus.Reads as plus
 use Rattle.lengths.proofs.Length.less.Reads as less
-use Rattle.lengths.proofs.Length.plain_time.Reads as plain-time
-use Rattle.lengths.proofs.Length.small_time.Reads as small-time
 use Rattle.lengths.proofs.answer.times_of.Reads as times-of
 use Rattle.lengths.proofs.answer.gathered.Reads as gathered
 use Rattle.lengths.proofs.answer.write.Reads as write
@@ -28,12 +26,6 @@ plus-only κs x a b e h k = length-only (h ∙ sym k)
 
 pub less-only : (κs : _) (x : _) (a b : _) (e : _) → less.Post κs x a e → less.Post κs x b e → a ≡ b
 less-only κs x a b e h k = h ∙ sym k
-
-pub plain-time-only : (κs : _) (x : _) (a b : _) (e : _) → plain-time.Post κs x a e → plain-time.Post κs x b e → a ≡ b
-plain-time-only κs x a b e h k = h ∙ sym k
-
-pub small-time-only : (κs : _) (x : _) (a b : _) (e : _) → small-time.Post κs x a e → small-time.Post κs x b e → a ≡ b
-small-time-only κs x a b e h k = h ∙ sym k
 
 pub times-of-only : (κs : _) (x : _) (a b : _) (e : _) → times-of.Post κs x a e → times-of.Post κs x b e → a ≡ b
 times-of-only κs x a b e h k = halves-only (h .0 ∙ sym (k .0)) (h .1 ∙ sym (k .1))
