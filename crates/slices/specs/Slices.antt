@@ -4,12 +4,12 @@ use mathlib.Core.Bool.{Bool, true, false}
 use mathlib.Core.List.{List, [], _∷_}
 use mathlib.Core.Option.{Option, none}
 use mathlib.Core.Path.{_≡_}
-use Prim.Native.Nat.{ℕ, zero, suc}
+use Prim.Native.Nat.{ℕ, zero, suc, _<_}
 use lib.IntN.{ℤ, pos}
 use lib.ListN.{length}
 use Rattle.whole.specs.Values.{pairs}
 use Rattle.rules.specs.Limit.{Limit}
-use Rattle.rules.specs.Problem.{Problem, inner, problem}
+use Rattle.rules.specs.Problem.{Problem, inner, problem, vars}
 use Rattle.rules.specs.Refusal.{problemRefusal}
 use Rattle.rules.specs.Slices.{begun, continued, isAnswer, sliceAnswer, sliceLength, sliceOutput, sliceRefusal}
 use Rattle.rules.specs.Slices as rules
@@ -29,6 +29,14 @@ Holds S s = solver.Holds S (s .tableau) (s .count)
 
 abbrev pub Standing : Slice → Type 0
 Standing s = solver.Standing (s .tableau) (s .count)
+
+-- one problem, up to what its sizes leave open
+pub record SameProblem (P Q : Problem (ℤ × ℤ)) : Type 0 where
+  pub columns-same : P .n ≡ Q .n
+  pub rows-same : P .m ≡ Q .m
+  pub coefficients : (i j : ℕ) → i < P .m → j < P .n → P .coefficient i j ≡ Q .coefficient i j
+  pub lowers : (v : ℕ) → v < vars P → P .lower v ≡ Q .lower v
+  pub uppers : (v : ℕ) → v < vars P → P .upper v ≡ Q .upper v
 
 -- ---- a start
 

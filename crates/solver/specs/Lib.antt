@@ -2,3 +2,4 @@
 pub mod Run
 pub mod Spend
 pub mod TwoOrders
+pub mod Came

@@ -16,7 +16,7 @@ use Rattle.whole.proofs.Beside.{pairs-laws}
 use Rattle.whole.proofs.Sizes.{within--, within-*, within-le}
 use Rattle.rules.specs.Limit.{Limit, lowerPair, present, upperPair}
 use Rattle.rules.specs.Problem.{Problem, mapped}
-use Rattle.rules.specs.Sizes.{largestNumber, largestShortfall, largestSmall, mostColumns}
+use Rattle.rules.specs.Sizes.{largestNumber, mostColumns}
 use Rattle.rules.specs.Step.{Leaving, Side, State, above, below, leaves, seated, shortfallBy}
 use Rattle.rules.proofs.Leaves.{left}
 use Rattle.rules.proofs.Rule.{shortfall-positive}
@@ -31,13 +31,9 @@ use Rattle.sides.proofs.Laws.Modest.{Near, lower-near, upper-near}
 use Rattle.sides.proofs.Laws.Sides.{gap-parts, stated}
 use Rattle.search.specs.Search.{Searchable, brokenAt, brokenLaid, leavingAt, leavingLaid, scaledAt, shortAt}
 use Rattle.search.specs.Search.{sideAt, tagged}
+use Rattle.search.specs.Shortfall.{Short}
 use Rattle.search.proofs.Laws.Searches.{leaving-is}
 use Rattle.search.proofs.Laws.Sums.{row-within}
-
--- the bounds of a shortfall
-pub record Short (x : ℤ × ℤ) : Type 0 where
-  pub plain : Within (x .0) largestShortfall
-  pub small : Within (x .1) (largestSmall + largestNumber)
 
 -- a limit that is missing counts as 0
 seated-near : (f : Limit → ℤ × ℤ) (g : Given) → Near (f (stated g)) → Near (seated pairs (mapped f (limitIn g)))

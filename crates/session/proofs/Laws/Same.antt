@@ -1,7 +1,6 @@
 -- A struct holds its session: two sessions of the rules that it stands for are the same, up to what their sizes leave
 -- open.
---   SameSession     one problem, the same limits on, and the same state
---   session-only    so it is
+--   session-only    one problem, the same limits on, and the same state: `SameSession` of specs/Same
 use mathlib.Core.Option.{Option, none, some}
 use mathlib.Core.Path.{_≡_, ap, refl, sym, _∙_}
 use Prim.Native.Nat.{ℕ, _<_}
@@ -9,24 +8,16 @@ use native.Mathlib.Omega.{arith}
 use lib.IntN.{ℤ}
 use Rattle.rules.specs.Problem.{Problem, vars}
 use Rattle.rules.specs.Session as rules
-use Rattle.rules.specs.Session.{isOn, live}
-use Rattle.rules.specs.Step.{State, above, below, common, seat}
-use Rattle.rules.specs.Tableau.{entry}
+use Rattle.rules.specs.Session.{live}
+use Rattle.rules.specs.Step.{State, seat}
 use Rattle.tableau.specs.declared.Tableau.{Tableau}
 use Rattle.tableau.specs.Parts.{columnOf, valueAt}
 use Rattle.tableau.specs.Stands.{Stands}
-use Rattle.slices.proofs.Laws.Problem.{SameProblem, basic-too, common-same, entries-same, same-problem, seated-too}
+use Rattle.slices.proofs.Laws.Problem.{basic-too, common-same, entries-same, same-problem, seated-too}
+use Rattle.slices.specs.Slices.{SameProblem}
 use Rattle.session.specs.declared.Session.{Session}
+use Rattle.session.specs.Same.{SameSession}
 use Rattle.session.specs.Sessions.{Holds}
-
-pub record SameSession (A B : rules.Session (ℤ × ℤ)) : Type 0 where
-  pub problem : SameProblem (A .given) (B .given)
-  pub lowers-on : (v : ℕ) → v < vars (A .given) → isOn A below v ≡ isOn B below v
-  pub uppers-on : (v : ℕ) → v < vars (A .given) → isOn A above v ≡ isOn B above v
-  pub seats : (v : ℕ) → v < vars (A .given) → seat (A .state) v ≡ seat (B .state) v
-  pub common-is : common (A .state) ≡ common (B .state)
-  pub entries : (v w : ℕ) → v < vars (A .given) → w < vars (A .given) →
-      entry (A .state .tableau) v w ≡ entry (B .state .tableau) v w
 
 -- a nonbasic variable has the value of its column place
 value-of : {P : Problem (ℤ × ℤ)} {t : Tableau} {s : State (ℤ × ℤ)} → Stands P t s → (v : ℕ) (y : ℤ × ℤ) → v < vars P →

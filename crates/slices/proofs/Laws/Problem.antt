@@ -1,6 +1,6 @@
 -- A struct holds its problem: two states of the rules' run that it stands for are of one problem, at one count.
 --   entries-same     they have the same entries
---   problem-only     so their problems have the same sizes, coefficients and limits
+--   problem-only     so their problems have the same sizes, coefficients and limits (`SameProblem` of specs/Slices)
 use mathlib.Core.Option.{Option, none, some}
 use mathlib.Core.Path.{_≡_, ap₂, refl, subst₂, sym, _∙_}
 use Prim.Native.Nat.{ℕ, _<_}
@@ -20,15 +20,7 @@ use Rattle.tableau.specs.declared.Tableau.{Tableau}
 use Rattle.tableau.specs.Parts.{columnOf, rowOf}
 use Rattle.tableau.specs.Stands.{Stands}
 use Rattle.slices.specs.declared.Slice.{Slice}
-use Rattle.slices.specs.Slices.{Holds}
-
--- one problem, up to what its sizes leave open
-pub record SameProblem (P Q : Problem (ℤ × ℤ)) : Type 0 where
-  pub columns-same : P .n ≡ Q .n
-  pub rows-same : P .m ≡ Q .m
-  pub coefficients : (i j : ℕ) → i < P .m → j < P .n → P .coefficient i j ≡ Q .coefficient i j
-  pub lowers : (v : ℕ) → v < vars P → P .lower v ≡ Q .lower v
-  pub uppers : (v : ℕ) → v < vars P → P .upper v ≡ Q .upper v
+use Rattle.slices.specs.Slices.{Holds, SameProblem}
 
 module _ {P Q : Problem (ℤ × ℤ)} {t : Tableau} {s x : State (ℤ × ℤ)} (A : Stands P t s) (B : Stands Q t x)
     (R : Rowed pairs P s) (S : Rowed pairs Q x) where

@@ -1,16 +1,13 @@
 -- A run with so many pivots to spend, by place, is that of the state: the rules' `run` with them as fuel.
---   CourseIs     how it stands: over in one of three ways, or on
---   came         where it came, from any tableau that stands for a state whose rows hold
-use mathlib.Core.Option.{some}
+--   came         where it came (`Came` of specs/Came), from any tableau that stands for a state whose rows hold
 use mathlib.Core.Path.{_≡_, ap, subst, sym, _∙_}
 use Prim.Native.Nat.{ℕ, zero, suc, _+_}
 use native.Mathlib.Omega.{arith}
 use lib.IntN.{ℤ}
 use Rattle.whole.specs.Values.{pairs}
-use Rattle.rules.specs.Problem.{Problem, vars}
+use Rattle.rules.specs.Problem.{Problem}
 use Rattle.rules.specs.Run.{Ended, Ending, run}
-use Rattle.rules.specs.Step.{Leaving, Outcome, State, can, evidence, goes, leaving, range, step}
-use Rattle.rules.specs.Tableau.{relation}
+use Rattle.rules.specs.Step.{Outcome, State, can, evidence, range, step}
 use Rattle.rules.proofs.Moved.{rowed-goes}
 use Rattle.rules.proofs.Runs.{run-end, run-on}
 use Rattle.rules.specs.State.{Rowed}
@@ -18,23 +15,10 @@ use Rattle.tableau.specs.declared.Tableau.{Tableau}
 use Rattle.tableau.specs.Stands.{Ranged, Stands}
 use Rattle.search.specs.Search.{blockedAt}
 use Rattle.steps.specs.declared.End.the-variants as ends
-use Rattle.steps.specs.Step.{Course, Stepped, on, over, steppedAt}
+use Rattle.steps.specs.Step.{Course, Stepped, over, steppedAt}
 use Rattle.steps.proofs.Laws.Steps.{StepIs, ends-can, ends-cannot, ends-range, goes-to, step-is}
+use Rattle.solver.specs.Came.{Came, CourseIs, over-can, over-cannot, over-range, still-on}
 use Rattle.solver.specs.Spend.{Ran, counted, ranAt, spentBy}
-
-pub data CourseIs (P : Problem (ℤ × ℤ)) (t : Tableau) (s : State (ℤ × ℤ)) : Course → Outcome (ℤ × ℤ) → Type 0 where
-  over-can : CourseIs P t s (over ends.Can) can
-  over-cannot : (r : Leaving (ℤ × ℤ)) → leaving pairs P s ≡ some r →
-      CourseIs P t s (over (ends.Cannot (blockedAt t r))) (evidence (vars P) (r .side) (relation (s .tableau) (r .variable)))
-  over-range : CourseIs P t s (over ends.Range) range
-  still-on : (x : State (ℤ × ℤ)) → CourseIs P t s on (goes x)
-
-pub record Came (P : Problem (ℤ × ℤ)) (r : Ran) (e : Ending (ℤ × ℤ)) (k : ℕ) : Type 0 where
-  pub stands : Stands P (r .tableau) (e .last)
-  pub rowed : Rowed pairs P (e .last)
-  pub ranged : Ranged (r .tableau)
-  pub count-is : k + r .count ≡ e .pivots
-  pub course-is : CourseIs P (r .tableau) (e .last) (r .course) (e .how)
 
 module _ {P : Problem (ℤ × ℤ)} where
   -- it came no further

@@ -39,7 +39,8 @@ use Rattle.steps.specs.declared.End.the-variants as ends
 use Rattle.steps.specs.Step.{Course, Held, on, over}
 use Rattle.solver.specs.Run.{Tellable, endWords}
 use Rattle.solver.specs.Spend.{Holds, Ran, Uncrossed, isOver, manyOf, outAt, outBy, outWhere, ranAt, spentAt, spentWhere}
-use Rattle.solver.proofs.Laws.Came.{Came, CourseIs, came, over-can, over-cannot, over-range, still-on}
+use Rattle.solver.specs.Came.{Came, CourseIs, over-can, over-cannot, over-range, still-on}
+use Rattle.solver.proofs.Laws.Came.{came}
 use Rattle.solver.proofs.Laws.Runs.{bound-small}
 use Rattle.solver.proofs.Laws.Told.{came-many, tellable-came, told-came}
 

@@ -34,7 +34,8 @@ use Rattle.steps.specs.declared.End.the-variants as ends
 use Rattle.steps.specs.Step.{Course, over}
 use Rattle.solver.specs.Run.{Finished, Startable, Tellable, endWords, wordsLaid}
 use Rattle.solver.specs.Spend.{Ran, manyOf, ranAt}
-use Rattle.solver.proofs.Laws.Came.{Came, CourseIs, came, over-can, over-cannot, over-range, still-on}
+use Rattle.solver.specs.Came.{Came, CourseIs, over-can, over-cannot, over-range, still-on}
+use Rattle.solver.proofs.Laws.Came.{came}
 use Rattle.solver.proofs.Laws.Runs.{bound-small, going, held-begun}
 use Rattle.solver.proofs.Laws.Spends.{ran-over}
 
