@@ -1,6 +1,6 @@
 -- docs/RULES.md, "The three demands", 2: fractions, each over a denominator of its own, that meet a problem. The other
--- theorems speak of whole numbers over one denominator (`Satisfies` of specs/Evidence); proofs/Evidence/Separate shows
--- that where none of those meet a problem, none of these do.
+-- theorems speak of whole numbers over one denominator (`Satisfies` of specs/Evidence); where none of those meet a
+-- problem, none of these do (`unsatisfied-fractions`).
 --   Fraction, fractions, Equal     a whole number over another; sums, multiples and order; a / b = c / d is a d = c b
 --   FractionsMeet                  denominators above 0, every row, and every limit, a strict one strictly
 use mathlib.Core.Bool.{Bool, false, true}

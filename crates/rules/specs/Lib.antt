@@ -1,4 +1,11 @@
--- The rules of docs/RULES.md as definitions that compute. Whoever reads these files and that page side by side finds each sentence once.
+-- The rules of docs/RULES.md as definitions. Whoever reads these files and that page side by side finds each sentence:
+-- once as what computes and, where the theorems of docs/PROMISES.md speak of it, once more in plain words:
+--   Meanings, SessionFacts                 the tables of refusals; what opening, a switch and a check do
+--   Rule, Blame, State, Unique, Range      a step, its multipliers, what is known of a state, the one tableau, range
+--   TheRun, Answers, Cut                   the run that an answer is, the words, the run in slices
+--   Fractions, Shows                       fractions that meet a problem, and evidence
+--   Traces                                 the looks at time rows
+-- No file here stands on a proof.
 pub mod Sizes
 pub mod Limit
 pub mod Problem

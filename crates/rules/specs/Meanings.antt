@@ -4,7 +4,7 @@
 --   AllFine     no line applies
 --   Tests       a test is true exactly where a line applies, and false exactly where it does not
 --   problemTable, solverTable    the lines of the page
--- specs/Refusal has the tests that compute; proofs/Refused shows that they give what these lines say.
+-- specs/Refusal has the tests that compute; they give what these lines say (`refusal-exactly`).
 use mathlib.Core.Bool.{Bool, false, true}
 use mathlib.Core.List.{List, [], _++_, _∷_}
 use mathlib.Core.Logic.{_≢_, _⊎_}

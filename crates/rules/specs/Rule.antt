@@ -3,7 +3,7 @@
 --   Entered P s r w  w is nonbasic and may move the right way, and no lower one may
 --   Stuck            a nonbasic variable that may not
 --   Swap             what one step does to the seats
--- proofs/Rule shows that the searches of specs/Step find exactly these.
+-- The searches of specs/Step find exactly these (`leaving-exactly`, `entering-exactly`).
 use mathlib.Core.Logic.{_≢_}
 use mathlib.Core.Option.{Option, none, some}
 use mathlib.Core.Path.{_≡_}

@@ -6,7 +6,7 @@
 --   checkerTable, Checks         the checker's number, line by line (specs/Meanings); each number with its facts
 --   MetSmall, Meant              what the number 8 means
 -- The records are over the numbers that the words stand for, so that they speak of numbers that stand in no list too.
--- proofs/Evidence shows that `checked` of specs/Evidence gives what these say.
+-- `checked` of specs/Evidence gives what the table says (`checked-exactly`).
 use mathlib.Core.Bool.{Bool, false, true}
 use mathlib.Core.List.{List, [], _++_, _∷_}
 use mathlib.Core.Logic.{_≢_, _⊎_}

@@ -2,7 +2,7 @@
 -- how they were computed.
 --   Obeyed     what is asked of a tableau, however it was computed: every solution of the rows obeys it
 --   Next       the tableau of the next basic set, in lowest common form
--- proofs/Only shows that the rule's tableau is such a one, and that any other has the same numbers.
+-- The rule's tableau is such a one, and any other has the same numbers (`tableau-only`, `next-moved`, `next-only`).
 use mathlib.Core.Logic.{_↔_, _≢_, _⊎_}
 use mathlib.Core.Option.{none}
 use mathlib.Core.Path.{_≡_}

@@ -1,5 +1,5 @@
 -- When two sessions of the rules are the same, up to what their sizes leave open. A struct stands for sessions; those
--- that it stands for are the same (proofs/Laws/Same).
+-- that it stands for are the same (`session-only`).
 use mathlib.Core.Path.{_≡_}
 use Prim.Native.Nat.{ℕ, _<_}
 use lib.IntN.{ℤ}

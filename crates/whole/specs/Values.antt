@@ -55,7 +55,7 @@ Lt 𝓥 x y = 𝓥 .less x y ≡ true
 abbrev pub Le : {X : Type 0} → Values X → X → X → Type 0
 Le 𝓥 x y = 𝓥 .less y x ≡ false
 
--- what is asked of the operations: fourteen laws, which whole numbers and pairs have (proofs/Instances, proofs/Beside).
+-- what is asked of the operations: fourteen laws, which whole numbers and pairs have (`whole-laws`, `pairs-laws`).
 -- Those on the order are equations on `less`, so that an order turned round computes
 pub record Laws {X : Type 0} (𝓥 : Values X) : Type 0 where
   pub plus-assoc : (x y z : X) → 𝓥 .plus (𝓥 .plus x y) z ≡ 𝓥 .plus x (𝓥 .plus y z)

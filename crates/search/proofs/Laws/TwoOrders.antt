@@ -132,7 +132,7 @@ module _ {o u : Order} {t : Tableau} {l : List ℤ} (C : SameCells o u (t .rows)
   move-same r none = refl
   move-same r (some w) = refl
 
-  pub next-same : nextLaid o t ≡ nextLaid u s
+  pub next-same : nextLaid o t ≡ nextLaid u (withNumbers t (t .common) l)
   unfolding nextLaid nextByLaid
   next-same = go (leavingLaid o t) refl ∙ ap (nextByLaid u s) leaving-same
     where
