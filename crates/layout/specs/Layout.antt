@@ -100,15 +100,15 @@ along w i = w .start + i * w .stride
 
 -- ---- the two kinds of place, a spot, and an entry
 
-abbrev pub row : ℕ → RowPlace
-row i = record { 0 = i }
+abbrev pub rowPlace : ℕ → RowPlace
+rowPlace i = record { 0 = i }
 
-abbrev pub column : ℕ → ColumnPlace
-column j = record { 0 = j }
+abbrev pub columnPlace : ℕ → ColumnPlace
+columnPlace j = record { 0 = j }
 
 -- the places of flat place k, for m rows and n columns
 abbrev pub spotAt : ℕ → ℕ → ℕ → Spot
-spotAt m n k = record { row = row (rowAt m n k); column = column (columnAt m n k) }
+spotAt m n k = record { row = rowPlace (rowAt m n k); column = columnPlace (columnAt m n k) }
 
 -- the number at a row place and a column place of an array of entries, and in the order in use
 abbrev pub entryLaid : Order → ℕ → ℕ → List ℤ → ℕ → ℕ → ℤ

@@ -27,8 +27,8 @@ noRows = record { 0 = pos 0 }
 -- ---- sizes
 
 -- the looks of k passes and at i rows more
-abbrev pub looks : ℕ → ℕ → ℕ
-looks k i = mostTimeRows * k + i
+abbrev pub looksMade : ℕ → ℕ → ℕ
+looksMade k i = mostTimeRows * k + i
 
 -- as far from 0 as so many rows may lead, in both parts
 pub record Near (p : ℤ × ℤ) (rows : ℕ) : Type 0 where
@@ -36,14 +36,14 @@ pub record Near (p : ℤ × ℤ) (rows : ℕ) : Type 0 where
   pub small : Within (p .1) rows
 
 -- at most what all passes add up to
-abbrev pub Modest : Length → Type 0
-Modest l = Within (lengthOf l) ((unit * largestLength + 1) * looks mostVertices 0)
+abbrev pub ModestLength : Length → Type 0
+ModestLength l = Within (lengthOf l) ((unit * largestLength + 1) * looksMade mostVertices 0)
 
 -- ---- times
 
 -- a distance that may be one of a time: not above 0
 pub record Passed (l : Length) : Type 0 where
-  pub modest : Modest l
+  pub modest : ModestLength l
   pub low : lengthOf l ≤ℤ pos 0
 
 -- the parts of the time of a vertex at this distance
@@ -59,5 +59,5 @@ smallPart l = pos (natAbs (lengthOf l) % unit)
 abbrev pub lengthAt : List Length → ℕ → Length
 lengthAt best v = getD best v noRows
 
-abbrev pub at : List Length → ℕ → ℤ
-at best v = lengthOf (lengthAt best v)
+abbrev pub keyAt : List Length → ℕ → ℤ
+keyAt best v = lengthOf (lengthAt best v)

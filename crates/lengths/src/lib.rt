@@ -7,7 +7,7 @@ ghost use lib.IntN.{natAbs, negℤ, _+ℤ_};
 ghost use lib.Signed.{ltZ};
 ghost use Rattle.whole.specs.Numbers.{Within};
 ghost use Rattle.rules.specs.Sizes.{largestLength};
-ghost use Rattle.lengths.specs.Lengths.{lengthOf, keyOf, Modest, Passed, plainPart, smallPart};
+ghost use Rattle.lengths.specs.Lengths.{lengthOf, keyOf, ModestLength, Passed, plainPart, smallPart};
 
 pub mod answer;
 
@@ -31,7 +31,7 @@ impl Length {
     }
 
     pub fn plus(self, other: Length) -> Length
-        requires { ⌜ (Modest self) × (Modest other) ⌝ }
+        requires { ⌜ (ModestLength self) × (ModestLength other) ⌝ }
         ensures { λ r. ⌜ lengthOf r ≡ lengthOf self +ℤ lengthOf other ⌝ }
     {
         let sum = self.0 + other.0;

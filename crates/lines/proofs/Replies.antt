@@ -1,6 +1,6 @@
 -- What the program prints for words, from what the solver answers with room for 51 words: no problem wants more.
 --   room-enough, fine-words             an accepted problem has room; the solver's 0 is the problem's 0
---   reply-refused, reply-answered       the text by the solver's number
+--   replied-refused, replied-answered       the text by the solver's number
 --   written-long                        the output holds all of the answer
 --   program-refused, program-replied    the same for bytes
 --   words-few, words-front              how many words there are, and where they stand
@@ -48,9 +48,9 @@ module _ (ws : List ℤ) where
       go (suc k) q = let n : problemRefusal ws ≢ 0 = λ f. let y : suc k ≡ 0 = sym q ∙ f in omega arith in
           refusal-problem ws 51 n ∙ sym e ∙ z
 
-  pub reply-refused : (r : ℕ) → r ≡ refusal ws 51 → r ≢ 0 → refusalText r ≡ replyTo (problemRefusal ws) ws
+  pub replied-refused : (r : ℕ) → r ≡ refusal ws 51 → r ≢ 0 → refusalText r ≡ replyTo (problemRefusal ws) ws
   unfolding replyTo
-  reply-refused r e n = go (problemRefusal ws) refl
+  replied-refused r e n = go (problemRefusal ws) refl
     where
       go : (k : ℕ) → problemRefusal ws ≡ k → refusalText r ≡ replyTo (problemRefusal ws) ws
       go zero q = absurd (n (e ∙ sym (refusal-none ws 51 q (room-enough q))))
@@ -64,10 +64,10 @@ module _ (ws : List ℤ) where
   unfolding written
   written-long before = simp length-append (let h = answer-shaped ws .many in omega arith)
 
-  pub reply-answered : (before : List ℤ) → problemRefusal ws ≡ 0 →
+  pub replied-answered : (before : List ℤ) → problemRefusal ws ≡ 0 →
       answerText (written 0 ws before) (varsOf ws) ≡ replyTo (problemRefusal ws) ws
   unfolding written replyTo
-  reply-answered before e =
+  replied-answered before e =
       answer-text-same (answer ws ++ drop (answerLength ws) before) (answer ws) (varsOf ws)
       (λ i h. List·getD-append (answer ws) (drop (answerLength ws) before) (pos 0) i (rw (answer-shaped ws .many) h))
       ∙ sym (ap (λ k. replyTo k ws) e)

@@ -1,5 +1,5 @@
 -- Lines put one behind the other, and whole texts.
---   lines-start, -room, -more   the lines of the variables below a number: none, room for one more, one more
+--   text-lines-start, -room, -more   the lines of the variables below a number: none, room for one more, one more
 --   printed-none, -all, -only   a whole text in a slice, or none of it; bytes-fit, that it is there
 --   short-clash                 a slice of `mostText` bytes is not too short
 use mathlib.Core.Path.{_≡_, refl, sym, _∙_, ap}
@@ -18,27 +18,27 @@ use Rattle.rules.specs.Text.{linesBelow, printed}
 use Rattle.rules.proofs.Text.Lengths.{lines-longer}
 use Rattle.put.specs.Put.{Put, PutShort}
 use Rattle.put.proofs.Texts.{put-none, put-then}
-use Rattle.lines.specs.Printed.{Printed, answered}
+use Rattle.lines.specs.Printed.{Printed, bytesTold}
 use Rattle.lines.specs.declared.Written.{Written}
 use Rattle.lines.specs.declared.Written.the-variants.{Bytes, TooShort}
 
 -- ---- the lines of the variables, one after the other, of at most b bytes each
 
 module _ (f : ℕ → List ℕ) (b : ℕ) where
-  pub lines-start : (l : List ℕ) (i : ℕ) → PutShort (b * 0) l i (linesBelow 0 f) l i
+  pub text-lines-start : (l : List ℕ) (i : ℕ) → PutShort (b * 0) l i (linesBelow 0 f) l i
   unfolding linesBelow
-  lines-start l i = record { put = put-none l i; short = omega arith }
+  text-lines-start l i = record { put = put-none l i; short = omega arith }
 
   pub lines-room :
       {l m : List ℕ} {i j : ℕ} (v : ℕ) → PutShort (b * v) l i (linesBelow v f) m j → b ≤ mostMultiplierLines
       → v ≤ mostVariables → i ≤ mostText → j + b < 2 ^ 64
   lines-room v p h k l = omega (arith, p .put .place, p .short, mul-le-mul h k)
 
-  pub lines-more :
+  pub text-lines-more :
       {l m n : List ℕ} {i j k : ℕ} (v : ℕ) → PutShort (b * v) l i (linesBelow v f) m j → PutShort b m j (f v) n k
       → PutShort (b * (v + 1)) l i (linesBelow (v + 1) f) n k
   unfolding linesBelow
-  lines-more v p q = record {
+  text-lines-more v p q = record {
     put = rw add-one (put-then (p .put) (q .put));
     short = omega (arith, lines-longer v f, add-one v, mul-suc b v, p .short, q .short);
   }
@@ -47,7 +47,7 @@ module _ (f : ℕ → List ℕ) (b : ℕ) where
 
 module _ {text before l m : List ℕ} {n : ℕ} (measured : PutShort mostText l 0 text m n) where
   pub printed-none : length before < n → Printed text before before TooShort
-  unfolding printed answered
+  unfolding printed bytesTold
   printed-none h =
       let e : leb (length text) (length before) ≡ false =
       lt-leb (length text) (length before) (omega (arith, measured .put .place)) in
@@ -55,7 +55,7 @@ module _ {text before l m : List ℕ} {n : ℕ} (measured : PutShort mostText l 
 
   pub printed-all :
       {after : List ℕ} {k : ℕ} → n ≤ length before → Put before 0 text after k → Printed text before after (Bytes n)
-  unfolding printed answered
+  unfolding printed bytesTold
   printed-all h p =
       let fits : length text ≤ length before = omega (arith, measured .put .place) in
       let size : n ≡ length text = omega (arith, measured .put .place) in
@@ -72,7 +72,7 @@ printed-only p q = (p .bytes ∙ sym (q .bytes), p .answer ∙ sym (q .answer))
 
 -- the bytes that are said to be there are there
 pub bytes-fit : {text before after : List ℕ} {r : Written} {n : ℕ} → Printed text before after r → r ≡ Bytes n → n ≤ length after
-unfolding answered printed
+unfolding bytesTold printed
 bytes-fit {text} {before} {after} {r} {n} p e = go (leb (length text) (length before)) refl
   where
     zero-one : _≡_ {A = ℕ} 0 1 → n ≤ length after
@@ -92,7 +92,7 @@ bytes-fit {text} {before} {after} {r} {n} p e = go (leb (length text) (length be
 pub short-clash :
     {text before after : List ℕ} {r : Written} → Printed text before after r → mostText ≤ length before →
     r ≡ TooShort → ⊥
-unfolding answered
+unfolding bytesTold
 short-clash {text} {before} p room e =
     let fits : leb (length text) (length before) ≡ true =
     le-leb (length text) (length before) (omega (arith, p .short)) in

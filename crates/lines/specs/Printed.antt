@@ -11,11 +11,11 @@ use Rattle.lines.specs.declared.Written.{Written}
 use Rattle.lines.specs.declared.Written.the-variants.{Bytes, TooShort}
 
 -- what is answered where the slice has so many bytes
-unfoldable pub answered : List ℕ → ℕ → Written
-answered text room = cond (leb (length text) room) (Bytes (length text)) TooShort
+unfoldable pub bytesTold : List ℕ → ℕ → Written
+bytesTold text room = cond (leb (length text) room) (Bytes (length text)) TooShort
 
 -- the answer and the slice afterwards; a text has at most `mostText` bytes, so a slice of so many is never too short
 pub record Printed (text before after : List ℕ) (r : Written) : Type 0 where
   pub short : length text ≤ mostText
-  pub answer : r ≡ answered text (length before)
+  pub answer : r ≡ bytesTold text (length before)
   pub bytes : after ≡ printed text before

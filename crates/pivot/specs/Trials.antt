@@ -28,8 +28,8 @@ abbrev pub Quotient : ℤ → ℤ → ℤ → Type 0
 Quotient by raw q = q *ℤ by ≡ raw
 
 -- the column of column place j, which is a line of the array
-abbrev pub columnOf : Border → ℕ → Column
-columnOf b j = record {
+abbrev pub borderColumn : Border → ℕ → Column
+borderColumn b j = record {
   start = lineAt (b .rows) (b .columns) j;
   rows = b .rows;
   pivot = b .pivot;
@@ -50,7 +50,7 @@ pub record Columned (l besides : List ℤ) (c : Column) : Type 0 where
   pub above-within : Within (c .above) largestNumber
 
 -- what is left of an array where k cells from a start were written: as long as it was, and the other cells as they were
-pub record Apart (start k : ℕ) (old new : List ℤ) : Type 0 where
+pub record Spared (start k : ℕ) (old new : List ℤ) : Type 0 where
   pub long : length new ≡ length old
   pub kept : (i : ℕ) → (i < start) ⊎ (start + k ≤ i) → getD new i (pos 0) ≡ getD old i (pos 0)
 
@@ -68,12 +68,12 @@ TriedAs l b by tries.Exact out = (k : ℕ) → k < inBorder b → Quotient by (c
 TriedAs l b by (tries.Wrong j) out = j < b .columns
 
 -- the divisor z of a number and all cells is found, and the quotients by it are written over old ones
-pub record Found (l : List ℤ) (b : Border) (from : ℤ) (old : List ℤ) (z : ℤ) (out : List ℤ) : Type 0 where
+pub record DivisorFound (l : List ℤ) (b : Border) (from : ℤ) (old : List ℤ) (z : ℤ) (out : List ℤ) : Type 0 where
   pub sign-is : z ≡ signedBy from (natAbs z)
   pub divides : natAbs z ∣ natAbs from
   pub greatest : (d : ℕ) → d ∣ natAbs from → ((k : ℕ) → k < inBorder b → d ∣ natAbs (crossedAt l b k)) → d ∣ natAbs z
   pub right : (k : ℕ) → k < inBorder b → Quotient z (crossedAt l b k) (getD out k (pos 0))
-  pub apart : Apart 0 (inBorder b) old out
+  pub apart : Spared 0 (inBorder b) old out
 
 -- a cell is above the largest number times a common multiple of all common divisors
 pub record Exceeds (l : List ℤ) (b : Border) (from : ℤ) : Type 0 where
@@ -85,7 +85,7 @@ pub record Exceeds (l : List ℤ) (b : Border) (from : ℤ) : Type 0 where
   pub greatest : (d : ℕ) → d ∣ natAbs from → ((k : ℕ) → k < inBorder b → d ∣ natAbs (crossedAt l b k)) → d ∣ size
 
 abbrev pub SettledAs : List ℤ → Border → ℤ → List ℤ → Settled → List ℤ → Type 0
-SettledAs l b from old (ends.By z) out = Found l b from old z out
+SettledAs l b from old (ends.By z) out = DivisorFound l b from old z out
 SettledAs l b from old ends.Beyond out = Exceeds l b from
 SettledAs l b from old ends.Open out = T true
 

@@ -4,7 +4,7 @@ ghost use Prim.Native.Nat.{ℕ, _+_, _≤_, _<_};
 ghost use lib.IntN.{natAbs, pos};
 ghost use lib.ListN.{getD, length};
 ghost use Rattle.layout.specs.Layout.{mostEntries};
-ghost use Rattle.pivot.specs.Trials.{Quotient, crossedIn, Columned, Apart, columnDivisor, someAbove};
+ghost use Rattle.pivot.specs.Trials.{Quotient, crossedIn, Columned, Spared, columnDivisor, someAbove};
 use crate::MOST_ENTRIES;
 use crate::guess;
 use crate::guess::Divider;
@@ -71,7 +71,7 @@ pub fn column_over<'a>(
 ) -> u32
     requires { ⌜ Columned (now entries) (now besides) column ⌝ }
     requires { ⌜ (divider .twos < 64) × (length (now out) ≡ mostEntries) ⌝ }
-    ensures apart { λ r. ⌜ Apart (column .start) (column .rows) (now (out .entry)) (now (out .exit)) ⌝ }
+    ensures apart { λ r. ⌜ Spared (column .start) (column .rows) (now (out .entry)) (now (out .exit)) ⌝ }
     ensures right { λ r. ⌜ (r ≡ 0 → (i : ℕ) → i < column .rows
         → Quotient (divider .by) (crossedIn (now (entries .entry)) (now (besides .entry)) column i)
         (getD (now (out .exit)) (column .start + i) (pos 0))) ⌝ }

@@ -10,7 +10,7 @@ ghost use Rattle.rules.specs.Sizes.{largestNumber};
 ghost use Rattle.layout.specs.Layout.{mostEntries};
 ghost use Rattle.pivot.specs.Pivot.{signedBy};
 ghost use Rattle.pivot.specs.Border.{Bordered, inBorder};
-ghost use Rattle.pivot.specs.Trials.{Apart, columnOf, columnDivisor, someAbove, TriedAs, SettledAs};
+ghost use Rattle.pivot.specs.Trials.{Spared, borderColumn, columnDivisor, someAbove, TriedAs, SettledAs};
 use crate::MOST_ENTRIES;
 use crate::border::Border;
 use crate::column;
@@ -33,7 +33,7 @@ fn try_all(
 ) -> Tried
     requires { ⌜ length (now out) ≡ mostEntries ⌝ }
     requires { ⌜ (AllWithin (now entries) largestNumber) × (Bordered border) ⌝ }
-    ensures apart { λ r. ⌜ Apart 0 (inBorder border) (now (out .entry)) (now (out .exit)) ⌝ }
+    ensures apart { λ r. ⌜ Spared 0 (inBorder border) (now (out .entry)) (now (out .exit)) ⌝ }
     ensures tells { λ r. ⌜ TriedAs (now (entries .entry)) border by r (now (out .exit)) ⌝ }
 {
     let divider = guess::divider_of(by);
@@ -63,7 +63,7 @@ pub enum Settled {
 // The column of a column place.
 fn column_at(border: Border, j: usize) -> Column
     requires { ⌜ (j < border .columns) × (Bordered border) ⌝ }
-    ensures { λ r. ⌜ r ≡ columnOf border j ⌝ }
+    ensures { λ r. ⌜ r ≡ borderColumn border j ⌝ }
 {
     Column {
         start: layout::line_at(border.rows, border.columns, j),
@@ -78,7 +78,7 @@ fn lessened(entries: &[i32; MOST_ENTRIES], border: Border, j: usize, by: i32) ->
     requires { ⌜ (j < border .columns) × (by ≢ pos 0) × (Within by largestNumber) ⌝ }
     requires { ⌜ (AllWithin (now entries) largestNumber) × (Bordered border) ⌝ }
     ensures { λ r. ⌜ r ≡ signedBy by
-        (columnDivisor (now (entries .entry)) (border .besides) (columnOf border j) (border .rows) (natAbs by)) ⌝ }
+        (columnDivisor (now (entries .entry)) (border .besides) (borderColumn border j) (border .rows) (natAbs by)) ⌝ }
 {
     let column = column_at(border, j);
     let size = divisor::size(by as i64);
@@ -90,7 +90,7 @@ fn lessened(entries: &[i32; MOST_ENTRIES], border: Border, j: usize, by: i32) ->
 fn is_beyond(entries: &[i32; MOST_ENTRIES], border: Border, j: usize, by: i32) -> bool
     requires { ⌜ (j < border .columns) × (Within by largestNumber) ⌝ }
     requires { ⌜ (AllWithin (now entries) largestNumber) × (Bordered border) ⌝ }
-    ensures { λ r. ⌜ r ≡ someAbove (now (entries .entry)) (border .besides) (columnOf border j) (border .rows)
+    ensures { λ r. ⌜ r ≡ someAbove (now (entries .entry)) (border .besides) (borderColumn border j) (border .rows)
         (natAbs by * largestNumber) ⌝ }
 {
     let column = column_at(border, j);

@@ -18,7 +18,7 @@ use Rattle.whole.proofs.Tells.{tells-eq}
 use Rattle.whole.specs.Numbers.{isPos}
 use Rattle.whole.specs.Tables.{table}
 use Rattle.whole.specs.Values.{Values}
-use Rattle.rules.specs.Blame.{Stopped, sideOf}
+use Rattle.rules.specs.Blame.{Stopped, multipliersOn}
 use Rattle.rules.specs.Problem.{Problem, vars, word}
 use Rattle.rules.specs.Run.{conflict, spending}
 use Rattle.rules.specs.Step.{Outcome, Side, State, above, below, cannot, evidence, positive, pull, same}
@@ -34,7 +34,7 @@ positive-some z n = go (isPos z) refl
 
 module _ {X : Type 0} (N : ℕ) (σ : Side) (y : ℕ → ℤ) where
   pub evidence-named : (ls us : List ℤ) → evidence {X = X} N σ y ≡ cannot ls us → (τ : Side) (v : ℕ) → v < N →
-      word (sideOf ls us τ) v ≢ pos 0 → Stopped τ (pull σ (y v))
+      word (multipliersOn ls us τ) v ≢ pos 0 → Stopped τ (pull σ (y v))
   unfolding evidence
   evidence-named ls us e below v h n =
       let z : table N (λ v. positive (negℤ (pull σ (y v)))) ≡ ls = cc in
@@ -54,7 +54,7 @@ module _ {X : Type 0} (N : ℕ) (σ : Side) (y : ℕ → ℤ) where
 
 module _ {X : Type 0} (𝓥 : Values X) (b : ℕ) (P : Problem X) (s : State X) (k v : ℕ) (c : conflict 𝓥 P ≡ some v) where
   pub crossed-named : (ls us : List ℤ) → spending 𝓥 b P s k .how ≡ cannot ls us → (τ : Side) (u : ℕ) → u < vars P →
-      word (sideOf ls us τ) u ≢ pos 0 → u ≡ v
+      word (multipliersOn ls us τ) u ≢ pos 0 → u ≡ v
   unfolding spending
   crossed-named ls us e τ u h n =
       is-v (λ q. n (ap (λ l. word l u) (list τ) ∙ table-at (vars P) (same v) (pos 0) u h ∙ q))
@@ -62,7 +62,7 @@ module _ {X : Type 0} (𝓥 : Values X) (b : ℕ) (P : Problem X) (s : State X) 
       both : _≡_ {A = Outcome X} (cannot (table (vars P) (same v)) (table (vars P) (same v))) (cannot ls us)
       both = rw (c, spending) at e
 
-      list : (τ : Side) → sideOf ls us τ ≡ table (vars P) (same v)
+      list : (τ : Side) → multipliersOn ls us τ ≡ table (vars P) (same v)
       list below = sym (let z : table (vars P) (same v) ≡ ls = cc in z)
       list above = sym (let z : table (vars P) (same v) ≡ us = cc in z)
 

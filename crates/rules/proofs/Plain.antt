@@ -20,7 +20,7 @@ use Rattle.whole.proofs.Tools.{le-at}
 use Rattle.whole.specs.Numbers.{Within}
 use Rattle.whole.specs.Tables.{table, tableFrom}
 use Rattle.whole.specs.Values.{lexicographic, pairs, whole}
-use Rattle.rules.proofs.Through.Keeps.{Keeps, endingThrough, outcomeThrough, stateThrough, through}
+use Rattle.rules.proofs.Through.Keeps.{Keeps, endingThrough, outcomeThrough, stateThrough, problemThrough}
 use Rattle.rules.proofs.Through.Runs.{ending-through, start-through}
 use Rattle.rules.proofs.Through.Tests.{scaled-through}
 use Rattle.rules.specs.Answer.{answer, answerFrom, wordsOf}
@@ -58,16 +58,16 @@ unfolding tableFrom
 table-of a zero z = refl
 table-of a (suc k) z = ap (λ l. z ∷ l) (table-of (suc a) k z)
 
-level-words : (P : Problem ℤ) (e : Ending ℤ) → wordsOf (through level P) (endingThrough level e) ≡ plainWords P e
+level-words : (P : Problem ℤ) (e : Ending ℤ) → wordsOf (problemThrough level P) (endingThrough level e) ≡ plainWords P e
 unfolding wordsOf plainWords outcomeThrough
 level-words P e = go (e .how)
   where
     parts : (v : ℕ) →
-        scaled pairs (through level P) (stateThrough level (e .last)) v ≡ level (scaled whole P (e .last) v)
+        scaled pairs (problemThrough level P) (stateThrough level (e .last)) v ≡ level (scaled whole P (e .last) v)
     parts = scaled-through whole pairs level level-keeps P (e .last)
 
     go : (o : Outcome ℤ) → let f : Ending ℤ = record { how = o; pivots = e .pivots; last = e .last } in
-        wordsOf (through level P) (endingThrough level f) ≡ plainWords P f
+        wordsOf (problemThrough level P) (endingThrough level f) ≡ plainWords P f
     go can = ap₂ (λ x y. pos 1 ∷ pos (e .pivots) ∷ common (e .last) ∷ x ++ y)
         (ap (table (vars P)) (fun-ext (λ v. ap (λ z. z .0) (parts v))))
         (ap (table (vars P)) (fun-ext (λ v. ap (λ z. z .1) (parts v))) ∙ table-of 0 (vars P) (pos 0))
@@ -76,10 +76,10 @@ level-words P e = go (e .how)
     go (goes t) = refl
 
 pub level-answer : (P : Problem ℤ) (s : State ℤ) →
-    answerFrom (through level P) (stateThrough level s) ≡ plainWords P (ending whole P s)
+    answerFrom (problemThrough level P) (stateThrough level s) ≡ plainWords P (ending whole P s)
 unfolding answerFrom
 level-answer P s =
-    ap (wordsOf (through level P)) (ending-through whole pairs level level-keeps P s) ∙ level-words P (ending whole P s)
+    ap (wordsOf (problemThrough level P)) (ending-through whole pairs level level-keeps P s) ∙ level-words P (ending whole P s)
 
 -- ---- words with no mark
 
@@ -119,7 +119,7 @@ module _ (ws : List ℤ) (A : Accepted mostRows ws) (U : Unmarked ws) where
           let z : kind ws v ≡ pos 0 = List·getD-eq-default ws (pos 0) (omega (arith, A .exact)) in
           (ap strictLower z, ap strictUpper z)
 
-  as-level : inner (problem ws) ≡ through level (plainly (problem ws))
+  as-level : inner (problem ws) ≡ problemThrough level (plainly (problem ws))
   unfolding problem
   as-level = ap₂ (λ l u. record { n = nOf ws; m = mOf ws; coefficient = coefficientWord ws; lower = l; upper = u })
       (fun-ext (λ v. low-level (hasLower (kind ws v)) (strictLower (kind ws v)) (lowerWord ws v) (unmarked v .0)))
@@ -129,7 +129,7 @@ module _ (ws : List ℤ) (A : Accepted mostRows ws) (U : Unmarked ws) where
   unfolding answer plainAnswer
   plain-answer =
       ap (λ P. answerFrom P (start pairs P)) as-level
-      ∙ ap (answerFrom (through level Q)) (start-through whole pairs level level-keeps Q)
+      ∙ ap (answerFrom (problemThrough level Q)) (start-through whole pairs level level-keeps Q)
       ∙ level-answer Q (start whole Q)
     where
       Q : Problem ℤ

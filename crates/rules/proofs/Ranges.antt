@@ -10,7 +10,7 @@ use mathlib.Core.Path.{ap, refl, _≡_}
 use Prim.Native.Nat.{ℕ, _*_, _+_, _<_, _≤_}
 use lib.Arith.{digits-lt}
 use lib.IntN.{pos, ℤ}
-use Rattle.whole.proofs.Tests.{above, own-size, under}
+use Rattle.whole.proofs.Tests.{above, own-size, under-size}
 use Rattle.whole.specs.Numbers.{Within}
 use Rattle.rules.specs.Limit.{Limit, strictLower, strictUpper, hasLower, hasUpper, present}
 use Rattle.rules.specs.Problem.{kind, lowerWord, mOf, nOf, problem, upperWord, vars, varsOf, word}
@@ -39,10 +39,10 @@ present-within false s z l h e = absurd (Option·none-ne-some l e)
 
 module _ {rows : ℕ} {ws : List ℤ} (A : Accepted rows ws) where
   pub n-few : nOf ws ≤ mostColumns
-  n-few = under mostColumns 1 (word ws 0) (A .n-least) (A .n-most)
+  n-few = under-size mostColumns 1 (word ws 0) (A .n-least) (A .n-most)
 
   pub m-few : mOf ws ≤ rows
-  m-few = under rows 0 (word ws 1) (A .m-least) (A .m-most)
+  m-few = under-size rows 0 (word ws 1) (A .m-least) (A .m-most)
 
   pub coefficient-within : (i j : ℕ) → i < mOf ws → j < nOf ws → Within (problem ws .coefficient i j) largestCoefficient
   unfolding problem

@@ -27,7 +27,7 @@ use Rattle.rules.proofs.Ends.{ready-start}
 use Rattle.rules.proofs.Moved.{rowed-after}
 use Rattle.rules.proofs.Runs.{next-after, run-from, run-on}
 use Rattle.rules.specs.Answer.{answer, answerFrom, wordsOf}
-use Rattle.rules.specs.Cut.{OnWay, Sliced, cut, cutAt, first, sum}
+use Rattle.rules.specs.Cut.{OnWay, Sliced, cut, cutAt, firstSlice, allPivots}
 use Rattle.rules.specs.Problem.{Problem, inner, problem, word}
 use Rattle.rules.specs.Run.{Ended, Ending, Ends, Moves, after, bound, conflict, run, spending}
 use Rattle.rules.specs.Slices.{Slice, begun, continued, continuedBy, sliceAnswer, told}
@@ -117,7 +117,7 @@ module _ (P : Problem (ℤ × ℤ)) (s : State (ℤ × ℤ)) where
   module _ (v : ℕ) (e : conflict pairs P ≡ some v) where
     -- finished at 0
     pub conflict-slice : (b : ℕ) →
-        (continued pairs (first P s) b ≡ first P s) × (sliceAnswer (first P s) b ≡ some (answerFrom P s))
+        (continued pairs (firstSlice P s) b ≡ firstSlice P s) × (sliceAnswer (firstSlice P s) b ≡ some (answerFrom P s))
     unfolding sliceAnswer answerFrom
     conflict-slice b = (
       crossed-stays pairs P s v e 0 b,
@@ -147,27 +147,27 @@ module _ (P : Problem (ℤ × ℤ)) (s : State (ℤ × ℤ)) where
   module _ (S : Sliced P s) where
     -- however the numbers are chosen
     from-by : (bs : List ℕ) (i : ℕ) → i ≤ S .count →
-        continuedBy pairs (cut P s i) bs ≡ cut P s (min (S .count) (i + sum bs))
+        continuedBy pairs (cut P s i) bs ≡ cut P s (min (S .count) (i + allPivots bs))
     unfolding continuedBy
     from-by [] i h = ap (cut P s) (let z : i ≡ min (S .count) (i + 0) = omega arith in z)
     from-by (b ∷ bs) i h = ap (λ A. continuedBy pairs A bs) (S .moves b i h)
         ∙ from-by bs (min (S .count) (i + b)) (omega arith)
-        ∙ ap (cut P s) (let z : min (S .count) (min (S .count) (i + b) + sum bs)
-        ≡ min (S .count) (i + (b + sum bs)) = omega arith in z)
+        ∙ ap (cut P s) (let z : min (S .count) (min (S .count) (i + b) + allPivots bs)
+        ≡ min (S .count) (i + (b + allPivots bs)) = omega arith in z)
 
-    pub cut-by : (bs : List ℕ) → continuedBy pairs (first P s) bs ≡ cut P s (min (S .count) (sum bs))
+    pub cut-by : (bs : List ℕ) → continuedBy pairs (firstSlice P s) bs ≡ cut P s (min (S .count) (allPivots bs))
     unfolding after
     cut-by bs = from-by bs 0 (omega arith)
-        ∙ ap (λ j. cut P s (min (S .count) j)) (let z : 0 + sum bs ≡ sum bs = omega arith in z)
+        ∙ ap (λ j. cut P s (min (S .count) j)) (let z : 0 + allPivots bs ≡ allPivots bs = omega arith in z)
 
-    pub answer-by : (bs : List ℕ) (b : ℕ) → S .count ≤ sum bs + b →
-        sliceAnswer (continuedBy pairs (first P s) bs) b ≡ some (answerFrom P s)
+    pub answer-by : (bs : List ℕ) (b : ℕ) → S .count ≤ allPivots bs + b →
+        sliceAnswer (continuedBy pairs (firstSlice P s) bs) b ≡ some (answerFrom P s)
     answer-by bs b h = ap (λ A. sliceAnswer A b) (cut-by bs)
-        ∙ S .answers b (min (S .count) (sum bs)) (omega arith) (omega arith)
+        ∙ S .answers b (min (S .count) (allPivots bs)) (omega arith) (omega arith)
 
-    pub none-by : (bs : List ℕ) (b : ℕ) → sum bs + b < S .count →
-        sliceAnswer (continuedBy pairs (first P s) bs) b ≡ none
-    none-by bs b h = ap (λ A. sliceAnswer A b) (cut-by bs) ∙ S .goes-on b (min (S .count) (sum bs)) (omega arith)
+    pub none-by : (bs : List ℕ) (b : ℕ) → allPivots bs + b < S .count →
+        sliceAnswer (continuedBy pairs (firstSlice P s) bs) b ≡ none
+    none-by bs b h = ap (λ A. sliceAnswer A b) (cut-by bs) ∙ S .goes-on b (min (S .count) (allPivots bs)) (omega arith)
 
     pub finished-again : (b : ℕ) →
         (continued pairs (cut P s (S .count)) b ≡ cut P s (S .count))
@@ -175,14 +175,14 @@ module _ (P : Problem (ℤ × ℤ)) (s : State (ℤ × ℤ)) where
     finished-again b = let z : min (S .count) (S .count + b) ≡ S .count = omega arith in
         (S .moves b (S .count) (omega arith) ∙ ap (cut P s) z, S .answers b (S .count) (omega arith) (omega arith))
 
-    pub slices-only : (bs cs : List ℕ) → S .count ≤ sum bs → S .count ≤ sum cs →
-        continuedBy pairs (first P s) bs ≡ continuedBy pairs (first P s) cs
-    slices-only bs cs h k = let z : min (S .count) (sum bs) ≡ min (S .count) (sum cs) = omega arith in
+    pub slices-only : (bs cs : List ℕ) → S .count ≤ allPivots bs → S .count ≤ allPivots cs →
+        continuedBy pairs (firstSlice P s) bs ≡ continuedBy pairs (firstSlice P s) cs
+    slices-only bs cs h k = let z : min (S .count) (allPivots bs) ≡ min (S .count) (allPivots cs) = omega arith in
         cut-by bs ∙ ap (cut P s) z ∙ sym (cut-by cs)
 
 -- ---- a state on the way of its run: what every state has that a start or a continue hands back
 
-pub on-way-start : (P : Problem (ℤ × ℤ)) (s : State (ℤ × ℤ)) → Ready pairs P s → OnWay (first P s)
+pub on-way-start : (P : Problem (ℤ × ℤ)) (s : State (ℤ × ℤ)) → Ready pairs P s → OnWay (firstSlice P s)
 unfolding after
 on-way-start P s R = record { from = s; ready = R; run = sliced P s R; state-is = refl; reached = omega arith }
 
@@ -217,7 +217,7 @@ module _ (ws : List ℤ) where
       (ready-start pairs pairs-laws (inner (problem ws)))
 
   -- the words of the uncut run, and its count
-  pub cut-answer : (bs : List ℕ) (b : ℕ) → sliced-words .count ≤ sum bs + b →
+  pub cut-answer : (bs : List ℕ) (b : ℕ) → sliced-words .count ≤ allPivots bs + b →
       sliceAnswer (continuedBy pairs (begun pairs (inner (problem ws))) bs) b ≡ some (answer ws)
   unfolding begun answer
   cut-answer = answer-by (inner (problem ws)) (start pairs (inner (problem ws))) sliced-words

@@ -36,7 +36,7 @@ module _ {X : Type 0} (seat : ℕ → ℕ → Option X) (leave enter : ℕ → �
     pub leaves : leave at ≡ v
 
   -- r leaves at S, and enters at T with the value that it got at S; what leaves at T is below r; what is above r and seated at T is so at S
-  pub record Clash (i j : ℕ) : Type 0 where
+  pub record ClashingSteps (i j : ℕ) : Type 0 where
     pub S : ℕ
     pub T : ℕ
     pub S-in : (i ≤ S) × (S < j)
@@ -210,16 +210,16 @@ module _ {X : Type 0} (seat : ℕ → ℕ → Option X) (leave enter : ℕ → �
               cases (inr f) = let g : seat i r ≡ some (lim S) = same r ∙ (rw z at f) in
                   before g (seated-on c i r (lim S) (omega arith) (omega arith) g)
 
-    pub clash : i < j → ((v : ℕ) → seat i v ≡ seat j v) → Clash i j
+    pub clash : i < j → ((v : ℕ) → seat i v ≡ seat j v) → ClashingSteps i j
     clash h same = go (split (suc i) j h)
       where
-        go : (d : ℕ) × (suc i + d ≡ j) → Clash i j
+        go : (d : ℕ) × (suc i + d ≡ j) → ClashingSteps i j
         go (d, z) = found (let y : i + suc d ≡ j = omega arith in rw y at (highest d i))
           where
-            found : Highest i j → Clash i j
+            found : Highest i j → ClashingSteps i j
             found m = use-it (comes-back same (leave (m .at)) (m .most) (m .at) (m .from) (m .upto) refl)
               where
-                use-it : Enters i j (leave (m .at)) (lim (m .at)) → Clash i j
+                use-it : Enters i j (leave (m .at)) (lim (m .at)) → ClashingSteps i j
                 use-it t =
                     let st : Swap (seat (t .at)) (seat (suc (t .at))) (leave (t .at)) (enter (t .at))
                     (lim (t .at)) = steps (t .at) (t .from) (t .upto) in

@@ -15,7 +15,7 @@ use Rattle.rules.proofs.Moves.{Goes, step-goes}
 use Rattle.rules.proofs.Runs.{next-after}
 use Rattle.rules.proofs.Sides.{either-by, far, far-by, near, near-by, no-fall-by, no-rise-by, outside-by, sided, sided-laws, suits-by}
 use Rattle.rules.proofs.Sound.{row-holds, seated-scaled, values-solve}
-use Rattle.rules.proofs.Swaps.{Clash, clash}
+use Rattle.rules.proofs.Swaps.{ClashingSteps, clash}
 use Rattle.rules.specs.Problem.{Problem, vars}
 use Rattle.rules.specs.Rule.{Entered, Left, Swap}
 use Rattle.rules.specs.Run.{Moves, Runs, after}
@@ -136,7 +136,7 @@ module _ {X : Type 0} (𝓥 : Values X) where
         seats : ℕ → ℕ → Option X
         seats k v = seat (after 𝓥 P s k) v
 
-        use-it : Clash seats (λ k. leaves-at k .variable) enters-at (λ k. limitAt 𝓥 P (leaves-at k)) i j → ⊥
+        use-it : ClashingSteps seats (λ k. leaves-at k .variable) enters-at (λ k. limitAt 𝓥 P (leaves-at k)) i j → ⊥
         use-it c =
             let A = step-at (c .S) (runs (c .S) (c .S-in .1)) in
             let B = step-at (c .T) (runs (c .T) (c .T-in .1)) in

@@ -37,9 +37,9 @@ pub record Blamed {X : Type 0} (𝓥 : Values X) (P : Problem X) (s : State X) (
   pub blame : Blame (vars P) (out .side) (out .variable) (s .tableau) ls us
 
 -- the multipliers of a side
-abbrev pub sideOf : List ℤ → List ℤ → Side → List ℤ
-sideOf ls us below = ls
-sideOf ls us above = us
+abbrev pub multipliersOn : List ℤ → List ℤ → Side → List ℤ
+multipliersOn ls us below = ls
+multipliersOn ls us above = us
 
 -- a limit of that side stops a variable with this entry, turned to rise
 abbrev pub Stopped : Side → ℤ → Type 0

@@ -9,7 +9,7 @@ use lib.IntN.{ℤ, pos, negsuc, _-ℤ_}
 use lib.ListN.{length, getD}
 use lib.Dec.{ltb, eqb}
 use Rattle.whole.specs.Tables.{table}
-use Rattle.rules.specs.Meanings.{Line, line}
+use Rattle.rules.specs.Meanings.{Line, lineOf}
 use Rattle.rules.specs.Sizes.{mostBytes}
 use Rattle.rules.specs.Problem.{word}
 use Rattle.rules.specs.Refusal.{first}
@@ -58,4 +58,4 @@ countRefusal count = first ((ltb count 8, 1) ∷ (not (eqb (count % 4) 0) || ltb
 
 -- under 8; not a multiple of four, or over the most
 abbrev pub countTable : ℕ → List Line
-countTable n = line 1 (n < 8) (8 ≤ n) ∷ line 3 ((n % 4 ≢ 0) ⊎ (mostBytes < n)) ((n % 4 ≡ 0) × (n ≤ mostBytes)) ∷ []
+countTable n = lineOf 1 (n < 8) (8 ≤ n) ∷ lineOf 3 ((n % 4 ≢ 0) ⊎ (mostBytes < n)) ((n % 4 ≡ 0) × (n ≤ mostBytes)) ∷ []

@@ -1,5 +1,5 @@
 -- docs/RULES.md, "The run in slices": a run that is cut anywhere is the run.
---   sum         all pivots of several continues
+--   allPivots         all pivots of several continues
 --   cutAt       the run from a state, so many pivots on
 --   Sliced      what a continue comes to: the pivots up to the count of the uncut run, and the answer exactly then
 --   OnWay       what every state has that a start or a continue hands back
@@ -17,9 +17,9 @@ use Rattle.rules.specs.State.{Ready}
 use Rattle.rules.specs.Step.{State}
 
 -- all pivots of the numbers together
-abbrev pub sum : List ℕ → ℕ
-sum [] = 0
-sum (b ∷ bs) = b + sum bs
+abbrev pub allPivots : List ℕ → ℕ
+allPivots [] = 0
+allPivots (b ∷ bs) = b + allPivots bs
 
 module _ {X : Type 0} (𝓥 : Values X) (P : Problem X) (s : State X) where
   -- the run from s, i pivots on
@@ -31,8 +31,8 @@ module _ (P : Problem (ℤ × ℤ)) (s : State (ℤ × ℤ)) where
   abbrev pub cut : ℕ → Slice (ℤ × ℤ)
   cut = cutAt pairs P s
 
-  abbrev pub first : Slice (ℤ × ℤ)
-  first = record { problem = P; state = s; count = 0 }
+  abbrev pub firstSlice : Slice (ℤ × ℤ)
+  firstSlice = record { problem = P; state = s; count = 0 }
 
   -- i pivots on with b to spend: the pivots up to the count of the uncut run, and the answer exactly then
   pub record Sliced : Type 0 where

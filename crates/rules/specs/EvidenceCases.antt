@@ -3,7 +3,7 @@ use mathlib.Core.List.{List, [], _∷_, _++_}
 use Prim.Native.Nat.{ℕ}
 use lib.IntN.{ℤ, pos}
 use Rattle.rules.specs.Expected.{Case, checks, minus}
-use Rattle.rules.specs.LimitCases.{atLeast, atMost, caseH, caseInside, caseTouching, moreThan, two, zeros}
+use Rattle.rules.specs.LimitCases.{lowerOnly, upperOnly, caseH, caseInside, caseTouching, moreThan, two, zeros}
 
 abbrev case : List ℤ → List ℤ → ℕ → Case
 case ws a k = record { words = ws; expected = checks a k }
@@ -20,7 +20,7 @@ alone z = case (caseH .words) (pos 1 ∷ pos 0 ∷ pos 1 ∷ pos 0 ∷ z ∷ [])
 abbrev beside : List ℤ
 beside =
     two (pos 3) (pos 1) ++ (pos 1 ∷ pos 1 ∷ pos 0 ∷ [])
-    ++ atMost (pos 0) ++ atMost (pos 3) ++ moreThan (pos 0) ++ atLeast (pos 3)
+    ++ upperOnly (pos 0) ++ upperOnly (pos 3) ++ moreThan (pos 0) ++ lowerOnly (pos 3)
 
 unfoldable pub evidenceCases : List Case
 evidenceCases =

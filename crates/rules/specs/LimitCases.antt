@@ -11,11 +11,11 @@ use Rattle.rules.specs.Expected.{Case, answers, minus, refused}
 abbrev free : List ℤ
 free = pos 0 ∷ pos 0 ∷ pos 0 ∷ []
 
-abbrev pub atLeast : ℤ → List ℤ
-atLeast l = pos 1 ∷ l ∷ pos 0 ∷ []
+abbrev pub lowerOnly : ℤ → List ℤ
+lowerOnly l = pos 1 ∷ l ∷ pos 0 ∷ []
 
-abbrev pub atMost : ℤ → List ℤ
-atMost u = pos 2 ∷ pos 0 ∷ u ∷ []
+abbrev pub upperOnly : ℤ → List ℤ
+upperOnly u = pos 2 ∷ pos 0 ∷ u ∷ []
 
 abbrev between : ℤ → ℤ → List ℤ
 between l u = pos 3 ∷ l ∷ u ∷ []
@@ -46,21 +46,21 @@ turnedAway ws k = record { words = ws; expected = refused k }
 abbrev pub caseA : Case
 caseA = gives
     (two (pos 2) (pos 3) ++ two (pos 1) (pos 1) ++ two (pos 2) (minus 1) ++ two (minus 1) (pos 2)
-    ++ free ++ free ++ atLeast (pos 2) ++ atLeast (pos 0) ++ atLeast (pos 1))
+    ++ free ++ free ++ lowerOnly (pos 2) ++ lowerOnly (pos 0) ++ lowerOnly (pos 1))
     (pos 1 ∷ pos 2 ∷ pos 3 ∷ pos 3 ∷ pos 3 ∷ pos 6 ∷ pos 3 ∷ pos 3 ∷ zeros 5)
 
 -- x+y>=0, -2x+y>=2, -10x+y>=-5: can, 2, over 3: -2 2 0 6 22
 abbrev caseB : Case
 caseB = gives
     (two (pos 2) (pos 3) ++ two (pos 1) (pos 1) ++ two (minus 2) (pos 1) ++ two (minus 10) (pos 1)
-    ++ free ++ free ++ atLeast (pos 0) ++ atLeast (pos 2) ++ atLeast (minus 5))
+    ++ free ++ free ++ lowerOnly (pos 0) ++ lowerOnly (pos 2) ++ lowerOnly (minus 5))
     (pos 1 ∷ pos 2 ∷ pos 3 ∷ minus 2 ∷ pos 2 ∷ pos 0 ∷ pos 6 ∷ pos 22 ∷ zeros 5)
 
 -- x+y>=0, -x-2y>=2, -x+y>=1: cannot, 2, row lowers 3 2 1
 abbrev caseC : Case
 caseC = gives
     (two (pos 2) (pos 3) ++ two (pos 1) (pos 1) ++ two (minus 1) (minus 2) ++ two (minus 1) (pos 1)
-    ++ free ++ free ++ atLeast (pos 0) ++ atLeast (pos 2) ++ atLeast (pos 1))
+    ++ free ++ free ++ lowerOnly (pos 0) ++ lowerOnly (pos 2) ++ lowerOnly (pos 1))
     (pos 2 ∷ pos 2 ∷ pos 0 ∷ pos 0 ∷ pos 0 ∷ pos 3 ∷ pos 2 ∷ pos 1 ∷ zeros 5)
 
 -- -1<=x1<=0, -4<=x2<=0, x1+2x2 in -5..-4, 2x1+x2 in -7..1: can, 2, over 2: -2 -3 -8 -7
@@ -74,13 +74,13 @@ caseD = gives
 abbrev caseE : Case
 caseE = gives
     (two (pos 2) (pos 4) ++ two (minus 1) (pos 1) ++ two (pos 0) (pos 1) ++ two (minus 1) (minus 1) ++ two (pos 3) (minus 1)
-    ++ free ++ free ++ atMost (pos 1) ++ atMost (pos 4) ++ atMost (minus 6) ++ atMost (pos 7))
+    ++ free ++ free ++ upperOnly (pos 1) ++ upperOnly (pos 4) ++ upperOnly (minus 6) ++ upperOnly (pos 7))
     (pos 1 ∷ pos 2 ∷ pos 4 ∷ pos 13 ∷ pos 11 ∷ minus 2 ∷ pos 11 ∷ minus 24 ∷ pos 28 ∷ zeros 6)
 
 -- x>=2, y>=2 as limits, row x+y<=3: cannot, 0, lowers of x and y 1, upper of the row 1
 abbrev caseF : Case
 caseF = gives
-    (two (pos 2) (pos 1) ++ two (pos 1) (pos 1) ++ atLeast (pos 2) ++ atLeast (pos 2) ++ atMost (pos 3))
+    (two (pos 2) (pos 1) ++ two (pos 1) (pos 1) ++ lowerOnly (pos 2) ++ lowerOnly (pos 2) ++ upperOnly (pos 3))
     (pos 2 ∷ pos 0 ∷ pos 0 ∷ pos 1 ∷ pos 1 ∷ pos 0 ∷ pos 0 ∷ pos 0 ∷ pos 1 ∷ [])
 
 -- n 1, m 0, lower 1, upper 0: cannot, 0, lower 1, upper 1
@@ -93,7 +93,7 @@ caseH = gives (two (pos 1) (pos 0) ++ free) (pos 1 ∷ pos 0 ∷ pos 1 ∷ pos 0
 
 -- one row 0x >= 1: refused, as a blank row
 abbrev caseI : Case
-caseI = turnedAway (two (pos 1) (pos 1) ++ (pos 0 ∷ []) ++ free ++ atLeast (pos 1)) 10
+caseI = turnedAway (two (pos 1) (pos 1) ++ (pos 0 ∷ []) ++ free ++ lowerOnly (pos 1)) 10
 
 -- ---- strict limits
 
@@ -114,7 +114,7 @@ caseInside = gives
 -- x<=0, y<3, x+y>=3: cannot, 1, lower of the row 1, uppers of x and y 1; the limits sum to 0, and one is strict
 abbrev pub caseTouching : Case
 caseTouching = gives
-    (two (pos 2) (pos 1) ++ two (pos 1) (pos 1) ++ atMost (pos 0) ++ lessThan (pos 3) ++ atLeast (pos 3))
+    (two (pos 2) (pos 1) ++ two (pos 1) (pos 1) ++ upperOnly (pos 0) ++ lessThan (pos 3) ++ lowerOnly (pos 3))
     (pos 2 ∷ pos 1 ∷ pos 0 ∷ pos 0 ∷ pos 0 ∷ pos 1 ∷ pos 1 ∷ pos 1 ∷ pos 0 ∷ [])
 
 -- 0<2x+3y<1, 3x-2y>0: can, 1, over 2: 0 0 0 0, small parts 1 0 2 3
@@ -139,9 +139,9 @@ oneRow c limits = two (pos 1) (pos 1) ++ (c ∷ []) ++ free ++ limits
 abbrev edges : List Case
 edges =
     -- a coefficient of 1,000 and a limit of 30,000 pass; 1,001 and 30,001 do not
-    gives (oneRow (pos 1000) (atMost (pos 30000))) (pos 1 ∷ pos 0 ∷ pos 1 ∷ zeros 4)
+    gives (oneRow (pos 1000) (upperOnly (pos 30000))) (pos 1 ∷ pos 0 ∷ pos 1 ∷ zeros 4)
     ∷ turnedAway (oneRow (pos 1001) free) 4
-    ∷ turnedAway (oneRow (pos 1) (atMost (pos 30001))) 6
+    ∷ turnedAway (oneRow (pos 1) (upperOnly (pos 30001))) 6
     -- n 9, n 0
     ∷ turnedAway (two (pos 9) (pos 0) ++ zeros 27) 2
     ∷ turnedAway (two (pos 0) (pos 0)) 2

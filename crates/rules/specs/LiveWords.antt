@@ -13,12 +13,12 @@ use Rattle.rules.specs.Problem.{kind, kindPlace, lowerWord, upperWord, w
 use Rattle.rules.specs.Step.{Side, above, below}
 
 -- the value of a bit that is set
-abbrev pub valueOf : ℕ → Bool → ℕ
-valueOf b set = cond set (2 ^ b) 0
+abbrev pub bitValue : ℕ → Bool → ℕ
+bitValue b set = cond set (2 ^ b) 0
 
 -- the kind of these bits: lower, upper, strict lower, strict upper
 unfoldable pub kindOf : (lower upper strictlower strictupper : Bool) → ℤ
-kindOf a b c d = pos (valueOf 0 a + valueOf 1 b + valueOf 2 c + valueOf 3 d)
+kindOf a b c d = pos (bitValue 0 a + bitValue 1 b + bitValue 2 c + bitValue 3 d)
 
 -- a kind of which the lower limit is kept, or dropped, and the upper one
 unfoldable pub liveKind : (lower upper : Bool) → ℤ → ℤ

@@ -27,8 +27,8 @@ pub record Line : Type 1 where
   pub Bad : Type 0
   pub Fine : Type 0
 
-abbrev pub line : ℕ → (Bad Fine : Type 0) → Line
-line k Bad Fine = record { number = k; Bad = Bad; Fine = Fine }
+abbrev pub lineOf : ℕ → (Bad Fine : Type 0) → Line
+lineOf k Bad Fine = record { number = k; Bad = Bad; Fine = Fine }
 
 abbrev pub First : List Line → ℕ → Type 0
 First [] k = k ≡ 0
@@ -65,29 +65,29 @@ FineKind k = InRange 0 15 k × ((strictLower k ≡ true → hasLower k ≡ true)
 -- ---- the lines of a problem
 
 abbrev pub fewLine : List ℤ → Line
-fewLine ws = line 1 (length ws < 2) (2 ≤ length ws)
+fewLine ws = lineOf 1 (length ws < 2) (2 ≤ length ws)
 
 -- n or m is outside its range; the most rows are an argument
 abbrev pub sizeLine : ℕ → List ℤ → Line
-sizeLine rows ws = line 2 (OutOfRange 1 mostColumns (word ws 0) ⊎ OutOfRange 0 rows (word ws 1))
+sizeLine rows ws = lineOf 2 (OutOfRange 1 mostColumns (word ws 0) ⊎ OutOfRange 0 rows (word ws 1))
     (InRange 1 mostColumns (word ws 0) × InRange 0 rows (word ws 1))
 
 abbrev pub lengthLine : List ℤ → Line
-lengthLine ws = line 3 (length ws ≢ 2 + mOf ws * nOf ws + 3 * varsOf ws)
+lengthLine ws = lineOf 3 (length ws ≢ 2 + mOf ws * nOf ws + 3 * varsOf ws)
     (length ws ≡ 2 + mOf ws * nOf ws + 3 * varsOf ws)
 
 abbrev pub coefficientLine : List ℤ → Line
-coefficientLine ws = line 4
+coefficientLine ws = lineOf 4
     ((i : ℕ) × (i < mOf ws * nOf ws) × (¬ Within (word ws (2 + i)) largestCoefficient))
     ((i : ℕ) → i < mOf ws * nOf ws → Within (word ws (2 + i)) largestCoefficient)
 
 abbrev pub kindLine : List ℤ → Line
-kindLine ws = line 5 ((v : ℕ) × (v < varsOf ws) × BadKind (kind ws v))
+kindLine ws = lineOf 5 ((v : ℕ) × (v < varsOf ws) × BadKind (kind ws v))
     ((v : ℕ) → v < varsOf ws → FineKind (kind ws v))
 
 -- a variable has a bad word for its lower or for its upper limit, be that limit present or missing
 abbrev pub limitLine : List ℤ → Line
-limitLine ws = line 6
+limitLine ws = lineOf 6
     ((v : ℕ) × (v < varsOf ws)
     × (BadLimit (hasLower (kind ws v)) (lowerWord ws v) ⊎ BadLimit (hasUpper (kind ws v)) (upperWord ws v)))
     ((v : ℕ) → v < varsOf ws →
@@ -95,12 +95,12 @@ limitLine ws = line 6
 
 -- some row is blank: each of its n coefficients is 0
 abbrev pub blankLine : List ℤ → Line
-blankLine ws = line 10 ((i : ℕ) × (i < mOf ws) × ((j : ℕ) → j < nOf ws → coefficientWord ws i j ≡ pos 0))
+blankLine ws = lineOf 10 ((i : ℕ) × (i < mOf ws) × ((j : ℕ) → j < nOf ws → coefficientWord ws i j ≡ pos 0))
     ((i : ℕ) → i < mOf ws → (j : ℕ) × (j < nOf ws) × (coefficientWord ws i j ≢ pos 0))
 
 -- the output, or the checker's answer, is too short
 abbrev pub roomLine : List ℤ → ℕ → Line
-roomLine ws room = line 7 (room < answerLength ws) (answerLength ws ≤ room)
+roomLine ws room = lineOf 7 (room < answerLength ws) (answerLength ws ≤ room)
 
 abbrev pub problemTable : ℕ → List ℤ → List Line
 problemTable rows ws =

@@ -1,5 +1,5 @@
 -- docs/RULES.md, "Switching limits": a session holds a problem with every limit that was handed in, which of them are
--- on, and the state that its next check starts from. Demands 2 and 3 of a check speak of `live`, the problem with the
+-- on, and the state that its next check starts from. Demands 2 and 3 of a check speak of `liveOf`, the problem with the
 -- limits that are on.
 use mathlib.Core.Bool.{Bool, true, false, cond, not, _&&_}
 use mathlib.Core.List.{List, [], _∷_, _++_}
@@ -32,16 +32,16 @@ abbrev pub isOn : {X : Type 0} → Session X → Side → ℕ → Bool
 isOn A σ v = getD (bySide σ (A .lowersOn) (A .uppersOn)) v false
 
 -- the limits that are on, and no others
-abbrev pub live : {X : Type 0} → Session X → Problem X
-live A = keeping (isOn A) (A .given)
+abbrev pub liveOf : {X : Type 0} → Session X → Problem X
+liveOf A = keeping (isOn A) (A .given)
 
 -- every limit is off
 abbrev pub noneOn : Side → ℕ → Bool
 noneOn σ v = false
 
 -- the session at another state
-abbrev pub at : {X : Type 0} → Session X → State X → Session X
-at A s = record { given = A .given; lowersOn = A .lowersOn; uppersOn = A .uppersOn; state = s }
+abbrev pub withState : {X : Type 0} → Session X → State X → Session X
+withState A s = record { given = A .given; lowersOn = A .lowersOn; uppersOn = A .uppersOn; state = s }
 
 -- ---- what is refused
 
@@ -90,10 +90,10 @@ module _ {X : Type 0} (𝓥 : Values X) where
   insideSeat l u (some x) = some (inside l u x)
 
   -- every nonbasic variable, by the limits that are on
-  unfoldable pub settled : Session X → Session X
-  settled A = at A (record {
+  unfoldable pub allInside : Session X → Session X
+  allInside A = withState A (record {
     tableau = A .state .tableau;
-    seats = table (vars (A .given)) (λ v. insideSeat (live A .lower v) (live A .upper v) (seat (A .state) v));
+    seats = table (vars (A .given)) (λ v. insideSeat (liveOf A .lower v) (liveOf A .upper v) (seat (A .state) v));
   })
 
   -- ---- opening, and the two operations
@@ -109,11 +109,11 @@ module _ {X : Type 0} (𝓥 : Values X) where
 
   -- a switch that is refused leaves the session as it was
   unfoldable pub switched : Session X → ℕ → Side → Bool → Session X
-  switched A v σ on = elim (switchRefusal A v σ on) [ zero ↦ settled (flagged A v σ on) | suc k ↦ A ]
+  switched A v σ on = elim (switchRefusal A v σ on) [ zero ↦ allInside (flagged A v σ on) | suc k ↦ A ]
 
   -- after a check: the last completed tableau and values, whatever the verdict
   unfoldable pub rested : Session X → Session X
-  rested A = at A (ending 𝓥 (live A) (A .state) .last)
+  rested A = withState A (ending 𝓥 (liveOf A) (A .state) .last)
 
   -- .. and after one that is refused with this number, or not
   abbrev pub restedBy : ℕ → Session X → Session X
@@ -130,7 +130,7 @@ module _ {X : Type 0} (𝓥 : Values X) where
 
 -- over the limits that are on, its own pivots counted from 0
 unfoldable pub checkAnswer : Session (ℤ × ℤ) → List ℤ
-checkAnswer A = answerFrom (live A) (A .state)
+checkAnswer A = answerFrom (liveOf A) (A .state)
 
 -- what stands in the output afterwards: refused, what stood there
 abbrev pub checkOutput : ℕ → Session (ℤ × ℤ) → List ℤ → List ℤ

@@ -7,7 +7,7 @@ use lib.IntN.{ℤ, pos}
 use Rattle.whole.specs.Values.{pairs}
 use Rattle.rules.specs.Evidence.{checked}
 use Rattle.rules.specs.Expected.{minus}
-use Rattle.rules.specs.LimitCases.{atLeast, atMost, lessThan, moreThan, two, zeros}
+use Rattle.rules.specs.LimitCases.{lowerOnly, upperOnly, lessThan, moreThan, two, zeros}
 use Rattle.rules.specs.LiveWords.{liveWords}
 use Rattle.rules.specs.Problem.{inner, problem}
 use Rattle.rules.specs.Session.{Session, checkAnswer, isOn, opened, rested, switchRefusal, switched}
@@ -48,7 +48,7 @@ offAt v σ = switch v σ false
 abbrev atoms : SessionCase
 atoms = record {
   words = two (pos 2) (pos 2) ++ two (pos 2) (pos 1) ++ two (pos 1) (minus 3)
-      ++ atLeast (pos 5) ++ atLeast (pos 3) ++ atMost (pos 12) ++ atMost (pos 2);
+      ++ lowerOnly (pos 5) ++ lowerOnly (pos 3) ++ upperOnly (pos 12) ++ upperOnly (pos 2);
   script = onAt 0 below ∷ onAt 1 below ∷ onAt 3 above ∷ check
       ∷ onAt 2 above ∷ check
       ∷ onAt 0 below ∷ onAt 0 above ∷ onAt 9 below ∷ offAt 3 below
@@ -65,7 +65,7 @@ atoms = record {
 -- variable is basic
 abbrev crossing : SessionCase
 crossing = record {
-  words = two (pos 1) (pos 1) ++ (pos 2 ∷ pos 3 ∷ pos 3 ∷ pos 1 ∷ []) ++ atLeast (pos 5);
+  words = two (pos 1) (pos 1) ++ (pos 2 ∷ pos 3 ∷ pos 3 ∷ pos 1 ∷ []) ++ lowerOnly (pos 5);
   script = onAt 0 below ∷ onAt 0 above ∷ check ∷ offAt 0 below ∷ onAt 1 below ∷ check
       ∷ offAt 0 above ∷ check ∷ onAt 0 above ∷ check ∷ [];
   replies = number 0 ∷ number 0 ∷ answers (pos 2 ∷ pos 0 ∷ pos 0 ∷ pos 1 ∷ pos 0 ∷ pos 1 ∷ pos 0 ∷ []) 8

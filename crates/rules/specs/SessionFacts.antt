@@ -18,10 +18,10 @@ use lib.ListN.{length}
 use Rattle.whole.specs.Values.{Le, Lt, Values}
 use Rattle.rules.specs.Keeping.{keeping, limitOf}
 use Rattle.rules.specs.Limit.{Limit}
-use Rattle.rules.specs.Meanings.{Line, line}
+use Rattle.rules.specs.Meanings.{Line, lineOf}
 use Rattle.rules.specs.Problem.{Problem, problem, vars}
 use Rattle.rules.specs.Run.{crossed}
-use Rattle.rules.specs.Session.{Session, bySide, checkLength, isOn, live}
+use Rattle.rules.specs.Session.{Session, bySide, checkLength, isOn, liveOf}
 use Rattle.rules.specs.State.{Housed, Kept, Rowed}
 use Rattle.rules.specs.Step.{Side, common, seat, startEntry}
 use Rattle.rules.specs.Tableau.{entry}
@@ -44,9 +44,9 @@ module _ {X : Type 0} (𝓥 : Values X) (P : Problem X) where
 module _ {X : Type 0} (𝓥 : Values X) where
   -- a check may start from it, whatever is on
   pub record Fair (A : Session X) : Type 0 where
-    pub rowed : Rowed 𝓥 (live A) (A .state)
-    pub housed : Housed 𝓥 (live A) (A .state)
-    pub kept : Kept 𝓥 (live A) (A .state)
+    pub rowed : Rowed 𝓥 (liveOf A) (A .state)
+    pub housed : Housed 𝓥 (liveOf A) (A .state)
+    pub kept : Kept 𝓥 (liveOf A) (A .state)
 
   -- as many flags as variables, and a limit that is on is there
   pub record Sworn (A : Session X) : Type 0 where
@@ -76,10 +76,10 @@ module _ {X : Type 0} (𝓥 : Values X) where
 module _ {X : Type 0} (A : Session X) (v : ℕ) (σ : Side) (on : Bool) where
   abbrev pub switchTable : List Line
   switchTable =
-      line 41 (vars (A .given) ≤ v) (v < vars (A .given))
-      ∷ line 42 (limitOf (A .given) σ v ≡ none) ((l : X) × (limitOf (A .given) σ v ≡ some l))
-      ∷ line 43 ((on ≡ true) × (isOn A σ v ≡ true)) ((on ≡ false) ⊎ (isOn A σ v ≡ false))
-      ∷ line 44 ((on ≡ false) × (isOn A σ v ≡ false)) ((on ≡ true) ⊎ (isOn A σ v ≡ true)) ∷ []
+      lineOf 41 (vars (A .given) ≤ v) (v < vars (A .given))
+      ∷ lineOf 42 (limitOf (A .given) σ v ≡ none) ((l : X) × (limitOf (A .given) σ v ≡ some l))
+      ∷ lineOf 43 ((on ≡ true) × (isOn A σ v ≡ true)) ((on ≡ false) ⊎ (isOn A σ v ≡ false))
+      ∷ lineOf 44 ((on ≡ false) × (isOn A σ v ≡ false)) ((on ≡ true) ⊎ (isOn A σ v ≡ true)) ∷ []
 
 module _ {X : Type 0} (𝓥 : Values X) (A : Session X) (v : ℕ) (σ : Side) (on : Bool) where
   -- a switch that is not refused makes C of A
@@ -91,7 +91,7 @@ module _ {X : Type 0} (𝓥 : Values X) (A : Session X) (v : ℕ) (σ : Side) (o
     -- a basic variable stays basic, and a nonbasic one is where it was or goes to a limit, by those that are on now
     pub basic-exactly : (w : ℕ) → w < vars (A .given) → (seat (C .state) w ≡ none) ↔ (seat (A .state) w ≡ none)
     pub moved-exactly : (w : ℕ) (y : X) → w < vars (A .given) → (seat (C .state) w ≡ some y)
-        ↔ ((x : X) × (seat (A .state) w ≡ some x) × Lands 𝓥 (live C .lower w) (live C .upper w) x y)
+        ↔ ((x : X) × (seat (A .state) w ≡ some x) × Lands 𝓥 (liveOf C .lower w) (liveOf C .upper w) x y)
     -- in a session handed back only the variable that was switched can move
     pub others-stay : Fair 𝓥 A → (w : ℕ) → w < vars (A .given) → w ≢ v → seat (C .state) w ≡ seat (A .state) w
 
@@ -99,7 +99,7 @@ module _ {X : Type 0} (𝓥 : Values X) (A : Session X) (v : ℕ) (σ : Side) (o
 
 -- 7: the output is too short
 abbrev pub checkTable : Session (ℤ × ℤ) → ℕ → List Line
-checkTable A room = line 7 (room < checkLength A) (checkLength A ≤ room) ∷ []
+checkTable A room = lineOf 7 (room < checkLength A) (checkLength A ≤ room) ∷ []
 
 -- the problem of these words with the limits that are on, and their marks
 abbrev pub liveProblem : List ℤ → Session (ℤ × ℤ) → Problem Limit

@@ -21,7 +21,7 @@ use Rattle.whole.specs.Values.{Le, Lt, mixed, pairs, whole}
 use Rattle.rules.specs.Evidence.{Rows, Satisfies, Unsatisfied, column, denominatorOf, lowerPart, pairPart}
 use Rattle.rules.specs.Evidence.{surplus, upperPart, verdictOf}
 use Rattle.rules.specs.Limit.{Limit}
-use Rattle.rules.specs.Meanings.{Line, line, problemTable, roomLine}
+use Rattle.rules.specs.Meanings.{Line, lineOf, problemTable, roomLine}
 use Rattle.rules.specs.Problem.{Problem, answerLength, problem, vars}
 use Rattle.rules.specs.Refusal.{problemRefusal}
 use Rattle.rules.specs.Sizes.{largestNumber, largestNumerator, largestSmall, mostRows}
@@ -90,7 +90,7 @@ Shown P a = ((verdictOf a ≡ pos 1) × ShowsCan P a) ⊎ ((verdictOf a ≡ pos 
 -- refusals 1 to 6 and 10, an answer too short, evidence, and nothing else
 abbrev pub checkerTable : List ℤ → List ℤ → List Line
 checkerTable ws a = problemTable mostRows ws
-    ++ (roomLine ws (length a) ∷ line 8 (Shown (problem ws) a) (¬ Shown (problem ws) a) ∷ line 9 (Unit {0}) ⊥ ∷ [])
+    ++ (roomLine ws (length a) ∷ lineOf 8 (Shown (problem ws) a) (¬ Shown (problem ws) a) ∷ lineOf 9 (Unit {0}) ⊥ ∷ [])
 
 -- suc k is a number of the problem's: 1 to 6, or 10
 abbrev pub Own : ℕ → Type 0

@@ -12,7 +12,7 @@ use Rattle.whole.specs.Below.{someBelow}
 use Rattle.whole.specs.Numbers.{Within, within, outside}
 use Rattle.rules.specs.Sizes.{mostVertices, mostTimeRows, largestLength}
 use Rattle.rules.specs.Problem.{word, nOf, mOf}
-use Rattle.rules.specs.Meanings.{InRange, Line, OutOfRange, line}
+use Rattle.rules.specs.Meanings.{InRange, Line, OutOfRange, lineOf}
 use Rattle.rules.specs.Refusal.{first, tooFew}
 use Rattle.rules.specs.Walks.{Edges}
 
@@ -70,19 +70,19 @@ timeRefusal ws room = first (timeTests ws room)
 
 abbrev pub timesTable : List ℤ → ℕ → List Line
 timesTable ws room =
-    line 11 (length ws < 2) (2 ≤ length ws)
-    ∷ line 12 (OutOfRange 1 mostVertices (word ws 0) ⊎ OutOfRange 0 mostTimeRows (word ws 1))
+    lineOf 11 (length ws < 2) (2 ≤ length ws)
+    ∷ lineOf 12 (OutOfRange 1 mostVertices (word ws 0) ⊎ OutOfRange 0 mostTimeRows (word ws 1))
     (InRange 1 mostVertices (word ws 0) × InRange 0 mostTimeRows (word ws 1))
-    ∷ line 13 (length ws ≢ 2 + 4 * mOf ws) (length ws ≡ 2 + 4 * mOf ws)
+    ∷ lineOf 13 (length ws ≢ 2 + 4 * mOf ws) (length ws ≡ 2 + 4 * mOf ws)
     -- an end of some row is no vertex
-    ∷ line 14
+    ∷ lineOf 14
     ((i : ℕ) × (i < mOf ws) × (OutOfRange 0 (nOf ws - 1) (fromWord ws i) ⊎ OutOfRange 0 (nOf ws - 1) (toWord ws i)))
     ((i : ℕ) → i < mOf ws → InRange 0 (nOf ws - 1) (fromWord ws i) × InRange 0 (nOf ws - 1) (toWord ws i))
-    ∷ line 15 ((i : ℕ) × (i < mOf ws) × OutOfRange 0 1 (strictWord ws i))
+    ∷ lineOf 15 ((i : ℕ) × (i < mOf ws) × OutOfRange 0 1 (strictWord ws i))
     ((i : ℕ) → i < mOf ws → InRange 0 1 (strictWord ws i))
-    ∷ line 16 ((i : ℕ) × (i < mOf ws) × (¬ Within (lengthWord ws i) largestLength))
+    ∷ lineOf 16 ((i : ℕ) × (i < mOf ws) × (¬ Within (lengthWord ws i) largestLength))
     ((i : ℕ) → i < mOf ws → Within (lengthWord ws i) largestLength)
-    ∷ line 17 (room < timesLength ws) (timesLength ws ≤ room) ∷ []
+    ∷ lineOf 17 (room < timesLength ws) (timesLength ws ≤ room) ∷ []
 
 -- ---- what they leave
 

@@ -12,7 +12,7 @@ use Rattle.whole.specs.Values.{pairs, mixed}
 use Rattle.rules.specs.Problem.{nOf, mOf, word}
 use Rattle.rules.specs.Walks.{Shortest}
 use Rattle.rules.specs.Passes.{canMeet, distance, distances}
-use Rattle.rules.specs.Cycle.{BadCycle, row}
+use Rattle.rules.specs.Cycle.{BadCycle, rowTold}
 use Rattle.rules.specs.TimeWords.{strictWord, lengthWord, timesLength, timeRefusal, timeEdges}
 
 -- the time of a vertex at a distance: minus it, part by part
@@ -109,7 +109,7 @@ pub record CycleTold (ws after : List ℤ) : Type 0 where
   pub verdict : word after 0 ≡ pos 2
   pub count : word after 1 ≡ pos (length rows)
   pub few : length rows ≤ nOf ws
-  pub listed : (k : ℕ) → k < length rows → word after (2 + k) ≡ pos (row rows k)
+  pub listed : (k : ℕ) → k < length rows → word after (2 + k) ≡ pos (rowTold rows k)
   pub zeros : (k : ℕ) → length rows ≤ k → k < 2 * nOf ws → word after (2 + k) ≡ pos 0
   pub no-fractions : NoFractions ws
 

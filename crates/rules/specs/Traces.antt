@@ -10,7 +10,7 @@ use mathlib.Core.Logic.{_⊎_}
 use Prim.Native.Nat.{suc, ℕ, _*_, _+_, _<_, _≤_}
 use lib.IntN.{negℤ, pos, ℤ}
 use Rattle.whole.specs.Values.{Le, Lt, Values}
-use Rattle.rules.specs.Cycle.{row}
+use Rattle.rules.specs.Cycle.{rowTold}
 use Rattle.rules.specs.Passes.{through}
 use Rattle.rules.specs.Walks.{Edges, Walk}
 
@@ -51,8 +51,8 @@ module _ {X : Type 0} (𝓥 : Values X) (E : Edges X) (time : ℕ → ℕ) (D : 
     pub most : j ≤ top
     pub vertex : here < E .vertices
     pub late : (q : ℕ) → spare + suc q ≡ j → E .count * q < time here
-    pub brings : (q : ℕ) → j ≤ q → q < top → Bettered 𝓥 E time D (E .head (row path q)) (row path q)
-    pub linked : (q : ℕ) → j ≤ q → suc q < top → E .head (row path q) ≡ E .tail (row path (suc q))
-    pub starts : j < top → E .tail (row path j) ≡ here
-    pub marked : (q : ℕ) → j ≤ q → q < top → row seen (E .head (row path q)) ≡ suc q
-    pub marks : (u q : ℕ) → row seen u ≡ suc q → (j ≤ q) × (q < top) × (E .head (row path q) ≡ u)
+    pub brings : (q : ℕ) → j ≤ q → q < top → Bettered 𝓥 E time D (E .head (rowTold path q)) (rowTold path q)
+    pub linked : (q : ℕ) → j ≤ q → suc q < top → E .head (rowTold path q) ≡ E .tail (rowTold path (suc q))
+    pub starts : j < top → E .tail (rowTold path j) ≡ here
+    pub marked : (q : ℕ) → j ≤ q → q < top → rowTold seen (E .head (rowTold path q)) ≡ suc q
+    pub marks : (u q : ℕ) → rowTold seen u ≡ suc q → (j ≤ q) × (q < top) × (E .head (rowTold path q) ≡ u)

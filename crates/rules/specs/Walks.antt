@@ -12,7 +12,7 @@ pub record Edges (X : Type 0) : Type 0 where
   pub size : ℕ → X
 
 -- the ends of every row are vertices
-pub record Ends {X : Type 0} (E : Edges X) : Type 0 where
+pub record EndsIn {X : Type 0} (E : Edges X) : Type 0 where
   pub tail-in : (i : ℕ) → i < E .count → E .tail i < E .vertices
   pub head-in : (i : ℕ) → i < E .count → E .head i < E .vertices
 

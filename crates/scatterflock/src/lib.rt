@@ -6,7 +6,7 @@ ghost use Rattle.rules.specs.Answer.{written};
 ghost use Rattle.rules.specs.Evidence.{checked};
 ghost use Rattle.rules.specs.Refusal.{refusal};
 ghost use Rattle.rules.specs.Times.{Timed};
-ghost use Rattle.slices.specs.Slices.{GoesOnAs, Standing, StartsAs, begunAt, outputAt, wentOnAt};
+ghost use Rattle.slices.specs.Slices.{GoesOnAs, SliceStanding, StartsAs, begunAt, sliceOutputAt, wentOnAt};
 ghost use Rattle.session.specs.Sessions as sessions;
 ghost use Rattle.session.specs.Sessions.{ChecksAs, OpensAs, SwitchesAs, checkedAt, openedAt, switchedAt};
 use session::Checked;
@@ -58,9 +58,9 @@ pub extern "C" fn scatterflock_slice_continue(
     pivots: usize,
     out: &mut [i64],
 ) -> Continued
-    requires { ⌜ Standing slice ⌝ }
+    requires { ⌜ SliceStanding slice ⌝ }
     ensures exact { λ r. ⌜ r ≡ wentOnAt slice pivots (length (now (out .entry))) ⌝ }
-    ensures output { λ r. ⌜ now (out .exit) ≡ outputAt slice pivots (now (out .entry)) ⌝ }
+    ensures output { λ r. ⌜ now (out .exit) ≡ sliceOutputAt slice pivots (now (out .entry)) ⌝ }
     ensures meaning { λ r. ⌜ GoesOnAs slice pivots (now (out .entry)) r (now (out .exit)) ⌝ }
 {
     slice.go_on(pivots, out)
@@ -83,7 +83,7 @@ pub extern "C" fn scatterflock_session_switch(
     upper: bool,
     on: bool,
 ) -> Switched
-    requires { ⌜ sessions.Standing session ⌝ }
+    requires { ⌜ sessions.SessionStanding session ⌝ }
     ensures exact { λ r. ⌜ r ≡ switchedAt session variable upper on ⌝ }
     ensures meaning { λ r. ⌜ SwitchesAs session variable upper on r ⌝ }
 {
@@ -93,9 +93,9 @@ pub extern "C" fn scatterflock_session_switch(
 // Answers the problem with the limits that are on.
 #[no_mangle]
 pub extern "C" fn scatterflock_session_check(session: Session, out: &mut [i64]) -> Checked
-    requires { ⌜ sessions.Standing session ⌝ }
+    requires { ⌜ sessions.SessionStanding session ⌝ }
     ensures exact { λ r. ⌜ r ≡ checkedAt session (length (now (out .entry))) ⌝ }
-    ensures output { λ r. ⌜ now (out .exit) ≡ sessions.outputAt session (now (out .entry)) ⌝ }
+    ensures output { λ r. ⌜ now (out .exit) ≡ sessions.checkOutputAt session (now (out .entry)) ⌝ }
     ensures meaning { λ r. ⌜ ChecksAs session (now (out .entry)) r (now (out .exit)) ⌝ }
 {
     session.check(out)

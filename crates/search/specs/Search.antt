@@ -109,8 +109,8 @@ module _ (o : Order) where
 abbrev pub partSum : ℕ → ℕ → List ℤ → List ℤ → ℕ → ℕ → ℤ
 partSum = sumLaid inUse
 
-abbrev pub rowSum : ℕ → ℕ → List ℤ → List ℤ → ℕ → ℤ
-rowSum = rowSumLaid inUse
+abbrev pub rowSumIn : ℕ → ℕ → List ℤ → List ℤ → ℕ → ℤ
+rowSumIn = rowSumLaid inUse
 
 abbrev pub scaledAt : Tableau → ℕ → ℤ × ℤ
 scaledAt = scaledLaid inUse

@@ -8,7 +8,7 @@ ghost use lib.ListN.{getD};
 ghost use Rattle.whole.specs.Numbers.{Within};
 ghost use Rattle.rules.specs.Sizes.{mostColumns, mostRows, mostVariables, largestNumber, largestLimit};
 ghost use Rattle.layout.specs.Layout.{entryIn};
-ghost use Rattle.search.specs.Search.{rowSum, Searchable, seen, nextAt};
+ghost use Rattle.search.specs.Search.{rowSumIn, Searchable, seen, nextAt};
 use layout::ColumnPlace;
 use layout::RowPlace;
 use sides::LimitPair;
@@ -86,7 +86,7 @@ pub fn row_value<'a>(
     requires { ⌜ (size .rows ≤ mostRows) × (size .columns ≤ mostColumns) × (row .0 < size .rows) ⌝ }
     requires { ⌜ ((k : ℕ) → Within (getD (now entries) k (pos 0)) largestNumber) ⌝ }
     requires { ⌜ ((j : ℕ) → Within (getD (now values) j (pos 0)) largestLimit) ⌝ }
-    ensures { λ r. ⌜ r ≡ rowSum (size .rows) (size .columns) (now (entries .entry)) (now (values .entry)) (row .0) ⌝ }
+    ensures { λ r. ⌜ r ≡ rowSumIn (size .rows) (size .columns) (now (entries .entry)) (now (values .entry)) (row .0) ⌝ }
 {
     let columns = size.columns;
     let mut sum = 0i64;
@@ -110,7 +110,7 @@ fn row_small<'a>(
     requires { ⌜ ((k : ℕ) → Within (getD (now entries) k (pos 0)) largestNumber) ⌝ }
     requires { ⌜ ((j : ℕ) → Within (getD (now smalls) j (pos 0)) 1) ⌝ }
     requires { ⌜ (strict ≡ false → (j : ℕ) → getD (now smalls) j (pos 0) ≡ pos 0) ⌝ }
-    ensures { λ r. ⌜ r ≡ rowSum (size .rows) (size .columns) (now (entries .entry)) (now (smalls .entry)) (row .0) ⌝ }
+    ensures { λ r. ⌜ r ≡ rowSumIn (size .rows) (size .columns) (now (entries .entry)) (now (smalls .entry)) (row .0) ⌝ }
 {
     if !strict {
         return 0;

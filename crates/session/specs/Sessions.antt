@@ -11,7 +11,7 @@ use Rattle.rules.specs.Limit.{lowerPair, upperPair}
 use Rattle.rules.specs.Problem.{Problem, inner, mapped, vars}
 use Rattle.rules.specs.Refusal.{problemRefusal}
 use Rattle.rules.specs.Session as rules
-use Rattle.rules.specs.Session.{checkOutput, checkRefusal, live, opened, restedBy, switchRefusal, switched}
+use Rattle.rules.specs.Session.{checkOutput, checkRefusal, liveOf, opened, restedBy, switchRefusal, switched}
 use Rattle.rules.specs.Sizes.{mostVariables}
 use Rattle.rules.specs.SessionFacts.{Fair}
 use Rattle.tableau.specs.declared.Limits.{Limits}
@@ -25,7 +25,7 @@ use Rattle.session.specs.declared.Checked.{Checked}
 use Rattle.session.specs.declared.Opened.{Opened}
 use Rattle.session.specs.declared.Session.{Session}
 use Rattle.session.specs.declared.Switched.{Switched}
-use Rattle.session.specs.Switching.{handedIn, quietAt, refusalAt, sideOf, turnedAt}
+use Rattle.session.specs.Switching.{handedIn, quietAt, refusalAt, sideTold, turnedAt}
 
 -- ---- what a struct stands for
 
@@ -46,17 +46,17 @@ pub record Flags (N : ℕ) (lowers uppers : List Bool) (l : Limits) : Type 0 whe
   pub uppers-many : length uppers ≡ N
 
 -- the limits that are on, the state, and every limit handed in
-pub record Holds (A : rules.Session (ℤ × ℤ)) (s : Session) : Type 0 where
-  pub stands : Stands (live A) (s .tableau) (A .state)
+pub record SessionHolds (A : rules.Session (ℤ × ℤ)) (s : Session) : Type 0 where
+  pub stands : Stands (liveOf A) (s .tableau) (A .state)
   pub ranged : Ranged (s .tableau)
   pub offers : Offers (A .given) (s .tableau .limits)
   pub flags : Flags (vars (A .given)) (A .lowersOn) (A .uppersOn) (s .tableau .limits)
   pub fair : Fair pairs A
 
 -- .. some such session
-pub record Standing (s : Session) : Type 0 where
+pub record SessionStanding (s : Session) : Type 0 where
   pub session : rules.Session (ℤ × ℤ)
-  pub holds : Holds session s
+  pub holds : SessionHolds session s
 
 -- ---- opening
 
@@ -68,8 +68,8 @@ openedAt ws = record {
 
 pub record OpensAs (ws : List ℤ) (r : Opened) : Type 0 where
   pub number : r .refused ≡ problemRefusal ws
-  pub state : Holds (opened pairs (inner (startedProblem ws))) (r .session)
-  pub standing : Standing (r .session)
+  pub state : SessionHolds (opened pairs (inner (startedProblem ws))) (r .session)
+  pub standing : SessionStanding (r .session)
 
 -- ---- a switch
 
@@ -83,13 +83,13 @@ switchedAt s v upper on = switchedBy (refusalAt (s .tableau) v upper on) s v upp
 
 -- what a switch means for a session that the struct stands for
 pub record SwitchMeans (A : rules.Session (ℤ × ℤ)) (v : ℕ) (upper on : Bool) (r : Switched) : Type 0 where
-  pub number : r .refused ≡ switchRefusal A v (sideOf upper) on
-  pub state : Holds (switched pairs A v (sideOf upper) on) (r .session)
+  pub number : r .refused ≡ switchRefusal A v (sideTold upper) on
+  pub state : SessionHolds (switched pairs A v (sideTold upper) on) (r .session)
 
 -- .. for every such session; and what comes back stands for one
 pub record SwitchesAs (s : Session) (v : ℕ) (upper on : Bool) (r : Switched) : Type 0 where
-  pub means : (A : rules.Session (ℤ × ℤ)) → Holds A s → SwitchMeans A v upper on r
-  pub standing : Standing (r .session)
+  pub means : (A : rules.Session (ℤ × ℤ)) → SessionHolds A s → SwitchMeans A v upper on r
+  pub standing : SessionStanding (r .session)
 
 -- ---- a check
 
@@ -101,24 +101,24 @@ abbrev pub checkedWhere : Bool → Session → Checked
 checkedWhere true s = record { refused = 7; session = s }
 checkedWhere false s = record { refused = 0; session = record { tableau = spentAt (s .tableau) 0 unlimited .tableau } }
 
-abbrev pub outputWhere : Bool → Session → List ℤ → List ℤ
-outputWhere true s before = before
-outputWhere false s before = outAt (s .tableau) 0 unlimited before
+abbrev pub checkOutputWhere : Bool → Session → List ℤ → List ℤ
+checkOutputWhere true s before = before
+checkOutputWhere false s before = outAt (s .tableau) 0 unlimited before
 
 -- with no room for an answer nothing is done
 unfoldable pub checkedAt : Session → ℕ → Checked
 checkedAt s room = checkedWhere (isShort room (manyOf (s .tableau))) s
 
-unfoldable pub outputAt : Session → List ℤ → List ℤ
-outputAt s before = outputWhere (isShort (length before) (manyOf (s .tableau))) s before
+unfoldable pub checkOutputAt : Session → List ℤ → List ℤ
+checkOutputAt s before = checkOutputWhere (isShort (length before) (manyOf (s .tableau))) s before
 
 -- what a check means for a session that the struct stands for
 pub record CheckMeans (A : rules.Session (ℤ × ℤ)) (before : List ℤ) (r : Checked) (after : List ℤ) : Type 0 where
   pub number : r .refused ≡ checkRefusal A (length before)
   pub output : after ≡ checkOutput (r .refused) A before
-  pub state : Holds (restedBy pairs (r .refused) A) (r .session)
+  pub state : SessionHolds (restedBy pairs (r .refused) A) (r .session)
 
 -- .. for every such session; and what comes back stands for one
 pub record ChecksAs (s : Session) (before : List ℤ) (r : Checked) (after : List ℤ) : Type 0 where
-  pub means : (A : rules.Session (ℤ × ℤ)) → Holds A s → CheckMeans A before r after
-  pub standing : Standing (r .session)
+  pub means : (A : rules.Session (ℤ × ℤ)) → SessionHolds A s → CheckMeans A before r after
+  pub standing : SessionStanding (r .session)

@@ -24,9 +24,9 @@ use Rattle.solver.specs.Spend.{manyOf}
 
 -- ---- limits
 
-abbrev pub sideOf : Bool → Side
-sideOf true = above
-sideOf false = below
+abbrev pub sideTold : Bool → Side
+sideTold true = above
+sideTold false = below
 
 -- the limit as it was given, on or off
 abbrev pub handedIn : Given → Option Limit
@@ -69,12 +69,12 @@ furnished t values smalls l = record {
   limits = l;
 }
 
-abbrev pub noughts : List ℤ
-noughts = replicate mostColumns (pos 0)
+abbrev pub zeroValues : List ℤ
+zeroValues = replicate mostColumns (pos 0)
 
 -- every limit off, every value 0
 unfoldable pub quietAt : Tableau → Tableau
-quietAt t = furnished t noughts noughts (offLimits (t .limits))
+quietAt t = furnished t zeroValues zeroValues (offLimits (t .limits))
 
 -- where a value goes, by the limits of a variable that are on
 abbrev pub insideAt : Limits → ℕ → ℤ × ℤ → ℤ × ℤ

@@ -2,7 +2,7 @@
 // from the values that the last one left. A session goes in and comes back by value.
 ghost use mathlib.Core.Path.{_≡_};
 ghost use lib.ListN.{length};
-ghost use Rattle.session.specs.Sessions.{ChecksAs, OpensAs, Standing, SwitchesAs, checkedAt, openedAt, outputAt};
+ghost use Rattle.session.specs.Sessions.{ChecksAs, OpensAs, SessionStanding, SwitchesAs, checkedAt, openedAt, checkOutputAt};
 ghost use Rattle.session.specs.Sessions.{switchedAt};
 use answers::TOO_SHORT;
 use solver::spend;
@@ -59,7 +59,7 @@ pub fn open(words: &[i32]) -> Opened
 impl Session {
     // Switches one limit of a variable, and moves that variable to a limit that it is outside of then.
     pub fn switch(self, variable: u32, upper: bool, on: bool) -> Switched
-        requires { ⌜ Standing self ⌝ }
+        requires { ⌜ SessionStanding self ⌝ }
         ensures exact { λ r. ⌜ r ≡ switchedAt self variable upper on ⌝ }
         ensures meaning { λ r. ⌜ SwitchesAs self variable upper on r ⌝ }
     {
@@ -89,9 +89,9 @@ impl Session {
 
     // Answers the problem with the limits that are on, its own pivots counted from 0.
     pub fn check(self, out: &mut [i64]) -> Checked
-        requires { ⌜ Standing self ⌝ }
+        requires { ⌜ SessionStanding self ⌝ }
         ensures exact { λ r. ⌜ r ≡ checkedAt self (length (now (out .entry))) ⌝ }
-        ensures output { λ r. ⌜ now (out .exit) ≡ outputAt self (now (out .entry)) ⌝ }
+        ensures output { λ r. ⌜ now (out .exit) ≡ checkOutputAt self (now (out .entry)) ⌝ }
         ensures meaning { λ r. ⌜ ChecksAs self (now (out .entry)) r (now (out .exit)) ⌝ }
     {
         let tableau = self.tableau;

@@ -24,11 +24,11 @@ use Rattle.slices.specs.declared.Slice.{Slice}
 
 -- ---- what a struct stands for
 
-abbrev pub Holds : rules.Slice (ℤ × ℤ) → Slice → Type 0
-Holds S s = solver.Holds S (s .tableau) (s .count)
+abbrev pub SliceHolds : rules.Slice (ℤ × ℤ) → Slice → Type 0
+SliceHolds S s = solver.Holds S (s .tableau) (s .count)
 
-abbrev pub Standing : Slice → Type 0
-Standing s = solver.Standing (s .tableau) (s .count)
+abbrev pub SliceStanding : Slice → Type 0
+SliceStanding s = solver.Standing (s .tableau) (s .count)
 
 -- one problem, up to what its sizes leave open
 pub record SameProblem (P Q : Problem (ℤ × ℤ)) : Type 0 where
@@ -59,8 +59,8 @@ begunAt ws = record {
 
 pub record StartsAs (ws : List ℤ) (r : Begun) : Type 0 where
   pub number : r .refused ≡ problemRefusal ws
-  pub state : Holds (begun pairs (inner (startedProblem ws))) (r .slice)
-  pub standing : Standing (r .slice)
+  pub state : SliceHolds (begun pairs (inner (startedProblem ws))) (r .slice)
+  pub standing : SliceStanding (r .slice)
 
 -- ---- a continue
 
@@ -71,34 +71,34 @@ abbrev pub wentOnWhere : Bool → Slice → ℕ → Continued
 wentOnWhere true s b = record { refused = 7; answered = false; slice = s }
 wentOnWhere false s b = wentOnBy (spentAt (s .tableau) (s .count) b)
 
-abbrev pub outputWhere : Bool → Slice → ℕ → List ℤ → List ℤ
-outputWhere true s b before = before
-outputWhere false s b before = outAt (s .tableau) (s .count) b before
+abbrev pub sliceOutputWhere : Bool → Slice → ℕ → List ℤ → List ℤ
+sliceOutputWhere true s b before = before
+sliceOutputWhere false s b before = outAt (s .tableau) (s .count) b before
 
 -- with no room for an answer nothing is done
 unfoldable pub wentOnAt : Slice → ℕ → ℕ → Continued
 wentOnAt s b room = wentOnWhere (isShort room (manyOf (s .tableau))) s b
 
-unfoldable pub outputAt : Slice → ℕ → List ℤ → List ℤ
-outputAt s b before = outputWhere (isShort (length before) (manyOf (s .tableau))) s b before
+unfoldable pub sliceOutputAt : Slice → ℕ → List ℤ → List ℤ
+sliceOutputAt s b before = sliceOutputWhere (isShort (length before) (manyOf (s .tableau))) s b before
 
 -- .. by the rules: refused, the state stays and there is no answer
 abbrev pub stateBy : ℕ → rules.Slice (ℤ × ℤ) → ℕ → rules.Slice (ℤ × ℤ)
 stateBy zero S b = continued pairs S b
 stateBy (suc k) S b = S
 
-abbrev pub answerBy : ℕ → rules.Slice (ℤ × ℤ) → ℕ → Option (List ℤ)
-answerBy zero S b = sliceAnswer S b
-answerBy (suc k) S b = none
+abbrev pub answerRuled : ℕ → rules.Slice (ℤ × ℤ) → ℕ → Option (List ℤ)
+answerRuled zero S b = sliceAnswer S b
+answerRuled (suc k) S b = none
 
 -- what a continue means for a state that the struct stands for
 pub record Means (S : rules.Slice (ℤ × ℤ)) (b : ℕ) (before : List ℤ) (r : Continued) (after : List ℤ) : Type 0 where
   pub number : r .refused ≡ sliceRefusal S (length before)
-  pub answered : r .answered ≡ isAnswer (answerBy (r .refused) S b)
-  pub output : after ≡ sliceOutput (answerBy (r .refused) S b) (sliceLength S) before
-  pub state : Holds (stateBy (r .refused) S b) (r .slice)
+  pub answered : r .answered ≡ isAnswer (answerRuled (r .refused) S b)
+  pub output : after ≡ sliceOutput (answerRuled (r .refused) S b) (sliceLength S) before
+  pub state : SliceHolds (stateBy (r .refused) S b) (r .slice)
 
 -- .. for every such state; and what comes back stands for one
 pub record GoesOnAs (s : Slice) (b : ℕ) (before : List ℤ) (r : Continued) (after : List ℤ) : Type 0 where
-  pub means : (S : rules.Slice (ℤ × ℤ)) → Holds S s → Means S b before r after
-  pub standing : Standing (r .slice)
+  pub means : (S : rules.Slice (ℤ × ℤ)) → SliceHolds S s → Means S b before r after
+  pub standing : SliceStanding (r .slice)

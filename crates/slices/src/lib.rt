@@ -1,7 +1,7 @@
 // The run in slices: docs/RULES.md, "The run in slices". A state goes in and comes back by value.
 ghost use mathlib.Core.Path.{_≡_};
 ghost use lib.ListN.{length};
-ghost use Rattle.slices.specs.Slices.{Standing, StartsAs, GoesOnAs, begunAt, outputAt, wentOnAt};
+ghost use Rattle.slices.specs.Slices.{SliceStanding, StartsAs, GoesOnAs, begunAt, sliceOutputAt, wentOnAt};
 use answers::TOO_SHORT;
 use solver::spend;
 use tableau::Tableau;
@@ -56,9 +56,9 @@ pub fn start(words: &[i32]) -> Begun
 impl Slice {
     // Completes so many pivots, or all that are left, and writes the answer where the run is over.
     pub fn go_on(self, pivots: usize, out: &mut [i64]) -> Continued
-        requires { ⌜ Standing self ⌝ }
+        requires { ⌜ SliceStanding self ⌝ }
         ensures exact { λ r. ⌜ r ≡ wentOnAt self pivots (length (now (out .entry))) ⌝ }
-        ensures output { λ r. ⌜ now (out .exit) ≡ outputAt self pivots (now (out .entry)) ⌝ }
+        ensures output { λ r. ⌜ now (out .exit) ≡ sliceOutputAt self pivots (now (out .entry)) ⌝ }
         ensures meaning { λ r. ⌜ GoesOnAs self pivots (now (out .entry)) r (now (out .exit)) ⌝ }
     {
         let tableau = self.tableau;

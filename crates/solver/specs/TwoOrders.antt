@@ -12,11 +12,11 @@ use Rattle.layout.specs.Layout.{Order, byColumns, byRows}
 use Rattle.tableau.specs.Start.{startLaid}
 use Rattle.tableau.specs.TwoOrders.{SameTableau}
 use Rattle.steps.specs.declared.End.{End}
-use Rattle.steps.specs.Step.{Stepped, steppedLaid}
+use Rattle.steps.specs.Step.{StepAt, steppedLaid}
 use Rattle.solver.specs.Run.{FinishedLaid, GoesOnLaid, afterLaid, wordsLaid}
 
 -- two steps come to the same: both go on, or both end in the same way; and the tableau after them is the same
-pub record SameStep (o u : Order) (a b : Stepped) : Type 0 where
+pub record SameStep (o u : Order) (a b : StepAt) : Type 0 where
   pub same-course : a .course ≡ b .course
   pub same-tableau : SameTableau o u (a .tableau) (b .tableau)
 

@@ -27,14 +27,14 @@ use Rattle.steps.specs.declared.Outcome.{Outcome}
 use Rattle.steps.specs.declared.Outcome.the-variants as outcomes
 
 -- what the limit stands for that a variable violates
-abbrev pub limitOf : Bool → Given → Given → ℤ × ℤ
-limitOf true lower upper = givenLower lower
-limitOf false lower upper = givenUpper upper
+abbrev pub violatedPair : Bool → Given → Given → ℤ × ℤ
+violatedPair true lower upper = givenLower lower
+violatedPair false lower upper = givenUpper upper
 
 -- .. of the chosen row
 abbrev pub valueAfter : Tableau → Choice → ℤ × ℤ
 valueAfter t c = let v : ℕ = basicAt t (c .row .0) in
-    limitOf (c .rises) (lowerGiven (t .limits) v) (upperGiven (t .limits) v)
+    violatedPair (c .rises) (lowerGiven (t .limits) v) (upperGiven (t .limits) v)
 
 -- the tableau after the chosen pivot, whose leaving variable gets what the limit stands for that it violates
 unfoldable pub movedLaid : Order → Tableau → Choice → Tableau
@@ -57,15 +57,15 @@ pub data Course : Type 0 where
   on : Course
 
 -- .. with the tableau after the step: the next one where it goes on, else the one that it was
-pub record Stepped : Type 0 where
+pub record StepAt : Type 0 where
   pub course : Course
   pub tableau : Tableau
 
-abbrev pub endedAs : Tableau → End → Stepped
+abbrev pub endedAs : Tableau → End → StepAt
 endedAs t e = record { course = over e; tableau = t }
 
 -- after a pivot: on where it passes the range test
-abbrev pub admitAt : Bool → Tableau → Tableau → Stepped
+abbrev pub admitAt : Bool → Tableau → Tableau → StepAt
 admitAt true t u = record { course = on; tableau = u }
 admitAt false t u = endedAs t ends.Range
 
@@ -73,22 +73,22 @@ admitAt false t u = endedAs t ends.Range
 abbrev pub fitsByLaid : Order → Tableau → Choice → Bool
 fitsByLaid o t c = fitsLaid o (t .rows) (t .columns) (t .entries) (t .common) (c .row .0) (c .column .0)
 
-unfoldable pub stepLaid : Order → Tableau → Next → Stepped
+unfoldable pub stepLaid : Order → Tableau → Next → StepAt
 stepLaid o t nexts.Within = endedAs t ends.Can
 stepLaid o t (nexts.Stuck b) = endedAs t (ends.Cannot b)
 stepLaid o t (nexts.Pivot c) = admitAt (fitsByLaid o t c) t (movedLaid o t c)
 
-unfoldable pub steppedLaid : Order → Tableau → Stepped
+unfoldable pub steppedLaid : Order → Tableau → StepAt
 steppedLaid o t = stepLaid o t (nextLaid o t)
 
 -- .. in the order in use
 abbrev pub fitsBy : Tableau → Choice → Bool
 fitsBy = fitsByLaid inUse
 
-abbrev pub stepBy : Tableau → Next → Stepped
+abbrev pub stepBy : Tableau → Next → StepAt
 stepBy = stepLaid inUse
 
-abbrev pub steppedAt : Tableau → Stepped
+abbrev pub steppedAt : Tableau → StepAt
 steppedAt = steppedLaid inUse
 
 -- ---- a step as the code makes it: its answer, and the entries that it leaves

@@ -2,7 +2,7 @@
 ghost use mathlib.Core.Path.{_≡_};
 ghost use Rattle.tableau.specs.Amounts.{valueOf};
 ghost use Rattle.search.specs.Search.{seen};
-ghost use Rattle.steps.specs.Step.{Steppable, leftAt, limitOf, outcomeAt};
+ghost use Rattle.steps.specs.Step.{Steppable, leftAt, violatedPair, outcomeAt};
 use layout::ColumnPlace;
 use layout::RowPlace;
 use layout::Spot;
@@ -32,7 +32,7 @@ pub enum Outcome {
 
 // What the limit stands for that a variable violates.
 fn violated_limit(rises: bool, lower: Given, upper: Given) -> Value
-    ensures { λ r. ⌜ r ≡ valueOf (limitOf rises lower upper) ⌝ }
+    ensures { λ r. ⌜ r ≡ valueOf (violatedPair rises lower upper) ⌝ }
 {
     if rises {
         return amount::lower_value(lower);

@@ -6,7 +6,7 @@ use lib.IntN.{ℤ, pos}
 use lib.ListN.{getD}
 use Rattle.rules.specs.Limit.{Limit, lowerPair, upperPair}
 use Rattle.rules.specs.Problem.{mapped}
-use Rattle.layout.specs.Layout.{Order, inUse, row, column, entryLaid}
+use Rattle.layout.specs.Layout.{Order, inUse, rowPlace, columnPlace, entryLaid}
 use Rattle.tableau.specs.declared.Variable.{Variable}
 use Rattle.tableau.specs.declared.Seat.{Seat}
 use Rattle.tableau.specs.declared.Given.{Given}
@@ -18,7 +18,7 @@ abbrev pub variable : ℕ → Variable
 variable v = record { 0 = v }
 
 abbrev pub nowhere : Seat
-nowhere = record { basic = false; row = row 0; column = column 0 }
+nowhere = record { basic = false; row = rowPlace 0; column = columnPlace 0 }
 
 -- the number at a row place and a column place of a tableau
 abbrev pub cellLaid : Order → Tableau → ℕ → ℕ → ℤ

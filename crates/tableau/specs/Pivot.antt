@@ -6,7 +6,7 @@ use lib.IntN.{ℤ}
 use lib.ListN.{getD, set}
 use Rattle.whole.specs.Numbers.{Within}
 use Rattle.rules.specs.Sizes.{mostColumns, mostRows, mostVariables, largestNumber}
-use Rattle.layout.specs.Layout.{Order, inUse, row, column}
+use Rattle.layout.specs.Layout.{Order, inUse, rowPlace, columnPlace}
 use Rattle.pivot.specs.Pivot.{commonLaid, entriesLaid}
 use Rattle.tableau.specs.declared.Variable.{Variable}
 use Rattle.tableau.specs.declared.Tableau.{Tableau}
@@ -54,8 +54,8 @@ swappedAt t p q x =
       nonbasic = set (t .nonbasic) q r;
       values = set (t .values) q (x .0);
       smalls = set (t .smalls) q (x .1);
-      seats = set (set (t .seats) (w .0) (record { basic = true; row = row p; column = column q })) (r .0)
-          (record { basic = false; row = row p; column = column q });
+      seats = set (set (t .seats) (w .0) (record { basic = true; row = rowPlace p; column = columnPlace q })) (r .0)
+          (record { basic = false; row = rowPlace p; column = columnPlace q });
       limits = t .limits;
     }
 

@@ -13,7 +13,7 @@ use Rattle.rules.specs.Sizes.{mostColumns, mostRows, mostVariables}
 use Rattle.rules.specs.Limit.{Limit}
 use Rattle.rules.specs.Problem.{Problem, inner, vars}
 use Rattle.rules.specs.Step.{startValue}
-use Rattle.layout.specs.Layout.{Order, inUse, mostEntries, rowLaid, columnLaid, rowAt, columnAt, live, row, column}
+use Rattle.layout.specs.Layout.{Order, inUse, mostEntries, rowLaid, columnLaid, rowAt, columnAt, live, rowPlace, columnPlace}
 use Rattle.tableau.specs.declared.Variable.{Variable}
 use Rattle.tableau.specs.declared.Seat.{Seat}
 use Rattle.tableau.specs.declared.Given.{Given}
@@ -43,7 +43,7 @@ abbrev pub startNonbasic : List Variable
 startNonbasic = table mostColumns variable
 
 abbrev pub seatFor : ℕ → ℕ → Seat
-seatFor n v = record { basic = not (ltb v n); row = row (v - n); column = column v }
+seatFor n v = record { basic = not (ltb v n); row = rowPlace (v - n); column = columnPlace v }
 
 -- .. of the first k variables; the others sit nowhere
 abbrev pub startSeats : ℕ → ℕ → List Seat

@@ -13,21 +13,21 @@ use Rattle.rules.specs.Refusal.{first}
 use Rattle.rules.specs.TimeWords.{badEnd, badStrict, badRowLength, timesLength, AcceptedTimes}
 
 -- words whose sizes and whose length are fine
-pub record Framed (ws : List ℤ) : Type 0 where
+pub record TimeFramed (ws : List ℤ) : Type 0 where
   pub n-least : pos 1 ≤ℤ word ws 0
   pub n-few : nOf ws ≤ mostVertices
   pub m-few : mOf ws ≤ mostTimeRows
   pub exact : length ws ≡ 2 + 4 * mOf ws
 
 -- the first of tests 14 to 16 that applies, or 17: by what the tests say; to row i; to some row below k
-unfoldable pub numberOf : Bool → Bool → Bool → ℕ
-numberOf ends strict span = first ((ends, 14) ∷ (strict, 15) ∷ (span, 16) ∷ (true, 17) ∷ [])
+unfoldable pub testNumber : Bool → Bool → Bool → ℕ
+testNumber ends strict span = first ((ends, 14) ∷ (strict, 15) ∷ (span, 16) ∷ (true, 17) ∷ [])
 
 unfoldable pub rowNumber : List ℤ → ℕ → ℕ
-rowNumber ws i = numberOf (badEnd ws i) (badStrict ws i) (badRowLength ws i)
+rowNumber ws i = testNumber (badEnd ws i) (badStrict ws i) (badRowLength ws i)
 
 unfoldable pub rowsNumber : List ℤ → ℕ → ℕ
-rowsNumber ws k = numberOf (someBelow k (badEnd ws)) (someBelow k (badStrict ws)) (someBelow k (badRowLength ws))
+rowsNumber ws k = testNumber (someBelow k (badEnd ws)) (someBelow k (badStrict ws)) (someBelow k (badRowLength ws))
 
 -- what refusals 11 to 16 leave
 abbrev pub Fine : List ℤ → Type 0

@@ -9,7 +9,7 @@ ghost use Rattle.whole.specs.Numbers.{within, outside};
 ghost use Rattle.rules.specs.Sizes.{largestLength};
 ghost use Rattle.rules.specs.Problem.{nOf, mOf};
 ghost use Rattle.rules.specs.TimeWords.{timeRefusal};
-ghost use Rattle.timerows.specs.Judged.{Framed, numberOf, rowNumber, rowsNumber};
+ghost use Rattle.timerows.specs.Judged.{TimeFramed, testNumber, rowNumber, rowsNumber};
 use crate::word_of;
 use lengths::Length;
 use lengths::MOST_VERTICES;
@@ -35,7 +35,7 @@ fn is_too_long(word: i32) -> bool
 // The number of the first of tests 14 to 16 that applies to a row x, y, strict, c, or 17. The last vertex is `most`.
 fn row_number(x: i32, y: i32, strict: i32, c: i32, most: i64) -> u32
     requires { ⌜ pos 0 ≤ℤ most ⌝ }
-    ensures { λ r. ⌜ r ≡ numberOf (outside 0 (natAbs most) x || outside 0 (natAbs most) y) (outside 0 1 strict) (not (within largestLength c)) ⌝ }
+    ensures { λ r. ⌜ r ≡ testNumber (outside 0 (natAbs most) x || outside 0 (natAbs most) y) (outside 0 1 strict) (not (within largestLength c)) ⌝ }
 {
     if is_outside(x as i64, 0, most) {
         return 14;
@@ -54,7 +54,7 @@ fn row_number(x: i32, y: i32, strict: i32, c: i32, most: i64) -> u32
 
 // The number of row i.
 fn number_at(words: &[i32], most: i64, i: usize) -> u32
-    requires { ⌜ (Framed (now words)) × (i < mOf (now words)) × (most ≡ pos (nOf (now words) - 1)) ⌝ }
+    requires { ⌜ (TimeFramed (now words)) × (i < mOf (now words)) × (most ≡ pos (nOf (now words) - 1)) ⌝ }
     ensures { λ r. ⌜ r ≡ rowNumber (now (words .entry)) i ⌝ }
 {
     row_number(
@@ -77,7 +77,7 @@ fn lesser(a: u32, b: u32) -> u32
 
 // The least number of a row, or 17.
 fn rows_number(words: &[i32], m: usize) -> u32
-    requires { ⌜ (Framed (now words)) × (m ≡ mOf (now words)) ⌝ }
+    requires { ⌜ (TimeFramed (now words)) × (m ≡ mOf (now words)) ⌝ }
     ensures { λ r. ⌜ r ≡ rowsNumber (now (words .entry)) m ⌝ }
 {
     let most = words[0] as i64 - 1;

@@ -18,7 +18,7 @@ use Rattle.rules.specs.Traces.{Traced}
 use Rattle.lengths.specs.declared.answer.Way.{Way}
 use Rattle.lengths.specs.declared.Length.{Length}
 use Rattle.lengths.specs.Answer.{AllPassed, rowsOf}
-use Rattle.lengths.specs.Lengths.{lengthAt, at, keyOf, looks, Near, Modest}
+use Rattle.lengths.specs.Lengths.{lengthAt, keyAt, keyOf, looksMade, Near, ModestLength}
 use Rattle.timerows.specs.Judged.{Fine}
 
 -- accepted words, with n and m at hand
@@ -30,7 +30,7 @@ pub record Solvable (ws : List ℤ) (n m : ℕ) : Type 0 where
 -- ---- looks
 
 abbrev pub AllModest : List Length → Type 0
-AllModest best = (v : ℕ) → Modest (lengthAt best v)
+AllModest best = (v : ℕ) → ModestLength (lengthAt best v)
 
 -- what a look at any row asks
 pub record Looking (ws : List ℤ) (best : List Length) : Type 0 where
@@ -39,7 +39,7 @@ pub record Looking (ws : List ℤ) (best : List Length) : Type 0 where
 
 -- whether row i betters its head, in the code's numbers
 abbrev pub isLess : List ℤ → List Length → ℕ → Bool
-isLess ws best i = ltZ (at best (timeEdges ws .tail i) +ℤ keyOf (timeEdges ws .size i)) (at best (timeEdges ws .head i))
+isLess ws best i = ltZ (keyAt best (timeEdges ws .tail i) +ℤ keyOf (timeEdges ws .size i)) (keyAt best (timeEdges ws .head i))
 
 -- no row betters its head, or some row does
 abbrev pub Quiet : List ℤ → List Length → Bool → Type 0
@@ -49,8 +49,8 @@ Quiet ws best false = (i : ℕ) × (i < mOf ws) × (isLess ws best i ≡ true)
 -- ---- passes
 
 -- the row that bettered v last; past an array's end it is 0
-abbrev pub rowAt : List ℕ → ℕ → ℕ
-rowAt last v = getD last v 0
+abbrev pub lastRow : List ℕ → ℕ → ℕ
+lastRow last v = getD last v 0
 
 -- what stands for no row is one past the last number that a row can have
 abbrev pub noRow : ℕ
@@ -63,11 +63,11 @@ pub record Looked (ws : List ℤ) (k i : ℕ) (best : List Length) (last : List 
   pub time : ℕ → ℕ
   -- the distances as pairs
   pub far : ℕ → ℤ × ℤ
-  pub are : (v : ℕ) → at best v ≡ keyOf (far v)
-  pub near : (v : ℕ) → Near (far v) (looks k i)
-  pub traced : Traced pairs (timeEdges ws) (mOf ws * k) i time far (rowAt last)
+  pub are : (v : ℕ) → keyAt best v ≡ keyOf (far v)
+  pub near : (v : ℕ) → Near (far v) (looksMade k i)
+  pub traced : Traced pairs (timeEdges ws) (mOf ws * k) i time far (lastRow last)
   -- where a row stands, it has bettered the vertex
-  pub stands : (v : ℕ) → v < mostVertices → rowAt last v ≢ noRow → 0 < time v
+  pub stands : (v : ℕ) → v < mostVertices → lastRow last v ≢ noRow → 0 < time v
   pub best-long : length best ≡ mostVertices
   pub last-long : length last ≡ mostVertices
 
@@ -86,7 +86,7 @@ pub record Pass (ws : List ℤ) (k i : ℕ) (best : List Length) (last : List �
 -- no row betters its head
 pub record Settled (ws : List ℤ) (best : List Length) : Type 0 where
   pub can : canMeet pairs (timeEdges ws) ≡ true
-  pub are : (v : ℕ) → at best v ≡ keyOf (distance pairs (timeEdges ws) (distances pairs (timeEdges ws)) v)
+  pub are : (v : ℕ) → keyAt best v ≡ keyOf (distance pairs (timeEdges ws) (distances pairs (timeEdges ws)) v)
   pub passed : AllPassed best
   pub long : length best ≡ mostVertices
 

@@ -6,7 +6,7 @@ ghost use Prim.Native.Nat.{ℕ, _<_, min};
 ghost use lib.IntN.{ℤ, _+ℤ_};
 ghost use Rattle.rules.specs.Problem.{mOf};
 ghost use Rattle.rules.specs.TimeWords.{timeEdges};
-ghost use Rattle.lengths.specs.Lengths.{lengthOf, keyOf, Modest};
+ghost use Rattle.lengths.specs.Lengths.{lengthOf, keyOf, ModestLength};
 ghost use Rattle.timerows.specs.Judged.{Fine};
 ghost use Rattle.times.specs.Steps.{Looking, Quiet, Solvable, Settling};
 use crate::NO_ROW;
@@ -27,7 +27,7 @@ pub struct Ending {
 
 // What row i offers its head: the distance of its tail, and its length.
 fn offer(rows: &[i32], i: usize, best: Length) -> Length
-    requires { ⌜ (Fine (now rows)) × (i < mOf (now rows)) × (Modest best) ⌝ }
+    requires { ⌜ (Fine (now rows)) × (i < mOf (now rows)) × (ModestLength best) ⌝ }
     ensures { λ r. ⌜ lengthOf r ≡ lengthOf best +ℤ keyOf (timeEdges (now (rows .entry)) .size i) ⌝ }
 {
     best.plus(size(rows, i))

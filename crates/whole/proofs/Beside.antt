@@ -1,5 +1,5 @@
 -- Values side by side are values, the first compared first.
---   parts, joined              what "at most" says of the two parts, and back
+--   parts, beside-joined              what "at most" says of the two parts, and back
 --   beside-laws, pairs-laws    all laws hold of them
 use mathlib.Core.Path.{_≡_, refl, _∙_, ap, ap₂}
 use mathlib.Core.Bool.{Bool, true, false}
@@ -26,8 +26,8 @@ module _ {A B : Type 0} {𝓐 : Values A} {𝓑 : Values B} where
       go false p true q k = record { first = p; second = λ e. true-false q e }
       go false p false q k = record { first = p; second = λ e. k }
 
-  pub joined : (x y : A × B) → Parts 𝓐 𝓑 x y → Le (beside 𝓐 𝓑) x y
-  joined x y h = go (𝓐 .less (y .0) (x .0)) refl (𝓐 .less (x .0) (y .0)) refl
+  pub beside-joined : (x y : A × B) → Parts 𝓐 𝓑 x y → Le (beside 𝓐 𝓑) x y
+  beside-joined x y h = go (𝓐 .less (y .0) (x .0)) refl (𝓐 .less (x .0) (y .0)) refl
     where
       go : (a : Bool) → 𝓐 .less (y .0) (x .0) ≡ a → (b : Bool) → 𝓐 .less (x .0) (y .0) ≡ b →
           lexicographic a b (𝓑 .less (y .1) (x .1)) ≡ false
@@ -50,7 +50,7 @@ module _ {A B : Type 0} {𝓐 : Values A} {𝓑 : Values B} (L : Laws 𝓐) (M :
   trans x y z p q =
       let a : Parts 𝓐 𝓑 x y = parts {𝓐 = 𝓐} {𝓑 = 𝓑} x y p in
       let b : Parts 𝓐 𝓑 y z = parts {𝓐 = 𝓐} {𝓑 = 𝓑} y z q in
-      joined {𝓐 = 𝓐} {𝓑 = 𝓑} x z (record {
+      beside-joined {𝓐 = 𝓐} {𝓑 = 𝓑} x z (record {
         first = L .le-trans (x .0) (y .0) (z .0) (a .first) (b .first);
         second = λ e. M .le-trans (x .1) (y .1) (z .1)
             (a .second (L .le-trans (y .0) (z .0) (x .0) (b .first) e))

@@ -13,7 +13,7 @@ use native.Mathlib.Omega.{arith}
 use lib.Dec.{T, leb, ltb, leb→le, le→leb, ltb→lt, lt→ltb, nltb→le, nleb→lt}
 use lib.Signed.{leZ, ltZ, nonNeg, _≤ℤ_, _<ℤ_, ltZ-no, ≤ℤ-refl}
 use lib.IntN.{ℤ, pos, negsuc, negℤ, subℕ, _+ℤ_, _-ℤ_, _*ℤ_, +ℤ-idl, +ℤ-idr, +ℤ-assoc, +ℤ-comm, +ℤ-invr, +ℤ-invl}
-use Rattle.whole.proofs.Normal.{Expr, var, con, _⊕_, _⊖_, _⊗_, ⊝, look, eval, norm, norm-sound, Hor, kon, hor, evalH}
+use Rattle.whole.proofs.Normal.{Expr, var, con, _⊕_, _⊖_, _⊗_, ⊝, atomAt, eval, norm, norm-sound, Hor, kon, hor, evalH}
 use Rattle.whole.proofs.Reify.{Q, reify, reify·atoms, ring! }
 
 cond-ind : (c : Bool) (x y : ℤ) (P : ℤ → Type 0) → (T c → P x) → (T (not c) → P y) → P (cond c x y)
@@ -140,13 +140,13 @@ pub slack-ok : (ρ : List ℤ) (t : Hor) → Slack t → NN (evalH ρ t)
 slack-ok ρ _ slk = record { nn = tt }
 
 -- a certificate for a number below zero is a contradiction
-pub data Below : Hor → Type 0 where
-  blw : {n : ℕ} → Below (kon (negsuc n))
+pub data Negative : Hor → Type 0 where
+  blw : {n : ℕ} → Negative (kon (negsuc n))
 
-below-ok : (ρ : List ℤ) (t : Hor) → Below t → T (nonNeg (evalH ρ t)) → ⊥
+below-ok : (ρ : List ℤ) (t : Hor) → Negative t → T (nonNeg (evalH ρ t)) → ⊥
 below-ok ρ _ blw k = k
 
-pub contra : (ρ : List ℤ) {c : ℤ} → NN c → (q : Q ρ c) → Below (norm (q .ex)) → ⊥
+pub contra : (ρ : List ℤ) {c : ℤ} → NN c → (q : Q ρ c) → Negative (norm (q .ex)) → ⊥
 contra ρ h q t = below-ok ρ (norm (q .ex)) t (subst (λ z. T (nonNeg z)) (sym (norm-sound ρ (q .ex) ∙ q .ex-ok)) (h .nn))
 
 -- ---- strict

@@ -15,13 +15,13 @@ pub data Expr : Type 0 where
   _⊕_ _⊖_ _⊗_ : Expr → Expr → Expr
   ⊝ : Expr → Expr
 
-abbrev pub look : List ℤ → ℕ → ℤ
-look [] n = pos zero
-look (z ∷ ρ) zero = z
-look (z ∷ ρ) (suc n) = look ρ n
+abbrev pub atomAt : List ℤ → ℕ → ℤ
+atomAt [] n = pos zero
+atomAt (z ∷ ρ) zero = z
+atomAt (z ∷ ρ) (suc n) = atomAt ρ n
 
 abbrev pub eval : List ℤ → Expr → ℤ
-eval ρ (var i) = look ρ i
+eval ρ (var i) = atomAt ρ i
 eval ρ (con c) = c
 eval ρ (a ⊕ b) = eval ρ a +ℤ eval ρ b
 eval ρ (a ⊖ b) = eval ρ a -ℤ eval ρ b
@@ -35,7 +35,7 @@ pub data Hor : Type 0 where
 
 abbrev pub evalH : List ℤ → Hor → ℤ
 evalH ρ (kon c) = c
-evalH ρ (hor i p q) = look ρ i *ℤ evalH ρ p +ℤ evalH ρ q
+evalH ρ (hor i p q) = atomAt ρ i *ℤ evalH ρ p +ℤ evalH ρ q
 
 -- the three cases wait: each is a function of Unit
 abbrev pub cmp3 : Ordering → (Unit {0} → Hor) → (Unit {0} → Hor) → (Unit {0} → Hor) → Hor
@@ -96,34 +96,34 @@ merge : (x p r q s : ℤ) → x *ℤ (p +ℤ r) +ℤ (q +ℤ s) ≡ (x *ℤ p +�
 merge x p r q s = simp (*ℤ-distribl, +ℤ-assoc, +ℤ-comm, +ℤ-left-comm)
 
 module _ (ρ : List ℤ) where
-  mk-sound : (i : ℕ) (p q : Hor) → evalH ρ (mk i p q) ≡ look ρ i *ℤ evalH ρ p +ℤ evalH ρ q
-  mk-sound i (kon (pos zero)) q = sym (ap (λ x. x +ℤ evalH ρ q) (*ℤ-zero (look ρ i)) ∙ +ℤ-idl (evalH ρ q))
+  mk-sound : (i : ℕ) (p q : Hor) → evalH ρ (mk i p q) ≡ atomAt ρ i *ℤ evalH ρ p +ℤ evalH ρ q
+  mk-sound i (kon (pos zero)) q = sym (ap (λ x. x +ℤ evalH ρ q) (*ℤ-zero (atomAt ρ i)) ∙ +ℤ-idl (evalH ρ q))
   mk-sound i (kon (pos (suc n))) q = refl
   mk-sound i (kon (negsuc n)) q = refl
   mk-sound i (hor j a b) q = refl
 
   addC-sound : (a : ℤ) (t : Hor) → evalH ρ (addC a t) ≡ a +ℤ evalH ρ t
   addC-sound a (kon b) = refl
-  addC-sound a (hor i p q) = ap (λ x. look ρ i *ℤ evalH ρ p +ℤ x) (addC-sound a q) ∙ +ℤ-left-comm (look ρ i *ℤ evalH ρ p) a (evalH ρ q)
+  addC-sound a (hor i p q) = ap (λ x. atomAt ρ i *ℤ evalH ρ p +ℤ x) (addC-sound a q) ∙ +ℤ-left-comm (atomAt ρ i *ℤ evalH ρ p) a (evalH ρ q)
 
-  addX-lt : (i : ℕ) (p u t : Hor) (Q : ℤ) → evalH ρ u ≡ Q +ℤ evalH ρ t → look ρ i *ℤ evalH ρ p +ℤ evalH ρ u ≡ (look ρ i *ℤ evalH ρ p +ℤ Q) +ℤ evalH ρ t
-  addX-lt i p u t Q h = ap (λ x. look ρ i *ℤ evalH ρ p +ℤ x) h ∙ sym (+ℤ-assoc (look ρ i *ℤ evalH ρ p) Q (evalH ρ t))
+  addX-lt : (i : ℕ) (p u t : Hor) (Q : ℤ) → evalH ρ u ≡ Q +ℤ evalH ρ t → atomAt ρ i *ℤ evalH ρ p +ℤ evalH ρ u ≡ (atomAt ρ i *ℤ evalH ρ p +ℤ Q) +ℤ evalH ρ t
+  addX-lt i p u t Q h = ap (λ x. atomAt ρ i *ℤ evalH ρ p +ℤ x) h ∙ sym (+ℤ-assoc (atomAt ρ i *ℤ evalH ρ p) Q (evalH ρ t))
 
   addX-eq : (i j : ℕ) (p r s pr qs : Hor) (Q : ℤ) → i ≡ j → evalH ρ pr ≡ evalH ρ p +ℤ evalH ρ r → evalH ρ qs ≡ Q +ℤ evalH ρ s
-      → evalH ρ (mk i pr qs) ≡ (look ρ i *ℤ evalH ρ p +ℤ Q) +ℤ (look ρ j *ℤ evalH ρ r +ℤ evalH ρ s)
-  addX-eq i j p r s pr qs Q e h k = mk-sound i pr qs ∙ rw (h, k, ← e) (merge (look ρ i) (evalH ρ p) (evalH ρ r) Q (evalH ρ s))
+      → evalH ρ (mk i pr qs) ≡ (atomAt ρ i *ℤ evalH ρ p +ℤ Q) +ℤ (atomAt ρ j *ℤ evalH ρ r +ℤ evalH ρ s)
+  addX-eq i j p r s pr qs Q e h k = mk-sound i pr qs ∙ rw (h, k, ← e) (merge (atomAt ρ i) (evalH ρ p) (evalH ρ r) Q (evalH ρ s))
 
   addX-sound : (i : ℕ) (p : Hor) (fp fq : Hor → Hor) (Q : ℤ)
       → ((t : Hor) → evalH ρ (fp t) ≡ evalH ρ p +ℤ evalH ρ t)
       → ((t : Hor) → evalH ρ (fq t) ≡ Q +ℤ evalH ρ t)
-      → (t : Hor) → evalH ρ (addX i p fp fq t) ≡ (look ρ i *ℤ evalH ρ p +ℤ Q) +ℤ evalH ρ t
+      → (t : Hor) → evalH ρ (addX i p fp fq t) ≡ (atomAt ρ i *ℤ evalH ρ p +ℤ Q) +ℤ evalH ρ t
   addX-sound i p fp fq Q hp hq (kon b) = addX-lt i p (fq (kon b)) (kon b) Q (hq (kon b))
   addX-sound i p fp fq Q hp hq (hor j r s) =
       cmp3-ind (compare i j) (λ u. hor i p (fq (hor j r s))) (λ u. mk i (fp r) (fq s)) (λ u. hor j r (addX i p fp fq s))
-      (λ z. evalH ρ z ≡ (look ρ i *ℤ evalH ρ p +ℤ Q) +ℤ (look ρ j *ℤ evalH ρ r +ℤ evalH ρ s))
+      (λ z. evalH ρ z ≡ (atomAt ρ i *ℤ evalH ρ p +ℤ Q) +ℤ (atomAt ρ j *ℤ evalH ρ r +ℤ evalH ρ s))
       (addX-lt i p (fq (hor j r s)) (hor j r s) Q (hq (hor j r s)))
       (λ e. addX-eq i j p r s (fp r) (fq s) Q (eqb→eq i j e) (hp r) (hq s))
-      (ap (λ x. look ρ j *ℤ evalH ρ r +ℤ x) (addX-sound i p fp fq Q hp hq s) ∙ +ℤ-left-comm (look ρ j *ℤ evalH ρ r) (look ρ i *ℤ evalH ρ p +ℤ Q) (evalH ρ s))
+      (ap (λ x. atomAt ρ j *ℤ evalH ρ r +ℤ x) (addX-sound i p fp fq Q hp hq s) ∙ +ℤ-left-comm (atomAt ρ j *ℤ evalH ρ r) (atomAt ρ i *ℤ evalH ρ p +ℤ Q) (evalH ρ s))
 
   addH-sound : (a b : Hor) → evalH ρ (addH a b) ≡ evalH ρ a +ℤ evalH ρ b
   addH-sound (kon a) t = addC-sound a t
@@ -131,21 +131,21 @@ module _ (ρ : List ℤ) where
 
   scale-sound : (c : ℤ) (t : Hor) → evalH ρ (scale c t) ≡ c *ℤ evalH ρ t
   scale-sound c (kon b) = refl
-  scale-sound c (hor i p q) = rw (scale-sound c p, scale-sound c q) (simp (*ℤ-distribl) (rw (*ℤ-left-comm (look ρ i) c (evalH ρ p))))
+  scale-sound c (hor i p q) = rw (scale-sound c p, scale-sound c q) (simp (*ℤ-distribl) (rw (*ℤ-left-comm (atomAt ρ i) c (evalH ρ p))))
 
   sc-sound : (c : ℤ) (t : Hor) → evalH ρ (sc c t) ≡ c *ℤ evalH ρ t
   sc-sound (pos zero) t = sym (zero-*ℤ (evalH ρ t))
   sc-sound (pos (suc n)) t = scale-sound (pos (suc n)) t
   sc-sound (negsuc n) t = scale-sound (negsuc n) t
 
-  mulX-sound : (i : ℕ) (t : Hor) → evalH ρ (mulX i t) ≡ look ρ i *ℤ evalH ρ t
-  mulX-sound i (kon c) = mk-sound i (kon c) (kon (pos zero)) ∙ +ℤ-idr (look ρ i *ℤ c)
+  mulX-sound : (i : ℕ) (t : Hor) → evalH ρ (mulX i t) ≡ atomAt ρ i *ℤ evalH ρ t
+  mulX-sound i (kon c) = mk-sound i (kon c) (kon (pos zero)) ∙ +ℤ-idr (atomAt ρ i *ℤ c)
   mulX-sound i (hor j r s) =
       cmp3-ind (compare i j) (λ u. hor i (hor j r s) (kon (pos zero))) (λ u. hor i (hor j r s) (kon (pos zero))) (λ u. hor j (mulX i r) (mulX i s))
-      (λ z. evalH ρ z ≡ look ρ i *ℤ (look ρ j *ℤ evalH ρ r +ℤ evalH ρ s))
-      (+ℤ-idr (look ρ i *ℤ (look ρ j *ℤ evalH ρ r +ℤ evalH ρ s)))
-      (λ e. +ℤ-idr (look ρ i *ℤ (look ρ j *ℤ evalH ρ r +ℤ evalH ρ s)))
-      (rw (mulX-sound i r, mulX-sound i s) (rw (*ℤ-distribl (look ρ i) (look ρ j *ℤ evalH ρ r) (evalH ρ s), *ℤ-left-comm (look ρ i) (look ρ j) (evalH ρ r))))
+      (λ z. evalH ρ z ≡ atomAt ρ i *ℤ (atomAt ρ j *ℤ evalH ρ r +ℤ evalH ρ s))
+      (+ℤ-idr (atomAt ρ i *ℤ (atomAt ρ j *ℤ evalH ρ r +ℤ evalH ρ s)))
+      (λ e. +ℤ-idr (atomAt ρ i *ℤ (atomAt ρ j *ℤ evalH ρ r +ℤ evalH ρ s)))
+      (rw (mulX-sound i r, mulX-sound i s) (rw (*ℤ-distribl (atomAt ρ i) (atomAt ρ j *ℤ evalH ρ r) (evalH ρ s), *ℤ-left-comm (atomAt ρ i) (atomAt ρ j) (evalH ρ r))))
 
   mulH-sound : (a b : Hor) → evalH ρ (mulH a b) ≡ evalH ρ a *ℤ evalH ρ b
   mulH-sound (kon c) t = sc-sound c t
@@ -156,7 +156,7 @@ module _ (ρ : List ℤ) where
   minus a = neg-*ℤ (pos 1) a ∙ ap negℤ (*ℤ-idl a)
 
   pub norm-sound : (e : Expr) → evalH ρ (norm e) ≡ eval ρ e
-  norm-sound (var i) = +ℤ-idr (look ρ i *ℤ pos 1) ∙ *ℤ-idr (look ρ i)
+  norm-sound (var i) = +ℤ-idr (atomAt ρ i *ℤ pos 1) ∙ *ℤ-idr (atomAt ρ i)
   norm-sound (con c) = refl
   norm-sound (a ⊕ b) = addH-sound (norm a) (norm b) ∙ rw (norm-sound a, norm-sound b)
   norm-sound (a ⊖ b) = addH-sound (norm a) (scale (negsuc 0) (norm b)) ∙ rw (scale-sound (negsuc 0) (norm b), norm-sound a, norm-sound b, minus)

@@ -7,7 +7,7 @@ use lib.Dec.{T}
 use lib.Signed.{_≤ℤ_, _<ℤ_, leZ-yes}
 use lib.Dec.{le→leb, leb→le}
 use lib.IntN.{ℤ, pos, negsuc, negℤ, _+ℤ_, _-ℤ_, _*ℤ_}
-use Rattle.whole.proofs.Normal.{Expr, var, con, _⊕_, _⊖_, _⊗_, ⊝, look, eval}
+use Rattle.whole.proofs.Normal.{Expr, var, con, _⊕_, _⊖_, _⊗_, ⊝, atomAt, eval}
 use Rattle.whole.proofs.Reify.{Q, reify, reify·atoms, ring! }
 use Rattle.whole.proofs.Nonneg.{NN, of-le, to-le, of-lt, to-lt, of-eq}
 use Rattle.whole.proofs.Order.{≤ℤ-antisym}
@@ -35,7 +35,7 @@ parts (negsuc n) = zs n
 
 abbrev mutual
   pub P : List ℤ → Expr → ℕ
-  P ρ (var i) = pp (look ρ i)
+  P ρ (var i) = pp (atomAt ρ i)
   P ρ (con (pos n)) = n
   P ρ (con (negsuc n)) = 0
   P ρ (a ⊕ b) = P ρ a + P ρ b
@@ -44,7 +44,7 @@ abbrev mutual
   P ρ (⊝ a) = M ρ a
 
   pub M : List ℤ → Expr → ℕ
-  M ρ (var i) = mm (look ρ i)
+  M ρ (var i) = mm (atomAt ρ i)
   M ρ (con (pos n)) = 0
   M ρ (con (negsuc n)) = suc n
   M ρ (a ⊕ b) = M ρ a + M ρ b
@@ -71,7 +71,7 @@ n1 : (n : ℕ) → negsuc n ≡ pos 0 -ℤ pos (suc n)
 n1 n = ring-at (pos (suc n) ∷ []) {x = negℤ (pos (suc n))} {y = pos 0 -ℤ pos (suc n)} (search reify·atoms depth 30) refl
 
 pub PM : (ρ : List ℤ) (e : Expr) → eval ρ e ≡ pos (P ρ e) -ℤ pos (M ρ e)
-PM ρ (var i) = parts (look ρ i)
+PM ρ (var i) = parts (atomAt ρ i)
 PM ρ (con (pos n)) = n0 n
 PM ρ (con (negsuc n)) = n1 n
 PM ρ (a ⊕ b) = ap₂ (λ x y. x +ℤ y) (PM ρ a) (PM ρ b) ∙ r+ (pos (P ρ a)) (pos (M ρ a)) (pos (P ρ b)) (pos (M ρ b))

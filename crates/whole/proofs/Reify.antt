@@ -3,11 +3,11 @@ use mathlib.Core.Path.{_≡_, refl, sym, _∙_, ap, ap₂}
 use mathlib.Core.List.{List, [], _∷_}
 use Prim.Native.Nat.{ℕ, zero, suc, _+_, _*_}
 use lib.IntN.{ℤ, pos, negsuc, negℤ, _+ℤ_, _-ℤ_, _*ℤ_}
-use Rattle.whole.proofs.Normal.{Expr, var, con, _⊕_, _⊖_, _⊗_, ⊝, look, eval, norm, ring}
+use Rattle.whole.proofs.Normal.{Expr, var, con, _⊕_, _⊖_, _⊗_, ⊝, atomAt, eval, norm, ring}
 
 pub record At (a : ℤ) (ρ : List ℤ) : Type 0 where
   pub ix : ℕ
-  pub ix-ok : look ρ ix ≡ a
+  pub ix-ok : atomAt ρ ix ≡ a
 
 abbrev pub here : {a : ℤ} {ρ : List ℤ} → At a (a ∷ ρ)
 here = record { ix = zero; ix-ok = refl }

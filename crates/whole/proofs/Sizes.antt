@@ -2,7 +2,7 @@
 --   within-+ -- -* -neg -le        sums, differences, products, negation, a larger bound
 --   within-of, within-hi, -lo      between a bound on the size and bounds on either side
 --   fits-by h tt, fits-abs         it fits the width, from a bound that is written out, or any
---   quot-fits, divisor-pos         a quotient by a positive number fits; that divisor's bits are not 0
+--   quot-fits, divisor-bits         a quotient by a positive number fits; that divisor's bits are not 0
 --   abs-neg, abs-*, abs-+          the size of a negation, a product, a sum
 --   product-nonzero                a product of numbers other than 0 is not 0
 --   all-within-filled              every number of a filled array, where what fills it is
@@ -96,9 +96,9 @@ pub quot-fits : {w : Width} (z g : ℤ) → pos 0 <ℤ g → SFits w z → SFits
 quot-fits z (pos g) h f = record { sfits = lt-of-le-of-lt (mag-quot z g) (f .sfits) }
 quot-fits z (negsuc g) h f = absurd (h .lt)
 
-pub divisor-pos : (w : Width) (g : ℤ) → pos 0 <ℤ g → 0 < ofZ w g
-divisor-pos w (pos g) h = ltb→lt 0 g (h .lt)
-divisor-pos w (negsuc g) h = absurd (h .lt)
+pub divisor-bits : (w : Width) (g : ℤ) → pos 0 <ℤ g → 0 < ofZ w g
+divisor-bits w (pos g) h = ltb→lt 0 g (h .lt)
+divisor-bits w (negsuc g) h = absurd (h .lt)
 
 -- ---- a bound of the magnitude is a bound on either side
 within-of′ : (z : ℤ) (n : ℕ) → T (leZ (negℤ (pos n)) z) → T (leZ z (pos n)) → natAbs z ≤ n

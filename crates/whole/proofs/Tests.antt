@@ -1,7 +1,7 @@
 -- What a test of two signed locals says. The flag of a branch is `ltZ (toZ w (ofZ w a)) (toZ w (ofZ w b))`, since a signed local holds bits.
 --   test-lt, test-nlt, test-eq                      the branch, as an order of the two numbers, at any width
 --   leZ-true, leZ-false                             the same of a plain test
---   above, own-size, under, not-neg                 what an order says of a number's size, which omega reads
+--   above, own-size, under-size, not-neg                 what an order says of a number's size, which omega reads
 use mathlib.Core.Path.{_≡_, refl, sym, _∙_, ap, ap₂}
 use mathlib.Core.Bool.{Bool, true, false, not}
 use Prim.Native.Nat.{ℕ, zero, suc, _≤_, _<_, suc-le-suc}
@@ -40,9 +40,9 @@ own-size k (pos n) h = refl
 own-size k (negsuc n) h = absurd (h .le)
 
 -- at most a natural number, and not below zero
-pub under : (k l : ℕ) (z : ℤ) → pos l ≤ℤ z → z ≤ℤ pos k → natAbs z ≤ k
-under k l (pos n) g h = leb→le n k (h .le)
-under k l (negsuc n) g h = absurd (g .le)
+pub under-size : (k l : ℕ) (z : ℤ) → pos l ≤ℤ z → z ≤ℤ pos k → natAbs z ≤ k
+under-size k l (pos n) g h = leb→le n k (h .le)
+under-size k l (negsuc n) g h = absurd (g .le)
 
 pub not-neg : (k : ℕ) (z : ℤ) → pos k ≤ℤ z → T (nonNeg z)
 not-neg k (pos n) h = tt

@@ -10,7 +10,7 @@ use mir.Facts.{toZ-ofZ}
 use mir.Syntax.{w32, w64}
 use mir.Val.{SFits}
 use Rattle.rules.specs.Sizes.{mostColumns}
-use Rattle.search.specs.Search.{rowSum}
+use Rattle.search.specs.Search.{rowSumIn}
 use Rattle.answers.specs.Answer.{numeratorFrom, numeratorLaid}
 use Rattle.answers.proofs.numerator_of.Statement.{statement}
 use Rattle.answers.proofs.numerator_of.Tie as tie
@@ -18,7 +18,7 @@ use Rattle.answers.proofs.numerator_of.Tie as tie
 -- the numerator by the flag of the seat
 abbrev numerator : tie.Start → Bool → ℤ
 numerator s b = let a = s .args in
-    numeratorFrom b (rowSum (a .size .rows) (a .size .columns) (a .entries .now) (a .values .now) (a .seat .row .0))
+    numeratorFrom b (rowSumIn (a .size .rows) (a .size .columns) (a .entries .now) (a .values .now) (a .seat .row .0))
     (a .common *ℤ getD (a .values .now) (a .seat .column .0) (pos 0))
 
 row-value-requires : tie.Need-row-value-requires

@@ -14,7 +14,7 @@ use mir.Val.{SFits}
 use Rattle.whole.specs.Numbers.{Within, outside}
 use Rattle.whole.proofs.Bools.{not-true, not-false}
 use Rattle.whole.proofs.Tells.{tells-outside}
-use Rattle.whole.proofs.Tests.{under}
+use Rattle.whole.proofs.Tests.{under-size}
 use Rattle.rules.specs.Sizes.{largestNumber, largestNumerator, largestSmall}
 use Rattle.rules.specs.Evidence.{denominatorOf}
 use Rattle.parts.specs.Reads.{halfHolds}
@@ -60,7 +60,7 @@ module _ (c : tie.Else1) where
 
   within : Within (denominatorOf (answer first)) largestNumber
   within = let h = tells-outside 1 largestNumber (denominatorOf (answer first)) .if-false in-range in
-      record { within = under largestNumber 1 _ (h .0) (h .1) }
+      record { within = under-size largestNumber 1 _ (h .0) (h .1) }
 
 module _ (c : tie.Else2) where
   abbrev second : tie.Start

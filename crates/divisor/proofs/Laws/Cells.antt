@@ -1,6 +1,6 @@
 -- The divisor and the quotients of the live cells.
 --   divisor-none, divisor-more          no live cells, one more
---   divisor-divides, divisor-greatest   it divides the number and each live cell, and whatever does so divides it
+--   cells-divide, cells-greatest   it divides the number and each live cell, and whatever does so divides it
 --   divisor-one                         1 stays 1
 --   divisor-above-zero, divisor-most    above 0, and no more than the number's size
 --   fits-size                           a number with a size fits 64 bits
@@ -39,15 +39,15 @@ module _ (l : List ℤ) (common : ℤ) where
     abbrev cellSize : ℕ → ℕ
     cellSize i = natAbs (getD l i (pos 0))
 
-    pub divisor-divides :
+    pub cells-divide :
         (divisorBelow k l common ∣ natAbs common) × ((i : ℕ) → i < k → divisorBelow k l common ∣ cellSize i)
     unfolding divisorBelow
-    divisor-divides = fold-dvd k cellSize (natAbs common)
+    cells-divide = fold-dvd k cellSize (natAbs common)
 
-    pub divisor-greatest : (d : ℕ) → d ∣ natAbs common → ((i : ℕ) → i < k → d ∣ cellSize i) →
+    pub cells-greatest : (d : ℕ) → d ∣ natAbs common → ((i : ℕ) → i < k → d ∣ cellSize i) →
         d ∣ divisorBelow k l common
     unfolding divisorBelow
-    divisor-greatest d p q = fold-greatest k cellSize (natAbs common) d p q
+    cells-greatest d p q = fold-greatest k cellSize (natAbs common) d p q
 
     pub divisor-above-zero : common ≢ pos 0 → 0 < divisorBelow k l common
     unfolding divisorBelow
@@ -59,6 +59,6 @@ module _ (l : List ℤ) (common : ℤ) where
 
   pub divisor-one : (k n : ℕ) → k ≤ n → divisorBelow k l common ≡ 1 → divisorBelow n l common ≡ 1
   divisor-one k n h e =
-      let d = divisor-divides n in
+      let d = cells-divide n in
       dvd-one .0 (subst (λ g. divisorBelow n l common ∣ g) e
-      (divisor-greatest k (divisorBelow n l common) (d .0) (λ i b. d .1 i (omega arith))))
+      (cells-greatest k (divisorBelow n l common) (d .0) (λ i b. d .1 i (omega arith))))

@@ -1,5 +1,5 @@
 -- The checker's number for words that are accepted, by the answer's length and verdict.
---   long-is                                     how long an answer must be, from the sizes that were read
+--   length-is                                     how long an answer must be, from the sizes that were read
 --   too-short, can-judged, cannot-judged, other-judged
 use mathlib.Core.Path.{_≡_, refl, ap, ap₂, _∙_}
 use mathlib.Core.Bool.{Bool, true, false, cond}
@@ -16,8 +16,8 @@ use Rattle.rules.specs.Evidence.{verdictOf, showsCan, showsCannot, accepted, ch
 use Rattle.rules.proofs.Refused.{room-tells}
 use Rattle.rules.proofs.Evidence.Checked.{checked-by-answer}
 
-pub long-is : (ws : List ℤ) {n m : ℕ} → n ≡ nOf ws → m ≡ mOf ws → 3 + 2 * (n + m) ≡ answerLength ws
-long-is ws e q = ap₂ (λ n m. 3 + 2 * (n + m)) e q
+pub length-is : (ws : List ℤ) {n m : ℕ} → n ≡ nOf ws → m ≡ mOf ws → 3 + 2 * (n + m) ≡ answerLength ws
+length-is ws e q = ap₂ (λ n m. 3 + 2 * (n + m)) e q
 
 module _ (ws a : List ℤ) (fine : problemRefusal ws ≡ 0) where
   pub too-short : length a < answerLength ws → checked ws a ≡ 7

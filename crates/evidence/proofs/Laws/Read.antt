@@ -2,7 +2,7 @@
 --   ReadFrom                                   entries, limits and sizes that were read from a problem
 --   readable                                   they can be checked, with an answer that is long enough
 --   can-same, cannot-same                      the rules of verdict 1 and 2 over what was read
---   words-readable, can-words, cannot-words    the same of accepted words
+--   words-readable, can-read, cannot-read    the same of accepted words
 use mathlib.Core.Path.{_≡_, ap, ap₂, sym, _∙_}
 use mathlib.Core.Bool.{Bool, not, true, _&&_, _||_}
 use mathlib.Core.List.{List}
@@ -169,8 +169,8 @@ module _ {ws entries : List ℤ} {limits : Limits} {n m : ℕ} (F : Framed ws n 
     unfolding problem
     words-readable h = readable (problem ws) (fitting-accepted ws A) a words-read h
 
-    pub can-words : showsCan (problemOf entries limits m n) a ≡ showsCan (problem ws) a
-    can-words = can-same (problem ws) (fitting-accepted ws A) a words-read
+    pub can-read : showsCan (problemOf entries limits m n) a ≡ showsCan (problem ws) a
+    can-read = can-same (problem ws) (fitting-accepted ws A) a words-read
 
-    pub cannot-words : showsCannot (problemOf entries limits m n) a ≡ showsCannot (problem ws) a
-    cannot-words = cannot-same (problem ws) (fitting-accepted ws A) a words-read
+    pub cannot-read : showsCannot (problemOf entries limits m n) a ≡ showsCannot (problem ws) a
+    cannot-read = cannot-same (problem ws) (fitting-accepted ws A) a words-read

@@ -1,6 +1,6 @@
 -- `evidence::can_holds` meets its contract: what is read from accepted words holds their problem. Assumes nothing.
 use mathlib.Core.Path.{_∙_}
-use Rattle.evidence.proofs.Laws.Read.{can-words, words-readable}
+use Rattle.evidence.proofs.Laws.Read.{can-read, words-readable}
 use Rattle.evidence.proofs.can_holds.Statement.{statement}
 use Rattle.evidence.proofs.can_holds.Tie as tie
 
@@ -18,7 +18,7 @@ shows-can-requires c κs = let l = c .before in let b = l .before .before in
 returns : tie.Need-returns
 returns c = let l = c .before .before in let b = l .before .before in
     c .shows-can .ensures
-    ∙ can-words (b .pre .0) (b .pre .1 .0) (l .before .start-entries .ensures) (l .limits-of .ensures)
+    ∙ can-read (b .pre .0) (b .pre .1 .0) (l .before .start-entries .ensures) (l .limits-of .ensures)
     (b .args .answer .now)
 
 pub can-holds-spec : {M : Type 1} → statement M

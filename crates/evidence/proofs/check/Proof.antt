@@ -22,7 +22,7 @@ use Rattle.rules.proofs.Refused.{accepted-exactly}
 use Rattle.rules.proofs.Evidence.Checked.{checked-by-problem}
 use Rattle.judge.specs.Words.{Framed}
 use Rattle.judge.proofs.Laws.Judged.{accepted-framed}
-use Rattle.evidence.proofs.Laws.Checks.{long-is, too-short, can-judged, cannot-judged, other-judged}
+use Rattle.evidence.proofs.Laws.Checks.{length-is, too-short, can-judged, cannot-judged, other-judged}
 use Rattle.evidence.proofs.check.Statement.{statement}
 use Rattle.evidence.proofs.check.Tie as tie
 
@@ -74,7 +74,7 @@ module _ (c : tie.After-count-at2) where
   framed = accepted-framed (taken (c .before .before)) (c .before .count-at .ensures) (c .count-at2 .ensures)
 
   long-here : 3 + 2 * (n + m) ≡ answerLength (words start)
-  long-here = long-is (words start) (framed .columns-are) (framed .rows-are)
+  long-here = length-is (words start) (framed .columns-are) (framed .rows-are)
 
 add-if2 : tie.Need-add-if2
 add-if2 c = let F = framed c in omega (arith, F .few-columns, F .few-rows)

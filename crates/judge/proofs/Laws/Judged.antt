@@ -67,14 +67,14 @@ module _ {ws : List ℤ} {n m : ℕ} (F : Framed ws n m) where
   pub few-words : m * n ≤ 128
   few-words = mul-le-mul (F .few-rows) (F .few-columns)
 
-  pub product-is : m * n ≡ mOf ws * nOf ws
-  product-is = ap₂ (λ a b. a * b) (F .rows-are) (F .columns-are)
+  pub size-product : m * n ≡ mOf ws * nOf ws
+  size-product = ap₂ (λ a b. a * b) (F .rows-are) (F .columns-are)
 
   pub vars-are : n + m ≡ varsOf ws
   vars-are = ap₂ (λ a b. a + b) (F .columns-are) (F .rows-are)
 
   pub kind-place : (v : ℕ) → 2 + m * n + 3 * v ≡ kindPlace ws v
-  kind-place v = ap (λ p. 2 + p + 3 * v) product-is
+  kind-place v = ap (λ p. 2 + p + 3 * v) size-product
 
 pub accepted-framed : {ws : List ℤ} {n m : ℕ} → Accepted mostRows ws → n ≡ nOf ws → m ≡ mOf ws → Framed ws n m
 accepted-framed A e q = record {

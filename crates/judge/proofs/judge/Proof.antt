@@ -12,7 +12,7 @@ use lib.ListN.{drop}
 use lib.Signed.{leZ-yes}
 use Rattle.whole.proofs.Order.{≤ℤ-trans}
 use Rattle.whole.proofs.Tells.{tells-false, tells-true}
-use Rattle.whole.proofs.Tests.{under}
+use Rattle.whole.proofs.Tests.{under-size}
 use Rattle.rules.specs.Sizes.{mostColumns, mostRows}
 use Rattle.rules.specs.Problem.{mOf, nOf, varsOf, word}
 use Rattle.rules.specs.Refusal.{badCoefficient, badKind, badSize, first, problemRefusal, problemTests}
@@ -89,10 +89,10 @@ module _ (c : tie.After-count-at2) where
   rows = c .count-at2 .result
 
   few-columns : columns ≤ mostColumns
-  few-columns = rw (c .before .count-at .ensures) (under mostColumns 1 _ (sizes from-2 .0 .0) (sizes from-2 .0 .1))
+  few-columns = rw (c .before .count-at .ensures) (under-size mostColumns 1 _ (sizes from-2 .0 .0) (sizes from-2 .0 .1))
 
   few-rows : rows ≤ mostRows
-  few-rows = rw (c .count-at2 .ensures) (under mostRows 0 _ (sizes from-2 .1 .0) (sizes from-2 .1 .1))
+  few-rows = rw (c .count-at2 .ensures) (under-size mostRows 0 _ (sizes from-2 .1 .0) (sizes from-2 .1 .1))
 
   few : rows * columns ≤ 128
   few = mul-le-mul few-rows few-columns

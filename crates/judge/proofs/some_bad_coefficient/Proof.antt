@@ -17,7 +17,7 @@ use Rattle.whole.proofs.Below.{some-more, some-start}
 use Rattle.rules.specs.Sizes.{largestCoefficient}
 use Rattle.rules.specs.Problem.{word}
 use Rattle.rules.specs.Refusal.{badCoefficient}
-use Rattle.judge.proofs.Laws.Judged.{few-words, product-is}
+use Rattle.judge.proofs.Laws.Judged.{few-words, size-product}
 use Rattle.judge.proofs.some_bad_coefficient.Statement.{statement}
 use Rattle.judge.proofs.some_bad_coefficient.Tie as tie
 
@@ -86,7 +86,7 @@ returns : tie.Need-returns Inv-loop μ-loop
 unfolding badCoefficient
 returns c = let s = c .before .before in
     let e : c .before .loop .i ≡ s .args .rows * s .args .columns = omega arith in
-    c .before .loop .inv .1 ∙ ap (λ k. someBelow k (bad-at (s .args .words .now))) (e ∙ product-is (s .pre))
+    c .before .loop .inv .1 ∙ ap (λ k. someBelow k (bad-at (s .args .words .now))) (e ∙ size-product (s .pre))
 
 pub some-bad-coefficient-spec : {M : Type 1} → statement M
 some-bad-coefficient-spec =

@@ -19,7 +19,7 @@ use lib.Arith.{digits-lt}
 use Rattle.rules.specs.Sizes.{mostColumns, mostRows}
 use Rattle.layout.specs.Layout.{Order, byRows, byColumns, inUse, mostEntries, flatLaid, rowLaid, columnLaid}
 use Rattle.layout.specs.Layout.{linesLaid, stepsLaid, flat, rowAt, columnAt, lines, steps, lineAt, live}
-use Rattle.layout.specs.Layout.{row, column, spotAt, along, rowStripLaid, columnStripLaid, rowStrip, columnStrip}
+use Rattle.layout.specs.Layout.{rowPlace, columnPlace, spotAt, along, rowStripLaid, columnStripLaid, rowStrip, columnStrip}
 
 -- ---- a number by its quotient and its remainder
 
@@ -108,9 +108,9 @@ flat-in m n i j h k r c = lt-of-lt-of-le (flat-live m n i j h k) (live-most m n 
 -- ---- lines and their steps, in the order in use
 
 module _ (m n line step : ℕ) (h : step < steps m n) where
-  pub spot-along : record { row = row step; column = column line } ≡ spotAt m n (lineAt m n line + step)
+  pub spot-along : record { row = rowPlace step; column = columnPlace line } ≡ spotAt m n (lineAt m n line + step)
   unfolding stepsLaid rowLaid columnLaid
-  spot-along = ap₂ (λ a b. record { row = row a; column = column b })
+  spot-along = ap₂ (λ a b. record { row = rowPlace a; column = columnPlace b })
       (sym (remainder-of m line step h)) (sym (quotient-of m line step h))
 
   pub step-live : line < lines m n → lineAt m n line + step < live m n

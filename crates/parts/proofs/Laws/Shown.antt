@@ -27,7 +27,7 @@ use Rattle.parts.specs.Reads.{Readable, problemOf, numeratorsFit, rowUpT
 use Rattle.parts.specs.Reads.{limitsHold, multipliersFair, columnUpTo, columnsCancel, surplusUpTo, surplusOf}
 use Rattle.parts.specs.Reads.{namedAt, someNamed}
 use Rattle.parts.proofs.Laws.Halves.{second-half}
-use Rattle.parts.proofs.Laws.Tests.{or-false}
+use Rattle.parts.proofs.Laws.Tests.{or-none}
 
 -- the tests by halves
 by-halves : (d n s r q l : Bool) → (d && n && s && r && q && l) ≡ (d && (n && r) && (s && q) && l)
@@ -42,7 +42,7 @@ by-halves true true true false q l = refl
 
 far : (t : ℤ) (b : Bool) → eqZ t (pos 0) ≡ false → contradicts t b ≡ isPos t
 unfolding contradicts
-far t b e = ap (λ (c : Bool). isPos t || (c && b)) e ∙ or-false (isPos t)
+far t b e = ap (λ (c : Bool). isPos t || (c && b)) e ∙ or-none (isPos t)
 
 near : (t : ℤ) (b : Bool) → eqZ t (pos 0) ≡ true → contradicts t b ≡ b
 unfolding contradicts

@@ -1,5 +1,5 @@
 -- Tests without a branch: each is asked for, and the answers are joined.
---   not-not, or-false                  a test that is denied twice, or joined with one that fails
+--   not-not, or-none                  a test that is denied twice, or joined with one that fails
 --   outside-largest                    a test of both sides is one of the size
 --   tests-more, finds-more             a loop's answer with one test more: all pass, or some test does
 --   clears-joined                      one pair against another, strictly or not
@@ -46,9 +46,9 @@ tests-more k f e q = rw add-one (ap₂ (λ (a b : Bool). a && b) e q ∙ all-nex
 pub finds-more : (k : ℕ) (f : ℕ → Bool) {a b : Bool} → a ≡ someBelow k f → b ≡ f k → (a || b) ≡ someBelow (k + 1) f
 finds-more k f e q = rw add-one (ap₂ (λ (a b : Bool). a || b) e q ∙ sym (some-more k f))
 
-pub or-false : (b : Bool) → (b || false) ≡ b
-or-false true = refl
-or-false false = refl
+pub or-none : (b : Bool) → (b || false) ≡ b
+or-none true = refl
+or-none false = refl
 
 -- ---- a limit
 
@@ -60,7 +60,7 @@ clears-joined true a b c d = go (ltZ a c) (ltZ c a) (ltZ b d)
     go : (p q r : Bool) → (p || (not q && (r || false))) ≡ lexicographic p q r
     go true q r = refl
     go false true r = refl
-    go false false r = or-false r
+    go false false r = or-none r
 clears-joined false a b c d = go (ltZ a c) (ltZ c a) (ltZ d b) (λ e. le→false {a = a} {b = c} (<ℤ→≤ℤ (true→lt e)))
   where
     go : (p q r : Bool) → (p ≡ true → q ≡ false) → (p || (not q && not r)) ≡ not (lexicographic q p r)
@@ -91,8 +91,8 @@ unfolding fair outside present
 fair-joined true l (pos zero) = refl
 fair-joined true l (pos (suc k)) =
     ap (λ (b : Bool). not (outside 0 largestNumber (pos (suc k))) || b) (ne-eqb (suc k) 0 (λ e. omega arith))
-    ∙ or-false _
-fair-joined true l (negsuc k) = or-false _
+    ∙ or-none _
+fair-joined true l (negsuc k) = or-none _
 fair-joined false l k = refl
 
 pub named-joined : (b : Bool) (l : Limit) (k : ℤ) →

@@ -11,7 +11,7 @@ use Rattle.whole.specs.Numbers.{Within}
 use Rattle.whole.proofs.Below.{all-each}
 use Rattle.whole.proofs.Bools.{and-true, not-true}
 use Rattle.whole.proofs.Tells.{tells-eqZ, tells-outside}
-use Rattle.whole.proofs.Tests.{under}
+use Rattle.whole.proofs.Tests.{under-size}
 use Rattle.whole.proofs.Sizes.{within-*, within--}
 use Rattle.rules.specs.Sizes.{largestLimit, largestNumber}
 use Rattle.rules.specs.Limit.{Limit, present}
@@ -37,7 +37,7 @@ net-within l u i k p q r s = within-- (weight-within (l .on) _ i p q) (weight-wi
 fair-within : (b : Bool) (l : Limit) (k : ℤ) → fair (present b l) k ≡ true → Within k largestNumber
 unfolding fair present
 fair-within true l k e = let h = tells-outside 0 largestNumber k .if-false (not-true _ e) in
-    record { within = under largestNumber 0 k (h .0) (h .1) }
+    record { within = under-size largestNumber 0 k (h .0) (h .1) }
 fair-within false l k e = rw (tells-eqZ k (pos 0) .if-true e) (record { within = lit≤ tt })
 
 pub multiplied : (l : Limits) (a : List ℤ) (variables : ℕ) → multipliersFair l a variables ≡ true →

@@ -1,5 +1,5 @@
 -- Arrays of which a part is written, and quotients that stand there.
---   apart-start, -more, -then, -wider, -twice           nothing written, one cell more, one part after another, a
+--   spared-start, -more, -then, -wider, -twice           nothing written, one cell more, one part after another, a
 --                                                       larger part, twice
 --   each-more                                           what holds of each cell written, with one cell more
 --   column-none, -more, -divides, -greatest             the divisor of a column
@@ -34,15 +34,15 @@ use Rattle.pivot.specs.declared.border.Border.{Border}
 use Rattle.pivot.specs.declared.column.Column.{Column}
 use Rattle.layout.specs.Layout.{lines, steps, lineAt, live}
 use Rattle.pivot.specs.Border.{Bordered, crossedOf, crossedAt}
-use Rattle.pivot.specs.Trials.{Apart, Quotient, Columned, columnOf, crossedIn, columnDivisor, someAbove}
+use Rattle.pivot.specs.Trials.{Spared, Quotient, Columned, borderColumn, crossedIn, columnDivisor, someAbove}
 use Rattle.layout.proofs.Laws.Layout.{lines-are, steps-are, lines-live, line-next, step-live, live-most}
 use Rattle.layout.proofs.Laws.Layout.{row-along, column-along}
 
-pub apart-start : (s : ℕ) (l : List ℤ) → Apart s 0 l l
-apart-start s l = record { long = refl; kept = λ i h. refl }
+pub spared-start : (s : ℕ) (l : List ℤ) → Spared s 0 l l
+spared-start s l = record { long = refl; kept = λ i h. refl }
 
-pub apart-more : (s k : ℕ) (old new : List ℤ) (z : ℤ) → Apart s k old new → Apart s (k + 1) old (set new (s + k) z)
-apart-more s k old new z h = record {
+pub spared-more : (s k : ℕ) (old new : List ℤ) (z : ℤ) → Spared s k old new → Spared s (k + 1) old (set new (s + k) z)
+spared-more s k old new z h = record {
   long = length-set new (s + k) z ∙ h .long;
   kept = λ i e. getD-set-other new (s + k) i z (pos 0) (away i e) ∙ h .kept i (less i e);
 }
@@ -56,8 +56,8 @@ apart-more s k old new z h = record {
     less i (inr a) = inr (omega arith)
 
 -- a second part right behind a first one that starts at 0
-pub apart-then : (k w : ℕ) (a b c : List ℤ) → Apart 0 k a b → Apart k w b c → Apart 0 (k + w) a c
-apart-then k w a b c h g = record {
+pub spared-then : (k w : ℕ) (a b c : List ℤ) → Spared 0 k a b → Spared k w b c → Spared 0 (k + w) a c
+spared-then k w a b c h g = record {
   long = g .long ∙ h .long;
   kept = λ i e. g .kept i (inr (past i e)) ∙ h .kept i (inr (let z = past i e in omega arith));
 }
@@ -66,15 +66,15 @@ apart-then k w a b c h g = record {
     past i (inl e) = let z : ⊥ = omega arith in absurd z
     past i (inr e) = omega arith
 
-pub apart-wider : (k w : ℕ) (a b : List ℤ) → k ≤ w → Apart 0 k a b → Apart 0 w a b
-apart-wider k w a b l h = record { long = h .long; kept = λ i e. h .kept i (inr (past i e)) }
+pub spared-wider : (k w : ℕ) (a b : List ℤ) → k ≤ w → Spared 0 k a b → Spared 0 w a b
+spared-wider k w a b l h = record { long = h .long; kept = λ i e. h .kept i (inr (past i e)) }
   where
     past : (i : ℕ) → (i < 0) ⊎ (0 + w ≤ i) → 0 + k ≤ i
     past i (inl e) = let z : ⊥ = omega arith in absurd z
     past i (inr e) = omega arith
 
-pub apart-twice : (k : ℕ) (a b c : List ℤ) → Apart 0 k a b → Apart 0 k b c → Apart 0 k a c
-apart-twice k a b c h g = record { long = g .long ∙ h .long; kept = λ i e. g .kept i e ∙ h .kept i e }
+pub spared-twice : (k : ℕ) (a b c : List ℤ) → Spared 0 k a b → Spared 0 k b c → Spared 0 k a c
+spared-twice k a b c h g = record { long = g .long ∙ h .long; kept = λ i e. g .kept i e ∙ h .kept i e }
 
 -- what holds of each of the k cells from s, and of one cell more
 pub each-more : (Q : ℕ → ℤ → Type 0) (s k : ℕ) (l : List ℤ) (z : ℤ) → s + k < length l →
@@ -141,15 +141,15 @@ module _ (l : List ℤ) (b : Border) (j : ℕ) (in-columns : j < b .columns) whe
   pub column-end : from + m ≡ lineAt m n (j + 1)
   column-end = ap (λ k. from + k) (sym (steps-are m n)) ∙ line-next m n j
 
-  pub column-live : (i : ℕ) → i < m → from + i < live m n
-  column-live i h = step-live m n j i (in-steps h) in-lines
+  pub column-inside : (i : ℕ) → i < m → from + i < live m n
+  column-inside i h = step-live m n j i (in-steps h) in-lines
 
   pub column-most : from + m ≤ live m n
   column-most = subst (λ k. k ≤ live m n) (sym column-end)
       (subst (λ k. lineAt m n (j + 1) ≤ k) (lines-live m n)
       (mul-le-mul (omega (arith, in-lines)) (le-refl (steps m n))))
 
-  pub columned : AllWithin l largestNumber → Bordered b → Columned l (b .besides) (columnOf b j)
+  pub columned : AllWithin l largestNumber → Bordered b → Columned l (b .besides) (borderColumn b j)
   columned a B = record {
     few-rows = B .few-rows;
     in-array = le-trans column-most (live-most m n (B .few-rows) (B .few-columns));
@@ -160,14 +160,14 @@ module _ (l : List ℤ) (b : Border) (j : ℕ) (in-columns : j < b .columns) whe
   }
 
   -- its cells are those of the array
-  pub cell-here : (i : ℕ) → i < m → crossedAt l b (from + i) ≡ crossedIn l (b .besides) (columnOf b j) i
+  pub cell-here : (i : ℕ) → i < m → crossedAt l b (from + i) ≡ crossedIn l (b .besides) (borderColumn b j) i
   cell-here i h = ap₂ (λ r c. crossedOf (b .pivot) (getD l (from + i) (pos 0)) (getD (b .besides) r (pos 0))
       (getD (b .aboves) c (pos 0))) (row-along m n j i (in-steps h)) (column-along m n j i (in-steps h))
 
   -- right quotients before the column, and in it
-  pub quotients-then : (by : ℤ) (old new : List ℤ) → Apart from m old new →
+  pub quotients-then : (by : ℤ) (old new : List ℤ) → Spared from m old new →
       ((k : ℕ) → k < from → Quotient by (crossedAt l b k) (getD old k (pos 0))) →
-      ((i : ℕ) → i < m → Quotient by (crossedIn l (b .besides) (columnOf b j) i) (getD new (from + i) (pos 0))) →
+      ((i : ℕ) → i < m → Quotient by (crossedIn l (b .besides) (borderColumn b j) i) (getD new (from + i) (pos 0))) →
       (k : ℕ) → k < from + m → Quotient by (crossedAt l b k) (getD new k (pos 0))
   quotients-then by old new A before here k h = go (decLt k from)
     where

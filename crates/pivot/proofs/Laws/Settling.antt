@@ -28,10 +28,10 @@ use Rattle.whole.proofs.Divisors.{fold-times, gcd-dvd-l, gcd-times}
 use Rattle.whole.proofs.Sizes.{abs-*, size-pos, within-hi}
 use Rattle.whole.proofs.Tables.{filled-in, filled-out, filled-length, replicate-at}
 use Rattle.whole.proofs.Tells.{tells-within, tells-true, tells-false}
-use Rattle.whole.proofs.Tests.{under}
+use Rattle.whole.proofs.Tests.{under-size}
 use Rattle.whole.proofs.Tools.{ring-at}
 use Rattle.divisor.specs.Cells.{divisorBelow, quotients}
-use Rattle.divisor.proofs.Laws.Cells.{divisor-divides, divisor-greatest, divisor-above-zero}
+use Rattle.divisor.proofs.Laws.Cells.{cells-divide, cells-greatest, divisor-above-zero}
 use Rattle.rules.specs.Sizes.{largestNumber}
 use Rattle.pivot.specs.declared.asked.Asked.{Asked}
 use Rattle.pivot.specs.declared.border.Border.{Border}
@@ -42,13 +42,13 @@ use Rattle.layout.specs.Layout.{mostEntries, flat, live, entryIn}
 use Rattle.pivot.specs.Pivot.{mixedLaid, mixedCell, mixedAt, product, mix, by, commonAfter, entriesAfter}
 use Rattle.pivot.specs.Pivot.{fitsAfter, Pivotable, signedBy, inRange}
 use Rattle.pivot.specs.Border.{raisedBy, borderAt, borderFor, borderDivisor, crossedAt}
-use Rattle.pivot.specs.Trials.{Found, Exceeds, SettledAs, EndsAs}
+use Rattle.pivot.specs.Trials.{DivisorFound, Exceeds, SettledAs, EndsAs}
 use Rattle.pivot.proofs.Laws.Crossed.{beside-is, above-is, crossed-is}
 use Rattle.pivot.proofs.Laws.Divides.{over-neg, over-sum, over-sizes, quotient-is, back-divides}
 use Rattle.layout.proofs.Laws.Layout.{flat-live, row-flat, column-flat}
 use Rattle.pivot.proofs.Laws.Ranges.{small-cell, small-common}
 use Rattle.pivot.proofs.Laws.Reductions.{nonzero-product, nonzero-by, end-in}
-use Rattle.pivot.proofs.Laws.Signs.{size-signed, signed-again, quotient-up}
+use Rattle.pivot.proofs.Laws.Signs.{size-signed, signed-again, signed-quotient-up}
 
 -- what divides f times a number and f times the first of others divides f times their divisor
 divisor-times : (k : ℕ) (l : List ℤ) (z : ℤ) (d f : ℕ) → d ∣ f * natAbs z →
@@ -73,10 +73,10 @@ module _ {m n : ℕ} {l : List ℤ} {c : ℤ} {p q : ℕ} (h : Pivotable m n l c
   mix-at k b = filled-in mostEntries (pos 0) (live m n) (mixedAt m n c l p q) k b
 
   T-new : T ∣ natAbs new
-  T-new = divisor-divides mixes new (live m n) .0
+  T-new = cells-divide mixes new (live m n) .0
 
   T-mix : (k : ℕ) → k < live m n → T ∣ natAbs (mixedAt m n c l p q k)
-  T-mix k b = subst (λ z. T ∣ natAbs z) (mix-at k b) (divisor-divides mixes new (live m n) .1 k b)
+  T-mix k b = subst (λ z. T ∣ natAbs z) (mix-at k b) (cells-divide mixes new (live m n) .1 k b)
 
   T-cell : (i j : ℕ) → i < m → j < n → T ∣ natAbs (mixedCell m n c l p q i j)
   T-cell i j a b = subst (λ z. T ∣ natAbs z)
@@ -157,8 +157,8 @@ module _ {m n : ℕ} {l : List ℤ} {c : ℤ} {p q : ℕ} (h : Pivotable m n l c
       (λ i b. over-sizes T c _ (subst (λ z. T ∣ natAbs (c *ℤ z)) (sym (beside-is m n l c p q i b)) (T-beside i b)))
 
   border-divides : borderDivisor made c ∣ natAbs (A p q)
-  border-divides = dvd-trans _ (divisor-divides (made .besides) (pos upper) m .0)
-      (dvd-trans _ (divisor-divides (made .aboves) (pos both) n .0) (gcd-dvd-l (natAbs (A p q)) (natAbs c)))
+  border-divides = dvd-trans _ (cells-divide (made .besides) (pos upper) m .0)
+      (dvd-trans _ (cells-divide (made .aboves) (pos both) n .0) (gcd-dvd-l (natAbs (A p q)) (natAbs c)))
 
   pub first-divides : first ∣ natAbs new
   first-divides = subst (λ z. first ∣ z) (mul-comm (natAbs c) (natAbs (A p q)) ∙ sym (abs-* (A p q) c))
@@ -171,13 +171,13 @@ module _ {m n : ℕ} {l : List ℤ} {c : ℤ} {p q : ℕ} (h : Pivotable m n l c
   -- ---- what was found
 
   module _ (from : ℕ) (some : 0 < from) (divides : from ∣ natAbs new) (multiple : T ∣ from) {z : ℤ} {out : List ℤ}
-      (F : Found l (borderAt m n l c p q) (signedBy new from) (replicate mostEntries (pos 0)) z out) where
+      (F : DivisorFound l (borderAt m n l c p q) (signedBy new from) (replicate mostEntries (pos 0)) z out) where
     cell : (k : ℕ) → k < live m n → crossedAt l (borderAt m n l c p q) k ≡ mixedAt m n c l p q k
     cell k b = crossed-is m n l c p q k b
 
     size-is : natAbs z ≡ T
     size-is = dvd-antisymm
-        (divisor-greatest mixes new (live m n) (natAbs z)
+        (cells-greatest mixes new (live m n) (natAbs z)
         (dvd-trans (natAbs z) (subst (λ k. natAbs z ∣ k) (size-signed new from) (F .divides)) divides)
         (λ k b. subst (λ x. natAbs z ∣ natAbs x) (cell k b ∙ sym (mix-at k b))
         (back-divides (getD out k (pos 0)) z _ (F .right k b))))
@@ -246,11 +246,11 @@ module _ {m n : ℕ} {l : List ℤ} {c : ℤ} {p q : ℕ} (h : Pivotable m n l c
   -- ---- the new common number
 
   pub after-up : pos 0 ≤ℤ commonAfter m n l c p q
-  after-up = quotient-up new T T-pos
+  after-up = signed-quotient-up new T T-pos
 
   pub within-up : commonAfter m n l c p q ≤ℤ pos largestNumber → inRange (commonAfter m n l c p q) ≡ true
   within-up b = tells-true (tells-within largestNumber (commonAfter m n l c p q))
-      (record { within = under largestNumber 0 (commonAfter m n l c p q) after-up b })
+      (record { within = under-size largestNumber 0 (commonAfter m n l c p q) after-up b })
 
   pub beyond-up : pos largestNumber <ℤ commonAfter m n l c p q → fitsAfter m n l c p q ≡ false
   beyond-up b = small-common (live m n) (entriesAfter m n l c p q) (commonAfter m n l c p q)

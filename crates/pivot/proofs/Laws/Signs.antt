@@ -1,6 +1,6 @@
 -- A size with the sign of a number.
 --   size-signed, signed-again, signed-size   its size, its sign, and a number's own size
---   quotient-up                              a number over a divisor with its sign is not below 0
+--   signed-quotient-up                              a number over a divisor with its sign is not below 0
 use Prim.Native.Nat.{ℕ, zero, suc, _/_, _<_}
 use native.Mathlib.Omega.{arith}
 use mathlib.Core.Path.{_≡_, refl, ap, sym, subst}
@@ -43,9 +43,9 @@ signed-size (negsuc a) = signed-down (negsuc a) (suc a) refl
 up : (k : ℕ) → pos 0 ≤ℤ pos k
 up k = record { le = le→leb 0 k (omega arith) }
 
-pub quotient-up : (s : ℤ) (g : ℕ) → 0 < g → pos 0 ≤ℤ quotZ s (signedBy s g)
-quotient-up s zero h = let z : ⊥ = omega arith in absurd z
-quotient-up (pos a) (suc g) h =
+pub signed-quotient-up : (s : ℤ) (g : ℕ) → 0 < g → pos 0 ≤ℤ quotZ s (signedBy s g)
+signed-quotient-up s zero h = let z : ⊥ = omega arith in absurd z
+signed-quotient-up (pos a) (suc g) h =
     subst (λ z. pos 0 ≤ℤ quotZ (pos a) z) (sym (signed-up (pos a) (suc g) (not-below a))) (up (a / suc g))
-quotient-up (negsuc a) (suc g) h =
+signed-quotient-up (negsuc a) (suc g) h =
     subst (λ z. pos 0 ≤ℤ quotZ (negsuc a) z) (sym (signed-down (negsuc a) (suc g) refl)) (up (suc a / suc g))

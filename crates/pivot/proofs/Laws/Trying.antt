@@ -20,8 +20,8 @@ use Rattle.pivot.proofs.Laws.Mixes.{signed-nonzero}
 use Rattle.pivot.specs.declared.border.Border.{Border}
 use Rattle.layout.specs.Layout.{lineAt}
 use Rattle.pivot.specs.Border.{crossedAt, inBorder}
-use Rattle.pivot.specs.Trials.{columnOf, columnDivisor, someAbove, Exceeds}
-use Rattle.pivot.proofs.Laws.Columns.{column-divides, column-greatest, column-live, cell-here, above-at}
+use Rattle.pivot.specs.Trials.{borderColumn, columnDivisor, someAbove, Exceeds}
+use Rattle.pivot.proofs.Laws.Columns.{column-divides, column-greatest, column-inside, cell-here, above-at}
 use Rattle.pivot.proofs.Laws.Signs.{size-signed, signed-again, signed-size}
 
 pub record Trying (l : List ℤ) (b : Border) (from z : ℤ) : Type 0 where
@@ -43,13 +43,13 @@ module _ (l : List ℤ) (b : Border) (from : ℤ) where
 
   module _ (z : ℤ) (j : ℕ) (in-columns : j < b .columns) (t : Trying l b from z) where
     abbrev less : ℕ
-    less = columnDivisor l (b .besides) (columnOf b j) (b .rows) (natAbs z)
+    less = columnDivisor l (b .besides) (borderColumn b j) (b .rows) (natAbs z)
 
     above : 0 < natAbs z
     above = size-pos z (t .nonzero)
 
     parts : less ∣ natAbs z
-    parts = column-divides l (b .besides) (columnOf b j) (b .rows) (natAbs z) .0
+    parts = column-divides l (b .besides) (borderColumn b j) (b .rows) (natAbs z) .0
 
     less-above : 0 < less
     less-above = pos-of-dvd-of-pos parts above
@@ -67,8 +67,8 @@ module _ (l : List ℤ) (b : Border) (from : ℤ) where
           ∙ ap (signedBy from) (sym (size-signed z less));
       divides = subst (λ k. k ∣ natAbs from) (sym (size-signed z less)) (dvd-trans less parts (t .divides));
       greatest = λ d p q. subst (λ k. d ∣ k) (sym (size-signed z less))
-          (column-greatest l (b .besides) (columnOf b j) (b .rows) (natAbs z) d (t .greatest d p q)
-          (λ i h. subst (λ y. d ∣ natAbs y) (cell-here l b j in-columns i h) (q _ (column-live l b j in-columns i h))));
+          (column-greatest l (b .besides) (borderColumn b j) (b .rows) (natAbs z) d (t .greatest d p q)
+          (λ i h. subst (λ y. d ∣ natAbs y) (cell-here l b j in-columns i h) (q _ (column-inside l b j in-columns i h))));
     }
 
     pub less-falls : signedBy z less ≢ z → natAbs (signedBy z less) < natAbs z
@@ -79,12 +79,12 @@ module _ (l : List ℤ) (b : Border) (from : ℤ) where
         go (no e) = let h = less-most in omega arith
 
     -- a quotient of the column that is beyond the range
-    pub exceeds : someAbove l (b .besides) (columnOf b j) (b .rows) (natAbs z * largestNumber) ≡ true → Exceeds l b from
-    exceeds e = let w = above-at l (b .besides) (columnOf b j) (natAbs z * largestNumber) (b .rows) e in record {
+    pub exceeds : someAbove l (b .besides) (borderColumn b j) (b .rows) (natAbs z * largestNumber) ≡ true → Exceeds l b from
+    exceeds e = let w = above-at l (b .besides) (borderColumn b j) (natAbs z * largestNumber) (b .rows) e in record {
       size = natAbs z;
       place = lineAt (b .rows) (b .columns) j + w .0;
       some-size = above;
-      in-live = column-live l b j in-columns (w .0) (w .1);
+      in-live = column-inside l b j in-columns (w .0) (w .1);
       above = subst (λ y. natAbs z * largestNumber < natAbs y) (sym (cell-here l b j in-columns (w .0) (w .1))) (w .2);
       greatest = t .greatest;
     }

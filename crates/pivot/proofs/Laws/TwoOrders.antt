@@ -16,7 +16,7 @@ use Rattle.whole.proofs.Below.{all-each, all-of}
 use Rattle.whole.proofs.Bools.{same-tests}
 use Rattle.whole.proofs.Tables.{filled-in}
 use Rattle.divisor.specs.Cells.{divisorBelow, quotients}
-use Rattle.divisor.proofs.Laws.Cells.{divisor-divides, divisor-greatest}
+use Rattle.divisor.proofs.Laws.Cells.{cells-divide, cells-greatest}
 use Rattle.layout.specs.Layout.{Order, mostEntries, flatLaid, rowLaid, columnLaid, live, entryLaid}
 use Rattle.pivot.specs.Pivot.{mixedLaid, mixLaid, productLaid, byLaid, commonLaid, entriesLaid}
 use Rattle.pivot.specs.Pivot.{signedBy, inRange, smallBelow}
@@ -47,8 +47,8 @@ module _ {o u : Order} {m n : ℕ} {l r : List ℤ} (S : SameCells o u m n l r) 
       e = ap (λ x. getD r x (pos 0)) (flat-laid-back u m n k)
 
   divisor-divides-other : (d : ℤ) → divisorBelow (live m n) l d ∣ divisorBelow (live m n) r d
-  divisor-divides-other d = let g = divisor-divides l d (live m n) in
-      divisor-greatest r d (live m n) _ (g .0) (each-live (λ z. divisorBelow (live m n) l d ∣ natAbs z) (g .1))
+  divisor-divides-other d = let g = cells-divide l d (live m n) in
+      cells-greatest r d (live m n) _ (g .0) (each-live (λ z. divisorBelow (live m n) l d ∣ natAbs z) (g .1))
 
   in-range-other : allBelow (live m n) (λ k. inRange (getD l k (pos 0))) ≡ true →
       allBelow (live m n) (λ k. inRange (getD r k (pos 0))) ≡ true

@@ -50,8 +50,8 @@ undecided v n m (inr d) = let z : v ≡ 2 = cc in absurd (m z)
 -- ---- values: limits, or 0
 
 -- a value of the run: a limit's pair, or 0
-abbrev pub Modest : ℤ × ℤ → Type 0
-Modest x = Within (x .0) largestLimit × Within (x .1) 1
+abbrev pub LimitSized : ℤ × ℤ → Type 0
+LimitSized x = Within (x .0) largestLimit × Within (x .1) 1
 
 inset-within : (b : Bool) → Within (inset b) 1 × Within (negℤ (inset b)) 1
 inset-within true = (record { within = omega arith }, record { within = omega arith })
@@ -59,12 +59,12 @@ inset-within false = (record { within = omega arith }, record { within = omega a
 
 module _ (P : Problem Limit) where
   pub low-modest : ((v : ℕ) (l : Limit) → v < vars P → P .lower v ≡ some l → Within (l .plain) largestLimit) →
-      (v : ℕ) (x : ℤ × ℤ) → v < vars P → inner P .lower v ≡ some x → Modest x
+      (v : ℕ) (x : ℤ × ℤ) → v < vars P → inner P .lower v ≡ some x → LimitSized x
   low-modest f v x h e = let (l, p, q) = mapped-some lowerPair (P .lower v) x e in
       rw q (f v l h p, inset-within (l .strict) .0)
 
   pub high-modest : ((v : ℕ) (u : Limit) → v < vars P → P .upper v ≡ some u → Within (u .plain) largestLimit) →
-      (v : ℕ) (x : ℤ × ℤ) → v < vars P → inner P .upper v ≡ some x → Modest x
+      (v : ℕ) (x : ℤ × ℤ) → v < vars P → inner P .upper v ≡ some x → LimitSized x
   high-modest f v x h e = let (u, p, q) = mapped-some upperPair (P .upper v) x e in
       rw q (f v u h p, inset-within (u .strict) .1)
 
@@ -72,7 +72,7 @@ module _ (P : Problem Limit) where
 
 module _ (P : Problem Limit) (s : State (ℤ × ℤ)) (rest : List ℤ) (S : Sound pairs (inner P) s)
     (K : Kept pairs (inner P) s) (few : P .n ≤ mostColumns)
-    (values : (v : ℕ) (x : ℤ × ℤ) → seat s v ≡ some x → Modest x) where
+    (values : (v : ℕ) (x : ℤ × ℤ) → seat s v ≡ some x → LimitSized x) where
   -- what an outcome at s answers, where it decides
   abbrev Right : ℕ → Outcome (ℤ × ℤ) → Type 0
   Right k o = let a : List ℤ = wordsOf (inner P) (record { how = o; pivots = k; last = s }) in
@@ -101,7 +101,7 @@ module _ (P : Problem Limit) (s : State (ℤ × ℤ)) (rest : List ℤ) (S : Sou
 module _ (P : Problem Limit) (s : State (ℤ × ℤ)) (rest : List ℤ) (few : P .n ≤ mostColumns)
     (low : (v : ℕ) (l : Limit) → v < vars P → P .lower v ≡ some l → Within (l .plain) largestLimit)
     (high : (v : ℕ) (u : Limit) → v < vars P → P .upper v ≡ some u → Within (u .plain) largestLimit)
-    (values : (v : ℕ) (x : ℤ × ℤ) → seat s v ≡ some x → Modest x) (R : Ready pairs (inner P) s)
+    (values : (v : ℕ) (x : ℤ × ℤ) → seat s v ≡ some x → LimitSized x) (R : Ready pairs (inner P) s)
     (K : Kept pairs (inner P) s)
   where
     pub answer-judged : Decided (answerFrom (inner P) s) → Judged P (answerFrom (inner P) s ++ rest)
@@ -113,7 +113,7 @@ module _ (P : Problem Limit) (s : State (ℤ × ℤ)) (rest : List ℤ) (few : P
         go none e = let T = answer-run (inner P) s e R in
             rw (T .words) (step-judged P (after pairs (inner P) s (T .count)) rest (T .sound)
             (kept-after pairs (inner P) s (R .rowed) K (T .count)) few
-            (values-after pairs (inner P) Modest (low-modest P low) (high-modest P high) s (R .rowed) values (T .count))
+            (values-after pairs (inner P) LimitSized (low-modest P low) (high-modest P high) s (R .rowed) values (T .count))
             (T .count))
         go (some v) e = let c = crosses-exactly pairs (inner P) v .0 e in
             rw (answer-crossed (inner P) s v e) (λ d. cannot-words P (pos 0) rest (same v) (same v)
@@ -133,7 +133,7 @@ module _ (ws rest : List ℤ) (A : Accepted mostRows ws) where
 
       J : Judged P (answer ws ++ rest)
       J = answer-judged P (start pairs (inner P)) rest (n-few A) (lower-within A) (upper-within A)
-          (values-start pairs (inner P) Modest (low-modest P (lower-within A)) (high-modest P (upper-within A))
+          (values-start pairs (inner P) LimitSized (low-modest P (lower-within A)) (high-modest P (upper-within A))
           (record { within = omega arith }, record { within = omega arith }))
           (ready-start pairs pairs-laws (inner P)) (kept-begin A) d
 

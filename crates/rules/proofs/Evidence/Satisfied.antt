@@ -24,7 +24,7 @@ use Rattle.whole.proofs.Tools.{lt-at, ring-at}
 use Rattle.whole.proofs.Values.{le-lt-trans, lt-le-trans}
 use Rattle.whole.specs.Numbers.{Within}
 use Rattle.whole.specs.Values.{Le, Lt, mixed, whole, pairs}
-use Rattle.whole.proofs.Beside.{joined, pairs-laws}
+use Rattle.whole.proofs.Beside.{beside-joined, pairs-laws}
 use Rattle.whole.proofs.Mixed.{mixed-le, mixed-lt, mixed-sum, total-parts}
 use Rattle.whole.specs.Sums.{sum}
 use Rattle.whole.proofs.RingLaws.{*ℤ-idl}
@@ -197,11 +197,11 @@ low-pair d x none h = tt
 low-pair d x (some l) h = go (l .strict) h
   where
     go : (b : Bool) → Clears b (d *ℤ l .plain) x → Le pairs (d *ℤ l .plain, d *ℤ inset b) (x, pos 0)
-    go true h = joined {𝓐 = whole} {𝓑 = whole} (d *ℤ l .plain, d *ℤ pos 1) (x, pos 0) (record {
+    go true h = beside-joined {𝓐 = whole} {𝓑 = whole} (d *ℤ l .plain, d *ℤ pos 1) (x, pos 0) (record {
       first = le→false {a = d *ℤ l .plain} {b = x} (<ℤ→≤ℤ h);
       second = λ e. absurd (<ℤ-irrefl (<ℤ-≤ℤ-trans h (false→le {a = x} {b = d *ℤ l .plain} e)));
     })
-    go false h = joined {𝓐 = whole} {𝓑 = whole} (d *ℤ l .plain, d *ℤ pos 0) (x, pos 0) (record {
+    go false h = beside-joined {𝓐 = whole} {𝓑 = whole} (d *ℤ l .plain, d *ℤ pos 0) (x, pos 0) (record {
       first = le→false {a = d *ℤ l .plain} {b = x} h;
       second = λ e. le→false {a = d *ℤ pos 0} {b = pos 0} (rw (*ℤ-zero d) (≤ℤ-refl (pos 0)));
     })
@@ -212,11 +212,11 @@ high-pair d x none h = tt
 high-pair d x (some u) h = go (u .strict) h
   where
     go : (b : Bool) → Clears b x (d *ℤ u .plain) → Le pairs (x, pos 0) (d *ℤ u .plain, d *ℤ negℤ (inset b))
-    go true h = joined {𝓐 = whole} {𝓑 = whole} (x, pos 0) (d *ℤ u .plain, d *ℤ negsuc 0) (record {
+    go true h = beside-joined {𝓐 = whole} {𝓑 = whole} (x, pos 0) (d *ℤ u .plain, d *ℤ negsuc 0) (record {
       first = le→false {a = x} {b = d *ℤ u .plain} (<ℤ→≤ℤ h);
       second = λ e. absurd (<ℤ-irrefl (<ℤ-≤ℤ-trans h (false→le {a = d *ℤ u .plain} {b = x} e)));
     })
-    go false h = joined {𝓐 = whole} {𝓑 = whole} (x, pos 0) (d *ℤ u .plain, d *ℤ pos 0) (record {
+    go false h = beside-joined {𝓐 = whole} {𝓑 = whole} (x, pos 0) (d *ℤ u .plain, d *ℤ pos 0) (record {
       first = le→false {a = x} {b = d *ℤ u .plain} h;
       second = λ e. le→false {a = pos 0} {b = d *ℤ pos 0} (rw (*ℤ-zero d) (≤ℤ-refl (pos 0)));
     })

@@ -30,7 +30,7 @@ use Rattle.rules.proofs.Moves.{Stepped, is-can, is-cannot, is-goes, is-
 use Rattle.rules.proofs.Relation.{relation-off, relation-own}
 use Rattle.rules.specs.Answer.{answerFrom, wordsOf}
 use Rattle.rules.specs.Answers.{laid}
-use Rattle.rules.specs.Blame.{Stopped, sideOf}
+use Rattle.rules.specs.Blame.{Stopped, multipliersOn}
 use Rattle.rules.specs.Evidence.{lowerPart, upperPart, verdictOf}
 use Rattle.rules.specs.Idle.{NoBlank, isNamed, isOther, multiplier, named, without}
 use Rattle.rules.specs.Keeping.{keeping, limitOf}
@@ -181,14 +181,14 @@ module _ (P : Problem (ℤ × ℤ)) (t : State (ℤ × ℤ)) (S : Sound pairs P 
 
 -- the words of an ending with such multipliers, by side
 words-named : (P : Problem (ℤ × ℤ)) (e : Ending (ℤ × ℤ)) (ls us : List ℤ) → e .how ≡ cannot ls us → length ls ≡ vars P →
-    (τ : Side) (u : ℕ) → u < vars P → multiplier (vars P) (wordsOf P e) τ u ≡ word (sideOf ls us τ) u
+    (τ : Side) (u : ℕ) → u < vars P → multiplier (vars P) (wordsOf P e) τ u ≡ word (multipliersOn ls us τ) u
 unfolding wordsOf laid
 words-named P e ls us q m = go
   where
     is : wordsOf P e ≡ laid (pos 2) (pos (e .pivots)) (pos 0) ls us
     is = ap (λ (h : Outcome (ℤ × ℤ)). wordsOf P (record { how = h; pivots = e .pivots; last = e .last })) q
 
-    go : (τ : Side) (u : ℕ) → u < vars P → multiplier (vars P) (wordsOf P e) τ u ≡ word (sideOf ls us τ) u
+    go : (τ : Side) (u : ℕ) → u < vars P → multiplier (vars P) (wordsOf P e) τ u ≡ word (multipliersOn ls us τ) u
     go below u h = ap (λ l. lowerPart l u) is ∙ lower-part (pos 2) (pos (e .pivots)) (pos 0) ls us u (rw m h)
     go above u h =
         ap (λ l. upperPart (vars P) l u) is ∙ upper-part (pos 2) (pos (e .pivots)) (pos 0) ls us (vars P) u m

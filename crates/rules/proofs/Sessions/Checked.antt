@@ -39,7 +39,7 @@ use Rattle.rules.specs.Meanings.{First}
 use Rattle.rules.specs.Problem.{Problem, vars, word}
 use Rattle.rules.specs.Range.{TooLarge}
 use Rattle.rules.specs.Run.{Runs, after, bound, conflict}
-use Rattle.rules.specs.Session.{Session, at, checkAnswer, checkLength, checkOutput, checkRefusal, live}
+use Rattle.rules.specs.Session.{Session, withState, checkAnswer, checkLength, checkOutput, checkRefusal, liveOf}
 use Rattle.rules.specs.Session.{rested, restedBy}
 use Rattle.rules.specs.SessionFacts.{Fair, checkTable}
 use Rattle.rules.specs.State.{Apart, Ready, Sound}
@@ -48,7 +48,7 @@ use Rattle.rules.specs.TheRun.{TheRun}
 
 module _ (A : Session (ℤ × ℤ)) (F : Fair pairs A) where
   abbrev P : Problem (ℤ × ℤ)
-  P = live A
+  P = liveOf A
 
   abbrev s : State (ℤ × ℤ)
   s = A .state
@@ -72,14 +72,14 @@ module _ (A : Session (ℤ × ℤ)) (F : Fair pairs A) where
   shaped-checked = shaped P s ready
 
   pub range-checked : (verdictOf (checkAnswer A) ≡ pos 3)
-      ↔ ((conflict pairs (live A) ≡ none)
-      × ((k : ℕ) × Runs pairs (live A) (A .state) k × TooLarge pairs (live A) (after pairs (live A) (A .state) k)))
+      ↔ ((conflict pairs (liveOf A) ≡ none)
+      × ((k : ℕ) × Runs pairs (liveOf A) (A .state) k × TooLarge pairs (liveOf A) (after pairs (liveOf A) (A .state) k)))
   unfolding checkAnswer
   range-checked = range-verdict P s ready
 
   -- ---- limits that conflict
 
-  pub conflict-checked : (v : ℕ) → conflict pairs (live A) ≡ some v →
+  pub conflict-checked : (v : ℕ) → conflict pairs (liveOf A) ≡ some v →
       (checkAnswer A ≡ pos 2 ∷ pos 0 ∷ pos 0 ∷ table (vars (A .given)) (same v) ++ table (vars (A .given)) (same v))
       × (rested pairs A ≡ A)
   unfolding checkAnswer
@@ -87,26 +87,26 @@ module _ (A : Session (ℤ × ℤ)) (F : Fair pairs A) where
 
   -- ---- demand 3, where none do
 
-  module _ (c : conflict pairs (live A) ≡ none) where
+  module _ (c : conflict pairs (liveOf A) ≡ none) where
     apart : Apart pairs P
     apart = no-conflict pairs P c
 
     sound : Sound pairs P s
     sound = ready-sound pairs P s apart ready
 
-    pub twice-checked : (i j : ℕ) → i < j → Runs pairs (live A) (A .state) j →
-        after pairs (live A) (A .state) i .seats ≢ after pairs (live A) (A .state) j .seats
+    pub twice-checked : (i j : ℕ) → i < j → Runs pairs (liveOf A) (A .state) j →
+        after pairs (liveOf A) (A .state) i .seats ≢ after pairs (liveOf A) (A .state) j .seats
     twice-checked = twice-never pairs pairs-laws P s apart sound
 
     -- the bound is that of the problem handed in, whatever is on
-    pub few-checked : (k : ℕ) → Runs pairs (live A) (A .state) k → k < bound (A .given)
+    pub few-checked : (k : ℕ) → Runs pairs (liveOf A) (A .state) k → k < bound (A .given)
     unfolding bound
     few-checked = below-bound pairs pairs-laws P s apart sound (F .kept .seated-many)
 
-    pub run-checked : TheRun (live A) (A .state)
+    pub run-checked : TheRun (liveOf A) (A .state)
     run-checked = answer-run P s c ready
 
-    pub rested-checked : rested pairs A ≡ at A (after pairs (live A) (A .state) (run-checked .count))
+    pub rested-checked : rested pairs A ≡ withState A (after pairs (liveOf A) (A .state) (run-checked .count))
     rested-checked = rested-run pairs pairs-laws A F c (run-checked .count) (run-checked .ends)
 
   pub count-checked : (k : ℕ) × (word (checkAnswer A) 1 ≡ pos k) × (k < bound (A .given))

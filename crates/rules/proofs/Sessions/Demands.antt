@@ -19,7 +19,7 @@ use Rattle.whole.proofs.Beside.{pairs-laws}
 use Rattle.whole.proofs.Tells.{tells-true}
 use Rattle.whole.specs.Numbers.{Within}
 use Rattle.whole.specs.Values.{pairs}
-use Rattle.rules.proofs.Evidence.Answers.{Modest, answer-judged, high-modest, low-modest}
+use Rattle.rules.proofs.Evidence.Answers.{LimitSized, answer-judged, high-modest, low-modest}
 use Rattle.rules.proofs.Evidence.Crossed.{mapped-some}
 use Rattle.rules.proofs.Evidence.Means.{one-two}
 use Rattle.rules.proofs.Evidence.Satisfied.{pairs-satisfied, satisfied, unmet-none}
@@ -45,7 +45,7 @@ use Rattle.rules.specs.Limit.{Limit, inset, lowerPair, upperPair}
 use Rattle.rules.specs.LiveWords.{liveWords}
 use Rattle.rules.specs.Problem.{Problem, inner, problem, vars, varsOf}
 use Rattle.rules.specs.Refusal.{Accepted}
-use Rattle.rules.specs.Session.{Handed, Session, checkAnswer, isOn, live}
+use Rattle.rules.specs.Session.{Handed, Session, checkAnswer, isOn, liveOf}
 use Rattle.rules.specs.SessionFacts.{Fair, LimitsAre, liveProblem}
 use Rattle.rules.specs.Shows.{MetSmall, Shown}
 use Rattle.rules.specs.Sizes.{largestCoefficient, largestLimit, mostColumns, mostRows}
@@ -59,7 +59,7 @@ module _ (P : Problem Limit) (A : Session (ℤ × ℤ)) (F : Fair pairs A) (give
   abbrev Q : Problem Limit
   Q = keeping (isOn A) P
 
-  live-is : live A ≡ inner Q
+  live-is : liveOf A ≡ inner Q
   live-is = ap (keeping (isOn A)) given ∙ sym (keeping-inner (isOn A) P)
 
   answer-is : checkAnswer A ≡ answerFrom (inner Q) (A .state)
@@ -86,7 +86,7 @@ module _ (P : Problem Limit) (A : Session (ℤ × ℤ)) (F : Fair pairs A) (give
   -- .. where every limit handed in, and so every value, is in range
   module _ (few : P .n ≤ mostColumns)
       (within : (σ : Side) (v : ℕ) (l : Limit) → v < vars P → limitOf P σ v ≡ some l → Within (l .plain) largestLimit)
-      (values : (v : ℕ) (x : ℤ × ℤ) → seat (A .state) v ≡ some x → Modest x) where
+      (values : (v : ℕ) (x : ℤ × ℤ) → seat (A .state) v ≡ some x → LimitSized x) where
     pub judged-on : (rest : List ℤ) → Decided (checkAnswer A) → Judged Q (checkAnswer A ++ rest)
     judged-on rest = subst (λ a. Decided a → Judged Q (a ++ rest)) (sym answer-is)
         (answer-judged Q (A .state) rest few
@@ -126,13 +126,13 @@ module _ (ws : List ℤ) (W : Accepted mostRows ws) (A : Session (ℤ × ℤ)) (
   pub fair-words : Fair pairs A
   fair-words = handed-fair pairs pairs-laws (inner (problem ws)) coefficients A H
 
-  limits-modest : LimitsAre pairs Modest (inner (problem ws))
+  limits-modest : LimitsAre pairs LimitSized (inner (problem ws))
   unfolding problem
   limits-modest below v l h e = low-modest (problem ws) (lower-within W) v l h e
   limits-modest above v u h e = high-modest (problem ws) (upper-within W) v u h e
 
-  pub values-modest : (v : ℕ) (x : ℤ × ℤ) → seat (A .state) v ≡ some x → Modest x
-  values-modest = values-handed pairs Modest pairs-laws (inner (problem ws)) coefficients
+  pub values-modest : (v : ℕ) (x : ℤ × ℤ) → seat (A .state) v ≡ some x → LimitSized x
+  values-modest = values-handed pairs LimitSized pairs-laws (inner (problem ws)) coefficients
       (record { within = omega arith }, record { within = omega arith }) limits-modest A H
 
   within-words : (σ : Side) (v : ℕ) (l : Limit) → v < vars (problem ws) → limitOf (problem ws) σ v ≡ some l →

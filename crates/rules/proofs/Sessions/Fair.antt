@@ -3,7 +3,7 @@
 --   rows-kept, numbers-kept    rows and numbers do not ask which limits count
 --   Alike, rowed-alike, kept-alike    the same tableau, and the same variables basic
 --   fair-ready                 from a session of which this is known a check may start
---   seat-settled, came         where a switch seats a variable, and where it came from
+--   seat-settled, came-from         where a switch seats a variable, and where it came from
 --   rested-run, rested-crossed, rested-after    what a check keeps: the state at the end of its run
 --   fair-opened, fair-switched, fair-rested, handed-fair
 use mathlib.Core.Bool.{Bool}
@@ -28,8 +28,8 @@ use Rattle.rules.proofs.Started.{no-conflict}
 use Rattle.rules.specs.Keeping.{keeping, kept}
 use Rattle.rules.specs.Problem.{Problem, vars}
 use Rattle.rules.specs.Run.{Ends, after, conflict}
-use Rattle.rules.specs.Session.{Handed, Session, at, flagged, from-check, from-opening, from-switch, inside}
-use Rattle.rules.specs.Session.{insideSeat, isOn, live, noneOn, opened, rested, settled, switchRefusal, switched}
+use Rattle.rules.specs.Session.{Handed, Session, withState, flagged, from-check, from-opening, from-switch, inside}
+use Rattle.rules.specs.Session.{insideSeat, isOn, liveOf, noneOn, opened, rested, allInside, switchRefusal, switched}
 use Rattle.rules.specs.SessionFacts.{Fair}
 use Rattle.rules.specs.Sizes.{largestCoefficient}
 use Rattle.rules.specs.State.{Housed, Kept, Ready, Rowed, howManySeated}
@@ -110,7 +110,7 @@ module _ {X : Type 0} (𝓥 : Values X) where
 
   -- ---- what is known of a session
 
-  pub fair-ready : (A : Session X) → Fair 𝓥 A → Ready 𝓥 (live A) (A .state)
+  pub fair-ready : (A : Session X) → Fair 𝓥 A → Ready 𝓥 (liveOf A) (A .state)
   fair-ready A F = record { rowed = F .rowed; housed = F .housed; seated-many = F .kept .seated-many }
 
   -- ---- a switch
@@ -127,51 +127,51 @@ module _ {X : Type 0} (𝓥 : Values X) where
   seated-inside l u (some x) y e = (x, refl, cc)
 
   module _ (A : Session X) where
-    abbrev pub within : ℕ → Option X
-    within v = insideSeat 𝓥 (live A .lower v) (live A .upper v) (seat (A .state) v)
+    abbrev pub insideOf : ℕ → Option X
+    insideOf v = insideSeat 𝓥 (liveOf A .lower v) (liveOf A .upper v) (seat (A .state) v)
 
-    pub seat-settled : (v : ℕ) → v < vars (A .given) → seat (settled 𝓥 A .state) v ≡ within v
-    unfolding settled
-    seat-settled v h = table-at (vars (A .given)) within none v h
+    pub seat-settled : (v : ℕ) → v < vars (A .given) → seat (allInside 𝓥 A .state) v ≡ insideOf v
+    unfolding allInside
+    seat-settled v h = table-at (vars (A .given)) insideOf none v h
 
-    alike-settled : length (A .state .seats) ≡ vars (A .given) → Alike (vars (A .given)) (A .state) (settled 𝓥 A .state)
-    unfolding settled
+    alike-settled : length (A .state .seats) ≡ vars (A .given) → Alike (vars (A .given)) (A .state) (allInside 𝓥 A .state)
+    unfolding allInside
     alike-settled e = record {
       tableau-is = refl;
-      seats-many = table-length (vars (A .given)) within;
-      kinds = λ v h. rw (seat-settled v h) (inside-kind (live A .lower v) (live A .upper v) (seat (A .state) v));
-      as-many = ap (λ k. howManySeated (table k within)) (sym e)
-          ∙ seated-alike (A .state .seats) 0 within (λ i h. let z : 0 + i ≡ i = omega arith in
-          rw z (inside-kind (live A .lower i) (live A .upper i) (seat (A .state) i)));
+      seats-many = table-length (vars (A .given)) insideOf;
+      kinds = λ v h. rw (seat-settled v h) (inside-kind (liveOf A .lower v) (liveOf A .upper v) (seat (A .state) v));
+      as-many = ap (λ k. howManySeated (table k insideOf)) (sym e)
+          ∙ seated-alike (A .state .seats) 0 insideOf (λ i h. let z : 0 + i ≡ i = omega arith in
+          rw z (inside-kind (liveOf A .lower i) (liveOf A .upper i) (seat (A .state) i)));
     }
 
     -- a value after a switch came from one before it
-    pub came : (v : ℕ) (y : X) → v < vars (A .given) → seat (settled 𝓥 A .state) v ≡ some y →
-        (x : X) × (seat (A .state) v ≡ some x) × (y ≡ inside 𝓥 (live A .lower v) (live A .upper v) x)
-    came v y h e = seated-inside (live A .lower v) (live A .upper v) (seat (A .state) v) y (sym (seat-settled v h) ∙ e)
+    pub came-from : (v : ℕ) (y : X) → v < vars (A .given) → seat (allInside 𝓥 A .state) v ≡ some y →
+        (x : X) × (seat (A .state) v ≡ some x) × (y ≡ inside 𝓥 (liveOf A .lower v) (liveOf A .upper v) x)
+    came-from v y h e = seated-inside (liveOf A .lower v) (liveOf A .upper v) (seat (A .state) v) y (sym (seat-settled v h) ∙ e)
 
-    housed-settled : Laws 𝓥 → Housed 𝓥 (live A) (settled 𝓥 A .state)
+    housed-settled : Laws 𝓥 → Housed 𝓥 (liveOf A) (allInside 𝓥 A .state)
     housed-settled law = record {
-      low = λ v y l h c e k. let (x, q, z) = came v y h e in
-          rw z (inside-low 𝓥 law (live A .lower v) (live A .upper v) x l c k);
-      high = λ v y u h c e k. let (x, q, z) = came v y h e in
-          rw z (inside-high 𝓥 law (live A .lower v) (live A .upper v) x u c k);
+      low = λ v y l h c e k. let (x, q, z) = came-from v y h e in
+          rw z (inside-low 𝓥 law (liveOf A .lower v) (liveOf A .upper v) x l c k);
+      high = λ v y u h c e k. let (x, q, z) = came-from v y h e in
+          rw z (inside-high 𝓥 law (liveOf A .lower v) (liveOf A .upper v) x u c k);
     }
 
     -- settling keeps rows and numbers, and houses every variable
-    fair-settled : Laws 𝓥 → Rowed 𝓥 (live A) (A .state) → Kept 𝓥 (live A) (A .state) → Fair 𝓥 (settled 𝓥 A)
-    unfolding settled
+    fair-settled : Laws 𝓥 → Rowed 𝓥 (liveOf A) (A .state) → Kept 𝓥 (liveOf A) (A .state) → Fair 𝓥 (allInside 𝓥 A)
+    unfolding allInside
     fair-settled law R K = record {
-      rowed = rowed-alike (live A) (A .state) (settled 𝓥 A .state) like R;
+      rowed = rowed-alike (liveOf A) (A .state) (allInside 𝓥 A .state) like R;
       housed = housed-settled law;
-      kept = kept-alike (live A) (A .state) (settled 𝓥 A .state) like K;
+      kept = kept-alike (liveOf A) (A .state) (allInside 𝓥 A .state) like K;
     }
       where
-        like : Alike (vars (A .given)) (A .state) (settled 𝓥 A .state)
+        like : Alike (vars (A .given)) (A .state) (allInside 𝓥 A .state)
         like = alike-settled (R .seats-many)
 
   fair-flagged : Laws 𝓥 → (A : Session X) (v : ℕ) (σ : Side) (on : Bool) → Fair 𝓥 A →
-      Fair 𝓥 (settled 𝓥 (flagged A v σ on))
+      Fair 𝓥 (allInside 𝓥 (flagged A v σ on))
   unfolding flagged
   fair-flagged law A v below on F = let B : Session X = flagged A v below on in
       fair-settled B law (rows-kept (A .given) (isOn A) (isOn B) (A .state) (F .rowed))
@@ -192,20 +192,20 @@ module _ {X : Type 0} (𝓥 : Values X) where
 
   module _ (law : Laws 𝓥) (A : Session X) (F : Fair 𝓥 A) where
     abbrev P : Problem X
-    P = live A
+    P = liveOf A
 
     abbrev s : State X
     s = A .state
 
     -- a check keeps the state at the end of its run; while limits conflict, the session as it was
-    pub rested-run : conflict 𝓥 P ≡ none → (k : ℕ) → Ends 𝓥 P s k → rested 𝓥 A ≡ at A (after 𝓥 P s k)
+    pub rested-run : conflict 𝓥 P ≡ none → (k : ℕ) → Ends 𝓥 P s k → rested 𝓥 A ≡ withState A (after 𝓥 P s k)
     unfolding rested
-    rested-run e k E = ap (λ y. at A (y .last)) (ending-run 𝓥 law P s e
+    rested-run e k E = ap (λ y. withState A (y .last)) (ending-run 𝓥 law P s e
         (ready-sound 𝓥 P s (no-conflict 𝓥 P e) (fair-ready A F)) (F .kept .seated-many) k E)
 
     pub rested-crossed : (v : ℕ) → conflict 𝓥 P ≡ some v → rested 𝓥 A ≡ A
     unfolding rested
-    rested-crossed v e = ap (λ y. at A (y .last)) (ending-crossed 𝓥 P s v e)
+    rested-crossed v e = ap (λ y. withState A (y .last)) (ending-crossed 𝓥 P s v e)
 
     the-end : conflict 𝓥 P ≡ none → (k : ℕ) × Ends 𝓥 P s k
     the-end e = ends 𝓥 law P s (no-conflict 𝓥 P e) (ready-sound 𝓥 P s (no-conflict 𝓥 P e) (fair-ready A F))
@@ -220,7 +220,7 @@ module _ {X : Type 0} (𝓥 : Values X) where
         go (some v) e = (0, ap (λ B. B .state) (rested-crossed v e))
         go none e = let (k, E) = the-end e in (k, ap (λ B. B .state) (rested-run e k E))
 
-    fair-after : conflict 𝓥 P ≡ none → (k : ℕ) → Fair 𝓥 (at A (after 𝓥 P s k))
+    fair-after : conflict 𝓥 P ≡ none → (k : ℕ) → Fair 𝓥 (withState A (after 𝓥 P s k))
     fair-after e k = record {
       rowed = rowed-after 𝓥 P s (F .rowed) k;
       housed = housed-of 𝓥 P (after 𝓥 P s k) (sound-after 𝓥 law P s (no-conflict 𝓥 P e)

@@ -18,7 +18,7 @@ use Rattle.whole.specs.Numbers.{Within}
 use Rattle.whole.specs.Values.{Laws, Values}
 use Rattle.rules.proofs.Evidence.Seats.{values-after, values-start}
 use Rattle.rules.proofs.Idle.Kept.{kept-some}
-use Rattle.rules.proofs.Sessions.Fair.{came, handed-fair, rested-after, within}
+use Rattle.rules.proofs.Sessions.Fair.{came-from, handed-fair, rested-after, insideOf}
 use Rattle.rules.proofs.Sessions.Inside.{lands}
 use Rattle.rules.proofs.Sessions.Opened.{opened-so}
 use Rattle.rules.proofs.Sessions.Switched.{flag-elsewhere, given-flagged, state-flagged, switch-fine}
@@ -26,7 +26,7 @@ use Rattle.rules.proofs.Sessions.Switched.{switched-done, switched-refu
 use Rattle.rules.specs.Keeping.{keeping, limitOf}
 use Rattle.rules.specs.Problem.{Problem, vars}
 use Rattle.rules.specs.Session.{Handed, Session, flagged, from-check, from-opening, from-switch, isOn}
-use Rattle.rules.specs.Session.{live, noneOn, opened, rested, settled, switchRefusal, switched}
+use Rattle.rules.specs.Session.{liveOf, noneOn, opened, rested, allInside, switchRefusal, switched}
 use Rattle.rules.specs.SessionFacts.{Fair, Lands, LimitsAre, Sworn, ValuesAre, stays-crossed, stays-within}
 use Rattle.rules.specs.SessionFacts.{to-lower, to-upper}
 use Rattle.rules.specs.Sizes.{largestCoefficient}
@@ -37,7 +37,7 @@ module _ {X : Type 0} (𝓥 : Values X) where
 
   -- what settling keeps, and a refusal, a switch keeps
   by-refusal : (Keeps : Session X → Type 0) (A : Session X) (v : ℕ) (σ : Side) (on : Bool) → Keeps A →
-      (switchRefusal A v σ on ≡ 0 → Keeps (settled 𝓥 (flagged A v σ on))) → Keeps (switched 𝓥 A v σ on)
+      (switchRefusal A v σ on ≡ 0 → Keeps (allInside 𝓥 (flagged A v σ on))) → Keeps (switched 𝓥 A v σ on)
   by-refusal Keeps A v σ on K f = go (switchRefusal A v σ on) refl
     where
       go : (k : ℕ) → switchRefusal A v σ on ≡ k → Keeps (switched 𝓥 A v σ on)
@@ -47,7 +47,7 @@ module _ {X : Type 0} (𝓥 : Values X) where
   -- ---- its problem
 
   pub given-switched : (A : Session X) (v : ℕ) (σ : Side) (on : Bool) → switched 𝓥 A v σ on .given ≡ A .given
-  unfolding settled
+  unfolding allInside
   given-switched A v σ on = by-refusal (λ C. C .given ≡ A .given) A v σ on refl (λ e. given-flagged A v on σ)
 
   pub given-rested : (A : Session X) → rested 𝓥 A .given ≡ A .given
@@ -81,7 +81,7 @@ module _ {X : Type 0} (𝓥 : Values X) where
   same-place above above w v = by-number above w v (ℕ-discrete w v)
 
   pub sworn-switched : (A : Session X) (v : ℕ) (σ : Side) (on : Bool) → Sworn 𝓥 A → Sworn 𝓥 (switched 𝓥 A v σ on)
-  unfolding settled
+  unfolding allInside
   sworn-switched A v σ on S = by-refusal (Sworn 𝓥) A v σ on S (λ e. record {
     lowers-many = lowers σ;
     uppers-many = uppers σ;
@@ -126,23 +126,23 @@ module _ {X : Type 0} (𝓥 : Values X) where
     unfolding opened
     values-opened P z L = values-start 𝓥 (keeping noneOn P) Q (lower-are P noneOn L) (upper-are P noneOn L) z
 
-    values-settled : (A : Session X) → LimitsAre 𝓥 Q (A .given) → ValuesAre 𝓥 Q A → ValuesAre 𝓥 Q (settled 𝓥 A)
-    unfolding settled
+    values-settled : (A : Session X) → LimitsAre 𝓥 Q (A .given) → ValuesAre 𝓥 Q A → ValuesAre 𝓥 Q (allInside 𝓥 A)
+    unfolding allInside
     values-settled A L S v y e = go (decLt v (vars (A .given)))
       where
-        lands-at : (x : X) → v < vars (A .given) → Q x → Lands 𝓥 (live A .lower v) (live A .upper v) x y → Q y
+        lands-at : (x : X) → v < vars (A .given) → Q x → Lands 𝓥 (liveOf A .lower v) (liveOf A .upper v) x y → Q y
         lands-at x h q (to-lower l f c k r) = rw r (lower-are (A .given) (isOn A) L v l h f)
         lands-at x h q (to-upper u f c k r) = rw r (upper-are (A .given) (isOn A) L v u h f)
         lands-at x h q (stays-crossed c r) = rw r q
         lands-at x h q (stays-within f g r) = rw r q
 
         go : Dec (v < vars (A .given)) → Q y
-        go (yes h) = let (x, q, r) = came 𝓥 A v y h e in
-            lands-at x h (S v x q) (subst (Lands 𝓥 (live A .lower v) (live A .upper v) x) (sym r)
-            (lands 𝓥 (live A .lower v) (live A .upper v) x))
-        go (no n) = let m = table-length (vars (A .given)) (within 𝓥 A) in
+        go (yes h) = let (x, q, r) = came-from 𝓥 A v y h e in
+            lands-at x h (S v x q) (subst (Lands 𝓥 (liveOf A .lower v) (liveOf A .upper v) x) (sym r)
+            (lands 𝓥 (liveOf A .lower v) (liveOf A .upper v) x))
+        go (no n) = let m = table-length (vars (A .given)) (insideOf 𝓥 A) in
             absurd (Option·none-ne-some y
-            (sym (List·getD-eq-default (settled 𝓥 A .state .seats) none {n = v} (omega arith)) ∙ e))
+            (sym (List·getD-eq-default (allInside 𝓥 A .state .seats) none {n = v} (omega arith)) ∙ e))
 
     pub values-switched : (A : Session X) (v : ℕ) (σ : Side) (on : Bool) → LimitsAre 𝓥 Q (A .given) → ValuesAre 𝓥 Q A →
         ValuesAre 𝓥 Q (switched 𝓥 A v σ on)
@@ -152,7 +152,7 @@ module _ {X : Type 0} (𝓥 : Values X) where
     pub values-rested : Laws 𝓥 → (A : Session X) → Fair 𝓥 A → LimitsAre 𝓥 Q (A .given) → ValuesAre 𝓥 Q A →
         ValuesAre 𝓥 Q (rested 𝓥 A)
     values-rested law A F L S = let (k, e) = rested-after 𝓥 law A F in
-        rw e (values-after 𝓥 (live A) Q (lower-are (A .given) (isOn A) L) (upper-are (A .given) (isOn A) L)
+        rw e (values-after 𝓥 (liveOf A) Q (lower-are (A .given) (isOn A) L) (upper-are (A .given) (isOn A) L)
         (A .state) (F .rowed) S k)
 
     pub values-handed : Laws 𝓥 → (P : Problem X) →

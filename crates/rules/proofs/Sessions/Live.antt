@@ -25,7 +25,7 @@ use Rattle.rules.proofs.Units.{ge-false, lt-true}
 use Rattle.rules.specs.Evidence.{checked}
 use Rattle.rules.specs.Keeping.{keeping, kept}
 use Rattle.rules.specs.Limit.{Limit, bit, hasLower, hasUpper, present, strictLower, strictUpper}
-use Rattle.rules.specs.LiveWords.{kindOf, liveKind, liveLimit, liveWord, liveWords, valueOf}
+use Rattle.rules.specs.LiveWords.{kindOf, liveKind, liveLimit, liveWord, liveWords, bitValue}
 use Rattle.rules.specs.Problem.{Problem, coefficientWord, kind, kindPlace, lowerWord, mOf, nOf, problem}
 use Rattle.rules.specs.Problem.{upperWord, varsOf, word}
 use Rattle.rules.specs.Refusal.{Accepted, FineLimit, problemRefusal}
@@ -136,7 +136,7 @@ module _ (on : Side → ℕ → Bool) (ws : List ℤ) (exact : length ws ≡ 2 +
 
 -- ---- accepted words stay accepted
 
-value-most : (b : ℕ) (set : Bool) → valueOf b set ≤ 2 ^ b
+value-most : (b : ℕ) (set : Bool) → bitValue b set ≤ 2 ^ b
 value-most b true = omega arith
 value-most b false = omega arith
 
@@ -146,10 +146,10 @@ pos-le {a} {b} h = leZ-yes (le→leb a b h)
 kind-range : (a b c d : Bool) → (pos 0 ≤ℤ kindOf a b c d) × (kindOf a b c d ≤ℤ pos 15)
 unfolding kindOf
 kind-range a b c d =
-    let p : valueOf 0 a ≤ 1 = value-most 0 a in
-    let q : valueOf 1 b ≤ 2 = value-most 1 b in
-    let r : valueOf 2 c ≤ 4 = value-most 2 c in
-    let s : valueOf 3 d ≤ 8 = value-most 3 d in
+    let p : bitValue 0 a ≤ 1 = value-most 0 a in
+    let q : bitValue 1 b ≤ 2 = value-most 1 b in
+    let r : bitValue 2 c ≤ 4 = value-most 2 c in
+    let s : bitValue 3 d ≤ 8 = value-most 3 d in
     (pos-le (omega arith), pos-le (omega arith))
 
 -- a limit's word that is fine, where the limit is kept and where it is dropped

@@ -17,10 +17,10 @@ use Rattle.rules.proofs.Sessions.Fair.{fair-ready}
 use Rattle.rules.proofs.Slices.{answer-by, sliced}
 use Rattle.rules.proofs.Sound.{ready-sound}
 use Rattle.rules.proofs.Started.{no-conflict}
-use Rattle.rules.specs.Cut.{Sliced, first}
+use Rattle.rules.specs.Cut.{Sliced, firstSlice}
 use Rattle.rules.specs.Problem.{Problem}
 use Rattle.rules.specs.Run.{bound, conflict, ending, spending}
-use Rattle.rules.specs.Session.{Session, checkAnswer, live, rested}
+use Rattle.rules.specs.Session.{Session, checkAnswer, liveOf, rested}
 use Rattle.rules.specs.SessionFacts.{Fair}
 use Rattle.rules.specs.Slices.{continued, continuedBy, sliceAnswer}
 use Rattle.rules.specs.State.{Ready}
@@ -40,14 +40,14 @@ spending-enough 𝓥 law P s R b h = go (conflict 𝓥 P) refl
         ∙ sym (ending-run 𝓥 law P s e S (R .seated-many) k E)
 
 module _ (A : Session (ℤ × ℤ)) (F : Fair pairs A) (b : ℕ) (enough : bound (A .given) ≤ b) where
-  ready : Ready pairs (live A) (A .state)
+  ready : Ready pairs (liveOf A) (A .state)
   ready = fair-ready pairs A F
 
-  pub check-sliced : (sliceAnswer (first (live A) (A .state)) b ≡ some (checkAnswer A))
-      × (continued pairs (first (live A) (A .state)) b .state ≡ rested pairs A .state)
+  pub check-sliced : (sliceAnswer (firstSlice (liveOf A) (A .state)) b ≡ some (checkAnswer A))
+      × (continued pairs (firstSlice (liveOf A) (A .state)) b .state ≡ rested pairs A .state)
   unfolding bound continued continuedBy checkAnswer rested
   check-sliced = (
-    (let S : Sliced (live A) (A .state) = sliced (live A) (A .state) ready in
-        let l = S .below in answer-by (live A) (A .state) S [] b (omega arith)),
-    ap (λ e. e .last) (spending-enough pairs pairs-laws (live A) (A .state) ready b enough),
+    (let S : Sliced (liveOf A) (A .state) = sliced (liveOf A) (A .state) ready in
+        let l = S .below in answer-by (liveOf A) (A .state) S [] b (omega arith)),
+    ap (λ e. e .last) (spending-enough pairs pairs-laws (liveOf A) (A .state) ready b enough),
   )

@@ -23,12 +23,12 @@ use Rattle.whole.specs.Tables.{table}
 use Rattle.whole.specs.Tells.{Tells}
 use Rattle.whole.specs.Values.{Laws, Values}
 use Rattle.rules.proofs.First.{Tested, first-exactly, first-fine, no-test, tested}
-use Rattle.rules.proofs.Sessions.Fair.{seat-settled, within}
+use Rattle.rules.proofs.Sessions.Fair.{seat-settled, insideOf}
 use Rattle.rules.proofs.Sessions.Inside.{inside-exactly, inside-still, same-some}
 use Rattle.rules.specs.Keeping.{kept, limitOf}
 use Rattle.rules.specs.Meanings.{AllFine, First}
 use Rattle.rules.specs.Problem.{vars}
-use Rattle.rules.specs.Session.{Session, bySide, flagged, inside, insideSeat, isMissing, isOn, live, settled}
+use Rattle.rules.specs.Session.{Session, bySide, flagged, inside, insideSeat, isMissing, isOn, liveOf, allInside}
 use Rattle.rules.specs.Session.{switchRefusal, switchTests, switched}
 use Rattle.rules.specs.SessionFacts.{Fair, Lands, Switches, switchTable}
 use Rattle.rules.specs.Step.{Side, above, below, seat}
@@ -101,64 +101,64 @@ module _ {X : Type 0} (𝓥 : Values X) (A : Session X) (v : ℕ) (σ : Side) (o
   unfolding switched
   switched-refused k e = rw (e, switched)
 
-  pub switched-done : switchRefusal A v σ on ≡ 0 → switched 𝓥 A v σ on ≡ settled 𝓥 B
+  pub switched-done : switchRefusal A v σ on ≡ 0 → switched 𝓥 A v σ on ≡ allInside 𝓥 B
   unfolding switched
   switched-done e = rw (e, switched)
 
   -- the limits of another variable are on or off as they were
-  lower-else : (w : ℕ) → w ≢ v → live B .lower w ≡ live A .lower w
+  lower-else : (w : ℕ) → w ≢ v → liveOf B .lower w ≡ liveOf A .lower w
   lower-else w n = ap₂ (λ b P. kept b (P .lower w)) (flag-elsewhere A v on σ below w (λ e. n)) (given-flagged A v on σ)
 
-  upper-else : (w : ℕ) → w ≢ v → live B .upper w ≡ live A .upper w
+  upper-else : (w : ℕ) → w ≢ v → liveOf B .upper w ≡ liveOf A .upper w
   upper-else w n = ap₂ (λ b P. kept b (P .upper w)) (flag-elsewhere A v on σ above w (λ e. n)) (given-flagged A v on σ)
 
   -- .. and it was within them, so it stays: a switch moves no variable but, at most, its own
   pub settled-one : Laws 𝓥 → Fair 𝓥 A → (w : ℕ) → w < vars (A .given) → w ≢ v →
-      seat (settled 𝓥 (flagged A v σ on) .state) w ≡ seat (A .state) w
+      seat (allInside 𝓥 (flagged A v σ on) .state) w ≡ seat (A .state) w
   unfolding insideSeat
   settled-one law F w h n = seat-settled 𝓥 B w (rw (given-flagged A v on σ) h)
-      ∙ ap (λ s. insideSeat 𝓥 (live B .lower w) (live B .upper w) (seat s w)) (state-flagged A v on σ)
+      ∙ ap (λ s. insideSeat 𝓥 (liveOf B .lower w) (liveOf B .upper w) (seat s w)) (state-flagged A v on σ)
       ∙ ap₂ (λ o p. insideSeat 𝓥 o p (seat (A .state) w)) (lower-else w n) (upper-else w n)
       ∙ at-rest (seat (A .state) w) refl
     where
-      at-rest : (o : Option X) → seat (A .state) w ≡ o → insideSeat 𝓥 (live A .lower w) (live A .upper w) o ≡ o
+      at-rest : (o : Option X) → seat (A .state) w ≡ o → insideSeat 𝓥 (liveOf A .lower w) (liveOf A .upper w) o ≡ o
       at-rest none e = refl
-      at-rest (some x) e = ap some (inside-still 𝓥 law (live A .lower w) (live A .upper w) x
+      at-rest (some x) e = ap some (inside-still 𝓥 law (liveOf A .lower w) (liveOf A .upper w) x
           (λ c l k. F .housed .low w x l h c e k) (λ c u k. F .housed .high w x u h c e k))
 
-  settled-so : Laws 𝓥 → Switches 𝓥 A v σ on (settled 𝓥 B)
-  unfolding settled insideSeat
+  settled-so : Laws 𝓥 → Switches 𝓥 A v σ on (allInside 𝓥 B)
+  unfolding allInside insideSeat
   settled-so law = record {
     given-stays = given-flagged A v on σ;
     tableau-stays = ap (λ s. s .tableau) (state-flagged A v on σ);
     flag = λ h. flag-there A v on σ h;
     flags-stay = λ τ w n. flag-elsewhere A v on σ τ w n;
     basic-exactly = λ w h. (
-      λ e. basic-before (live B .lower w) (live B .upper w) (seat (A .state) w) (sym (now w h) ∙ e),
-      λ e. now w h ∙ ap (insideSeat 𝓥 (live B .lower w) (live B .upper w)) e,
+      λ e. basic-before (liveOf B .lower w) (liveOf B .upper w) (seat (A .state) w) (sym (now w h) ∙ e),
+      λ e. now w h ∙ ap (insideSeat 𝓥 (liveOf B .lower w) (liveOf B .upper w)) e,
     );
     moved-exactly = λ w y h. (
       λ e. there w y (seat (A .state) w) refl (sym (now w h) ∙ e),
-      λ (x, e, L). now w h ∙ ap (insideSeat 𝓥 (live B .lower w) (live B .upper w)) e
-          ∙ ap some (inside-exactly 𝓥 law (live B .lower w) (live B .upper w) x y .1 L),
+      λ (x, e, L). now w h ∙ ap (insideSeat 𝓥 (liveOf B .lower w) (liveOf B .upper w)) e
+          ∙ ap some (inside-exactly 𝓥 law (liveOf B .lower w) (liveOf B .upper w) x y .1 L),
     );
     others-stay = settled-one law;
   }
     where
       now : (w : ℕ) → w < vars (A .given) →
-          seat (settled 𝓥 B .state) w ≡ insideSeat 𝓥 (live B .lower w) (live B .upper w) (seat (A .state) w)
+          seat (allInside 𝓥 B .state) w ≡ insideSeat 𝓥 (liveOf B .lower w) (liveOf B .upper w) (seat (A .state) w)
       now w h = seat-settled 𝓥 B w (rw (given-flagged A v on σ) h)
-          ∙ ap (λ s. insideSeat 𝓥 (live B .lower w) (live B .upper w) (seat s w)) (state-flagged A v on σ)
+          ∙ ap (λ s. insideSeat 𝓥 (liveOf B .lower w) (liveOf B .upper w) (seat s w)) (state-flagged A v on σ)
 
       basic-before : (l u o : Option X) → insideSeat 𝓥 l u o ≡ none → o ≡ none
       basic-before l u none e = refl
       basic-before l u (some x) e = absurd (Option·some-ne-none (inside 𝓥 l u x) e)
 
       there : (w : ℕ) (y : X) (o : Option X) → seat (A .state) w ≡ o →
-          insideSeat 𝓥 (live B .lower w) (live B .upper w) o ≡ some y →
-          (x : X) × (seat (A .state) w ≡ some x) × Lands 𝓥 (live B .lower w) (live B .upper w) x y
+          insideSeat 𝓥 (liveOf B .lower w) (liveOf B .upper w) o ≡ some y →
+          (x : X) × (seat (A .state) w ≡ some x) × Lands 𝓥 (liveOf B .lower w) (liveOf B .upper w) x y
       there w y none q e = absurd (Option·none-ne-some y e)
-      there w y (some x) q e = (x, q, inside-exactly 𝓥 law (live B .lower w) (live B .upper w) x y .0 (same-some 𝓥 e))
+      there w y (some x) q e = (x, q, inside-exactly 𝓥 law (liveOf B .lower w) (liveOf B .upper w) x y .0 (same-some 𝓥 e))
 
   pub switched-so : Laws 𝓥 → switchRefusal A v σ on ≡ 0 → Switches 𝓥 A v σ on (switched 𝓥 A v σ on)
   switched-so law e = subst (Switches 𝓥 A v σ on) (sym (switched-done e)) (settled-so law)

@@ -1,7 +1,7 @@
 -- How long the program's texts are. A number of 64 bits takes at most 20 bytes, so no text has more than `mostText`.
 --   line-short, head-short, value-short, multipliers-short   of one line or two
 --   lines-longer                                             of the lines of the variables, one variable more
---   can-short, cannot-short, range-short, refusal-short      of a whole text, from its parts
+--   can-short, cannot-short, range-short, refusal-text-short      of a whole text, from its parts
 use mathlib.Core.Path.{_≡_, _∙_, ap}
 use mathlib.Core.List.{List}
 use Prim.Native.Nat.{ℕ, zero, suc, _+_, _*_, _≤_, _<_}
@@ -97,6 +97,6 @@ pub range-short :
 unfolding rangeText
 range-short ws h = omega arith
 
-pub refusal-short : (k : ℕ) → SFits w64 (pos k) → length (refusalText k) ≤ mostText
+pub refusal-text-short : (k : ℕ) → SFits w64 (pos k) → length (refusalText k) ≤ mostText
 unfolding refusalText ascii
-refusal-short k f = omega (arith, line-short (ascii "refused ") (pos k) f)
+refusal-text-short k f = omega (arith, line-short (ascii "refused ") (pos k) f)

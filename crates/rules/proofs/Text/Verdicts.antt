@@ -1,7 +1,7 @@
 -- Which text an answer has, by its verdict; a multiplier's line and a small part's, by whether it is 0.
 --   multiplier-none, multiplier-some        no line, or the variable's
 --   end-none, end-some                      the newline alone, or a space and the small part before it
---   answer-can, answer-cannot, answer-range the text of verdict 1, of verdict 2, and of every other
+--   text-can, text-cannot, text-range the text of verdict 1, of verdict 2, and of every other
 use mathlib.Core.Path.{_≡_, refl}
 use mathlib.Core.List.{List, []}
 use Prim.Native.Nat.{ℕ, zero, suc}
@@ -33,15 +33,15 @@ end-some (pos (suc n)) h = refl
 end-some (negsuc k) h = refl
 
 module _ (ws : List ℤ) (N : ℕ) where
-  pub answer-can : word ws 0 ≡ pos 1 → answerText ws N ≡ canText ws N
+  pub text-can : word ws 0 ≡ pos 1 → answerText ws N ≡ canText ws N
   unfolding answerText
-  answer-can e = rw e refl
+  text-can e = rw e refl
 
-  pub answer-cannot : word ws 0 ≡ pos 2 → answerText ws N ≡ cannotText ws N
+  pub text-cannot : word ws 0 ≡ pos 2 → answerText ws N ≡ cannotText ws N
   unfolding answerText
-  answer-cannot e = rw e refl
+  text-cannot e = rw e refl
 
-  pub answer-range : (word ws 0 ≡ pos 1 → ⊥) → (word ws 0 ≡ pos 2 → ⊥) → answerText ws N ≡ rangeText ws
+  pub text-range : (word ws 0 ≡ pos 1 → ⊥) → (word ws 0 ≡ pos 2 → ⊥) → answerText ws N ≡ rangeText ws
   unfolding answerText
-  answer-range p q =
+  text-range p q =
       rw (tells-false (tells-eqZ (word ws 0) (pos 1)) p, tells-false (tells-eqZ (word ws 0) (pos 2)) q) refl

@@ -16,8 +16,8 @@ pub record Keeps {X Y : Type 0} (𝓧 : Values X) (𝓨 : Values Y) (h : X → Y
 -- ---- what it makes of things
 
 module _ {X Y : Type 0} (h : X → Y) where
-  abbrev pub through : Problem X → Problem Y
-  through P = record {
+  abbrev pub problemThrough : Problem X → Problem Y
+  problemThrough P = record {
     n = P .n;
     m = P .m;
     coefficient = P .coefficient;

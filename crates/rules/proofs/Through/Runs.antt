@@ -10,7 +10,7 @@ use Rattle.whole.specs.Below.{lowest}
 use Rattle.whole.specs.Tables.{matrix, table}
 use Rattle.whole.specs.Values.{Values}
 use Rattle.rules.proofs.AnswerIs.{spending-crossed, spending-run}
-use Rattle.rules.proofs.Through.Keeps.{Keeps, endingThrough, outcomeThrough, stateThrough, through}
+use Rattle.rules.proofs.Through.Keeps.{Keeps, endingThrough, outcomeThrough, stateThrough, problemThrough}
 use Rattle.rules.proofs.Through.Choices.{byStep, map-table, run-stepped}
 use Rattle.rules.proofs.Through.Tests.{crossed-through}
 use Rattle.rules.proofs.Through.Steps.{step-through}
@@ -23,45 +23,45 @@ module _ {X Y : Type 0} (𝓧 : Values X) (𝓨 : Values Y) (h : X → Y) (K : K
   -- ---- the run
 
   pub run-through : (f : ℕ) (P : Problem X) (s : State X) (k : ℕ) →
-      run 𝓨 f (through h P) (stateThrough h s) k ≡ endingThrough h (run 𝓧 f P s k)
+      run 𝓨 f (problemThrough h P) (stateThrough h s) k ≡ endingThrough h (run 𝓧 f P s k)
   unfolding run byStep outcomeThrough
   run-through zero P s k =
       ap (λ o. record { how = o; pivots = k; last = stateThrough h s }) (step-through 𝓧 𝓨 h K P s)
   run-through (suc f) P s k =
-      run-stepped 𝓨 f (through h P) (stateThrough h s) k
-      ∙ ap (byStep 𝓨 f (through h P) (stateThrough h s) k) (step-through 𝓧 𝓨 h K P s)
+      run-stepped 𝓨 f (problemThrough h P) (stateThrough h s) k
+      ∙ ap (byStep 𝓨 f (problemThrough h P) (stateThrough h s) k) (step-through 𝓧 𝓨 h K P s)
       ∙ go (step 𝓧 P s) (λ t. run-through f P t (suc k))
       ∙ ap (endingThrough h) (sym (run-stepped 𝓧 f P s k))
     where
       go : (o : Outcome X) →
-          ((t : State X) → run 𝓨 f (through h P) (stateThrough h t) (suc k) ≡ endingThrough h (run 𝓧 f P t (suc k))) →
-          byStep 𝓨 f (through h P) (stateThrough h s) k (outcomeThrough h o) ≡ endingThrough h (byStep 𝓧 f P s k o)
+          ((t : State X) → run 𝓨 f (problemThrough h P) (stateThrough h t) (suc k) ≡ endingThrough h (run 𝓧 f P t (suc k))) →
+          byStep 𝓨 f (problemThrough h P) (stateThrough h s) k (outcomeThrough h o) ≡ endingThrough h (byStep 𝓧 f P s k o)
       go can rest = refl
       go (cannot ls us) rest = refl
       go range rest = refl
       go (goes t) rest = rest t
 
-  conflict-through : (P : Problem X) → conflict 𝓨 (through h P) ≡ conflict 𝓧 P
+  conflict-through : (P : Problem X) → conflict 𝓨 (problemThrough h P) ≡ conflict 𝓧 P
   unfolding conflict
   conflict-through P = ap (lowest (vars P)) (fun-ext (λ v.
       ap (λ b. cond b (some v) none) (crossed-through 𝓧 𝓨 h K (P .lower v) (P .upper v))))
 
   spending-through : (b : ℕ) (P : Problem X) (s : State X) (k : ℕ) →
-      spending 𝓨 b (through h P) (stateThrough h s) k ≡ endingThrough h (spending 𝓧 b P s k)
+      spending 𝓨 b (problemThrough h P) (stateThrough h s) k ≡ endingThrough h (spending 𝓧 b P s k)
   unfolding outcomeThrough
   spending-through b P s k = go (conflict 𝓧 P) refl
     where
       go : (o : Option ℕ) → conflict 𝓧 P ≡ o →
-          spending 𝓨 b (through h P) (stateThrough h s) k ≡ endingThrough h (spending 𝓧 b P s k)
+          spending 𝓨 b (problemThrough h P) (stateThrough h s) k ≡ endingThrough h (spending 𝓧 b P s k)
       go none e =
-          spending-run 𝓨 (through h P) (conflict-through P ∙ e) b (stateThrough h s) k
+          spending-run 𝓨 (problemThrough h P) (conflict-through P ∙ e) b (stateThrough h s) k
           ∙ run-through b P s k ∙ ap (endingThrough h) (sym (spending-run 𝓧 P e b s k))
       go (some v) e =
-          spending-crossed 𝓨 (through h P) v (conflict-through P ∙ e) b (stateThrough h s) k
+          spending-crossed 𝓨 (problemThrough h P) v (conflict-through P ∙ e) b (stateThrough h s) k
           ∙ ap (endingThrough h) (sym (spending-crossed 𝓧 P v e b s k))
 
   pub ending-through : (P : Problem X) (s : State X) →
-      ending 𝓨 (through h P) (stateThrough h s) ≡ endingThrough h (ending 𝓧 P s)
+      ending 𝓨 (problemThrough h P) (stateThrough h s) ≡ endingThrough h (ending 𝓧 P s)
   unfolding ending bound
   ending-through P s = spending-through (bound P) P s 0
 
@@ -93,7 +93,7 @@ module _ {X Y : Type 0} (𝓧 : Values X) (𝓨 : Values Y) (h : X → Y) (K : K
       ap (cond (𝓨 .less (𝓨 .nil) (h l)) (h l)) (down-through u)
       ∙ up-through l (cond (𝓧 .less u (𝓧 .nil)) u (𝓧 .nil))
 
-  seat-start : (P : Problem X) (v : ℕ) → startSeat 𝓨 (through h P) v ≡ mapped h (startSeat 𝓧 P v)
+  seat-start : (P : Problem X) (v : ℕ) → startSeat 𝓨 (problemThrough h P) v ≡ mapped h (startSeat 𝓧 P v)
   unfolding startSeat mapped
   seat-start P v =
       ap (λ x. cond (ltb v (P .n)) (some x) none) (value-through (P .lower v) (P .upper v)) ∙ by (ltb v (P .n))
@@ -103,7 +103,7 @@ module _ {X Y : Type 0} (𝓧 : Values X) (𝓨 : Values Y) (h : X → Y) (K : K
       by true = refl
       by false = refl
 
-  pub start-through : (P : Problem X) → start 𝓨 (through h P) ≡ stateThrough h (start 𝓧 P)
+  pub start-through : (P : Problem X) → start 𝓨 (problemThrough h P) ≡ stateThrough h (start 𝓧 P)
   unfolding start startEntry
   start-through P = ap
       (λ l. record { tableau = record { common = pos 1; rows = matrix (vars P) (startEntry P) }; seats = l })

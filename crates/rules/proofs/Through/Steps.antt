@@ -8,7 +8,7 @@ use lib.IntN.{ℤ}
 use lib.ListN.{set}
 use Rattle.whole.specs.Below.{lowest}
 use Rattle.whole.specs.Values.{Values}
-use Rattle.rules.proofs.Through.Keeps.{Keeps, leavingThrough, outcomeThrough, stateThrough, through}
+use Rattle.rules.proofs.Through.Keeps.{Keeps, leavingThrough, outcomeThrough, stateThrough, problemThrough}
 use Rattle.rules.proofs.Through.Choices.{broken-tested, byEntering, byTests, byLeaving, lowest-mapped, map-set}
 use Rattle.rules.proofs.Through.Choices.{step-chosen}
 use Rattle.rules.proofs.Through.Tests.{over-through, scaled-through, seat-through, seated-through}
@@ -28,9 +28,9 @@ module _ {X Y : Type 0} (𝓧 : Values X) (𝓨 : Values Y) (h : X → Y) (K : K
   byTests-through false false l u = refl
 
   outside-through : (P : Problem X) (s : State X) (v : ℕ) →
-      broken 𝓨 (through h P) (stateThrough h s) v none ≡ mapped (leavingThrough h) (broken 𝓧 P s v none)
+      broken 𝓨 (problemThrough h P) (stateThrough h s) v none ≡ mapped (leavingThrough h) (broken 𝓧 P s v none)
   outside-through P s v =
-      broken-tested 𝓨 (through h P) (stateThrough h s) v
+      broken-tested 𝓨 (problemThrough h P) (stateThrough h s) v
       ∙ ap (λ z. byTests 𝓨 (under 𝓨 d z (mapped h l)) (over 𝓨 d z (mapped h u)) (low z) (high z))
       (scaled-through 𝓧 𝓨 h K P s v)
       ∙ ap₂ (λ a b. byTests 𝓨 a b (low (h x)) (high (h x))) (under-through 𝓧 𝓨 h K d x l) (over-through 𝓧 𝓨 h K d x u)
@@ -59,21 +59,21 @@ module _ {X Y : Type 0} (𝓧 : Values X) (𝓨 : Values Y) (h : X → Y) (K : K
       high z = leaves v above (shortfallBy 𝓨 d z (mapped h l) (mapped h u) above)
 
   broken-through : (P : Problem X) (s : State X) (v : ℕ) (o : Option X) →
-      broken 𝓨 (through h P) (stateThrough h s) v (mapped h o) ≡ mapped (leavingThrough h) (broken 𝓧 P s v o)
+      broken 𝓨 (problemThrough h P) (stateThrough h s) v (mapped h o) ≡ mapped (leavingThrough h) (broken 𝓧 P s v o)
   unfolding mapped broken
   broken-through P s v (some x) = refl
   broken-through P s v none = outside-through P s v
 
   pub leaving-through : (P : Problem X) (s : State X) →
-      leaving 𝓨 (through h P) (stateThrough h s) ≡ mapped (leavingThrough h) (leaving 𝓧 P s)
+      leaving 𝓨 (problemThrough h P) (stateThrough h s) ≡ mapped (leavingThrough h) (leaving 𝓧 P s)
   unfolding leaving
   leaving-through P s =
       ap (lowest (vars P)) (fun-ext (λ v.
-      ap (broken 𝓨 (through h P) (stateThrough h s) v) (seat-through 𝓧 𝓨 h K s v) ∙ broken-through P s v (seat s v)))
+      ap (broken 𝓨 (problemThrough h P) (stateThrough h s) v) (seat-through 𝓧 𝓨 h K s v) ∙ broken-through P s v (seat s v)))
       ∙ lowest-mapped (leavingThrough h) (vars P) (λ v. broken 𝓧 P s v (seat s v))
 
   pub entering-through : (P : Problem X) (s : State X) (r : Leaving X) →
-      entering 𝓨 (through h P) (stateThrough h s) (leavingThrough h r) ≡ entering 𝓧 P s r
+      entering 𝓨 (problemThrough h P) (stateThrough h s) (leavingThrough h r) ≡ entering 𝓧 P s r
   unfolding entering
   entering-through P s r = ap (lowest (vars P)) (fun-ext (λ w.
       ap (λ b. cond b (some w) none)
@@ -84,13 +84,13 @@ module _ {X Y : Type 0} (𝓧 : Values X) (𝓨 : Values Y) (h : X → Y) (K : K
       a w = pull (r .side) (entry (s .tableau) (r .variable) w)
 
   limit-through : (P : Problem X) (v : ℕ) (σ : Side) (x : X) →
-      limitAt 𝓨 (through h P) (leaves v σ (h x)) ≡ h (limitAt 𝓧 P (leaves v σ x))
+      limitAt 𝓨 (problemThrough h P) (leaves v σ (h x)) ≡ h (limitAt 𝓧 P (leaves v σ x))
   unfolding limitAt
   limit-through P v below x = seated-through 𝓧 𝓨 h K (P .lower v)
   limit-through P v above x = seated-through 𝓧 𝓨 h K (P .upper v)
 
   pub moved-through : (P : Problem X) (s : State X) (r : Leaving X) (w : ℕ) →
-      moved 𝓨 (through h P) (stateThrough h s) (leavingThrough h r) w ≡ stateThrough h (moved 𝓧 P s r w)
+      moved 𝓨 (problemThrough h P) (stateThrough h s) (leavingThrough h r) w ≡ stateThrough h (moved 𝓧 P s r w)
   unfolding moved mapped
   moved-through P s r w = ap (λ l. record { tableau = pivot (vars P) (s .tableau) (r .variable) w; seats = l })
       (ap₂ (λ l y. set l (r .variable) (some y)) (sym (map-set (mapped h) (s .seats) w none))
@@ -106,23 +106,23 @@ module _ {X Y : Type 0} (𝓧 : Values X) (𝓨 : Values Y) (h : X → Y) (K : K
       go false e = rw (e, admit) refl
 
   byEntering-through : (P : Problem X) (s : State X) (r : Leaving X) (o : Option ℕ) →
-      byEntering 𝓨 (through h P) (stateThrough h s) (leavingThrough h r) o ≡ outcomeThrough h (byEntering 𝓧 P s r o)
+      byEntering 𝓨 (problemThrough h P) (stateThrough h s) (leavingThrough h r) o ≡ outcomeThrough h (byEntering 𝓧 P s r o)
   unfolding byEntering evidence outcomeThrough
   byEntering-through P s r none = refl
   byEntering-through P s r (some w) =
       ap (admit (vars P)) (moved-through P s r w) ∙ admit-through (vars P) (moved 𝓧 P s r w)
 
   byLeaving-through : (P : Problem X) (s : State X) (o : Option (Leaving X)) →
-      byLeaving 𝓨 (through h P) (stateThrough h s) (mapped (leavingThrough h) o) ≡ outcomeThrough h (byLeaving 𝓧 P s o)
+      byLeaving 𝓨 (problemThrough h P) (stateThrough h s) (mapped (leavingThrough h) o) ≡ outcomeThrough h (byLeaving 𝓧 P s o)
   unfolding byLeaving mapped outcomeThrough
   byLeaving-through P s none = refl
   byLeaving-through P s (some r) =
-      ap (byEntering 𝓨 (through h P) (stateThrough h s) (leavingThrough h r)) (entering-through P s r)
+      ap (byEntering 𝓨 (problemThrough h P) (stateThrough h s) (leavingThrough h r)) (entering-through P s r)
       ∙ byEntering-through P s r (entering 𝓧 P s r)
 
   pub step-through : (P : Problem X) (s : State X) →
-      step 𝓨 (through h P) (stateThrough h s) ≡ outcomeThrough h (step 𝓧 P s)
+      step 𝓨 (problemThrough h P) (stateThrough h s) ≡ outcomeThrough h (step 𝓧 P s)
   step-through P s =
-      step-chosen 𝓨 (through h P) (stateThrough h s)
-      ∙ ap (byLeaving 𝓨 (through h P) (stateThrough h s)) (leaving-through P s)
+      step-chosen 𝓨 (problemThrough h P) (stateThrough h s)
+      ∙ ap (byLeaving 𝓨 (problemThrough h P) (stateThrough h s)) (leaving-through P s)
       ∙ byLeaving-through P s (leaving 𝓧 P s) ∙ ap (outcomeThrough h) (sym (step-chosen 𝓧 P s))

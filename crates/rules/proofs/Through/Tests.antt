@@ -7,7 +7,7 @@ use Prim.Native.Nat.{ℕ, suc, zero}
 use lib.IntN.{negsuc, pos, ℤ}
 use Rattle.whole.specs.Sums.{sumBy}
 use Rattle.whole.specs.Values.{Values, total}
-use Rattle.rules.proofs.Through.Keeps.{Keeps, stateThrough, through}
+use Rattle.rules.proofs.Through.Keeps.{Keeps, stateThrough, problemThrough}
 use Rattle.rules.proofs.Through.Choices.{map-at}
 use Rattle.rules.specs.Problem.{Problem, mapped, vars}
 use Rattle.rules.specs.Run.{crossed}
@@ -34,7 +34,7 @@ module _ {X Y : Type 0} (𝓧 : Values X) (𝓨 : Values Y) (h : X → Y) (K : K
       ap (λ z. 𝓨 .plus z (h (f k))) (total-through k f) ∙ sym (K .keeps-plus (total 𝓧 k f) (f k))
 
   pub scaled-through : (P : Problem X) (s : State X) (v : ℕ) →
-      scaled 𝓨 (through h P) (stateThrough h s) v ≡ h (scaled 𝓧 P s v)
+      scaled 𝓨 (problemThrough h P) (stateThrough h s) v ≡ h (scaled 𝓧 P s v)
   unfolding scaled
   scaled-through P s v =
       ap (total 𝓨 (vars P)) (fun-ext (λ w.

@@ -22,33 +22,27 @@ use Rattle.whole.specs.Values.{Values, Lt, Le, Laws}
 use Rattle.whole.proofs.Bools.{either, true-false}
 use Rattle.whole.proofs.Below.{some-none, some-at}
 use Rattle.whole.proofs.Pigeons.{pigeons}
-use Rattle.rules.specs.Walks.{Edges, Ends, Shortest, ClosesBelow}
+use Rattle.rules.specs.Walks.{Edges, EndsIn, Shortest, ClosesBelow}
 use Rattle.rules.specs.Passes.{distance, through, betters, look, looks, passes, settled, distances, canMeet}
-use Rattle.rules.specs.Cycle.{row, Cycle, BadCycle}
+use Rattle.rules.specs.Cycle.{rowTold, Cycle, BadCycle}
 use Rattle.rules.specs.Traces.{Still, Traced, Trail}
+use Rattle.whole.proofs.Tables.{replicate-at}
 use Rattle.rules.proofs.Times.Still.{settled-still, still-settled, still-shortest, shortest-only, still-open}
 use Rattle.rules.proofs.Times.Still.{bad-closes, bad-no-still}
-use Rattle.rules.proofs.Times.Traced.{Put, put, put-put, traced-start, traced-kept, traced-taken, traced-pass}
+use Rattle.rules.proofs.Times.Traced.{ButAt, put, put-put, traced-start, traced-kept, traced-taken, traced-pass}
 use Rattle.rules.proofs.Times.Traced.{traced-still}
 use Rattle.rules.proofs.Times.Trail.{trail-start, trail-left, trail-more}
 use Rattle.rules.proofs.Times.Closed.{trail-cycle}
 
-pub cycle-short : {X : Type 0} (E : Edges X) (rows : List ℕ) → Ends E → Cycle E rows → length rows ≤ E .vertices
+pub cycle-short : {X : Type 0} (E : Edges X) (rows : List ℕ) → EndsIn E → Cycle E rows → length rows ≤ E .vertices
 cycle-short E rows ends c =
-    pigeons (length rows) (E .vertices) (λ k. E .tail (row rows k)) (λ k h. ends .tail-in (row rows k) (c .listed k h)) (c .apart)
+    pigeons (length rows) (E .vertices) (λ k. E .tail (rowTold rows k)) (λ k h. ends .tail-in (rowTold rows k) (c .listed k h)) (c .apart)
 
 -- a list written at one place, as a function
-pub set-put : {A : Type 0} (l : List A) (y : ℕ) (a d : A) → y < length l → Put (λ v. getD l v d) (λ v. getD (set l y a) v d) y a
+pub set-put : {A : Type 0} (l : List A) (y : ℕ) (a d : A) → y < length l → ButAt (λ v. getD l v d) (λ v. getD (set l y a) v d) y a
 set-put l y a d h = record { here = getD-set-same l y a d h; there = λ v n. getD-set-other l y v a d n }
 
-pub replicate-at : {A : Type 0} (n v : ℕ) (a : A) → getD (replicate n a) v a ≡ a
-replicate-at n v a = go (decLt v n)
-  where
-    go : Dec (v < n) → getD (replicate n a) v a ≡ a
-    go (yes h) = getD-replicate n v a a h
-    go (no h) = List·getD-eq-default (replicate n a) a (omega (arith, length-replicate n a))
-
-module _ {X : Type 0} {𝓥 : Values X} (L : Laws 𝓥) (E : Edges X) (ends : Ends E) where
+module _ {X : Type 0} {𝓥 : Values X} (L : Laws 𝓥) (E : Edges X) (ends : EndsIn E) where
   -- ---- the looks of the definition, with the row that bettered each vertex last
 
   record Held (b i : ℕ) (ds : List X) : Type 0 where
@@ -89,7 +83,7 @@ module _ {X : Type 0} {𝓥 : Values X} (L : Laws 𝓥) (E : Edges X) (ends : En
     time = λ v. 0;
     last = λ v. 0;
     traced = subst (λ b. Traced 𝓥 E b 0 (λ v. 0) (distance 𝓥 E (replicate (E .vertices) (𝓥 .nil))) (λ v. 0)) (sym (mul-zero (E .count)))
-        (traced-start L E _ _ (λ v. replicate-at (E .vertices) v (𝓥 .nil)));
+        (traced-start L E _ _ (λ v. replicate-at (E .vertices) (𝓥 .nil) v));
     long = length-replicate (E .vertices) (𝓥 .nil);
   }
   held (suc k) = let s = held-looks (E .count * k) (passes 𝓥 E k) (held k) (E .count) (omega arith) in
@@ -127,18 +121,18 @@ module _ {X : Type 0} {𝓥 : Values X} (L : Laws 𝓥) (E : Edges X) (ends : En
 
     back : (j : ℕ) → Back j
     unfolding Back
-    back zero path seen here p w r = go (row seen here) refl
+    back zero path seen here p w r = go (rowTold seen here) refl
       where
-        go : (m : ℕ) → row seen here ≡ m → (rows : List ℕ) × BadCycle 𝓥 E rows
+        go : (m : ℕ) → rowTold seen here ≡ m → (rows : List ℕ) × BadCycle 𝓥 E rows
         go (suc q) e =
             (slice 0 (suc q) path, trail-cycle L E (s .time) D (suc k) 0 path seen here 0 r q e (omega arith))
         go zero e =
             let z : 0 < 0 =
             trail-left E ends _ _ (s .time) D (s .last) (s .traced) (suc k) 0 path seen here 0 r e high in
             absurd (omega arith)
-    back (suc j) path seen here p w r = go (back j) (row seen here) refl
+    back (suc j) path seen here p w r = go (back j) (rowTold seen here) refl
       where
-        go : Back j → (m : ℕ) → row seen here ≡ m → (rows : List ℕ) × BadCycle 𝓥 E rows
+        go : Back j → (m : ℕ) → rowTold seen here ≡ m → (rows : List ℕ) × BadCycle 𝓥 E rows
         go ih (suc q) e =
             let b = trail-cycle L E (s .time) D (suc k) 0 path seen here (suc j) r q e (omega arith) in
             (slice (suc j) (suc q) path, b)

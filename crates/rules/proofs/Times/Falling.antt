@@ -12,34 +12,34 @@ use Rattle.whole.specs.Values.{Values, total, Lt, Le, Laws}
 use Rattle.whole.proofs.Values.{same-le, le-le, le-lt-trans, lt-le-trans, plus-le, plus-lt, nil-plus, gain-lt}
 use Rattle.rules.specs.Walks.{Edges}
 use Rattle.rules.specs.Passes.{through}
-use Rattle.rules.specs.Cycle.{row, Cycle, around}
+use Rattle.rules.specs.Cycle.{rowTold, Cycle, around}
 use Rattle.rules.specs.Traces.{Bettered}
 
 module _ {X : Type 0} {𝓥 : Values X} (L : Laws 𝓥) (E : Edges X) (rows : List ℕ) (c : Cycle E rows) (time : ℕ → ℕ) (D : ℕ → X)
-    (each : (k : ℕ) → k < length rows → Bettered 𝓥 E time D (E .head (row rows k)) (row rows k)) where
+    (each : (k : ℕ) → k < length rows → Bettered 𝓥 E time D (E .head (rowTold rows k)) (rowTold rows k)) where
   open Values 𝓥 using (nil, plus)
 
   abbrev start : ℕ
-  start = E .tail (row rows 0)
+  start = E .tail (rowTold rows 0)
 
   abbrev end : ℕ → ℕ
-  end k = E .head (row rows k)
+  end k = E .head (rowTold rows k)
 
   -- the distance of the start, and the lengths of the rows up to the k-th
   sum : ℕ → X
-  sum k = plus (D start) (total 𝓥 (suc k) (λ j. E .size (row rows j)))
+  sum k = plus (D start) (total 𝓥 (suc k) (λ j. E .size (rowTold rows j)))
 
   -- less than the distance that they lead to; or at most that, and the looks have risen so far
   Falls : ℕ → Type 0
   Falls k = Lt 𝓥 (sum k) (D (end k)) ⊎ (Le 𝓥 (sum k) (D (end k)) × (time start + k < time (end k)))
 
-  sum-start : sum 0 ≡ through 𝓥 E D (row rows 0)
+  sum-start : sum 0 ≡ through 𝓥 E D (rowTold rows 0)
   unfolding sum sumBy
-  sum-start = ap (plus (D start)) (nil-plus L (E .size (row rows 0)))
+  sum-start = ap (plus (D start)) (nil-plus L (E .size (rowTold rows 0)))
 
-  sum-more : (k : ℕ) → suc k < length rows → sum (suc k) ≡ plus (sum k) (E .size (row rows (suc k)))
+  sum-more : (k : ℕ) → suc k < length rows → sum (suc k) ≡ plus (sum k) (E .size (rowTold rows (suc k)))
   unfolding sum sumBy
-  sum-more k h = sym (L .plus-assoc (D start) (total 𝓥 (suc k) (λ j. E .size (row rows j))) (E .size (row rows (suc k))))
+  sum-more k h = sym (L .plus-assoc (D start) (total 𝓥 (suc k) (λ j. E .size (rowTold rows j))) (E .size (rowTold rows (suc k))))
 
   falls-start : 0 < length rows → Falls 0
   unfolding Falls
@@ -54,7 +54,7 @@ module _ {X : Type 0} {𝓥 : Values X} (L : Laws 𝓥) (E : Edges X) (rows : Li
   falls-more k h f = go f (decLe (time (end (suc k))) (time (end k)))
     where
       r : ℕ
-      r = row rows (suc k)
+      r = rowTold rows (suc k)
 
       o : Bettered 𝓥 E time D (end (suc k)) r
       o = each (suc k) h
@@ -83,11 +83,11 @@ module _ {X : Type 0} {𝓥 : Values X} (L : Laws 𝓥) (E : Edges X) (rows : Li
     where
       go : (n : ℕ) → length rows ≡ n → Lt 𝓥 (around 𝓥 E rows) nil
       go zero e = absurd (omega arith)
-      go (suc k) e = subst (λ n. Lt 𝓥 (total 𝓥 n (λ j. E .size (row rows j))) nil) (sym e) (by (falls k (omega arith)))
+      go (suc k) e = subst (λ n. Lt 𝓥 (total 𝓥 n (λ j. E .size (rowTold rows j))) nil) (sym e) (by (falls k (omega arith)))
         where
           closes : end k ≡ start
           closes = ap end (let z : k ≡ length rows - 1 = omega arith in z) ∙ c .closed
 
-          by : Falls k → Lt 𝓥 (total 𝓥 (suc k) (λ j. E .size (row rows j))) nil
+          by : Falls k → Lt 𝓥 (total 𝓥 (suc k) (λ j. E .size (rowTold rows j))) nil
           by (inl p) = gain-lt L (D start) _ (subst (λ v. Lt 𝓥 (sum k) (D v)) closes p)
           by (inr p) = let z : time (end k) ≡ time start = ap time closes in absurd (omega (arith, p .1))

@@ -29,16 +29,16 @@ use Rattle.whole.proofs.Order.{true→lt, false→le, lt→true, le→false}
 use Rattle.whole.proofs.Reify.{reify}
 use Rattle.whole.proofs.Tools.{le-at, lt-at}
 use Rattle.rules.specs.Problem.{nOf}
-use Rattle.rules.specs.Walks.{Edges, Ends, Shortest}
+use Rattle.rules.specs.Walks.{Edges, EndsIn, Shortest}
 use Rattle.rules.specs.Passes.{distance, distances, canMeet}
-use Rattle.rules.specs.Cycle.{row, Cycle, around, BadCycle}
+use Rattle.rules.specs.Cycle.{rowTold, Cycle, around, BadCycle}
 use Rattle.rules.specs.TimeWords.{strictWord, lengthWord, AcceptedTimes, timeEdges}
 use Rattle.rules.specs.Times.{RowSays, MeetsRows, MeetsSmall, NoFractions, timeOf}
 use Rattle.rules.proofs.Times.Still.{bad-no-still}
 use Rattle.rules.specs.Traces.{NoneOrOne}
 use Rattle.rules.proofs.Times.Smalls.{smalls-few}
 use Rattle.rules.proofs.Times.Decide.{can-still, distances-low, can-shortest, cannot-cycle}
-use Rattle.rules.proofs.Times.Refused.{n-some, accepted-ends, strict-is}
+use Rattle.rules.proofs.Times.Refused.{vertices-some, accepted-ends, strict-is}
 
 -- ---- a row, and the row as it is read
 
@@ -101,14 +101,14 @@ module _ {ws : List ℤ} {room : ℕ} (A : AcceptedTimes ws room) where
   abbrev E : Edges (ℤ × ℤ)
   E = timeEdges ws
 
-  ends : Ends E
+  ends : EndsIn E
   ends = accepted-ends A
 
   abbrev D : ℕ → ℤ × ℤ
   D v = distance pairs E (distances pairs E) v
 
   pub some-vertex : pos 0 <ℤ pos (nOf ws)
-  some-vertex = record { lt = le→leb 1 (nOf ws) (n-some A) }
+  some-vertex = record { lt = le→leb 1 (nOf ws) (vertices-some A) }
 
   pub times-shortest : canMeet pairs (timeEdges ws) ≡ true → (v : ℕ) →
       Shortest pairs (timeEdges ws) v (negℤ (timeOf ws v .0), negℤ (timeOf ws v .1))
@@ -203,13 +203,13 @@ module _ {ws : List ℤ} {room : ℕ} (A : AcceptedTimes ws room) where
 
       sum-low : around pairs E rows .1 ≤ℤ pos 0
       sum-low =
-          small-most (length rows) (λ k. E .size (row rows k))
-          (λ k l. strict-down (strictWord ws (row rows k)) (A .strict-least (row rows k) (c .listed k l)))
+          small-most (length rows) (λ k. E .size (rowTold rows k))
+          (λ k l. strict-down (strictWord ws (rowTold rows k)) (A .strict-least (rowTold rows k) (c .listed k l)))
 
       bad : BadCycle whole (over d) rows
       bad = record {
         cycle = record { listed = c .listed; linked = c .linked; closed = c .closed; apart = c .apart };
-        below = subst (λ z. Lt whole z (pos 0)) (sym (mixed-total (pos 1) d (length rows) (λ k. E .size (row rows k))))
+        below = subst (λ z. Lt whole z (pos 0)) (sym (mixed-total (pos 1) d (length rows) (λ k. E .size (rowTold rows k))))
             (lt→true (below-over d (around pairs E rows) h sum-low (b .below)));
       }
 

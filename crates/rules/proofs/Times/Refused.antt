@@ -2,7 +2,7 @@
 -- (`timesTable` of specs/TimeWords), and the refusal is the first that applies.
 --   times-refusal-exactly         the refusal is k exactly where no earlier line's meaning holds and line k's does, and 0 where none does
 --   times-accepted-exactly        it is 0 exactly for accepted words with room enough
---   accepted-ends, n-few, ..      what accepted words hold, as facts about their sizes and their edges
+--   accepted-ends, vertices-few, ..      what accepted words hold, as facts about their sizes and their edges
 use mathlib.Core.Path.{_≡_}
 use mathlib.Core.List.{List}
 use mathlib.Core.Logic.{_↔_, _≢_, _⊎_, inl, inr}
@@ -14,10 +14,10 @@ use lib.Signed.{_≤ℤ_}
 use Rattle.whole.specs.Numbers.{Within}
 use Rattle.whole.specs.Tells.{Tells}
 use Rattle.whole.proofs.Tells.{tells-eq, tells-lt, tells-not, tells-or, tells-outside, tells-some, tells-within}
-use Rattle.whole.proofs.Tests.{above, own-size, under}
+use Rattle.whole.proofs.Tests.{above, own-size, under-size}
 use Rattle.rules.specs.Sizes.{mostVertices, mostTimeRows, largestLength}
 use Rattle.rules.specs.Problem.{word, nOf, mOf}
-use Rattle.rules.specs.Walks.{Ends}
+use Rattle.rules.specs.Walks.{EndsIn}
 use Rattle.rules.specs.TimeWords.{fromWord, toWord, strictWord, lengthWord, timesLength, badTimeSize}
 use Rattle.rules.specs.TimeWords.{badWordCount, badEnd, badStrict, badRowLength, noRoom, timeTests, timeRefusal}
 use Rattle.rules.specs.TimeWords.{AcceptedTimes, timeEdges, timesTable}
@@ -26,10 +26,10 @@ use Rattle.rules.proofs.Refused.{few-tells}
 use Rattle.rules.specs.Meanings.{AllFine, First, InRange, OutOfRange}
 
 module _ (ws : List ℤ) where
-  pub size-tells : Tells (badTimeSize ws) (OutOfRange 1 mostVertices (word ws 0) ⊎ OutOfRange 0 mostTimeRows (word ws 1))
+  pub times-size-tells : Tells (badTimeSize ws) (OutOfRange 1 mostVertices (word ws 0) ⊎ OutOfRange 0 mostTimeRows (word ws 1))
       (InRange 1 mostVertices (word ws 0) × InRange 0 mostTimeRows (word ws 1))
   unfolding badTimeSize
-  size-tells = tells-or (tells-outside 1 mostVertices (word ws 0)) (tells-outside 0 mostTimeRows (word ws 1))
+  times-size-tells = tells-or (tells-outside 1 mostVertices (word ws 0)) (tells-outside 0 mostTimeRows (word ws 1))
 
   pub count-tells : Tells (badWordCount ws) (length ws ≢ 2 + 4 * mOf ws) (length ws ≡ 2 + 4 * mOf ws)
   unfolding badWordCount
@@ -49,20 +49,20 @@ module _ (ws : List ℤ) where
   unfolding badRowLength
   span-tells i = tells-not (tells-within largestLength (lengthWord ws i))
 
-  pub room-tells : (room : ℕ) → Tells (noRoom ws room) (room < timesLength ws) (timesLength ws ≤ room)
+  pub times-room-tells : (room : ℕ) → Tells (noRoom ws room) (room < timesLength ws) (timesLength ws ≤ room)
   unfolding noRoom
-  room-tells room = tells-lt room (timesLength ws)
+  times-room-tells room = tells-lt room (timesLength ws)
 
 -- ---- the table
 
 times-tested : (ws : List ℤ) (room : ℕ) → Tested (timeTests ws room) (timesTable ws room)
 unfolding timeTests
 times-tested ws room =
-    tested (few-tells ws) (tested (size-tells ws) (tested (count-tells ws)
+    tested (few-tells ws) (tested (times-size-tells ws) (tested (count-tells ws)
     (tested (tells-some (mOf ws) (badEnd ws) (λ i h. end-tells ws i))
     (tested (tells-some (mOf ws) (badStrict ws) (λ i h. strict-tells ws i))
     (tested (tells-some (mOf ws) (badRowLength ws) (λ i h. span-tells ws i))
-    (tested (room-tells ws room) no-test))))))
+    (tested (times-room-tells ws room) no-test))))))
 
 pub times-refusal-exactly : (ws : List ℤ) (room k : ℕ) → (timeRefusal ws room ≡ k) ↔ First (timesTable ws room) k
 unfolding timeRefusal
@@ -110,7 +110,7 @@ times-accepted-exactly ws room = let r = first-fine (times-tested ws room) (omeg
 
 -- s is 0 or 1
 zero-or-one : (s : ℤ) → pos 0 ≤ℤ s → s ≤ℤ pos 1 → (s ≡ pos 0) ⊎ (s ≡ pos 1)
-zero-or-one s h k = go (natAbs s) (own-size 0 s h) (under 1 0 s h k)
+zero-or-one s h k = go (natAbs s) (own-size 0 s h) (under-size 1 0 s h k)
   where
     go : (n : ℕ) → s ≡ pos n → n ≤ 1 → (s ≡ pos 0) ⊎ (s ≡ pos 1)
     go zero e l = inl e
@@ -118,23 +118,23 @@ zero-or-one s h k = go (natAbs s) (own-size 0 s h) (under 1 0 s h k)
     go (suc (suc n)) e l = absurd (omega arith)
 
 module _ {ws : List ℤ} {room : ℕ} (A : AcceptedTimes ws room) where
-  pub n-some : 1 ≤ nOf ws
-  n-some = above 1 (word ws 0) (A .n-least)
+  pub vertices-some : 1 ≤ nOf ws
+  vertices-some = above 1 (word ws 0) (A .n-least)
 
-  pub n-few : nOf ws ≤ mostVertices
-  n-few = under mostVertices 1 (word ws 0) (A .n-least) (A .n-most)
+  pub vertices-few : nOf ws ≤ mostVertices
+  vertices-few = under-size mostVertices 1 (word ws 0) (A .n-least) (A .n-most)
 
-  pub m-few : mOf ws ≤ mostTimeRows
-  m-few = under mostTimeRows 0 (word ws 1) (A .m-least) (A .m-most)
+  pub time-rows-few : mOf ws ≤ mostTimeRows
+  time-rows-few = under-size mostTimeRows 0 (word ws 1) (A .m-least) (A .m-most)
 
-  pub accepted-ends : Ends (timeEdges ws)
+  pub accepted-ends : EndsIn (timeEdges ws)
   accepted-ends = record {
-    tail-in = λ i h. let k : natAbs (fromWord ws i) ≤ nOf ws - 1 = under (nOf ws - 1) 0 _ (A .from-least i h) (A .from-most i h) in omega (arith, n-some);
-    head-in = λ i h. let k : natAbs (toWord ws i) ≤ nOf ws - 1 = under (nOf ws - 1) 0 _ (A .to-least i h) (A .to-most i h) in omega (arith, n-some);
+    tail-in = λ i h. let k : natAbs (fromWord ws i) ≤ nOf ws - 1 = under-size (nOf ws - 1) 0 _ (A .from-least i h) (A .from-most i h) in omega (arith, vertices-some);
+    head-in = λ i h. let k : natAbs (toWord ws i) ≤ nOf ws - 1 = under-size (nOf ws - 1) 0 _ (A .to-least i h) (A .to-most i h) in omega (arith, vertices-some);
   }
 
   pub strict-within : (i : ℕ) → i < mOf ws → Within (strictWord ws i) 1
-  strict-within i h = record { within = under 1 0 (strictWord ws i) (A .strict-least i h) (A .strict-most i h) }
+  strict-within i h = record { within = under-size 1 0 (strictWord ws i) (A .strict-least i h) (A .strict-most i h) }
 
   pub strict-is : (i : ℕ) → i < mOf ws → (strictWord ws i ≡ pos 0) ⊎ (strictWord ws i ≡ pos 1)
   strict-is i h = zero-or-one (strictWord ws i) (A .strict-least i h) (A .strict-most i h)

@@ -12,7 +12,7 @@ use Rattle.whole.specs.Values.{pairs, Le}
 use Rattle.whole.proofs.Beside.{pairs-laws}
 use Rattle.whole.proofs.Pigeons.{pigeons}
 use Rattle.whole.proofs.Sizes.{abs-neg}
-use Rattle.rules.specs.Walks.{Edges, Ends, Walk, stay, on}
+use Rattle.rules.specs.Walks.{Edges, EndsIn, Walk, stay, on}
 use Rattle.rules.specs.Traces.{NoneOrOne, Still}
 use Rattle.rules.proofs.Times.Still.{still-back}
 
@@ -20,7 +20,7 @@ one-more : (q : ℕ) → negℤ (pos q) +ℤ negℤ (pos 1) ≡ negℤ (pos (suc
 one-more zero = refl
 one-more (suc q) = ap (λ k. negℤ (pos (suc (suc k)))) (add-zero q)
 
-module _ (E : Edges (ℤ × ℤ)) (ends : Ends E) (one : (i : ℕ) → i < E .count → NoneOrOne (E .size i .1))
+module _ (E : Edges (ℤ × ℤ)) (ends : EndsIn E) (one : (i : ℕ) → i < E .count → NoneOrOne (E .size i .1))
     (D : ℕ → ℤ × ℤ) (s : Still pairs E D) (low : (v : ℕ) → Le pairs (D v) (pairs .nil)) where
   -- a vertex whose small part is minus j
   abbrev Has : ℕ → Type 0

@@ -18,7 +18,7 @@ use Rattle.whole.proofs.Below.{all-each, all-of}
 use Rattle.whole.proofs.Values.{same-le, le-le, lt-irrefl, plus-le, nil-plus, gain-le}
 use Rattle.rules.specs.Walks.{Edges, Walk, stay, on, Shortest, ClosesBelow}
 use Rattle.rules.specs.Passes.{distance, through, betters, settled}
-use Rattle.rules.specs.Cycle.{row, Cycle, around, BadCycle}
+use Rattle.rules.specs.Cycle.{rowTold, Cycle, around, BadCycle}
 use Rattle.rules.specs.Traces.{Still}
 
 module _ {X : Type 0} (𝓥 : Values X) (E : Edges X) where
@@ -65,35 +65,35 @@ module _ {X : Type 0} {𝓥 : Values X} (L : Laws 𝓥) (E : Edges X) where
 
   module _ (rows : List ℕ) (c : Cycle E rows) where
     cycle-walk : (k : ℕ) → k < length rows →
-        Walk 𝓥 E (E .tail (row rows 0)) (suc k) (E .head (row rows k)) (total 𝓥 (suc k) (λ j. E .size (row rows j)))
+        Walk 𝓥 E (E .tail (rowTold rows 0)) (suc k) (E .head (rowTold rows k)) (total 𝓥 (suc k) (λ j. E .size (rowTold rows j)))
     unfolding sumBy
-    cycle-walk zero h = on (row rows 0) (c .listed 0 h) stay
+    cycle-walk zero h = on (rowTold rows 0) (c .listed 0 h) stay
     cycle-walk (suc k) h =
-        on (row rows (suc k)) (c .listed (suc k) h)
-        (subst (λ v. Walk 𝓥 E (E .tail (row rows 0)) (suc k) v (total 𝓥 (suc k) (λ j. E .size (row rows j)))) (c .linked k h)
+        on (rowTold rows (suc k)) (c .listed (suc k) h)
+        (subst (λ v. Walk 𝓥 E (E .tail (rowTold rows 0)) (suc k) v (total 𝓥 (suc k) (λ j. E .size (rowTold rows j)))) (c .linked k h)
         (cycle-walk k (omega arith)))
 
-    pub whole-walk : (n : ℕ) → length rows ≡ n → 0 < n → Walk 𝓥 E (E .tail (row rows 0)) n (E .tail (row rows 0)) (around 𝓥 E rows)
+    pub whole-walk : (n : ℕ) → length rows ≡ n → 0 < n → Walk 𝓥 E (E .tail (rowTold rows 0)) n (E .tail (rowTold rows 0)) (around 𝓥 E rows)
     whole-walk zero e h = absurd (omega arith)
     whole-walk (suc k) e h =
-        subst (λ m. Walk 𝓥 E (E .tail (row rows 0)) (suc k) (E .tail (row rows 0)) (total 𝓥 m (λ j. E .size (row rows j)))) (sym e)
-        (subst (λ v. Walk 𝓥 E (E .tail (row rows 0)) (suc k) v (total 𝓥 (suc k) (λ j. E .size (row rows j)))) closes
+        subst (λ m. Walk 𝓥 E (E .tail (rowTold rows 0)) (suc k) (E .tail (rowTold rows 0)) (total 𝓥 m (λ j. E .size (rowTold rows j)))) (sym e)
+        (subst (λ v. Walk 𝓥 E (E .tail (rowTold rows 0)) (suc k) v (total 𝓥 (suc k) (λ j. E .size (rowTold rows j)))) closes
         (cycle-walk k (omega arith)))
       where
-        closes : E .head (row rows k) ≡ E .tail (row rows 0)
-        closes = ap (λ j. E .head (row rows j)) (let z : k ≡ length rows - 1 = omega arith in z) ∙ c .closed
+        closes : E .head (rowTold rows k) ≡ E .tail (rowTold rows 0)
+        closes = ap (λ j. E .head (rowTold rows j)) (let z : k ≡ length rows - 1 = omega arith in z) ∙ c .closed
 
   pub bad-some : (rows : List ℕ) → BadCycle 𝓥 E rows → 0 < length rows
   unfolding sumBy
   bad-some rows b = go (length rows) refl
     where
       go : (n : ℕ) → length rows ≡ n → 0 < length rows
-      go zero e = absurd (lt-irrefl L (subst (λ n. Lt 𝓥 (total 𝓥 n (λ k. E .size (row rows k))) nil) e (b .below)))
+      go zero e = absurd (lt-irrefl L (subst (λ n. Lt 𝓥 (total 𝓥 n (λ k. E .size (rowTold rows k))) nil) e (b .below)))
       go (suc n) e = omega arith
 
   pub bad-closes : (rows : List ℕ) → BadCycle 𝓥 E rows → ClosesBelow 𝓥 E
   bad-closes rows b = record {
-    start = E .tail (row rows 0);
+    start = E .tail (rowTold rows 0);
     rows = length rows;
     sum = around 𝓥 E rows;
     walk = whole-walk rows (b .cycle) (length rows) refl (bad-some rows b);

@@ -13,21 +13,21 @@ use Rattle.whole.proofs.Below.{all-each, all-of}
 use Rattle.whole.proofs.Bools.{and-of, and-true, not-true}
 use Rattle.whole.proofs.Tells.{tells-eq, tells-false, tells-lt, tells-true}
 use Rattle.rules.specs.Walks.{Edges}
-use Rattle.rules.specs.Cycle.{row, around, BadCycle, isBadCycle}
+use Rattle.rules.specs.Cycle.{rowTold, around, BadCycle, isBadCycle}
 
 module _ {X : Type 0} (𝓥 : Values X) (E : Edges X) (rows : List ℕ) where
   -- the parts of the test
   abbrev listed : ℕ → Bool
-  listed k = ltb (row rows k) (E .count)
+  listed k = ltb (rowTold rows k) (E .count)
 
   abbrev linked : ℕ → Bool
-  linked k = eqb (E .head (row rows k)) (E .tail (row rows (suc k)))
+  linked k = eqb (E .head (rowTold rows k)) (E .tail (rowTold rows (suc k)))
 
   abbrev closed : Bool
-  closed = eqb (E .head (row rows (length rows - 1))) (E .tail (row rows 0))
+  closed = eqb (E .head (rowTold rows (length rows - 1))) (E .tail (rowTold rows 0))
 
   abbrev met : ℕ → ℕ → Bool
-  met k j = eqb (E .tail (row rows j)) (E .tail (row rows k))
+  met k j = eqb (E .tail (rowTold rows j)) (E .tail (rowTold rows k))
 
   abbrev apart : ℕ → Bool
   apart k = allBelow k (λ j. not (met k j))
@@ -53,11 +53,11 @@ module _ {X : Type 0} (𝓥 : Values X) (E : Edges X) (rows : List ℕ) where
       let s : (all-listed ≡ true) × (all-linked ≡ true) = and-true all-listed all-linked (r .0) in
       record {
         cycle = record {
-          listed = λ k h. tells-lt (row rows k) (E .count) .if-true (all-each (length rows) listed (s .0) k h);
-          linked = λ k h. tells-eq (E .head (row rows k)) (E .tail (row rows (suc k))) .if-true
+          listed = λ k h. tells-lt (rowTold rows k) (E .count) .if-true (all-each (length rows) listed (s .0) k h);
+          linked = λ k h. tells-eq (E .head (rowTold rows k)) (E .tail (rowTold rows (suc k))) .if-true
               (all-each (length rows - 1) linked (s .1) k (omega arith));
-          closed = tells-eq (E .head (row rows (length rows - 1))) (E .tail (row rows 0)) .if-true (r .1);
-          apart = λ j k l h. tells-eq (E .tail (row rows j)) (E .tail (row rows k)) .if-false
+          closed = tells-eq (E .head (rowTold rows (length rows - 1))) (E .tail (rowTold rows 0)) .if-true (r .1);
+          apart = λ j k l h. tells-eq (E .tail (rowTold rows j)) (E .tail (rowTold rows k)) .if-false
               (not-true (met k j) (all-each k (λ j. not (met k j)) (all-each (length rows) apart (q .1) k h) j l));
         };
         below = p .1;
@@ -66,12 +66,12 @@ module _ {X : Type 0} (𝓥 : Values X) (E : Edges X) (rows : List ℕ) where
   passed : BadCycle 𝓥 E rows → isBadCycle 𝓥 E rows ≡ true
   unfolding isBadCycle
   passed c = and-of (and-of (and-of (and-of
-      (all-of (length rows) listed (λ k h. tells-true (tells-lt (row rows k) (E .count)) (c .cycle .listed k h)))
+      (all-of (length rows) listed (λ k h. tells-true (tells-lt (rowTold rows k) (E .count)) (c .cycle .listed k h)))
       (all-of (length rows - 1) linked (λ k h.
-      tells-true (tells-eq (E .head (row rows k)) (E .tail (row rows (suc k)))) (c .cycle .linked k (omega arith)))))
-      (tells-true (tells-eq (E .head (row rows (length rows - 1))) (E .tail (row rows 0))) (c .cycle .closed)))
+      tells-true (tells-eq (E .head (rowTold rows k)) (E .tail (rowTold rows (suc k)))) (c .cycle .linked k (omega arith)))))
+      (tells-true (tells-eq (E .head (rowTold rows (length rows - 1))) (E .tail (rowTold rows 0))) (c .cycle .closed)))
       (all-of (length rows) apart (λ k h. all-of k (λ j. not (met k j)) (λ j l.
-      ap not (tells-false (tells-eq (E .tail (row rows j)) (E .tail (row rows k))) (c .cycle .apart j k l h))))))
+      ap not (tells-false (tells-eq (E .tail (rowTold rows j)) (E .tail (rowTold rows k))) (c .cycle .apart j k l h))))))
       (c .below)
 
   pub bad-cycle-exactly : (isBadCycle 𝓥 E rows ≡ true) ↔ BadCycle 𝓥 E rows

@@ -19,7 +19,7 @@ use Rattle.whole.proofs.Bools.{either}
 use Rattle.rules.specs.Problem.{nOf, word}
 use Rattle.rules.specs.Walks.{Shortest}
 use Rattle.rules.specs.Passes.{distances, canMeet}
-use Rattle.rules.specs.Cycle.{BadCycle, row}
+use Rattle.rules.specs.Cycle.{BadCycle, rowTold}
 use Rattle.rules.specs.TimeWords.{timesLength, AcceptedTimes, timeEdges, strictWord, lengthWord}
 use Rattle.rules.specs.Times.{plainTime, smallTime, timesOf, cycleWords, timesAnswer, timesWritten, Timed}
 use Rattle.rules.specs.Times.{RowSays, MeetsSmall, timeIn, TimesTold, CycleTold, BothNamed, timeOf, Free}
@@ -119,7 +119,7 @@ module _ (ws before after : List ℤ) (x : Timed ws before 0 after) where
         ∙ List·getD-append (cycleWords (2 * nOf ws) (x .rows)) rest (pos 0) k
         (omega (arith, cycle-long A (x .rows) bad))
 
-    listed : (k : ℕ) → k < length (x .rows) → word after (2 + k) ≡ pos (row (x .rows) k)
+    listed : (k : ℕ) → k < length (x .rows) → word after (2 + k) ≡ pos (rowTold (x .rows) k)
     unfolding cycleWords
     listed k h = part-at k (omega (arith, few))
         ∙ List·getD-append (map pos (x .rows)) (replicate (2 * nOf ws - length (x .rows)) (pos 0)) (pos 0) k

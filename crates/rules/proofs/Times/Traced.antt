@@ -17,14 +17,14 @@ use Rattle.rules.specs.Passes.{through}
 use Rattle.rules.specs.Traces.{Bettered, Still, Traced}
 
 -- f′ is f but at y, where it is a
-pub record Put {A : Type 0} (f f′ : ℕ → A) (y : ℕ) (a : A) : Type 0 where
+pub record ButAt {A : Type 0} (f f′ : ℕ → A) (y : ℕ) (a : A) : Type 0 where
   pub here : f′ y ≡ a
   pub there : (v : ℕ) → v ≢ y → f′ v ≡ f v
 
 pub put : {A : Type 0} → (ℕ → A) → ℕ → A → ℕ → A
 put f y a v = cond (eqb v y) a (f v)
 
-pub put-put : {A : Type 0} (f : ℕ → A) (y : ℕ) (a : A) → Put f (put f y a) y a
+pub put-put : {A : Type 0} (f : ℕ → A) (y : ℕ) (a : A) → ButAt f (put f y a) y a
 unfolding put
 put-put f y a = record {
   here = ap (λ b. cond b a (f y)) (eq-eqb y y refl);
@@ -83,11 +83,11 @@ module _ {X : Type 0} {𝓥 : Values X} (L : Laws 𝓥) (E : Edges X) where
           now j l c k (no n) = t .looked j (omega arith) c k
 
       -- the row betters its head
-      module _ (h : Lt 𝓥 d (D y)) (D′ : ℕ → X) (last′ : ℕ → ℕ) (p : Put D D′ y d) (q : Put last last′ y i) where
+      module _ (h : Lt 𝓥 d (D y)) (D′ : ℕ → X) (last′ : ℕ → ℕ) (p : ButAt D D′ y d) (q : ButAt last last′ y i) where
         abbrev time′ : ℕ → ℕ
         time′ = put time y (suc (b + i))
 
-        now : Put time time′ y (suc (b + i))
+        now : ButAt time time′ y (suc (b + i))
         now = put-put time y (suc (b + i))
 
         later : (v : ℕ) → time v ≤ time′ v

@@ -16,18 +16,18 @@ use lib.ListN.{length, set, replicate, getD-replicate, List·getD-eq-default, le
 use lib.Seq.{getD-set-same, getD-set-other}
 use Rattle.whole.specs.Values.{Values}
 use Rattle.whole.proofs.Pigeons.{pigeons}
-use Rattle.rules.specs.Walks.{Edges, Ends}
-use Rattle.rules.specs.Cycle.{row}
+use Rattle.rules.specs.Walks.{Edges, EndsIn}
+use Rattle.rules.specs.Cycle.{rowTold}
 use Rattle.rules.specs.Traces.{Bettered, Traced, Trail}
 
-zeros : (n u : ℕ) → row (replicate n 0) u ≡ 0
+zeros : (n u : ℕ) → rowTold (replicate n 0) u ≡ 0
 zeros n u = go (decLt u n)
   where
-    go : Dec (u < n) → row (replicate n 0) u ≡ 0
+    go : Dec (u < n) → rowTold (replicate n 0) u ≡ 0
     go (yes h) = getD-replicate n u 0 0 h
     go (no h) = List·getD-eq-default (replicate n 0) 0 (omega (arith, length-replicate {A = ℕ} n 0))
 
-module _ {X : Type 0} {𝓥 : Values X} (E : Edges X) (ends : Ends E) (b i : ℕ) (time : ℕ → ℕ) (D : ℕ → X) (last : ℕ → ℕ)
+module _ {X : Type 0} {𝓥 : Values X} (E : Edges X) (ends : EndsIn E) (b i : ℕ) (time : ℕ → ℕ) (D : ℕ → X) (last : ℕ → ℕ)
     (t : Traced 𝓥 E b i time D last) (top spare : ℕ) where
   abbrev At : List ℕ → List ℕ → ℕ → ℕ → Type 0
   At path seen here j = Trail 𝓥 E time D top spare path seen here j
@@ -55,14 +55,14 @@ module _ {X : Type 0} {𝓥 : Values X} (E : Edges X) (ends : Ends E) (b i : ℕ
           absurd (omega arith)
       go (no h) = omega arith
 
-  module _ (path seen : List ℕ) (here j : ℕ) (r : At path seen here j) (z : row seen here ≡ 0) where
+  module _ (path seen : List ℕ) (here j : ℕ) (r : At path seen here j) (z : rowTold seen here ≡ 0) where
     -- a vertex that bears no mark is none of those met
-    unmet : (q : ℕ) → j ≤ q → q < top → E .head (row path q) ≢ here
-    unmet q l m e = let y : suc q ≡ 0 = sym (r .marked q l m) ∙ ap (row seen) e ∙ z in omega arith
+    unmet : (q : ℕ) → j ≤ q → q < top → E .head (rowTold path q) ≢ here
+    unmet q l m e = let y : suc q ≡ 0 = sym (r .marked q l m) ∙ ap (rowTold seen) e ∙ z in omega arith
 
     met : ℕ → ℕ
     met zero = here
-    met (suc s) = E .head (row path (j + s))
+    met (suc s) = E .head (rowTold path (j + s))
 
     pub trail-left : E .vertices ≤ top → 0 < j
     unfolding met
@@ -73,7 +73,7 @@ module _ {X : Type 0} {𝓥 : Values X} (E : Edges X) (ends : Ends E) (b i : ℕ
       where
         below : (s : ℕ) → s < suc (top - j) → met s < E .vertices
         below zero l = r .vertex
-        below (suc s) l = let o = r .brings (j + s) (omega arith) (omega arith) in ends .head-in (row path (j + s)) (o .listed)
+        below (suc s) l = let o = r .brings (j + s) (omega arith) (omega arith) in ends .head-in (rowTold path (j + s)) (o .listed)
 
         distinct : (p q : ℕ) → p < q → q < suc (top - j) → met p ≢ met q
         distinct zero zero l m e = absurd (omega arith)
@@ -81,10 +81,10 @@ module _ {X : Type 0} {𝓥 : Values X} (E : Edges X) (ends : Ends E) (b i : ℕ
         distinct (suc p) zero l m e = absurd (omega arith)
         distinct (suc p) (suc s) l m e =
             let y : suc (j + p) ≡ suc (j + s) =
-            sym (r .marked (j + p) (omega arith) (omega arith)) ∙ ap (row seen) e ∙ r .marked (j + s) (omega arith) (omega arith) in
+            sym (r .marked (j + p) (omega arith) (omega arith)) ∙ ap (rowTold seen) e ∙ r .marked (j + s) (omega arith) (omega arith) in
             omega arith
 
-  module _ (path seen : List ℕ) (here j : ℕ) (r : At path seen here (suc j)) (z : row seen here ≡ 0)
+  module _ (path seen : List ℕ) (here j : ℕ) (r : At path seen here (suc j)) (z : rowTold seen here ≡ 0)
       (bettered : 0 < time here) (long : j < length path) (wide : here < length seen) where
     abbrev i′ : ℕ
     i′ = last here
@@ -98,52 +98,52 @@ module _ {X : Type 0} {𝓥 : Values X} (E : Edges X) (ends : Ends E) (b i : ℕ
     o : Bettered 𝓥 E time D here i′
     o = t .bettered here bettered
 
-    at-j : row path′ j ≡ i′
+    at-j : rowTold path′ j ≡ i′
     at-j = getD-set-same path j i′ 0 long
 
-    past-j : (q : ℕ) → suc j ≤ q → row path′ q ≡ row path q
+    past-j : (q : ℕ) → suc j ≤ q → rowTold path′ q ≡ rowTold path q
     past-j q l = getD-set-other path j q i′ 0 (λ e. let y : ⊥ = omega arith in y)
 
-    head-j : E .head (row path′ j) ≡ here
+    head-j : E .head (rowTold path′ j) ≡ here
     head-j = ap (E .head) at-j ∙ o .leads
 
     -- a fact of each row from j on: at j, and past it
-    each : (P : ℕ → ℕ → Type 0) → P j i′ → ((q : ℕ) → suc j ≤ q → q < top → P q (row path q)) → (q : ℕ) → j ≤ q → q < top → P q (row path′ q)
+    each : (P : ℕ → ℕ → Type 0) → P j i′ → ((q : ℕ) → suc j ≤ q → q < top → P q (rowTold path q)) → (q : ℕ) → j ≤ q → q < top → P q (rowTold path′ q)
     each P p f q l m = go (ℕ-discrete j q)
       where
-        go : Dec (j ≡ q) → P q (row path′ q)
-        go (yes e) = subst (λ x. P x (row path′ x)) e (subst (P j) (sym at-j) p)
+        go : Dec (j ≡ q) → P q (rowTold path′ q)
+        go (yes e) = subst (λ x. P x (rowTold path′ x)) e (subst (P j) (sym at-j) p)
         go (no e) = subst (P q) (sym (past-j q (omega arith))) (f q (omega arith) m)
 
-    new-mark : row seen′ here ≡ suc j
+    new-mark : rowTold seen′ here ≡ suc j
     new-mark = getD-set-same seen here (suc j) 0 wide
 
-    old-mark : (u : ℕ) → u ≢ here → row seen′ u ≡ row seen u
+    old-mark : (u : ℕ) → u ≢ here → rowTold seen′ u ≡ rowTold seen u
     old-mark u n = getD-set-other seen here u (suc j) 0 n
 
     Brings : ℕ → ℕ → Type 0
     Brings q x = Bettered 𝓥 E time D (E .head x) x
 
     Marked : ℕ → ℕ → Type 0
-    Marked q x = row seen′ (E .head x) ≡ suc q
+    Marked q x = rowTold seen′ (E .head x) ≡ suc q
 
-    link : (q : ℕ) → j ≤ q → suc q < top → E .head (row path′ q) ≡ E .tail (row path′ (suc q))
+    link : (q : ℕ) → j ≤ q → suc q < top → E .head (rowTold path′ q) ≡ E .tail (rowTold path′ (suc q))
     link q l m = go (ℕ-discrete j q)
       where
-        go : Dec (j ≡ q) → E .head (row path′ q) ≡ E .tail (row path′ (suc q))
+        go : Dec (j ≡ q) → E .head (rowTold path′ q) ≡ E .tail (rowTold path′ (suc q))
         go (yes e) =
-            ap (λ y. E .head (row path′ y)) (sym e) ∙ head-j
-            ∙ sym (ap (E .tail) (past-j (suc q) (omega arith)) ∙ ap (λ y. E .tail (row path (suc y))) (sym e) ∙ r .starts (omega arith))
+            ap (λ y. E .head (rowTold path′ y)) (sym e) ∙ head-j
+            ∙ sym (ap (E .tail) (past-j (suc q) (omega arith)) ∙ ap (λ y. E .tail (rowTold path (suc y))) (sym e) ∙ r .starts (omega arith))
         go (no e) = ap (E .head) (past-j q (omega arith)) ∙ r .linked q (omega arith) m ∙ sym (ap (E .tail) (past-j (suc q) (omega arith)))
 
-    marks : (u q : ℕ) → row seen′ u ≡ suc q → (j ≤ q) × (q < top) × (E .head (row path′ q) ≡ u)
+    marks : (u q : ℕ) → rowTold seen′ u ≡ suc q → (j ≤ q) × (q < top) × (E .head (rowTold path′ q) ≡ u)
     marks u q e = go (ℕ-discrete u here)
       where
-        go : Dec (u ≡ here) → (j ≤ q) × (q < top) × (E .head (row path′ q) ≡ u)
+        go : Dec (u ≡ here) → (j ≤ q) × (q < top) × (E .head (rowTold path′ q) ≡ u)
         go (yes f) =
-            let y : suc j ≡ suc q = sym new-mark ∙ ap (row seen′) (sym f) ∙ e in
+            let y : suc j ≡ suc q = sym new-mark ∙ ap (rowTold seen′) (sym f) ∙ e in
             let x : j ≡ q = omega arith in
-            (omega arith, omega (arith, r .most), ap (λ y. E .head (row path′ y)) (sym x) ∙ head-j ∙ sym f)
+            (omega arith, omega (arith, r .most), ap (λ y. E .head (rowTold path′ y)) (sym x) ∙ head-j ∙ sym f)
         go (no f) =
             let m = r .marks u q (sym (old-mark u f) ∙ e) in
             (omega (arith, m .0), m .1, ap (E .head) (past-j q (m .0)) ∙ m .2)
@@ -159,7 +159,7 @@ module _ {X : Type 0} {𝓥 : Values X} (E : Edges X) (ends : Ends E) (b i : ℕ
       brings = each Brings (subst (λ u. Bettered 𝓥 E time D u i′) (sym (o .leads)) o) (r .brings);
       linked = link;
       starts = λ m. ap (E .tail) at-j;
-      marked = each Marked (ap (row seen′) (o .leads) ∙ new-mark)
-          (λ q l m. old-mark (E .head (row path q)) (unmet path seen here (suc j) r z q l m) ∙ r .marked q l m);
+      marked = each Marked (ap (rowTold seen′) (o .leads) ∙ new-mark)
+          (λ q l m. old-mark (E .head (rowTold path q)) (unmet path seen here (suc j) r z q l m) ∙ r .marked q l m);
       marks = marks;
     }

@@ -27,7 +27,7 @@ use Rattle.tableau.specs.Amounts.{limitIn}
 use Rattle.tableau.specs.Parts.{lowerGiven, rowOf, seatAt, upperGiven}
 use Rattle.tableau.specs.Stands.{Stands}
 use Rattle.sides.specs.Sides.{Modest, leastIn, mostIn}
-use Rattle.sides.proofs.Laws.Modest.{Near, lower-near, upper-near}
+use Rattle.sides.proofs.Laws.Modest.{NearLimit, lower-near, upper-near}
 use Rattle.sides.proofs.Laws.Sides.{gap-parts, stated}
 use Rattle.search.specs.Search.{Searchable, brokenAt, brokenLaid, leavingAt, leavingLaid, scaledAt, shortAt}
 use Rattle.search.specs.Search.{sideAt, tagged}
@@ -36,15 +36,15 @@ use Rattle.search.proofs.Laws.Searches.{leaving-is}
 use Rattle.search.proofs.Laws.Sums.{row-within}
 
 -- a limit that is missing counts as 0
-seated-near : (f : Limit → ℤ × ℤ) (g : Given) → Near (f (stated g)) → Near (seated pairs (mapped f (limitIn g)))
+seated-near : (f : Limit → ℤ × ℤ) (g : Given) → NearLimit (f (stated g)) → NearLimit (seated pairs (mapped f (limitIn g)))
 unfolding seated present mapped
 seated-near f g h = go (g .on)
   where
-    go : (b : Bool) → Near (seated pairs (mapped f (present b (stated g))))
+    go : (b : Bool) → NearLimit (seated pairs (mapped f (present b (stated g))))
     go true = h
     go false = record { plain = record { within = omega arith }; small = record { within = omega arith } }
 
-module _ (d : ℤ) (x y : ℤ × ℤ) (c : Within d largestNumber) (h : Near x) (m : Modest y) where
+module _ (d : ℤ) (x y : ℤ × ℤ) (c : Within d largestNumber) (h : NearLimit x) (m : Modest y) where
   below-short : Short (d *ℤ x .0 -ℤ y .0, d *ℤ x .1 -ℤ y .1)
   below-short = record {
     plain = within-- (within-* c (h .plain)) (m .plain);

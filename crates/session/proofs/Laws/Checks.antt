@@ -1,6 +1,6 @@
 -- What a check hands back, by whether there is room for an answer, and what that means.
 --   spent-limits          a run keeps its limits, those that are off too
---   short-is, long-is     the equations of the promise
+--   check-short, check-long     the equations of the promise
 --   slice-of              a session is a state from which a run may start, with no pivots yet
 --   checks-as             what they mean for every session of the rules that the struct stands for
 use mathlib.Core.Bool.{Bool, true, false}
@@ -17,7 +17,7 @@ use Rattle.rules.specs.Problem.{Problem, vars}
 use Rattle.rules.specs.Refusal.{first}
 use Rattle.rules.specs.Run.{after, bound}
 use Rattle.rules.specs.Session as rules
-use Rattle.rules.specs.Session.{checkAnswer, checkLength, checkRefusal, live, rested}
+use Rattle.rules.specs.Session.{checkAnswer, checkLength, checkRefusal, liveOf, rested}
 use Rattle.rules.specs.Slices as slices
 use Rattle.rules.specs.Slices.{continued, sliceLength, sliceOutput}
 use Rattle.rules.proofs.First.{first-hit, first-skip}
@@ -43,8 +43,8 @@ use Rattle.solver.proofs.Laws.Runs.{bound-small}
 use Rattle.solver.proofs.Laws.Slices.{holds-more, many-is, out-is}
 use Rattle.session.specs.declared.Checked.{Checked}
 use Rattle.session.specs.declared.Session.{Session}
-use Rattle.session.specs.Sessions.{CheckMeans, ChecksAs, Flags, Holds, Offers, Standing}
-use Rattle.session.specs.Sessions.{checkedAt, checkedWhere, outputAt, outputWhere, unlimited}
+use Rattle.session.specs.Sessions.{CheckMeans, ChecksAs, Flags, SessionHolds, Offers, SessionStanding}
+use Rattle.session.specs.Sessions.{checkedAt, checkedWhere, checkOutputAt, checkOutputWhere, unlimited}
 
 -- ---- a run keeps its limits
 
@@ -81,12 +81,12 @@ spent-limits t k b = go (conflictAt (t .limits) (manyOf t))
 
 -- ---- a session is a state from which a run may start
 
-module _ (A : rules.Session (ℤ × ℤ)) (s : Session) (H : Holds A s) where
+module _ (A : rules.Session (ℤ × ℤ)) (s : Session) (H : SessionHolds A s) where
   abbrev t : Tableau
   t = s .tableau
 
   abbrev P : Problem (ℤ × ℤ)
-  P = live A
+  P = liveOf A
 
   abbrev S : slices.Slice (ℤ × ℤ)
   S = record { problem = P; state = A .state; count = 0 }
@@ -113,7 +113,7 @@ module _ (A : rules.Session (ℤ × ℤ)) (s : Session) (H : Holds A s) where
   stands-rested = subst (Stands P (spentAt t 0 unlimited .tableau)) (check-sliced A (H .fair) unlimited enough .1)
       (holds-more slice-of unlimited .stands)
 
-  pub holds-rested : Holds (rested pairs A) (record { tableau = spentAt t 0 unlimited .tableau })
+  pub holds-rested : SessionHolds (rested pairs A) (record { tableau = spentAt t 0 unlimited .tableau })
   unfolding rested
   holds-rested = let e = sym (spent-limits t 0 unlimited) in record {
     stands = stands-rested;
@@ -130,24 +130,24 @@ module _ (s : Session) (before : List ℤ) where
   short = isShort (length before) (manyOf (s .tableau))
 
   by-room : (x : Bool) → short ≡ x →
-      (checkedWhere x s ≡ checkedAt s (length before)) × (outputWhere x s before ≡ outputAt s before)
-  unfolding checkedAt outputAt
-  by-room x q = (ap (λ y. checkedWhere y s) (sym q), ap (λ y. outputWhere y s before) (sym q))
+      (checkedWhere x s ≡ checkedAt s (length before)) × (checkOutputWhere x s before ≡ checkOutputAt s before)
+  unfolding checkedAt checkOutputAt
+  by-room x q = (ap (λ y. checkedWhere y s) (sym q), ap (λ y. checkOutputWhere y s before) (sym q))
 
-  pub short-is : short ≡ true →
-      (record { refused = 7; session = s } ≡ checkedAt s (length before)) × (before ≡ outputAt s before)
-  short-is = by-room true
+  pub check-short : short ≡ true →
+      (record { refused = 7; session = s } ≡ checkedAt s (length before)) × (before ≡ checkOutputAt s before)
+  check-short = by-room true
 
-  pub long-is : short ≡ false →
-      (checkedWhere false s ≡ checkedAt s (length before)) × (outAt (s .tableau) 0 unlimited before ≡ outputAt s before)
-  long-is = by-room false
+  pub check-long : short ≡ false →
+      (checkedWhere false s ≡ checkedAt s (length before)) × (outAt (s .tableau) 0 unlimited before ≡ checkOutputAt s before)
+  check-long = by-room false
 
-  module _ (A : rules.Session (ℤ × ℤ)) (H : Holds A s) where
+  module _ (A : rules.Session (ℤ × ℤ)) (H : SessionHolds A s) where
     room-is : (x : Bool) → short ≡ x → ltb (length before) (checkLength A) ≡ x
     room-is x q = ap (λ N. ltb (length before) (3 + 2 * N)) (sym (many-is (slice-of A s H))) ∙ q
 
     means-by : (x : Bool) → short ≡ x →
-        CheckMeans A before (checkedWhere x s) (outputWhere x s before)
+        CheckMeans A before (checkedWhere x s) (checkOutputWhere x s before)
     unfolding checkRefusal first
     means-by true q = record { number = sym (first-hit 7 [] (room-is true q)); output = refl; state = H }
     means-by false q = record {
@@ -156,16 +156,16 @@ module _ (s : Session) (before : List ℤ) where
       state = holds-rested A s H;
     }
 
-    means-at : CheckMeans A before (checkedAt s (length before)) (outputAt s before)
-    unfolding checkedAt outputAt
+    means-at : CheckMeans A before (checkedAt s (length before)) (checkOutputAt s before)
+    unfolding checkedAt checkOutputAt
     means-at = means-by (short) refl
 
-  pub checks-as : Standing s → {r : Checked} {after : List ℤ} →
-      r ≡ checkedAt s (length before) → after ≡ outputAt s before → ChecksAs s before r after
+  pub checks-as : SessionStanding s → {r : Checked} {after : List ℤ} →
+      r ≡ checkedAt s (length before) → after ≡ checkOutputAt s before → ChecksAs s before r after
   checks-as T {r} {after} e f = record {
     means = meant;
     standing = record { session = _; holds = meant (T .session) (T .holds) .state };
   }
     where
-      meant : (A : rules.Session (ℤ × ℤ)) → Holds A s → CheckMeans A before r after
+      meant : (A : rules.Session (ℤ × ℤ)) → SessionHolds A s → CheckMeans A before r after
       meant A H = subst₂ (CheckMeans A before) (sym e) (sym f) (means-at A H)

@@ -21,7 +21,7 @@ use Rattle.rules.specs.Limit.{Limit, lowerPair, present, upperPair}
 use Rattle.rules.specs.Problem.{Problem, inner, mapped, problem, vars}
 use Rattle.rules.specs.Refusal.{problemRefusal}
 use Rattle.rules.specs.Session as rules
-use Rattle.rules.specs.Session.{isOn, live, noneOn, opened}
+use Rattle.rules.specs.Session.{isOn, liveOf, noneOn, opened}
 use Rattle.rules.specs.Sizes.{largestLimit, mostColumns, mostVariables}
 use Rattle.rules.specs.Step.{start, startValue}
 use Rattle.rules.proofs.Sessions.Fair.{fair-opened}
@@ -39,8 +39,8 @@ use Rattle.slices.specs.Slices.{startedProblem, startedWords}
 use Rattle.slices.proofs.Laws.Starts.{started-fine}
 use Rattle.session.specs.declared.Opened.{Opened}
 use Rattle.session.specs.declared.Session.{Session}
-use Rattle.session.specs.Sessions.{Flags, Holds, Offers, OpensAs, openedAt}
-use Rattle.session.specs.Switching.{allOff, handedIn, noughts, offLimits, quietAt, switchedTo}
+use Rattle.session.specs.Sessions.{Flags, SessionHolds, Offers, OpensAs, openedAt}
+use Rattle.session.specs.Switching.{allOff, handedIn, zeroValues, offLimits, quietAt, switchedTo}
 use Rattle.session.proofs.Laws.Furnished.{stands-furnished}
 
 zero-within : {n : ℕ} → Within (pos 0) n
@@ -56,7 +56,7 @@ unfolding present
 handed-back none = refl
 handed-back (some l) = refl
 
-nought-at : (j : ℕ) → getD noughts j (pos 0) ≡ pos 0
+nought-at : (j : ℕ) → getD zeroValues j (pos 0) ≡ pos 0
 nought-at j = replicate-at mostColumns (pos 0) j
 
 module _ (P : Problem Limit) (F : Fitting P) where
@@ -117,7 +117,7 @@ module _ (P : Problem Limit) (F : Fitting P) where
   unfolding kept
   kept-off v o = ap (λ b. kept b o) (flag-off v)
 
-  serves-off : Serves (live A) off
+  serves-off : Serves (liveOf A) off
   unfolding opened
   serves-off = let S = serves-start P F in record {
     lower-is = λ v h. kept-off v (I .lower v) ∙ off-none lowerPair (lowerGiven off v) (lower-off v);
@@ -169,7 +169,7 @@ module _ (P : Problem Limit) (F : Fitting P) where
   abbrev t : Tableau
   t = quietAt (startTableau P)
 
-  stands-quiet : Stands (live A) t (A .state)
+  stands-quiet : Stands (liveOf A) t (A .state)
   unfolding quietAt startLaid opened
   stands-quiet = stands-furnished I noneOn (isOn A) stands-bare (record {
     tableau-is = refl;
@@ -191,7 +191,7 @@ module _ (P : Problem Limit) (F : Fitting P) where
     smalls-plain = λ e j. nought-at j;
   }
 
-  pub holds-quiet : Holds A (record { tableau = t })
+  pub holds-quiet : SessionHolds A (record { tableau = t })
   unfolding quietAt startLaid opened
   holds-quiet = record {
     stands = stands-quiet;
@@ -204,7 +204,7 @@ module _ (P : Problem Limit) (F : Fitting P) where
 -- ---- of words
 
 module _ (ws : List ℤ) where
-  opened-holds : Holds (opened pairs (inner (startedProblem ws))) (openedAt ws .session)
+  opened-holds : SessionHolds (opened pairs (inner (startedProblem ws))) (openedAt ws .session)
   unfolding openedAt
   opened-holds = let us : List ℤ = startedWords (problemRefusal ws) ws in
       holds-quiet (problem us) (fitting-accepted us (accepted-of us (started-fine ws)))

@@ -8,7 +8,7 @@ use native.Mathlib.Omega.{arith}
 use lib.IntN.{ℤ}
 use Rattle.rules.specs.Problem.{Problem, vars}
 use Rattle.rules.specs.Session as rules
-use Rattle.rules.specs.Session.{live}
+use Rattle.rules.specs.Session.{liveOf}
 use Rattle.rules.specs.Step.{State, seat}
 use Rattle.tableau.specs.declared.Tableau.{Tableau}
 use Rattle.tableau.specs.Parts.{columnOf, valueAt}
@@ -17,7 +17,7 @@ use Rattle.slices.proofs.Laws.Problem.{basic-too, common-same, entries-same, sa
 use Rattle.slices.specs.Slices.{SameProblem}
 use Rattle.session.specs.declared.Session.{Session}
 use Rattle.session.specs.Same.{SameSession}
-use Rattle.session.specs.Sessions.{Holds}
+use Rattle.session.specs.Sessions.{SessionHolds}
 
 -- a nonbasic variable has the value of its column place
 value-of : {P : Problem (ℤ × ℤ)} {t : Tableau} {s : State (ℤ × ℤ)} → Stands P t s → (v : ℕ) (y : ℤ × ℤ) → v < vars P →
@@ -25,8 +25,8 @@ value-of : {P : Problem (ℤ × ℤ)} {t : Tableau} {s : State (ℤ × ℤ)} →
 value-of {t = t} {s = s} S v y h e = let E = S .placed .has-column v y h e in
     ap (seat s) (sym (E .holds)) ∙ S .placed .in-column (columnOf t v) (E .in-columns) .is-seated
 
-module _ (A B : rules.Session (ℤ × ℤ)) (s : Session) (H : Holds A s) (K : Holds B s) where
-  same : SameProblem (live A) (live B)
+module _ (A B : rules.Session (ℤ × ℤ)) (s : Session) (H : SessionHolds A s) (K : SessionHolds B s) where
+  same : SameProblem (liveOf A) (liveOf B)
   same = same-problem (H .stands) (K .stands) (H .fair .rowed) (K .fair .rowed)
 
   in-both : {v : ℕ} → v < vars (A .given) → v < vars (B .given)

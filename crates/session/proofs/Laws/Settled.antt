@@ -18,7 +18,7 @@ use Rattle.rules.specs.Keeping.{kept}
 use Rattle.rules.specs.Limit.{Limit, inset, lowerPair, present, upperPair}
 use Rattle.rules.specs.Problem.{Problem, mapped, vars}
 use Rattle.rules.specs.Session as rules
-use Rattle.rules.specs.Session.{inside, insideSeat, isOn, live, settled}
+use Rattle.rules.specs.Session.{inside, insideSeat, isOn, liveOf, allInside}
 use Rattle.rules.specs.Sizes.{largestLimit, mostColumns}
 use Rattle.rules.specs.Step.{seat}
 use Rattle.rules.specs.SessionFacts.{Fair}
@@ -31,7 +31,7 @@ use Rattle.tableau.specs.Parts.{columnOf, lowerGiven, nonbasicAt, upperGiven, v
 use Rattle.tableau.specs.Stands.{HasColumn, Ranged, Serves, Stands}
 use Rattle.tableau.proofs.Laws.Fitting.{inset-within, outset-within}
 use Rattle.session.specs.declared.Session.{Session}
-use Rattle.session.specs.Sessions.{Flags, Holds, Offers}
+use Rattle.session.specs.Sessions.{Flags, SessionHolds, Offers}
 use Rattle.session.specs.Switching.{furnished, handedIn, insideAt, settledAt, settledBy, switchedTo}
 use Rattle.session.proofs.Laws.Furnished.{stands-furnished}
 use Rattle.session.proofs.Laws.Inside.{inside-each}
@@ -48,7 +48,7 @@ kept-is f g o e b q sworn =
     go true given l s = ap (λ c. mapped f (present c l)) (s refl)
     go false given l s = refl
 
-module _ (A : rules.Session (ℤ × ℤ)) (s : Session) (H : Holds A s) (lowers uppers : List Bool) (l : Limits)
+module _ (A : rules.Session (ℤ × ℤ)) (s : Session) (H : SessionHolds A s) (lowers uppers : List Bool) (l : Limits)
     (v : ℕ) where
   abbrev t : Tableau
   t = s .tableau
@@ -61,7 +61,7 @@ module _ (A : rules.Session (ℤ × ℤ)) (s : Session) (H : Holds A s) (lowers 
   B = record { given = G; lowersOn = lowers; uppersOn = uppers; state = A .state }
 
   abbrev C : rules.Session (ℤ × ℤ)
-  C = settled pairs B
+  C = allInside pairs B
 
   pub record Change : Type 0 where
     pub is-variable : v < vars G
@@ -77,7 +77,7 @@ module _ (A : rules.Session (ℤ × ℤ)) (s : Session) (H : Holds A s) (lowers 
   module _ (K : Change) (F : Fair pairs C) where
     -- ---- limits
 
-    serves-on : Serves (live B) l
+    serves-on : Serves (liveOf B) l
     serves-on = let S = H .stands .serves in record {
       lower-is = λ w h. kept-is lowerPair (lowerGiven l w) (G .lower w) (K .offers .lower-given w h)
           (getD lowers w false) (K .flags .lowers-are w h) (K .offers .lowers-sworn w);
@@ -96,17 +96,17 @@ module _ (A : rules.Session (ℤ × ℤ)) (s : Session) (H : Holds A s) (lowers 
     -- ---- values by the rules
 
     seat-now : (w : ℕ) → w < vars G →
-        seat (C .state) w ≡ insideSeat pairs (live B .lower w) (live B .upper w) (seat (A .state) w)
+        seat (C .state) w ≡ insideSeat pairs (liveOf B .lower w) (liveOf B .upper w) (seat (A .state) w)
     seat-now w h = seat-settled pairs B w h
 
     seat-basic : (w : ℕ) → w < vars G → seat (A .state) w ≡ none → seat (C .state) w ≡ none
     unfolding insideSeat
-    seat-basic w h e = seat-now w h ∙ ap (insideSeat pairs (live B .lower w) (live B .upper w)) e
+    seat-basic w h e = seat-now w h ∙ ap (insideSeat pairs (liveOf B .lower w) (liveOf B .upper w)) e
 
     seat-seated : (w : ℕ) (x : ℤ × ℤ) → w < vars G → seat (A .state) w ≡ some x →
-        seat (C .state) w ≡ some (inside pairs (live B .lower w) (live B .upper w) x)
+        seat (C .state) w ≡ some (inside pairs (liveOf B .lower w) (liveOf B .upper w) x)
     unfolding insideSeat
-    seat-seated w x h e = seat-now w h ∙ ap (insideSeat pairs (live B .lower w) (live B .upper w)) e
+    seat-seated w x h e = seat-now w h ∙ ap (insideSeat pairs (liveOf B .lower w) (liveOf B .upper w)) e
 
     was-basic : (w : ℕ) → w < vars G → seat (C .state) w ≡ none → seat (A .state) w ≡ none
     was-basic w h e = go (seat (A .state) w) refl
@@ -121,11 +121,11 @@ module _ (A : rules.Session (ℤ × ℤ)) (s : Session) (H : Holds A s) (lowers 
     on-now = furnished t (t .values) (t .smalls) l
 
     abbrev Held : Tableau → Type 0
-    Held u = Stands (live C) u (C .state) × Ranged u × (u .limits ≡ l)
+    Held u = Stands (liveOf C) u (C .state) × Ranged u × (u .limits ≡ l)
 
     -- where the variable is basic no value changes
     basic-held : seat (A .state) v ≡ none → Held on-now
-    unfolding settled
+    unfolding allInside
     basic-held e = (
       stands-furnished G (isOn A) (isOn B) (H .stands) (record {
         tableau-is = refl;
@@ -152,7 +152,7 @@ module _ (A : rules.Session (ℤ × ℤ)) (s : Session) (H : Holds A s) (lowers 
     )
 
     -- where it is not, it goes inside its limits
-    module _ (E : HasColumn (live A) t v) where
+    module _ (E : HasColumn (liveOf A) t v) where
       abbrev q : ℕ
       q = columnOf t v
 
@@ -201,7 +201,7 @@ module _ (A : rules.Session (ℤ × ℤ)) (s : Session) (H : Holds A s) (lowers 
           go (no n) = subst Q (sym (value-else j n)) (h j)
 
       column-held : Held u
-      unfolding settled
+      unfolding allInside
       column-held = (
         stands-furnished G (isOn A) (isOn B) (H .stands) (record {
           tableau-is = refl;
@@ -238,8 +238,8 @@ module _ (A : rules.Session (ℤ × ℤ)) (s : Session) (H : Holds A s) (lowers 
         go (some x) e = let E = H .stands .placed .has-column v x (K .is-variable) e in
             subst Held (ap (λ b. settledBy b on-now v) (sym (E .flag))) (column-held E)
 
-    pub holds-settled : Holds C (record { tableau = settledAt on-now v })
-    unfolding settled
+    pub holds-settled : SessionHolds C (record { tableau = settledAt on-now v })
+    unfolding allInside
     holds-settled = let (St, R, e) = settled-held in record {
       stands = St;
       ranged = R;

@@ -24,7 +24,7 @@ use Rattle.rules.specs.Limit.{Limit, lowerPair, present, upperPair}
 use Rattle.rules.specs.Problem.{mapped, vars}
 use Rattle.rules.specs.Refusal.{first}
 use Rattle.rules.specs.Session as rules
-use Rattle.rules.specs.Session.{flagged, isMissing, isOn, live, settled, switchRefusal, switchTests}
+use Rattle.rules.specs.Session.{flagged, isMissing, isOn, liveOf, allInside, switchRefusal, switchTests}
 use Rattle.rules.specs.Sizes.{mostColumns, mostVariables}
 use Rattle.rules.specs.Step.{above, below, seat}
 use Rattle.rules.proofs.First.{first-hit, first-skip}
@@ -39,9 +39,9 @@ use Rattle.search.proofs.Laws.Searches.{all-vars}
 use Rattle.solver.specs.Spend.{manyOf}
 use Rattle.session.specs.declared.Session.{Session}
 use Rattle.session.specs.declared.Switched.{Switched}
-use Rattle.session.specs.Sessions.{Holds, Standing, SwitchMeans, SwitchesAs, switchedAt, switchedBy}
+use Rattle.session.specs.Sessions.{SessionHolds, SessionStanding, SwitchMeans, SwitchesAs, switchedAt, switchedBy}
 use Rattle.session.specs.Switching.{Settleable, flaggedAt, givenAt, handedIn, limitRefusal, limitTests}
-use Rattle.session.specs.Switching.{refusalAt, sideOf, switchedTo, turnedAt}
+use Rattle.session.specs.Switching.{refusalAt, sideTold, switchedTo, turnedAt}
 use Rattle.session.proofs.Laws.Settled.{holds-settled}
 
 -- ---- the number
@@ -131,12 +131,12 @@ module _ (s : Session) (v : ℕ) (upper on : Bool) where
 
   -- ---- what it means
 
-  module _ (A : rules.Session (ℤ × ℤ)) (H : Holds A s) where
+  module _ (A : rules.Session (ℤ × ℤ)) (H : SessionHolds A s) where
     abbrev N : ℕ
     N = vars (A .given)
 
     many : manyOf t ≡ N
-    many = all-vars (live A) t (A .state) (H .stands) (H .fair .rowed)
+    many = all-vars (liveOf A) t (A .state) (H .stands) (H .fair .rowed)
 
     few : v < N → v < mostVariables
     few h = let a = H .stands .sized .few-rows in let b = H .stands .sized .few-columns in omega arith
@@ -152,22 +152,22 @@ module _ (s : Session) (v : ℕ) (upper on : Bool) where
         go e (some x) q = let a = H .stands .placed .has-column v x known q .in-columns in
             let b = H .stands .sized .few-columns in omega arith
 
-    limit-is : (b : Bool) → v < N → isMissing (limitOf (A .given) (sideOf b) v) ≡ not (givenAt b (t .limits) v .given)
+    limit-is : (b : Bool) → v < N → isMissing (limitOf (A .given) (sideTold b) v) ≡ not (givenAt b (t .limits) v .given)
     limit-is true h = ap isMissing (H .offers .upper-given v h) ∙ missing-is upperPair _ _
     limit-is false h = ap isMissing (H .offers .lower-given v h) ∙ missing-is lowerPair _ _
 
-    flag-is : (b : Bool) → v < N → isOn A (sideOf b) v ≡ givenAt b (t .limits) v .on
+    flag-is : (b : Bool) → v < N → isOn A (sideTold b) v ≡ givenAt b (t .limits) v .on
     flag-is true h = H .flags .uppers-are v h
     flag-is false h = H .flags .lowers-are v h
 
-    pub refusal-is : refusalAt t v upper on ≡ switchRefusal A v (sideOf upper) on
+    pub refusal-is : refusalAt t v upper on ≡ switchRefusal A v (sideTold upper) on
     unfolding refusalAt switchRefusal switchTests limitTests
     refusal-is = go (decLt v N)
       where
-        go : Dec (v < N) → refusalAt t v upper on ≡ switchRefusal A v (sideOf upper) on
+        go : Dec (v < N) → refusalAt t v upper on ≡ switchRefusal A v (sideTold upper) on
         go (yes h) = ap₂ (λ (k : ℕ) (b : Bool). first ((not (ltb v k), 41) ∷ (b, 42) ∷ (on && g .on, 43)
             ∷ (not on && not (g .on), 44) ∷ [])) many (sym (limit-is upper h))
-            ∙ ap (λ (b : Bool). first ((not (ltb v N), 41) ∷ (isMissing (limitOf (A .given) (sideOf upper) v), 42)
+            ∙ ap (λ (b : Bool). first ((not (ltb v N), 41) ∷ (isMissing (limitOf (A .given) (sideTold upper) v), 42)
             ∷ (on && b, 43) ∷ (not on && not b, 44) ∷ [])) (sym (flag-is upper h))
         go (no h) = first-hit 41 _ (ap not (le-ltb v (manyOf t) (rw many (omega arith))))
             ∙ sym (first-hit 41 _ (ap not (le-ltb v N (omega arith))))
@@ -195,8 +195,8 @@ module _ (s : Session) (v : ℕ) (upper on : Bool) where
 
     -- the limit of one side, on or off
     change : (b : Bool) → v < N → givenAt b (t .limits) v .given ≡ true →
-        Fair pairs (settled pairs (flagged A v (sideOf b) on)) →
-        Holds (settled pairs (flagged A v (sideOf b) on)) (record { tableau = turnedAt t v b on })
+        Fair pairs (allInside pairs (flagged A v (sideTold b) on)) →
+        SessionHolds (allInside pairs (flagged A v (sideTold b) on)) (record { tableau = turnedAt t v b on })
     unfolding flagged flaggedAt turnedAt
     change false h there F =
         let l = t .limits in let O = H .offers in let Fl = H .flags in
@@ -251,26 +251,26 @@ module _ (s : Session) (v : ℕ) (upper on : Bool) where
 
     means-by : (k : ℕ) → refusalAt t v upper on ≡ k → SwitchMeans A v upper on (switchedBy k s v upper on)
     means-by zero q =
-        let e = sym refusal-is ∙ q in let h = known-fine q in let d = switched-done pairs A v (sideOf upper) on e in
+        let e = sym refusal-is ∙ q in let h = known-fine q in let d = switched-done pairs A v (sideTold upper) on e in
         record {
           number = sym e;
-          state = subst (λ X. Holds X (record { tableau = turnedAt t v upper on })) (sym d)
+          state = subst (λ X. SessionHolds X (record { tableau = turnedAt t v upper on })) (sym d)
               (change upper (rw (← many) h) (given-fine g (sym (past-first h) ∙ q))
-              (subst (Fair pairs) d (fair-switched pairs pairs-laws A v (sideOf upper) on (H .fair))));
+              (subst (Fair pairs) d (fair-switched pairs pairs-laws A v (sideTold upper) on (H .fair))));
         }
     means-by (suc k) q =
-        let e = sym refusal-is ∙ q in let d = switched-refused pairs A v (sideOf upper) on k e in
-        record { number = sym e; state = subst (λ X. Holds X s) (sym d) H }
+        let e = sym refusal-is ∙ q in let d = switched-refused pairs A v (sideTold upper) on k e in
+        record { number = sym e; state = subst (λ X. SessionHolds X s) (sym d) H }
 
     means-at : SwitchMeans A v upper on (switchedAt s v upper on)
     unfolding switchedAt
     means-at = means-by (refusalAt t v upper on) refl
 
-  pub switches-as : Standing s → {r : Switched} → r ≡ switchedAt s v upper on → SwitchesAs s v upper on r
+  pub switches-as : SessionStanding s → {r : Switched} → r ≡ switchedAt s v upper on → SwitchesAs s v upper on r
   switches-as T {r} e = record {
     means = meant;
     standing = record { session = _; holds = meant (T .session) (T .holds) .state };
   }
     where
-      meant : (A : rules.Session (ℤ × ℤ)) → Holds A s → SwitchMeans A v upper on r
+      meant : (A : rules.Session (ℤ × ℤ)) → SessionHolds A s → SwitchMeans A v upper on r
       meant A H = subst (SwitchMeans A v upper on) (sym e) (means-at A H)

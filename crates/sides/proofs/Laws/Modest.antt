@@ -1,5 +1,5 @@
 -- What a limit stands for, and D times it, are small.
---   Near                        what a limit may stand for
+--   NearLimit                        what a limit may stand for
 --   lower-near, upper-near      what a lower and an upper limit stands for
 --   limit-modest                D times that
 use mathlib.Core.Bool.{Bool, false, true}
@@ -14,7 +14,7 @@ use Rattle.tableau.specs.declared.Given.{Given}
 use Rattle.tableau.specs.Amounts.{givenLower, givenUpper}
 use Rattle.sides.specs.Sides.{Modest}
 
-pub record Near (x : ℤ × ℤ) : Type 0 where
+pub record NearLimit (x : ℤ × ℤ) : Type 0 where
   pub plain : Within (x .0) largestLimit
   pub small : Within (x .1) 1
 
@@ -23,13 +23,13 @@ inset-within true = record { within = omega arith }
 inset-within false = record { within = omega arith }
 
 module _ (g : Given) (h : Within (g .plain) largestLimit) where
-  pub lower-near : Near (givenLower g)
+  pub lower-near : NearLimit (givenLower g)
   lower-near = record { plain = h; small = inset-within (g .strict) }
 
-  pub upper-near : Near (givenUpper g)
+  pub upper-near : NearLimit (givenUpper g)
   upper-near = record { plain = h; small = within-neg (inset-within (g .strict)) }
 
-pub limit-modest : (d : ℤ) (x : ℤ × ℤ) → Within d largestNumber → Near x → Modest (pairs .scale d x)
+pub limit-modest : (d : ℤ) (x : ℤ × ℤ) → Within d largestNumber → NearLimit x → Modest (pairs .scale d x)
 limit-modest d x c h = record {
   plain = within-le (within-* c (h .plain)) (omega arith);
   small = within-le (within-* c (h .small)) (omega arith);

@@ -134,20 +134,20 @@ first-alone false = refl
 
 -- the sign of the entry says which of the two tests counts
 module _ (x : ℤ × ℤ) (p : LimitPair) where
-  abbrev pub joined : Bool → Bool → Bool
-  joined idle falls = not idle && ((falls && mayFall pairs x (lowerIn p)) || (not falls && mayRise pairs x (upperIn p)))
+  abbrev pub suitsJoined : Bool → Bool → Bool
+  suitsJoined idle falls = not idle && ((falls && mayFall pairs x (lowerIn p)) || (not falls && mayRise pairs x (upperIn p)))
 
   abbrev pub falls : Bool → ℤ → Bool
   falls rises e = Bool·beq (ltZ e (pos 0)) rises
 
-  pub suits-joined : (rises : Bool) (e : ℤ) → joined (eqZ e (pos 0)) (falls rises e) ≡ suitsOf rises e x p
+  pub suits-joined : (rises : Bool) (e : ℤ) → suitsJoined (eqZ e (pos 0)) (falls rises e) ≡ suitsOf rises e x p
   unfolding suitsOf suits pull
   suits-joined true (pos zero) = refl
   suits-joined false (pos zero) = refl
   suits-joined true (pos (suc k)) =
-      ap₂ (λ z b. joined z (Bool·beq b true)) (ne-eqb (suc k) 0 (λ e. omega arith)) (not-below k)
+      ap₂ (λ z b. suitsJoined z (Bool·beq b true)) (ne-eqb (suc k) 0 (λ e. omega arith)) (not-below k)
   suits-joined false (pos (suc k)) =
-      ap₂ (λ z b. joined z (Bool·beq b false)) (ne-eqb (suc k) 0 (λ e. omega arith)) (not-below k)
+      ap₂ (λ z b. suitsJoined z (Bool·beq b false)) (ne-eqb (suc k) 0 (λ e. omega arith)) (not-below k)
       ∙ first-alone (mayFall pairs x (lowerIn p))
   suits-joined true (negsuc k) = first-alone (mayFall pairs x (lowerIn p))
   suits-joined false (negsuc k) = refl

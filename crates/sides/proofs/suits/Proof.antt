@@ -12,7 +12,7 @@ use Rattle.whole.proofs.Tells.{bits-eq}
 use Rattle.rules.specs.Step.{mayFall, mayRise}
 use Rattle.tableau.specs.Amounts.{pairIn}
 use Rattle.sides.specs.Sides.{lowerIn, upperIn}
-use Rattle.sides.proofs.Laws.Sides.{falls, joined, suits-joined}
+use Rattle.sides.proofs.Laws.Sides.{falls, suitsJoined, suits-joined}
 use Rattle.sides.proofs.suits.Statement.{statement}
 use Rattle.sides.proofs.suits.Tie as tie
 
@@ -39,7 +39,7 @@ zero-fits = record { sfits = lit< tt }
 returns : tie.Need-returns
 returns c = let s = start c in let a = s .args in
     simp (toZ-ofZ (s .fits .entry), fall-is c, rise-is c)
-    (ap (λ z. joined (pairIn (a .value)) (a .limits) z (falls (pairIn (a .value)) (a .limits) (a .rises) (a .entry)))
+    (ap (λ z. suitsJoined (pairIn (a .value)) (a .limits) z (falls (pairIn (a .value)) (a .limits) (a .rises) (a .entry)))
     (bits-eq w32 (s .fits .entry) zero-fits)
     ∙ suits-joined (pairIn (a .value)) (a .limits) (a .rises) (a .entry))
 

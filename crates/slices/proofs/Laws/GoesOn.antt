@@ -1,5 +1,5 @@
 -- What a continue hands back, by whether there is room for an answer, and what that means.
---   short-is, long-is     the equations of the promise
+--   slice-short, slice-long     the equations of the promise
 --   goes-on-as            what they mean for every state of the rules' run that the struct stands for
 use mathlib.Core.Bool.{Bool, true, false}
 use mathlib.Core.List.{List, []}
@@ -17,34 +17,34 @@ use Rattle.solver.specs.Spend.{manyOf, outAt, spentAt}
 use Rattle.solver.proofs.Laws.Slices.{holds-more, many-is, out-is}
 use Rattle.slices.specs.declared.Continued.{Continued}
 use Rattle.slices.specs.declared.Slice.{Slice}
-use Rattle.slices.specs.Slices.{GoesOnAs, Holds, Means, Standing}
-use Rattle.slices.specs.Slices.{outputAt, outputWhere, wentOnAt, wentOnBy, wentOnWhere}
+use Rattle.slices.specs.Slices.{GoesOnAs, SliceHolds, Means, SliceStanding}
+use Rattle.slices.specs.Slices.{sliceOutputAt, sliceOutputWhere, wentOnAt, wentOnBy, wentOnWhere}
 
 module _ (s : Slice) (b : ℕ) (before : List ℤ) where
   abbrev short : Bool
   short = isShort (length before) (manyOf (s .tableau))
 
   by-room : (x : Bool) → short ≡ x →
-      (wentOnWhere x s b ≡ wentOnAt s b (length before)) × (outputWhere x s b before ≡ outputAt s b before)
-  unfolding wentOnAt outputAt
-  by-room x q = (ap (λ y. wentOnWhere y s b) (sym q), ap (λ y. outputWhere y s b before) (sym q))
+      (wentOnWhere x s b ≡ wentOnAt s b (length before)) × (sliceOutputWhere x s b before ≡ sliceOutputAt s b before)
+  unfolding wentOnAt sliceOutputAt
+  by-room x q = (ap (λ y. wentOnWhere y s b) (sym q), ap (λ y. sliceOutputWhere y s b before) (sym q))
 
-  pub short-is : short ≡ true →
+  pub slice-short : short ≡ true →
       (record { refused = 7; answered = false; slice = s } ≡ wentOnAt s b (length before))
-      × (before ≡ outputAt s b before)
-  short-is = by-room true
+      × (before ≡ sliceOutputAt s b before)
+  slice-short = by-room true
 
-  pub long-is : short ≡ false →
+  pub slice-long : short ≡ false →
       (wentOnBy (spentAt (s .tableau) (s .count) b) ≡ wentOnAt s b (length before))
-      × (outAt (s .tableau) (s .count) b before ≡ outputAt s b before)
-  long-is = by-room false
+      × (outAt (s .tableau) (s .count) b before ≡ sliceOutputAt s b before)
+  slice-long = by-room false
 
-  module _ (S : rules.Slice (ℤ × ℤ)) (H : Holds S s) where
+  module _ (S : rules.Slice (ℤ × ℤ)) (H : SliceHolds S s) where
     room-is : (x : Bool) → short ≡ x → ltb (length before) (sliceLength S) ≡ x
     room-is x q = ap (λ N. ltb (length before) (3 + 2 * N)) (sym (many-is H)) ∙ q
 
     means-by : (x : Bool) → short ≡ x →
-        Means S b before (wentOnWhere x s b) (outputWhere x s b before)
+        Means S b before (wentOnWhere x s b) (sliceOutputWhere x s b before)
     unfolding sliceRefusal sliceOutput first
     means-by true q =
         record { number = sym (first-hit 7 [] (room-is true q)); answered = refl; output = refl; state = H }
@@ -55,16 +55,16 @@ module _ (s : Slice) (b : ℕ) (before : List ℤ) where
       state = holds-more H b;
     }
 
-    means-at : Means S b before (wentOnAt s b (length before)) (outputAt s b before)
-    unfolding wentOnAt outputAt
+    means-at : Means S b before (wentOnAt s b (length before)) (sliceOutputAt s b before)
+    unfolding wentOnAt sliceOutputAt
     means-at = means-by (short) refl
 
-  pub goes-on-as : Standing s → {r : Continued} {after : List ℤ} →
-      r ≡ wentOnAt s b (length before) → after ≡ outputAt s b before → GoesOnAs s b before r after
+  pub goes-on-as : SliceStanding s → {r : Continued} {after : List ℤ} →
+      r ≡ wentOnAt s b (length before) → after ≡ sliceOutputAt s b before → GoesOnAs s b before r after
   goes-on-as T {r} {after} e f = record {
     means = λ S H. meant S H;
     standing = record { slice = _; holds = meant (T .slice) (T .holds) .state };
   }
     where
-      meant : (S : rules.Slice (ℤ × ℤ)) → Holds S s → Means S b before r after
+      meant : (S : rules.Slice (ℤ × ℤ)) → SliceHolds S s → Means S b before r after
       meant S H = subst₂ (Means S b before) (sym e) (sym f) (means-at S H)

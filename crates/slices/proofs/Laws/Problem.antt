@@ -20,7 +20,7 @@ use Rattle.tableau.specs.declared.Tableau.{Tableau}
 use Rattle.tableau.specs.Parts.{columnOf, rowOf}
 use Rattle.tableau.specs.Stands.{Stands}
 use Rattle.slices.specs.declared.Slice.{Slice}
-use Rattle.slices.specs.Slices.{Holds, SameProblem}
+use Rattle.slices.specs.Slices.{SliceHolds, SameProblem}
 
 module _ {P Q : Problem (ℤ × ℤ)} {t : Tableau} {s x : State (ℤ × ℤ)} (A : Stands P t s) (B : Stands Q t x)
     (R : Rowed pairs P s) (S : Rowed pairs Q x) where
@@ -89,7 +89,7 @@ module _ {P Q : Problem (ℤ × ℤ)} {t : Tableau} {s x : State (ℤ × ℤ)} (
     uppers = λ v h. A .serves .upper-is v h ∙ sym (B .serves .upper-is v (in-both h));
   }
 
-pub problem-only : {S T : rules.Slice (ℤ × ℤ)} {s : Slice} → Holds S s → Holds T s →
+pub problem-only : {S T : rules.Slice (ℤ × ℤ)} {s : Slice} → SliceHolds S s → SliceHolds T s →
     SameProblem (S .problem) (T .problem) × (S .count ≡ T .count)
 problem-only {S} {T} A B = (
   same-problem (A .stands) (B .stands) (on-way-rowed S (A .on-way)) (on-way-rowed T (B .on-way)),

@@ -20,7 +20,7 @@ use Rattle.tableau.specs.declared.Tableau.{Tableau}
 use Rattle.tableau.specs.Start.{startTableau}
 use Rattle.solver.proofs.Laws.Refusals.{holds-start}
 use Rattle.slices.specs.declared.Begun.{Begun}
-use Rattle.slices.specs.Slices.{Holds, StartsAs, begunAt, idle, startedProblem, startedWords}
+use Rattle.slices.specs.Slices.{SliceHolds, StartsAs, begunAt, idle, startedProblem, startedWords}
 
 pub idle-fine : problemRefusal idle ≡ 0
 unfolding problemRefusal problemTests first tooFew badSize badLength badCoefficient badKind badLimit someBlank blankRow
@@ -35,7 +35,7 @@ module _ (ws : List ℤ) where
       go zero e = e
       go (suc k) e = idle-fine
 
-  begun-holds : Holds (begun pairs (inner (startedProblem ws))) (begunAt ws .slice)
+  begun-holds : SliceHolds (begun pairs (inner (startedProblem ws))) (begunAt ws .slice)
   unfolding begunAt
   begun-holds = holds-start (startedWords (problemRefusal ws) ws) (startTableau (startedProblem ws)) refl started-fine
 

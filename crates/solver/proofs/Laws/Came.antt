@@ -15,7 +15,7 @@ use Rattle.tableau.specs.declared.Tableau.{Tableau}
 use Rattle.tableau.specs.Stands.{Ranged, Stands}
 use Rattle.search.specs.Search.{blockedAt}
 use Rattle.steps.specs.declared.End.the-variants as ends
-use Rattle.steps.specs.Step.{Course, Stepped, over, steppedAt}
+use Rattle.steps.specs.Step.{Course, StepAt, over, steppedAt}
 use Rattle.steps.proofs.Laws.Steps.{StepIs, ends-can, ends-cannot, ends-range, goes-to, step-is}
 use Rattle.solver.specs.Came.{Came, CourseIs, over-can, over-cannot, over-range, still-on}
 use Rattle.solver.specs.Spend.{Ran, counted, ranAt, spentBy}
@@ -60,12 +60,12 @@ module _ {P : Problem (ℤ × ℤ)} where
 
       go : StepIs P t s → ((u : Tableau) (x : State (ℤ × ℤ)) → Stands P u x → Rowed pairs P x → Ranged u →
           Came P (ranAt u b) (run pairs b P x (suc k)) (suc k)) → Came P (ranAt t (suc b)) (run pairs (suc b) P s k) k
-      go (ends-can q z) rest = ends-here ends.Can can (ap (λ (y : Stepped). y .course) q) z tt over-can
-      go (ends-cannot r q l z) rest = ends-here (ends.Cannot (blockedAt t r)) _ (ap (λ (y : Stepped). y .course) q) z
+      go (ends-can q z) rest = ends-here ends.Can can (ap (λ (y : StepAt). y .course) q) z tt over-can
+      go (ends-cannot r q l z) rest = ends-here (ends.Cannot (blockedAt t r)) _ (ap (λ (y : StepAt). y .course) q) z
           (unfold evidence in tt) (over-cannot r l)
-      go (ends-range q z) rest = ends-here ends.Range range (ap (λ (y : Stepped). y .course) q) z tt over-range
+      go (ends-range q z) rest = ends-here ends.Range range (ap (λ (y : StepAt). y .course) q) z tt over-range
       go (goes-to u x q z st rg) rest =
           subst (λ r. Came P r (run pairs (suc b) P s k) k)
-          (sym (ap (λ (y : Stepped). spentBy (y .course) t (ranAt (y .tableau) b)) q))
+          (sym (ap (λ (y : StepAt). spentBy (y .course) t (ranAt (y .tableau) b)) q))
           (subst (λ e. Came P (counted (ranAt u b)) e k) (sym (run-on pairs b P s x k z))
           (one-more (ranAt u b) (run pairs b P x (suc k)) k (rest u x st (rowed-goes pairs P s x R z) rg)))

@@ -1,5 +1,5 @@
 -- The run by place goes as the run of the state: each turn is its step.
---   Going, going         after k steps that go on the tableau stands for the state after k steps, and the run has k
+--   Going, run-goes         after k steps that go on the tableau stands for the state after k steps, and the run has k
 -- pivots   held-begun, held-after    so a step may be asked of it
 --   after-none, after-more, goes-more    no step yet, and one more
 --   bound-small          the bound on its pivots fits
@@ -72,13 +72,13 @@ module _ {t : Tableau} (H : Held t) where
           one i h (yes j) = rw (j, z) tt
           one i h (no j) = G .runs i (omega arith)
 
-  pub going : (k : ℕ) → GoesOn t k → Going P s (afterAt t k) k
+  pub run-goes : (k : ℕ) → GoesOn t k → Going P s (afterAt t k) k
   unfolding afterLaid after
-  going zero g = record { stands = H .stands; runs = λ i h. let z : ⊥ = omega arith in absurd z; ranged = H .ranged }
-  going (suc k) g = turn k (afterAt t k) (going k (λ i h. g i (omega arith))) (g k (omega arith))
+  run-goes zero g = record { stands = H .stands; runs = λ i h. let z : ⊥ = omega arith in absurd z; ranged = H .ranged }
+  run-goes (suc k) g = turn k (afterAt t k) (run-goes k (λ i h. g i (omega arith))) (g k (omega arith))
 
   pub held-after : (k : ℕ) → GoesOn t k → Held (afterAt t k)
-  held-after k g = let G = going k g in
+  held-after k g = let G = run-goes k g in
       record { problem = P; state = after pairs P s k; stands = G .stands; rowed = rowed-at k; ranged = G .ranged }
 
 pub goes-more : (t : Tableau) (k : ℕ) → GoesOn t k → steppedAt (afterAt t k) .course ≡ on → GoesOn t (k + 1)

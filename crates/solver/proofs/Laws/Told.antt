@@ -1,7 +1,7 @@
 -- The words of a run that is over are those of the rules' run.
 --   came-many, told-came, tellable-came    by where a run with pivots to spend came: as many variables as the problem
 -- has,                                          the words, and what writing them needs
---   last-many, told, ended-tellable        the same of a run that is finished, with the answer of the rules
+--   last-many, told-answer, ended-tellable        the same of a run that is finished, with the answer of the rules
 use mathlib.Core.List.{_∷_, _++_}
 use mathlib.Core.Path.{_≡_, ap, ap₂, refl, subst, sym, _∙_}
 use Prim.Native.Nat.{ℕ, _+_, _*_, _<_}
@@ -36,7 +36,7 @@ use Rattle.solver.specs.Run.{Finished, Startable, Tellable, endWords, wo
 use Rattle.solver.specs.Spend.{Ran, manyOf, ranAt}
 use Rattle.solver.specs.Came.{Came, CourseIs, over-can, over-cannot, over-range, still-on}
 use Rattle.solver.proofs.Laws.Came.{came}
-use Rattle.solver.proofs.Laws.Runs.{bound-small, going, held-begun}
+use Rattle.solver.proofs.Laws.Runs.{bound-small, run-goes, held-begun}
 use Rattle.solver.proofs.Laws.Spends.{ran-over}
 
 twice : (N : ℕ) (a : ℤ) → replicate N a ++ replicate N a ≡ replicate (2 * N) a
@@ -103,7 +103,7 @@ module _ {t : Tableau} (S : Startable t) {e : End} {k : ℕ} {u : Tableau} (F : 
   few : k < bound Q
   few = let A = no-conflict pairs Q (S .uncrossed) in
       below-bound pairs pairs-laws Q s A (ready-sound pairs Q s A (S .begun .ready)) (S .begun .ready .seated-many) k
-      (going (held-begun (S .begun)) k (F .goes-on) .runs)
+      (run-goes (held-begun (S .begun)) k (F .goes-on) .runs)
 
   abbrev ran : Ran
   ran = record { tableau = u; course = over e; count = k }
@@ -120,9 +120,9 @@ module _ {t : Tableau} (S : Startable t) {e : End} {k : ℕ} {u : Tableau} (F : 
   pub last-many : manyOf u ≡ manyOf t
   last-many = came-many came-there ∙ sym (all-vars Q t s (S .begun .stands) (S .begun .ready .rowed))
 
-  pub told : endWords e k u (manyOf u) ≡ answerFrom Q s
+  pub told-answer : endWords e k u (manyOf u) ≡ answerFrom Q s
   unfolding answerFrom ending
-  told = ap₂ (λ j N. endWords e j u N) (sym (zero-add k)) (came-many came-there) ∙ told-came came-there e refl
+  told-answer = ap₂ (λ j N. endWords e j u N) (sym (zero-add k)) (came-many came-there) ∙ told-came came-there e refl
       ∙ ap (wordsOf Q) (sym (spending-run pairs Q (S .uncrossed) (bound Q) s 0))
 
   pub ended-tellable : Tellable e (0 + k) u

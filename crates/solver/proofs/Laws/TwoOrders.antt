@@ -54,7 +54,7 @@ use Rattle.solver.specs.Run.{Begun, Finished, FinishedLaid, GoesOn, Goes
 use Rattle.solver.specs.Run.{afterAt, afterLaid, endWords, wordsLaid}
 use Rattle.solver.proofs.Laws.Refusals.{begun-start, start-many}
 use Rattle.solver.proofs.Laws.Runs.{held-after, held-begun}
-use Rattle.solver.proofs.Laws.Told.{ended-tellable, last-many, told}
+use Rattle.solver.proofs.Laws.Told.{ended-tellable, last-many, told-answer}
 
 -- ---- one step
 
@@ -201,7 +201,7 @@ module _ {o : Order} {t s : Tableau} (T : Startable t) (Q : SameTableau inUse o 
 
   answer-is : wordsLaid o e k w (t .rows + t .columns) ≡ answerFrom (T .begun .problem) (T .begun .state)
   answer-is = same-answer (t .rows + t .columns)
-      ∙ ap (endWords e k (afterAt t k)) (sym (last-many T finished)) ∙ told T finished
+      ∙ ap (endWords e k (afterAt t k)) (sym (last-many T finished)) ∙ told-answer T finished
 
 -- ---- from the start of accepted words
 

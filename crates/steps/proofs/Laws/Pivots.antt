@@ -25,9 +25,9 @@ use Rattle.tableau.proofs.Laws.Turns as turns
 use Rattle.tableau.proofs.Laws.Turns.{Turn, leaving-row}
 use Rattle.sides.specs.Sides.{rising}
 use Rattle.search.specs.Search.{choiceAt}
-use Rattle.steps.specs.Step.{Movable, fitsBy, limitOf, movedAt, movedLaid}
+use Rattle.steps.specs.Step.{Movable, fitsBy, violatedPair, movedAt, movedLaid}
 
-limit-by : (σ : Side) (l : Limits) (v : ℕ) → limitOf (rising σ) (lowerGiven l v) (upperGiven l v) ≡ limitNumber σ l v
+limit-by : (σ : Side) (l : Limits) (v : ℕ) → violatedPair (rising σ) (lowerGiven l v) (upperGiven l v) ≡ limitNumber σ l v
 limit-by below l v = refl
 limit-by above l v = refl
 
@@ -55,11 +55,11 @@ module _ {P : Problem (ℤ × ℤ)} {t : Tableau} {s : State (ℤ × ℤ)} (St :
   pub exchangeable : Swappable t p q
   exchangeable = swappable turn
 
-  moved-is : next ≡ turns.next turn
+  moved-is : next ≡ turns.afterTurn turn
   unfolding movedLaid
   moved-is =
       ap (λ v. swappedAt (pivotedAt t p q) p q
-      (limitOf (rising (r .side)) (lowerGiven (t .limits) v) (upperGiven (t .limits) v)))
+      (violatedPair (rising (r .side)) (lowerGiven (t .limits) v) (upperGiven (t .limits) v)))
       (leaving-row turn .holds)
       ∙ ap (swappedAt (pivotedAt t p q) p q) (limit-by (r .side) (t .limits) (r .variable) ∙ limit-is turn)
 

@@ -2,7 +2,7 @@
 --   stepped-none, stepped-stuck, stepped-pivot     by the answer of the search
 --   readOf, next-read                              what a step reads of a tableau, and that the search finds the same
 -- there   outcome-ended, outcome-left                    the step by the code's answer, where that is an end
---   Chosen, outcome-goes, going, exchanged         .. and where it goes on: the exchange that is left to be done
+--   Chosen, outcome-goes, course-on, exchanged         .. and where it goes on: the exchange that is left to be done
 use mathlib.Core.Bool.{Bool, true, false}
 use mathlib.Core.List.{List, []}
 use mathlib.Core.Path.{_≡_, ap, refl, sym, _∙_}
@@ -28,7 +28,7 @@ use Rattle.search.proofs.Laws.Seen.{next-as}
 use Rattle.steps.specs.declared.End.{End}
 use Rattle.steps.specs.declared.End.the-variants as ends
 use Rattle.steps.specs.declared.Outcome.the-variants as outcomes
-use Rattle.steps.specs.Step.{Stepped, admitAt, answerBy, endedAs, entriesLeft, fitsBy, leftAt, movedAt}
+use Rattle.steps.specs.Step.{StepAt, admitAt, answerBy, endedAs, entriesLeft, fitsBy, leftAt, movedAt}
 use Rattle.steps.specs.Step.{movedLaid, on}
 use Rattle.steps.specs.Step.{outcomeAt, outcomeBy, stepBy, stepLaid, steppedAt, steppedLaid, valueAfter}
 
@@ -153,9 +153,9 @@ module _ (t : Tableau) where
     pub outcome-goes : outcomeAt (readOf t) ≡ outcomes.Goes row column value common → Chosen (nextAt t)
     outcome-goes q = goes-by (nextAt t) (ap (outcomeBy (readOf t)) (sym (next-read t)) ∙ q)
 
-    pub going : Chosen (nextAt t) → steppedAt t .course ≡ on
+    pub course-on : Chosen (nextAt t) → steppedAt t .course ≡ on
     unfolding steppedLaid
-    going K = ap (λ (s : Stepped). s .course) (K .step-is)
+    course-on K = ap (λ (s : StepAt). s .course) (K .step-is)
 
     -- the tableau after the exchange, as the code leaves it
     pub exchanged : Chosen (nextAt t) → {l : List ℤ} {in-row in-column : Seat} → l ≡ leftAt (readOf t) →
@@ -177,4 +177,4 @@ module _ (t : Tableau) where
     unfolding steppedLaid swappedAt
     exchanged K {l} {in-row} {in-column} e f g =
         let h : l ≡ entriesLeft (readOf t) (nextAt t) = e ∙ ap (entriesLeft (readOf t)) (next-read t) in
-        rw (h, f, g) (sym (ap (λ (s : Stepped). s .tableau) (K .step-is)))
+        rw (h, f, g) (sym (ap (λ (s : StepAt). s .tableau) (K .step-is)))

@@ -37,7 +37,7 @@ use Rattle.search.proofs.Laws.Rows.{searchable}
 use Rattle.search.proofs.Laws.Seen.{searchable-as}
 use Rattle.search.proofs.Laws.Searches.{next-blocked, next-chosen, next-none}
 use Rattle.steps.specs.declared.End.the-variants as ends
-use Rattle.steps.specs.Step.{Held, Movable, Steppable, admitAt, endedAs, fitsBy, limitOf, movedAt, on, steppedAt}
+use Rattle.steps.specs.Step.{Held, Movable, Steppable, admitAt, endedAs, fitsBy, violatedPair, movedAt, on, steppedAt}
 use Rattle.steps.proofs.Laws.Pivots.{exchangeable, fitting-is, movable, ranged-moved, stands-moved}
 use Rattle.steps.proofs.Laws.Stepped.{Chosen, next-read, readOf, stepped-none, stepped-pivot, stepped-stuck}
 
@@ -90,11 +90,11 @@ module _ {P : Problem (ℤ × ℤ)} {t : Tableau} {s : State (ℤ × ℤ)} (St :
 -- ---- what the calls of a step need, and the exchange after it
 
 limit-fits : (b : Bool) (l u : Given) → Within (l .plain) largestLimit → Within (u .plain) largestLimit →
-    SFits w32 (limitOf b l u .0)
+    SFits w32 (violatedPair b l u .0)
 limit-fits true l u h k = fits-by h tt
 limit-fits false l u h k = fits-by k tt
 
-inset-fits : (b : Bool) (l u : Given) → SFits w32 (limitOf b l u .1)
+inset-fits : (b : Bool) (l u : Given) → SFits w32 (violatedPair b l u .1)
 inset-fits true l u = fits-by (inset-within (l .strict)) tt
 inset-fits false l u = fits-by (outset-within (u .strict)) tt
 

@@ -1,4 +1,4 @@
--- Every entry of a state whose rows hold is 0, the common number, or a cell of the tableau by place: `Kind`, `kind`.
+-- Every entry of a state whose rows hold is 0, the common number, or a cell of the tableau by place: `Kind`, `entry-kind`.
 use Prim.Native.Nat.{ℕ, _<_}
 use native.Mathlib.Decide.{ℕ-discrete}
 use mathlib.Core.Path.{_≡_, refl}
@@ -18,9 +18,9 @@ pub data Kind (P : Problem (ℤ × ℤ)) (t : Tableau) (s : State (ℤ × ℤ)) 
   own : entry (s .tableau) v u ≡ common s → Kind P t s v u
   cell-there : (i j : ℕ) → i < P .m → j < P .n → basicAt t i ≡ v → nonbasicAt t j ≡ u → Kind P t s v u
 
-pub kind : (P : Problem (ℤ × ℤ)) (t : Tableau) (s : State (ℤ × ℤ)) → Rowed pairs P s → Placed P t s →
+pub entry-kind : (P : Problem (ℤ × ℤ)) (t : Tableau) (s : State (ℤ × ℤ)) → Rowed pairs P s → Placed P t s →
     (v u : ℕ) → v < vars P → u < vars P → Kind P t s v u
-kind P t s S Q v u h k = by-row (seat s v) refl (seat s u) refl
+entry-kind P t s S Q v u h k = by-row (seat s v) refl (seat s u) refl
   where
     by-row : (o : Option (ℤ × ℤ)) → seat s v ≡ o → (o′ : Option (ℤ × ℤ)) → seat s u ≡ o′ → Kind P t s v u
     by-row none e none e′ = none-there (S .basic-zero v u h k e′)

@@ -31,10 +31,10 @@ use Rattle.tableau.specs.declared.Tableau.{Tableau}
 use Rattle.tableau.specs.Parts.{cell, cellAt, basicAt, nonbasicAt}
 use Rattle.tableau.specs.Pivot.{pivotedLaid, swappedAt}
 use Rattle.tableau.specs.Stands.{Serves, Stands}
-use Rattle.tableau.proofs.Laws.Kinds.{Kind, none-there, own, cell-there, kind}
+use Rattle.tableau.proofs.Laws.Kinds.{Kind, none-there, own, cell-there, entry-kind}
 use Rattle.tableau.proofs.Laws.Live.{end, live-place, place-back}
 use Rattle.tableau.proofs.Laws.Solved.{mixed-is}
-use Rattle.tableau.proofs.Laws.Turns.{Turn, p, q, next, pivot-is, pivot-nonzero}
+use Rattle.tableau.proofs.Laws.Turns.{Turn, p, q, afterTurn, pivot-is, turn-nonzero}
 use Rattle.tableau.proofs.Laws.Turns.{common-nonzero, placed-next, sized-next}
 
 module _ {P : Problem (ℤ × ℤ)} {t : Tableau} {s : State (ℤ × ℤ)} {r : Leaving (ℤ × ℤ)} {w : ℕ}
@@ -75,7 +75,7 @@ module _ {P : Problem (ℤ × ℤ)} {t : Tableau} {s : State (ℤ × ℤ)} {r : 
   product-is = ap₂ (λ a b. a *ℤ b) (pivot-is M) (M .stands .numbers .common-is)
 
   solved-nonzero : T1 .common ≢ pos 0
-  solved-nonzero e = product-nonzero (pivot-nonzero M) (common-nonzero M) (product-is ∙ e)
+  solved-nonzero e = product-nonzero (turn-nonzero M) (common-nonzero M) (product-is ∙ e)
 
   F : Factored N T1
   F = factored N T1 solved-nonzero
@@ -89,7 +89,7 @@ module _ {P : Problem (ℤ × ℤ)} {t : Tableau} {s : State (ℤ × ℤ)} {r : 
   cell-mixed k h = filled-in mostEntries (pos 0) (end t) mixed k h
 
   pub mixed-flat : (i j : ℕ) → i < P .m → j < P .n →
-      mixed (flat m n i j) ≡ entry T1 (basicAt (next M) i) (nonbasicAt (next M) j)
+      mixed (flat m n i j) ≡ entry T1 (basicAt (afterTurn M) i) (nonbasicAt (afterTurn M) j)
   mixed-flat i j h k =
       let b = place-back (M .stands .sized) i j h k in
       ap₂ (mixedCell m n (t .common) (t .entries) (p M) (q M)) (b .0) (b .1) ∙ mixed-is M i j h k
@@ -97,16 +97,16 @@ module _ {P : Problem (ℤ × ℤ)} {t : Tableau} {s : State (ℤ × ℤ)} {r : 
   -- ---- the divisor of the cells divides every number of the solved tableau
 
   g-common : g ∣ natAbs (T1 .common)
-  g-common = rw (← product-is) (cells.divisor-divides mixes new (end t) .0)
+  g-common = rw (← product-is) (cells.cells-divide mixes new (end t) .0)
 
   g-cell : (k : ℕ) → k < end t → g ∣ natAbs (mixed k)
-  g-cell k h = rw (← cell-mixed k h) (cells.divisor-divides mixes new (end t) .1 k h)
+  g-cell k h = rw (← cell-mixed k h) (cells.cells-divide mixes new (end t) .1 k h)
 
   g-entry : (v u : ℕ) → v < N → u < N → g ∣ natAbs (entry T1 v u)
   unfolding moved pivot
-  g-entry v u h k = go (kind P (next M) after rowed-next (placed-next M) v u h k)
+  g-entry v u h k = go (entry-kind P (afterTurn M) after rowed-next (placed-next M) v u h k)
     where
-      go : Kind P (next M) after v u → g ∣ natAbs (entry T1 v u)
+      go : Kind P (afterTurn M) after v u → g ∣ natAbs (entry T1 v u)
       go (none-there e) = rw (sym (F .of-entry v u h k) ∙ ap (λ z. F .by *ℤ z) e ∙ *ℤ-zero (F .by)) (dvd-zero g)
       go (own e) = rw (sym (F .of-entry v u h k) ∙ ap (λ z. F .by *ℤ z) e ∙ F .of-common) g-common
       go (cell-there i j a b e f) = rw (← e, ← f, ← mixed-flat i j a b)
@@ -119,12 +119,12 @@ module _ {P : Problem (ℤ × ℤ)} {t : Tableau} {s : State (ℤ × ℤ)} {r : 
       let a : rowAt m n k < P .m = rw (← M .stands .sized .rows-is) (row-live m n k h) in
       let b : columnAt m n k < P .n = rw (← M .stands .sized .columns-is) (column-live m n k h) in
       rw (cell-mixed k h, mixed-is M (rowAt m n k) (columnAt m n k) a b)
-      (divisor-divides N T1 .1 (basicAt (next M) (rowAt m n k)) (nonbasicAt (next M) (columnAt m n k))
+      (divisor-divides N T1 .1 (basicAt (afterTurn M) (rowAt m n k)) (nonbasicAt (afterTurn M) (columnAt m n k))
       (placed-next M .in-row (rowAt m n k) a .variable-in) (placed-next M .in-column (columnAt m n k) b .variable-in))
 
   pub divisor-is : g ≡ divisorSize N T1
   divisor-is = dvd-antisymm (divisor-greatest N T1 g g-common g-entry)
-      (cells.divisor-greatest mixes new (end t) (divisorSize N T1)
+      (cells.cells-greatest mixes new (end t) (divisorSize N T1)
       (rw product-is (divisor-divides N T1 .0)) whole-cell)
 
   pub by-is : part ≡ divisor N T1
@@ -133,16 +133,16 @@ module _ {P : Problem (ℤ × ℤ)} {t : Tableau} {s : State (ℤ × ℤ)} {r : 
 
   -- ---- the numbers afterwards
 
-  common-next : next M .common ≡ common after
+  common-next : afterTurn M .common ≡ common after
   unfolding swappedAt pivotedLaid moved pivot reduced
   common-next = ap₂ quotZ product-is by-is
 
-  cell-live : (k : ℕ) → k < end t → cell (next M) k ≡ quotZ (mixed k) (divisor N T1)
+  cell-live : (k : ℕ) → k < end t → cell (afterTurn M) k ≡ quotZ (mixed k) (divisor N T1)
   unfolding swappedAt pivotedLaid
   cell-live k h = filled-in mostEntries (pos 0) (end t) (quotients mixes part) k h
       ∙ ap₂ quotZ (cell-mixed k h) by-is
 
-  cell-past : (k : ℕ) → end t ≤ k → cell (next M) k ≡ pos 0
+  cell-past : (k : ℕ) → end t ≤ k → cell (afterTurn M) k ≡ pos 0
   unfolding swappedAt pivotedLaid
   cell-past k h = filled-out mostEntries (pos 0) (end t) (quotients mixes part) k h
 
@@ -150,26 +150,26 @@ module _ {P : Problem (ℤ × ℤ)} {t : Tableau} {s : State (ℤ × ℤ)} {r : 
   unfolding moved pivot
   entry-next v u h k = reduced-entry N T1 v u h k
 
-  same-place : (i j : ℕ) → cellAt (next M) i j ≡ cell (next M) (flat m n i j)
+  same-place : (i j : ℕ) → cellAt (afterTurn M) i j ≡ cell (afterTurn M) (flat m n i j)
   unfolding swappedAt pivotedLaid
   same-place i j = refl
 
   cell-next : (i j : ℕ) → i < P .m → j < P .n →
-      cellAt (next M) i j ≡ entry (after .tableau) (basicAt (next M) i) (nonbasicAt (next M) j)
+      cellAt (afterTurn M) i j ≡ entry (after .tableau) (basicAt (afterTurn M) i) (nonbasicAt (afterTurn M) j)
   cell-next i j h k =
       same-place i j ∙ cell-live (flat m n i j) (live-place (M .stands .sized) i j h k)
       ∙ ap (λ z. quotZ z (divisor N T1)) (mixed-flat i j h k)
-      ∙ sym (entry-next (basicAt (next M) i) (nonbasicAt (next M) j) (placed-next M .in-row i h .variable-in)
+      ∙ sym (entry-next (basicAt (afterTurn M) i) (nonbasicAt (afterTurn M) j) (placed-next M .in-row i h .variable-in)
       (placed-next M .in-column j k .variable-in))
 
-  unused-next : (k : ℕ) → live (P .m) (P .n) ≤ k → cell (next M) k ≡ pos 0
+  unused-next : (k : ℕ) → live (P .m) (P .n) ≤ k → cell (afterTurn M) k ≡ pos 0
   unused-next k h = cell-past k (rw (M .stands .sized .rows-is, M .stands .sized .columns-is) h)
 
-  serves-next : Serves P (next M .limits)
+  serves-next : Serves P (afterTurn M .limits)
   unfolding swappedAt pivotedLaid
   serves-next = M .stands .serves
 
-  pub stands-next : Stands P (next M) after
+  pub stands-next : Stands P (afterTurn M) after
   stands-next = record {
     sized = sized-next M;
     placed = placed-next M;

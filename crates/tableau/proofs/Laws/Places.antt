@@ -17,7 +17,7 @@ use Rattle.rules.specs.Problem.{Problem, vars}
 use Rattle.rules.specs.Step.{State, seat}
 use Rattle.rules.specs.Rule.{Swap}
 use Rattle.rules.proofs.Swaps.{none-some}
-use Rattle.layout.specs.Layout.{row, column}
+use Rattle.layout.specs.Layout.{rowPlace, columnPlace}
 use Rattle.tableau.specs.declared.Variable.{Variable}
 use Rattle.tableau.specs.declared.Seat.{Seat}
 use Rattle.tableau.specs.declared.Tableau.{Tableau}
@@ -87,7 +87,7 @@ module _ (t : Tableau) (p q r w : ℕ) (x : ℤ × ℤ) (r-there : basicAt t p �
   nonbasic-other j n = ap (λ (v : Variable). v .0) (getD-set-other (t .nonbasic) q j _ _ n)
 
   abbrev sits : Bool → Seat
-  sits b = record { basic = b; row = row p; column = column q }
+  sits b = record { basic = b; row = rowPlace p; column = columnPlace q }
 
   seats-are : next .seats ≡ set (set (t .seats) w (sits true)) r (sits false)
   unfolding swappedAt

@@ -25,7 +25,7 @@ use Rattle.tableau.specs.declared.Tableau.{Tableau}
 use Rattle.tableau.specs.Parts.{cell, basicAt, nonbasicAt}
 use Rattle.tableau.specs.Pivot.{Cells}
 use Rattle.tableau.specs.Stands.{Stands}
-use Rattle.tableau.proofs.Laws.Kinds.{Kind, none-there, own, cell-there, kind}
+use Rattle.tableau.proofs.Laws.Kinds.{Kind, none-there, own, cell-there, entry-kind}
 use Rattle.tableau.proofs.Laws.Live.{end, live-place}
 
 zero-in : inRange (pos 0) ≡ true
@@ -69,7 +69,7 @@ module _ {P : Problem (ℤ × ℤ)} {t : Tableau} {s : State (ℤ × ℤ)} (St :
         where
           each : (v u : ℕ) → v < N → u < N → inRange (t .common) ≡ true → allBelow (end t) fine ≡ true →
               inRange (entry (s .tableau) v u) ≡ true
-          each v u h k c a = go (kind P t s R (St .placed) v u h k)
+          each v u h k c a = go (entry-kind P t s R (St .placed) v u h k)
             where
               go : Kind P t s v u → inRange (entry (s .tableau) v u) ≡ true
               go (none-there z) = rw z zero-in

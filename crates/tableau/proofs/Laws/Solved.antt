@@ -21,7 +21,7 @@ use Rattle.rules.proofs.Relation.{relation-own, relation-off}
 use Rattle.pivot.specs.Pivot.{mixedOf, mixedCell, mixedLaid}
 use Rattle.tableau.specs.declared.Tableau.{Tableau}
 use Rattle.tableau.specs.Parts.{cellAt, basicAt, nonbasicAt, columnOf}
-use Rattle.tableau.proofs.Laws.Turns.{Turn, p, q, next, leaving-row, entering-column}
+use Rattle.tableau.proofs.Laws.Turns.{Turn, p, q, afterTurn, leaving-row, entering-column}
 use Rattle.tableau.proofs.Laws.Turns.{pivot-is, basic-left, basic-stays, nonbasic-entered, nonbasic-stays}
 
 -- ---- over plain numbers: D is common, p the pivot
@@ -86,7 +86,7 @@ module _ {P : Problem (ℤ × ℤ)} {t : Tableau} {s : State (ℤ × ℤ)} {r : 
 
   pub mixed-is : (i j : ℕ) → i < P .m → j < P .n →
       mixedCell (t .rows) (t .columns) (t .common) (t .entries) (p M) (q M) i j
-      ≡ entry T1 (basicAt (next M) i) (nonbasicAt (next M) j)
+      ≡ entry T1 (basicAt (afterTurn M) i) (nonbasicAt (afterTurn M) j)
   mixed-is i j h k = mixed-cell t (p M) (q M) i j ∙ go (ℕ-discrete i (p M)) (ℕ-discrete j (q M))
     where
       v-var : basicAt t i < N
@@ -98,18 +98,18 @@ module _ {P : Problem (ℤ × ℤ)} {t : Tableau} {s : State (ℤ × ℤ)} {r : 
       go : Dec (i ≡ p M) → Dec (j ≡ q M) →
           mixedOf (eqb i (p M)) (eqb j (q M)) (t .common) (cellAt t (p M) (q M)) (cellAt t i j) (cellAt t i (q M))
           (cellAt t (p M) j)
-          ≡ entry T1 (basicAt (next M) i) (nonbasicAt (next M) j)
+          ≡ entry T1 (basicAt (afterTurn M) i) (nonbasicAt (afterTurn M) j)
       go (yes e) (yes f) =
           rw (eq-eqb i (p M) e, eq-eqb j (q M) f)
           (crossing (t .common) (entry T (r .variable) w)
-          ∙ sym (ap₂ (entry T1) (ap (basicAt (next M)) e ∙ basic-left M)
-          (ap (nonbasicAt (next M)) f ∙ nonbasic-entered M)
+          ∙ sym (ap₂ (entry T1) (ap (basicAt (afterTurn M)) e ∙ basic-left M)
+          (ap (nonbasicAt (afterTurn M)) f ∙ nonbasic-entered M)
           ∙ entry-is w (r .variable) (M .entered .variable) (M .left .variable)
           ∙ (rw (basic-zero-r w (M .entered .variable), own-w, at-leaving) refl)))
       go (yes e) (no n) =
           rw (eq-eqb i (p M) e, ne-eqb j (q M) n)
           (in-leaving-row (t .common) (entry T (r .variable) w) (cellAt t (p M) j)
-          ∙ sym (ap₂ (entry T1) (ap (basicAt (next M)) e ∙ basic-left M) (nonbasic-stays M j n)
+          ∙ sym (ap₂ (entry T1) (ap (basicAt (afterTurn M)) e ∙ basic-left M) (nonbasic-stays M j n)
           ∙ entry-is w (nonbasicAt t j) (M .entered .variable) u-var
           ∙ (rw (
             M .rowed .own-zero w (nonbasicAt t j) (M .entered .value) (M .entered .variable) u-var
@@ -121,7 +121,7 @@ module _ {P : Problem (ℤ × ℤ)} {t : Tableau} {s : State (ℤ × ℤ)} {r : 
       go (no n) (yes f) =
           rw (ne-eqb i (p M) n, eq-eqb j (q M) f)
           (in-entering-column (t .common) (entry T (r .variable) w) (cellAt t i (q M))
-          ∙ sym (ap₂ (entry T1) (basic-stays M i n) (ap (nonbasicAt (next M)) f ∙ nonbasic-entered M)
+          ∙ sym (ap₂ (entry T1) (basic-stays M i n) (ap (nonbasicAt (afterTurn M)) f ∙ nonbasic-entered M)
           ∙ entry-is (basicAt t i) (r .variable) v-var (M .left .variable)
           ∙ (rw (basic-zero-r (basicAt t i) v-var, at-leaving, beside i h) refl)))
       go (no n) (no m) =

@@ -30,9 +30,9 @@ use Rattle.tableau.proofs.Laws.Moves.{stands-next}
 use Rattle.tableau.proofs.Laws.Places.{value-here, value-other}
 use Rattle.tableau.proofs.Laws.Live.{end}
 use Rattle.tableau.proofs.Laws.Smalls.{cells-small}
-use Rattle.tableau.proofs.Laws.Turns.{Turn, p, q, x, turned, next, leaving-row}
+use Rattle.tableau.proofs.Laws.Turns.{Turn, p, q, x, atTurn, afterTurn, leaving-row}
 use Rattle.tableau.proofs.Laws.Turns.{entering-column, row-in-range, column-in-range}
-use Rattle.tableau.proofs.Laws.Turns.{pivot-nonzero, common-nonzero}
+use Rattle.tableau.proofs.Laws.Turns.{turn-nonzero, common-nonzero}
 
 -- what a variable's limit on a side stands for
 abbrev pub limitNumber : Side → Limits → ℕ → ℤ × ℤ
@@ -58,7 +58,7 @@ module _ {P : Problem (ℤ × ℤ)} {t : Tableau} {s : State (ℤ × ℤ)} {r : 
     common-within = c .common-within;
     all-within = record { each = c .cell-within };
     common-nonzero = common-nonzero M;
-    pivot-nonzero = pivot-nonzero M;
+    pivot-nonzero = turn-nonzero M;
   }
 
   pub swappable : Swappable t (p M) (q M)
@@ -112,27 +112,27 @@ module _ {P : Problem (ℤ × ℤ)} {t : Tableau} {s : State (ℤ × ℤ)} {r : 
   -- ---- afterwards
 
   -- what holds of every value, and of the limit, holds of every value then
-  each-next : (Q : ℤ × ℤ → Type 0) → ((j : ℕ) → Q (valueAt t j)) → Q (x M) → (j : ℕ) → Q (valueAt (next M) j)
+  each-next : (Q : ℤ × ℤ → Type 0) → ((j : ℕ) → Q (valueAt t j)) → Q (x M) → (j : ℕ) → Q (valueAt (afterTurn M) j)
   each-next Q h k j = go (ℕ-discrete j (q M))
     where
-      long : q M < length (turned M .values)
+      long : q M < length (atTurn M .values)
       long = unfold pivotedLaid in (rw (M .stands .sized .values-long) (column-in-range M))
 
-      small-long : q M < length (turned M .smalls)
+      small-long : q M < length (atTurn M .smalls)
       small-long = unfold pivotedLaid in (rw (M .stands .sized .smalls-long) (column-in-range M))
 
-      before : (j : ℕ) → Q (valueAt (turned M) j)
+      before : (j : ℕ) → Q (valueAt (atTurn M) j)
       before = unfold pivotedLaid in h
 
-      go : Dec (j ≡ q M) → Q (valueAt (next M) j)
-      go (yes e) = subst Q (sym (ap (valueAt (next M)) e ∙ value-here (turned M) (p M) (q M) (x M) long small-long)) k
-      go (no n) = subst Q (sym (value-other (turned M) (p M) (q M) (x M) j n)) (before j)
+      go : Dec (j ≡ q M) → Q (valueAt (afterTurn M) j)
+      go (yes e) = subst Q (sym (ap (valueAt (afterTurn M)) e ∙ value-here (atTurn M) (p M) (q M) (x M) long small-long)) k
+      go (no n) = subst Q (sym (value-other (atTurn M) (p M) (q M) (x M) j n)) (before j)
 
-  limits-next : next M .limits ≡ t .limits
+  limits-next : afterTurn M .limits ≡ t .limits
   unfolding swappedAt pivotedLaid
   limits-next = refl
 
-  pub ranged-next : Ranged t → smallBelow (end (next M)) (next M .entries) (next M .common) ≡ true → Ranged (next M)
+  pub ranged-next : Ranged t → smallBelow (end (afterTurn M)) (afterTurn M .entries) (afterTurn M .common) ≡ true → Ranged (afterTurn M)
   ranged-next g e = record {
     cells = cells-small (stands-next M) e;
     values-within = each-next (λ z. Within (z .0) largestLimit) (g .values-within) limit-within;

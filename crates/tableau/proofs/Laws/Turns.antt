@@ -1,9 +1,9 @@
 -- A pivot that the rules choose, by place: where the leaving and the entering variable sit, and who sits where then.
 --   Turn                                     a tableau, the state it stands for, and what leaves and enters there
 --   p, q, x                                  the row and the column of the pivot, and the value that leaves
---   turned, next                             the tableau by place after the pivot, and after the exchange
+--   atTurn, afterTurn                             the tableau by place after the pivot, and after the exchange
 --   leaving-row, entering-column, pivot-is   the places of the pivot, and its entry
---   pivot-nonzero, common-nonzero            neither is 0
+--   turn-nonzero, common-nonzero            neither is 0
 --   placed-next, sized-next                  the places afterwards
 --   basic-left, basic-stays, nonbasic-entered, nonbasic-stays    each place afterwards
 use Prim.Native.Nat.{ℕ, _<_}
@@ -49,11 +49,11 @@ module _ {P : Problem (ℤ × ℤ)} {t : Tableau} {s : State (ℤ × ℤ)} {r : 
   x = limitAt pairs P r
 
   -- after the pivot the two variables change places, and the leaving one gets that limit
-  abbrev pub turned : Tableau
-  turned = pivotedAt t p q
+  abbrev pub atTurn : Tableau
+  atTurn = pivotedAt t p q
 
-  abbrev pub next : Tableau
-  next = swappedAt turned p q x
+  abbrev pub afterTurn : Tableau
+  afterTurn = swappedAt atTurn p q x
 
   pub leaving-row : HasRow P t (r .variable)
   leaving-row = M .stands .placed .has-row (r .variable) (M .left .variable) (M .left .was-basic)
@@ -71,8 +71,8 @@ module _ {P : Problem (ℤ × ℤ)} {t : Tableau} {s : State (ℤ × ℤ)} {r : 
   pivot-is = M .stands .numbers .cell-is p q (leaving-row .in-rows) (entering-column .in-columns)
       ∙ ap₂ (entry (s .tableau)) (leaving-row .holds) (entering-column .holds)
 
-  pub pivot-nonzero : cellAt t p q ≢ pos 0
-  pivot-nonzero e = nonzero-ne (entry (s .tableau) (r .variable) w)
+  pub turn-nonzero : cellAt t p q ≢ pos 0
+  turn-nonzero e = nonzero-ne (entry (s .tableau) (r .variable) w)
       (pivoted.pivot-nonzero pairs P (r .side) w (entry (s .tableau) (r .variable) w) (M .entered .value)
       (M .entered .suits)) (sym pivot-is ∙ e)
 
@@ -81,44 +81,44 @@ module _ {P : Problem (ℤ × ℤ)} {t : Tableau} {s : State (ℤ × ℤ)} {r : 
 
   -- ---- the places after the pivot, and after the exchange
 
-  placed-turned : Placed P turned s
+  placed-turned : Placed P atTurn s
   unfolding pivotedLaid
   placed-turned = placed-with P t _ _ s (M .stands .placed)
 
-  sized-turned : Sized P turned
+  sized-turned : Sized P atTurn
   unfolding pivotedLaid
   sized-turned = sized-with P t _ _ (M .stands .sized)
 
-  r-there : basicAt turned p ≡ r .variable
+  r-there : basicAt atTurn p ≡ r .variable
   unfolding pivotedLaid
   r-there = leaving-row .holds
 
-  w-there : nonbasicAt turned q ≡ w
+  w-there : nonbasicAt atTurn q ≡ w
   unfolding pivotedLaid
   w-there = entering-column .holds
 
   exchange : Swap (seat s) (seat (moved pairs P s r w)) (r .variable) w x
   exchange = swap pairs P s r w (M .rowed .seats-many) (M .left) (M .entered)
 
-  pub placed-next : Placed P next (moved pairs P s r w)
-  placed-next = placed-after turned p q (r .variable) w x r-there w-there P s (moved pairs P s r w)
+  pub placed-next : Placed P afterTurn (moved pairs P s r w)
+  placed-next = placed-after atTurn p q (r .variable) w x r-there w-there P s (moved pairs P s r w)
       sized-turned placed-turned exchange (leaving-row .in-rows) (entering-column .in-columns)
 
-  pub sized-next : Sized P next
-  sized-next = sized-after turned p q (r .variable) w x r-there w-there P s (moved pairs P s r w)
+  pub sized-next : Sized P afterTurn
+  sized-next = sized-after atTurn p q (r .variable) w x r-there w-there P s (moved pairs P s r w)
       sized-turned placed-turned exchange (leaving-row .in-rows) (entering-column .in-columns)
 
-  pub basic-left : basicAt next p ≡ w
-  basic-left = basic-here turned p q (r .variable) w x r-there w-there (rw (sized-turned .basic-long) row-in-range)
+  pub basic-left : basicAt afterTurn p ≡ w
+  basic-left = basic-here atTurn p q (r .variable) w x r-there w-there (rw (sized-turned .basic-long) row-in-range)
 
-  pub basic-stays : (i : ℕ) → i ≢ p → basicAt next i ≡ basicAt t i
+  pub basic-stays : (i : ℕ) → i ≢ p → basicAt afterTurn i ≡ basicAt t i
   unfolding pivotedLaid
-  basic-stays i n = basic-other turned p q (r .variable) w x r-there w-there i n
+  basic-stays i n = basic-other atTurn p q (r .variable) w x r-there w-there i n
 
-  pub nonbasic-entered : nonbasicAt next q ≡ r .variable
-  nonbasic-entered = nonbasic-here turned p q (r .variable) w x r-there w-there
+  pub nonbasic-entered : nonbasicAt afterTurn q ≡ r .variable
+  nonbasic-entered = nonbasic-here atTurn p q (r .variable) w x r-there w-there
       (rw (sized-turned .nonbasic-long) column-in-range)
 
-  pub nonbasic-stays : (j : ℕ) → j ≢ q → nonbasicAt next j ≡ nonbasicAt t j
+  pub nonbasic-stays : (j : ℕ) → j ≢ q → nonbasicAt afterTurn j ≡ nonbasicAt t j
   unfolding pivotedLaid
-  nonbasic-stays j n = nonbasic-other turned p q (r .variable) w x r-there w-there j n
+  nonbasic-stays j n = nonbasic-other atTurn p q (r .variable) w x r-there w-there j n

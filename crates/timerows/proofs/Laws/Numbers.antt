@@ -12,28 +12,28 @@ use Rattle.whole.specs.Below.{someBelow}
 use Rattle.whole.proofs.Below.{some-more}
 use Rattle.rules.specs.Refusal.{first}
 use Rattle.rules.specs.TimeWords.{badEnd, badStrict, badRowLength, rowTests}
-use Rattle.timerows.specs.Judged.{numberOf, rowNumber, rowsNumber}
+use Rattle.timerows.specs.Judged.{testNumber, rowNumber, rowsNumber}
 
 -- ---- the least number
 
-span-least : (c : Bool) → 16 ≤ numberOf false false c
-unfolding numberOf first
+span-least : (c : Bool) → 16 ≤ testNumber false false c
+unfolding testNumber first
 span-least true = omega arith
 span-least false = omega arith
 
-strict-least : (b c : Bool) → 15 ≤ numberOf false b c
-unfolding numberOf first
+strict-least : (b c : Bool) → 15 ≤ testNumber false b c
+unfolding testNumber first
 strict-least true c = omega arith
 strict-least false true = omega arith
 strict-least false false = omega arith
 
-ends-least : (a b c : Bool) → 14 ≤ numberOf a b c
-unfolding numberOf first
+ends-least : (a b c : Bool) → 14 ≤ testNumber a b c
+unfolding testNumber first
 ends-least true b c = omega arith
 ends-least false b c = let h = strict-least b c in omega arith
 
-either-least : (a a′ b b′ c c′ : Bool) → numberOf (a || a′) (b || b′) (c || c′) ≡ min (numberOf a b c) (numberOf a′ b′ c′)
-unfolding numberOf first
+either-least : (a a′ b b′ c c′ : Bool) → testNumber (a || a′) (b || b′) (c || c′) ≡ min (testNumber a b c) (testNumber a′ b′ c′)
+unfolding testNumber first
 either-least true a′ b b′ c c′ = omega (arith, ends-least a′ b′ c′)
 either-least false true b b′ c c′ = omega (arith, ends-least false b c)
 either-least false false true b′ c c′ = omega (arith, strict-least b′ c′)
@@ -44,7 +44,7 @@ either-least false false false false false false = omega arith
 
 module _ (ws : List ℤ) where
   pub rows-start : rowsNumber ws 0 ≡ 17
-  unfolding rowsNumber someBelow numberOf first
+  unfolding rowsNumber someBelow testNumber first
   rows-start = refl
 
   pub rows-more : (i : ℕ) → rowsNumber ws (suc i) ≡ min (rowsNumber ws i) (rowNumber ws i)
@@ -53,15 +53,15 @@ module _ (ws : List ℤ) where
 
   -- ---- the tests of all rows
 
-  tests-refuse : (a b c : Bool) (after : List (Bool × ℕ)) → numberOf a b c ≢ 17 → first ((a, 14) ∷ (b, 15) ∷ (c, 16) ∷ after) ≡ numberOf a b c
-  unfolding numberOf first
+  tests-refuse : (a b c : Bool) (after : List (Bool × ℕ)) → testNumber a b c ≢ 17 → first ((a, 14) ∷ (b, 15) ∷ (c, 16) ∷ after) ≡ testNumber a b c
+  unfolding testNumber first
   tests-refuse true b c after n = refl
   tests-refuse false true c after n = refl
   tests-refuse false false true after n = refl
   tests-refuse false false false after n = absurd (n refl)
 
-  tests-pass : (a b c : Bool) (after : List (Bool × ℕ)) → numberOf a b c ≡ 17 → first ((a, 14) ∷ (b, 15) ∷ (c, 16) ∷ after) ≡ first after
-  unfolding numberOf first
+  tests-pass : (a b c : Bool) (after : List (Bool × ℕ)) → testNumber a b c ≡ 17 → first ((a, 14) ∷ (b, 15) ∷ (c, 16) ∷ after) ≡ first after
+  unfolding testNumber first
   tests-pass true b c after e = absurd (omega arith)
   tests-pass false true c after e = absurd (omega arith)
   tests-pass false false true after e = absurd (omega arith)

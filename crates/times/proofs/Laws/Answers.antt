@@ -22,7 +22,7 @@ use Rattle.rules.specs.Times.{timesOf, cycleWords, timesWritten, Timed}
 use Rattle.rules.proofs.Times.Closed.{slice-at}
 use Rattle.rules.proofs.Times.Decide.{cycle-short, bad-cannot}
 use Rattle.rules.proofs.Times.Only.{answer-can, answer-cannot}
-use Rattle.rules.proofs.Times.Refused.{n-few, m-few, accepted-ends, times-accepted-exactly}
+use Rattle.rules.proofs.Times.Refused.{vertices-few, time-rows-few, accepted-ends, times-accepted-exactly}
 use Rattle.lengths.specs.declared.answer.Halves.{Halves}
 use Rattle.lengths.specs.declared.answer.Way.{Way}
 use Rattle.lengths.specs.declared.Length.{Length}
@@ -31,7 +31,7 @@ use Rattle.lengths.specs.Lengths.{plainPart, smallPart}
 use Rattle.lengths.proofs.Laws.Words.{words-take, words-twice, take-replicate}
 use Rattle.timerows.specs.Judged.{Fine}
 use Rattle.times.specs.Steps.{Settled, Closed}
-use Rattle.times.proofs.Laws.Parts.{plains-are, smalls-are}
+use Rattle.times.proofs.Laws.Parts.{plain-times-are, small-times-are}
 
 -- a refusal keeps the output
 pub timed-refused : (ws before : List ℤ) (r : ℕ) → r ≡ timeRefusal ws (length before) → (r ≡ 0 → ⊥) → Timed ws before r before
@@ -77,7 +77,7 @@ module _ (ws before : List ℤ) (A : AcceptedTimes ws (length before)) where
     rows = [];
     written = w ∙ ap (λ k. output (pos 1) k (halves-of best) k before) e
         ∙ ap₂ (λ p q. pos 1 ∷ pos (nOf ws) ∷ (p ++ q) ++ drop (timesLength ws) before)
-        (plains-are ws (fine-of A) best s) (smalls-are ws (fine-of A) best s)
+        (plain-times-are ws (fine-of A) best s) (small-times-are ws (fine-of A) best s)
         ∙ ap (λ t. t ++ drop (timesLength ws) before) (sym (answer-can ws [] (s .can)));
     named = λ z f. true-false (s .can) f;
   }
@@ -90,7 +90,7 @@ module _ (ws before : List ℤ) (A : AcceptedTimes ws (length before)) where
     closed-gathering = record {
       in-order = c .in-order;
       in-path = c .in-path;
-      listed = λ k h. rw (sym (slice-at (w .from) (w .to) k (w .path) h)) (omega (arith, c .bad .cycle .listed k (omega (arith, rows-long)), m-few A));
+      listed = λ k h. rw (sym (slice-at (w .from) (w .to) k (w .path) h)) (omega (arith, c .bad .cycle .listed k (omega (arith, rows-long)), time-rows-few A));
     }
 
     pub timed-unmet : (after : List ℤ) (n : ℕ) → n ≡ nOf ws →
@@ -113,8 +113,8 @@ module _ (ws before : List ℤ) (A : AcceptedTimes ws (length before)) where
         words : take (nOf ws) (cycleWords mostVertices (rowsOf w)) ++ take (nOf ws) (replicate mostVertices (pos 0))
             ≡ cycleWords (2 * nOf ws) (rowsOf w)
         words =
-            ap₂ (λ p q. p ++ q) (words-take (rowsOf w) (nOf ws) short (n-few A))
-            (take-replicate (nOf ws) mostVertices (pos 0) (n-few A))
+            ap₂ (λ p q. p ++ q) (words-take (rowsOf w) (nOf ws) short (vertices-few A))
+            (take-replicate (nOf ws) mostVertices (pos 0) (vertices-few A))
             ∙ sym (words-twice (rowsOf w) (nOf ws) short)
 
         cannot : canMeet pairs (timeEdges ws) ≡ false

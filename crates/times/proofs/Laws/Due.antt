@@ -14,7 +14,7 @@ use native.Mathlib.Omega.{arith}
 use lib.IntN.{ℤ}
 use Rattle.rules.specs.Sizes.{mostVertices}
 use Rattle.rules.specs.Problem.{mOf}
-use Rattle.rules.proofs.Times.Refused.{n-few}
+use Rattle.rules.proofs.Times.Refused.{vertices-few}
 use Rattle.lengths.specs.declared.answer.Way.{Way}
 use Rattle.lengths.specs.declared.Length.{Length}
 use Rattle.timerows.specs.Judged.{Fine}
@@ -41,7 +41,7 @@ module _ {k due : ℕ} (D : Due k due) where
 
 pub due-again : {ws : List ℤ} {k places : ℕ} {w : Way} → Fine ws → Went ws k w → w .to ≤ w .from →
     places ≡ min (k + 1) (w .from) → Due (k + 1) (k + 1 + places)
-due-again f g h e = let a = g .some h in let b = g .few h in let c = n-few f in
+due-again f g h e = let a = g .some h in let b = g .few h in let c = vertices-few f in
     record { early = omega arith; late = omega arith; few = omega arith }
 
 pub pass-on : {ws : List ℤ} {k due : ℕ} {best : List Length} {last : List ℕ} {row : ℕ} →

@@ -15,38 +15,38 @@ use lib.Signed.{ltZ}
 use Rattle.rules.specs.Sizes.{mostVertices}
 use Rattle.rules.specs.Problem.{mOf}
 use Rattle.rules.specs.TimeWords.{timeEdges}
-use Rattle.rules.proofs.Times.Refused.{n-few, accepted-ends}
+use Rattle.rules.proofs.Times.Refused.{vertices-few, accepted-ends}
 use Rattle.lengths.specs.declared.Length.{Length}
-use Rattle.lengths.specs.Lengths.{lengthOf, keyOf, lengthAt, at}
+use Rattle.lengths.specs.Lengths.{lengthOf, keyOf, lengthAt, keyAt}
 use Rattle.timerows.specs.Judged.{Fine}
-use Rattle.times.specs.Steps.{rowAt, isLess, Pass}
+use Rattle.times.specs.Steps.{lastRow, isLess, Pass}
 use Rattle.times.proofs.Laws.Passing.{pass-taken, pass-kept}
 
 module _ {ws : List ℤ} (f : Fine ws) {i : ℕ} (h : i < mOf ws) where
   pub tail-low : {x : ℕ} → x ≡ timeEdges ws .tail i → x < mostVertices
-  tail-low e = omega (arith, e, accepted-ends f .tail-in i h, n-few f)
+  tail-low e = omega (arith, e, accepted-ends f .tail-in i h, vertices-few f)
 
   pub head-low : {y : ℕ} → y ≡ timeEdges ws .head i → y < mostVertices
-  head-low e = omega (arith, e, accepted-ends f .head-in i h, n-few f)
+  head-low e = omega (arith, e, accepted-ends f .head-in i h, vertices-few f)
 
 -- what row i offers where its tail is x
 abbrev Offers : List ℤ → List Length → ℕ → ℕ → Length → Type 0
-Offers ws best i x offered = lengthOf offered ≡ at best x +ℤ keyOf (timeEdges ws .size i)
+Offers ws best i x offered = lengthOf offered ≡ keyAt best x +ℤ keyOf (timeEdges ws .size i)
 
 module _ (ws : List ℤ) (best : List Length) (i : ℕ) {x : ℕ} (p : x ≡ timeEdges ws .tail i) {offered : Length}
     (o : Offers ws best i x offered) where
   its-offer : Offers ws best i (timeEdges ws .tail i) offered
-  its-offer = o ∙ ap (λ x. at best x +ℤ keyOf (timeEdges ws .size i)) p
+  its-offer = o ∙ ap (λ x. keyAt best x +ℤ keyOf (timeEdges ws .size i)) p
 
-  pub test-is : {y : ℕ} → y ≡ timeEdges ws .head i → {b : Bool} → b ≡ ltZ (lengthOf offered) (at best y) →
+  pub test-is : {y : ℕ} → y ≡ timeEdges ws .head i → {b : Bool} → b ≡ ltZ (lengthOf offered) (keyAt best y) →
       isLess ws best i ≡ b
-  test-is q e = sym (ap₂ (λ z u. ltZ z (at best u)) its-offer q) ∙ sym e
+  test-is q e = sym (ap₂ (λ z u. ltZ z (keyAt best u)) its-offer q) ∙ sym e
 
 module _ {ws : List ℤ} {k : ℕ} {best : List Length} {last : List ℕ} {i row : ℕ} (P : Pass ws k i best last row)
     (h : i < mOf ws) {x : ℕ} (p : x ≡ timeEdges ws .tail i) {offered : Length} (o : Offers ws best i x offered) {y : ℕ}
     (q : y ≡ timeEdges ws .head i) where
   pub pass-more : (b : Bool) → isLess ws best i ≡ b → Pass ws k (i + 1)
-      (set best y (cond b offered (lengthAt best y))) (set last y (cond b i (rowAt last y))) (cond b i row)
+      (set best y (cond b offered (lengthAt best y))) (set last y (cond b i (lastRow last y))) (cond b i row)
   pass-more true e =
       rw add-one
       (subst (λ u. Pass ws k (suc i) (set best u offered) (set last u i) i) (sym q)

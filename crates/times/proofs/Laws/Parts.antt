@@ -1,5 +1,5 @@
 -- Both parts of the times, where the distances are right.
---   plains-are, smalls-are    the minutes; the small amounts
+--   plain-times-are, small-times-are    the minutes; the small amounts
 use mathlib.Core.Path.{_≡_, refl, sym, _∙_, ap, ap₂}
 use mathlib.Core.List.{List, map}
 use Prim.Native.Nat.{ℕ, _<_, _/_, _%_}
@@ -11,7 +11,7 @@ use lib.Signed.{_≤ℤ_, _<ℤ_}
 use Rattle.whole.specs.Values.{whole, pairs}
 use Rattle.whole.proofs.Beside.{Parts, parts, pairs-laws}
 use Rattle.whole.proofs.Order.{false→le, <ℤ→≤ℤ}
-use Rattle.whole.proofs.Tests.{own-size, under}
+use Rattle.whole.proofs.Tests.{own-size, under-size}
 use Rattle.rules.specs.Sizes.{mostVertices}
 use Rattle.rules.specs.Problem.{nOf}
 use Rattle.rules.specs.Passes.{distance, distances}
@@ -19,7 +19,7 @@ use Rattle.rules.specs.TimeWords.{timeEdges}
 use Rattle.rules.specs.Times.{plainTime, smallTime}
 use Rattle.rules.proofs.Times.Decide.{distances-long, distances-low}
 use Rattle.rules.proofs.Times.Means.{times-few}
-use Rattle.rules.proofs.Times.Refused.{n-few, accepted-ends}
+use Rattle.rules.proofs.Times.Refused.{vertices-few, accepted-ends}
 use Rattle.lengths.specs.declared.Length.{Length}
 use Rattle.lengths.specs.Lengths.{unit, keyOf, noRows, lengthAt, plainPart, smallPart}
 use Rattle.lengths.proofs.Laws.Keys.{turned-up, plain-key, small-key}
@@ -46,7 +46,7 @@ half-are ws f best long part half part-nil half-nil same =
 
     lengths : length (take (nOf ws) (map part best)) ≡ length (map half ds)
     lengths =
-        length-take (nOf ws) (map part best) ∙ omega (arith, all, n-few f) ∙ sym (length-map ds half ∙ ds-long)
+        length-take (nOf ws) (map part best) ∙ omega (arith, all, vertices-few f) ∙ sym (length-map ds half ∙ ds-long)
 
     each : (v : ℕ) → v < length (take (nOf ws) (map part best)) →
         getD (take (nOf ws) (map part best)) v (pos 0) ≡ getD (map half ds) v (pos 0)
@@ -70,7 +70,7 @@ module _ (ws : List ℤ) (f : Fine ws) (best : List Length) (s : Settled ws best
   counted v h = record {
     p = natAbs (plainTime (D v));
     q = natAbs (smallTime (D v));
-    few = omega (arith, under (nOf ws) 0 (smallTime (D v)) (small .0) (<ℤ→≤ℤ (small .1)), n-few f);
+    few = omega (arith, under-size (nOf ws) 0 (smallTime (D v)) (small .0) (<ℤ→≤ℤ (small .1)), vertices-few f);
     is = ap₂ (λ a b. (a, b)) (back (D v .0) plain) (back (D v .1) (small .0));
   }
     where
@@ -92,14 +92,14 @@ module _ (ws : List ℤ) (f : Fine ws) (best : List Length) (s : Settled ws best
       back : (z : ℤ) → pos 0 ≤ℤ negℤ z → z ≡ negℤ (pos (natAbs (negℤ z)))
       back z g = sym (negℤ-negℤ z) ∙ ap negℤ (own-size 0 (negℤ z) g)
 
-  pub plains-are : take (nOf ws) (map plainPart best) ≡ map plainTime (distances pairs (timeEdges ws))
-  plains-are = half-are ws f best (s .long) plainPart plainTime refl refl (λ v h.
+  pub plain-times-are : take (nOf ws) (map plainPart best) ≡ map plainTime (distances pairs (timeEdges ws))
+  plain-times-are = half-are ws f best (s .long) plainPart plainTime refl refl (λ v h.
       let c = counted v h in
       ap (λ z. pos (natAbs z / unit)) (s .are v ∙ ap keyOf (c .is)) ∙ ap pos (plain-key (c .p) (c .q) (c .few))
       ∙ sym (ap plainTime (c .is) ∙ negℤ-negℤ (pos (c .p))))
 
-  pub smalls-are : take (nOf ws) (map smallPart best) ≡ map smallTime (distances pairs (timeEdges ws))
-  smalls-are = half-are ws f best (s .long) smallPart smallTime refl refl (λ v h.
+  pub small-times-are : take (nOf ws) (map smallPart best) ≡ map smallTime (distances pairs (timeEdges ws))
+  small-times-are = half-are ws f best (s .long) smallPart smallTime refl refl (λ v h.
       let c = counted v h in
       ap (λ z. pos (natAbs z % unit)) (s .are v ∙ ap keyOf (c .is)) ∙ ap pos (small-key (c .p) (c .q) (c .few))
       ∙ sym (ap smallTime (c .is) ∙ negℤ-negℤ (pos (c .q))))

@@ -4,7 +4,7 @@
 --   pass-start                     no row of a pass
 --   pass-taken, pass-kept          a row that betters its head; one that does not
 --   looked-more                    the next pass begins
---   settled-still, settled-quiet   a pass bettered nothing, or a look after it finds nothing to better: the distances
+--   pass-settled, settled-quiet   a pass bettered nothing, or a look after it finds nothing to better: the distances
 --                                  are right
 --   pass-closing                   a pass that bettered a vertex
 use mathlib.Core.Path.{_≡_, refl, sym, _∙_, ap, ap₂, subst}
@@ -24,19 +24,19 @@ use Rattle.whole.proofs.Beside.{pairs-laws}
 use Rattle.whole.proofs.Sizes.{within-le}
 use Rattle.rules.specs.Sizes.{mostVertices, largestLength}
 use Rattle.rules.specs.Problem.{nOf, mOf}
-use Rattle.rules.specs.Walks.{Edges, Ends}
+use Rattle.rules.specs.Walks.{Edges, EndsIn}
 use Rattle.rules.specs.Passes.{through, betters, distance, distances}
 use Rattle.rules.specs.TimeWords.{timeEdges}
 use Rattle.rules.proofs.Times.Decide.{set-put, still-can, still-distance}
-use Rattle.rules.proofs.Times.Refused.{n-few, m-few, accepted-ends}
+use Rattle.rules.proofs.Times.Refused.{vertices-few, time-rows-few, accepted-ends}
 use Rattle.rules.specs.Traces.{Still, Traced}
-use Rattle.rules.proofs.Times.Traced.{Put, put, put-put, traced-start, traced-kept, traced-taken, traced-pass}
+use Rattle.rules.proofs.Times.Traced.{ButAt, put, put-put, traced-start, traced-kept, traced-taken, traced-pass}
 use Rattle.rules.proofs.Times.Traced.{traced-still}
 use Rattle.lengths.specs.declared.Length.{Length}
-use Rattle.lengths.specs.Lengths.{unit, lengthOf, noRows, keyOf, looks, Near, lengthAt, at}
+use Rattle.lengths.specs.Lengths.{unit, lengthOf, noRows, keyOf, looksMade, Near, lengthAt, keyAt}
 use Rattle.lengths.proofs.Laws.Keys.{key-plus, near-le, near-plus, near-within, size-near, key-less, key-low}
 use Rattle.timerows.specs.Judged.{Fine}
-use Rattle.times.specs.Steps.{noRow, rowAt, AllModest, isLess, Quiet, Looked, Pass, Settled, Closing}
+use Rattle.times.specs.Steps.{noRow, lastRow, AllModest, isLess, Quiet, Looked, Pass, Settled, Closing}
 
 -- ---- no pass
 
@@ -69,17 +69,17 @@ looked-start ws f = record {
 module _ {ws : List ℤ} {k i : ℕ} {best : List Length} {last : List ℕ} (l : Looked ws k i best last)
     (h : i ≤ mOf ws) where
   -- no more looks than all passes have
-  near-all : (v : ℕ) → Near (l .far v) (looks mostVertices 0)
-  near-all v = near-le (l .near v) (omega (arith, l .early, m-few (l .fine)))
+  near-all : (v : ℕ) → Near (l .far v) (looksMade mostVertices 0)
+  near-all v = near-le (l .near v) (omega (arith, l .early, time-rows-few (l .fine)))
 
   pub looked-modest : AllModest best
   looked-modest v =
-      subst (λ z. Within z ((unit * largestLength + 1) * looks mostVertices 0)) (sym (l .are v))
+      subst (λ z. Within z ((unit * largestLength + 1) * looksMade mostVertices 0)) (sym (l .are v))
       (near-within (near-all v))
 
   -- what a row offers, as a number and as a pair
   looked-offer : (j : ℕ) →
-      at best (timeEdges ws .tail j) +ℤ keyOf (timeEdges ws .size j) ≡ keyOf (through pairs (timeEdges ws) (l .far) j)
+      keyAt best (timeEdges ws .tail j) +ℤ keyOf (timeEdges ws .size j) ≡ keyOf (through pairs (timeEdges ws) (l .far) j)
   looked-offer j =
       ap (λ z. z +ℤ keyOf (timeEdges ws .size j)) (l .are (timeEdges ws .tail j))
       ∙ sym (key-plus (l .far (timeEdges ws .tail j)) (timeEdges ws .size j))
@@ -129,7 +129,7 @@ module _ {ws : List ℤ} {k : ℕ} {best : List Length} {last : List ℕ} {i row
       far = l .far;
       are = l .are;
       near = λ v. near-le (l .near v) (omega arith);
-      traced = traced-kept pairs-laws E (mOf ws * k) (l .time) (l .far) (rowAt last) i (l .traced) listed (less-is e);
+      traced = traced-kept pairs-laws E (mOf ws * k) (l .time) (l .far) (lastRow last) i (l .traced) listed (less-is e);
       stands = l .stands;
       best-long = l .best-long;
       last-long = l .last-long;
@@ -137,7 +137,7 @@ module _ {ws : List ℤ} {k : ℕ} {best : List Length} {last : List ℕ} {i row
     finds = p .finds;
   }
 
-  module _ (better : Length) (e : lengthOf better ≡ at best (E .tail i) +ℤ keyOf (E .size i))
+  module _ (better : Length) (e : lengthOf better ≡ keyAt best (E .tail i) +ℤ keyOf (E .size i))
       (h : isLess ws best i ≡ true) where
     abbrev best′ : List Length
     best′ = set best y better
@@ -151,36 +151,36 @@ module _ {ws : List ℤ} {k : ℕ} {best : List Length} {last : List ℕ} {i row
     abbrev far′ : ℕ → ℤ × ℤ
     far′ = put (l .far) y d
 
-    now : Put (l .time) time′ y (suc (mOf ws * k + i))
+    now : ButAt (l .time) time′ y (suc (mOf ws * k + i))
     now = put-put (l .time) y (suc (mOf ws * k + i))
 
-    farther : Put (l .far) far′ y d
+    farther : ButAt (l .far) far′ y d
     farther = put-put (l .far) y d
 
     head-low : y < nOf ws
     head-low = accepted-ends (l .fine) .head-in i listed
 
-    put-best : Put (lengthAt best) (lengthAt best′) y better
-    put-best = set-put best y better noRows (omega (arith, head-low, n-few (l .fine), l .best-long))
+    put-best : ButAt (lengthAt best) (lengthAt best′) y better
+    put-best = set-put best y better noRows (omega (arith, head-low, vertices-few (l .fine), l .best-long))
 
-    put-last : Put (rowAt last) (rowAt last′) y i
-    put-last = set-put last y i 0 (omega (arith, head-low, n-few (l .fine), l .last-long))
+    put-last : ButAt (lastRow last) (lastRow last′) y i
+    put-last = set-put last y i 0 (omega (arith, head-low, vertices-few (l .fine), l .last-long))
 
-    are : (v : ℕ) → Dec (v ≡ y) → at best′ v ≡ keyOf (far′ v)
+    are : (v : ℕ) → Dec (v ≡ y) → keyAt best′ v ≡ keyOf (far′ v)
     are v (yes q) =
-        ap (at best′) q ∙ ap lengthOf (put-best .here) ∙ e ∙ looked-offer l (omega arith) i
+        ap (keyAt best′) q ∙ ap lengthOf (put-best .here) ∙ e ∙ looked-offer l (omega arith) i
         ∙ sym (ap (λ u. keyOf (far′ u)) q ∙ ap keyOf (farther .here))
     are v (no n) = ap lengthOf (put-best .there v n) ∙ l .are v ∙ sym (ap keyOf (farther .there v n))
 
-    near : (v : ℕ) → Dec (v ≡ y) → Near (far′ v) (looks k (suc i))
+    near : (v : ℕ) → Dec (v ≡ y) → Near (far′ v) (looksMade k (suc i))
     near v (yes q) =
-        subst (λ u. Near (far′ u) (looks k (suc i))) (sym q)
-        (subst (λ z. Near z (looks k (suc i))) (sym (farther .here))
+        subst (λ u. Near (far′ u) (looksMade k (suc i))) (sym q)
+        (subst (λ z. Near z (looksMade k (suc i))) (sym (farther .here))
         (near-le (near-plus (l .near (E .tail i)) (size-near (l .fine) i listed)) (omega arith)))
     near v (no n) =
-        subst (λ z. Near z (looks k (suc i))) (sym (farther .there v n)) (near-le (l .near v) (omega arith))
+        subst (λ z. Near z (looksMade k (suc i))) (sym (farther .there v n)) (near-le (l .near v) (omega arith))
 
-    stands : (v : ℕ) → v < mostVertices → Dec (v ≡ y) → rowAt last′ v ≢ noRow → 0 < time′ v
+    stands : (v : ℕ) → v < mostVertices → Dec (v ≡ y) → lastRow last′ v ≢ noRow → 0 < time′ v
     stands v f (yes q) n = subst (λ u. 0 < time′ u) (sym q) (omega (arith, now .here))
     stands v f (no q) n = omega (arith, now .there v q, l .stands v f (λ z. n (put-last .there v q ∙ z)))
 
@@ -193,14 +193,14 @@ module _ {ws : List ℤ} {k : ℕ} {best : List Length} {last : List ℕ} {i row
         far = far′;
         are = λ v. are v (ℕ-discrete v y);
         near = λ v. near v (ℕ-discrete v y);
-        traced = traced-taken pairs-laws E (mOf ws * k) (l .time) (l .far) (rowAt last) i (l .traced) listed (less-is h)
+        traced = traced-taken pairs-laws E (mOf ws * k) (l .time) (l .far) (lastRow last) i (l .traced) listed (less-is h)
             _ _ farther put-last;
         stands = λ v f. stands v f (ℕ-discrete v y);
         best-long = length-set best y better ∙ l .best-long;
         last-long = length-set last y i ∙ l .last-long;
       };
       finds = record {
-        none = λ z. let o : ⊥ = omega (arith, m-few (l .fine)) in absurd o;
+        none = λ z. let o : ⊥ = omega (arith, time-rows-few (l .fine)) in absurd o;
         listed = λ n. listed;
         late = λ n. omega (arith, now .here);
       };
@@ -220,10 +220,10 @@ module _ {ws : List ℤ} {k : ℕ} {best : List Length} {last : List ℕ} {row :
     time = done .time;
     far = done .far;
     are = done .are;
-    near = λ v. near-le (done .near v) (omega (arith, m-few (done .fine)));
-    traced = subst (λ b. Traced pairs (timeEdges ws) b 0 (done .time) (done .far) (rowAt last))
+    near = λ v. near-le (done .near v) (omega (arith, time-rows-few (done .fine)));
+    traced = subst (λ b. Traced pairs (timeEdges ws) b 0 (done .time) (done .far) (lastRow last))
         (sym (mul-suc (mOf ws) k))
-        (traced-pass pairs-laws (timeEdges ws) (mOf ws * k) (done .time) (done .far) (rowAt last) (done .traced));
+        (traced-pass pairs-laws (timeEdges ws) (mOf ws * k) (done .time) (done .far) (lastRow last) (done .traced));
     stands = done .stands;
     best-long = done .best-long;
     last-long = done .last-long;
@@ -231,25 +231,25 @@ module _ {ws : List ℤ} {k : ℕ} {best : List Length} {last : List ℕ} {row :
 
   settled : Still pairs (timeEdges ws) (done .far) → Settled ws best
   settled s = record {
-    can = still-can pairs-laws (timeEdges ws) ends _ _ (done .time) (done .far) (rowAt last) (done .traced) s;
+    can = still-can pairs-laws (timeEdges ws) ends _ _ (done .time) (done .far) (lastRow last) (done .traced) s;
     are = λ v. done .are v ∙ ap keyOf (right v);
     passed = λ v. record { modest = looked-modest done (omega arith) v; low = low v };
     long = done .best-long;
   }
     where
-      ends : Ends (timeEdges ws)
+      ends : EndsIn (timeEdges ws)
       ends = accepted-ends (done .fine)
 
       right : (v : ℕ) → done .far v ≡ distance pairs (timeEdges ws) (distances pairs (timeEdges ws)) v
-      right = still-distance pairs-laws (timeEdges ws) ends _ _ (done .time) (done .far) (rowAt last) (done .traced) s
+      right = still-distance pairs-laws (timeEdges ws) ends _ _ (done .time) (done .far) (lastRow last) (done .traced) s
 
-      low : (v : ℕ) → at best v ≤ℤ pos 0
+      low : (v : ℕ) → keyAt best v ≤ℤ pos 0
       low v =
           subst (λ z. z ≤ℤ pos 0) (sym (done .are v))
           (key-low (done .far v) (within-le (near-all done (omega arith) v .small) (omega arith)) (done .traced .low v))
 
-  pub settled-still : row ≡ noRow → Settled ws best
-  settled-still e = settled (traced-still pairs-laws (timeEdges ws) (mOf ws * k) (done .time) (done .far) (rowAt last)
+  pub pass-settled : row ≡ noRow → Settled ws best
+  pass-settled e = settled (traced-still pairs-laws (timeEdges ws) (mOf ws * k) (done .time) (done .far) (lastRow last)
       (done .traced) (p .finds .none e))
 
   pub settled-quiet : {b : Bool} → b ≡ true → Quiet ws best b → Settled ws best

@@ -18,14 +18,14 @@ use Rattle.whole.specs.Values.{pairs}
 use Rattle.whole.proofs.Beside.{pairs-laws}
 use Rattle.rules.specs.Sizes.{mostVertices}
 use Rattle.rules.specs.Problem.{nOf, mOf}
-use Rattle.rules.specs.Walks.{Ends}
-use Rattle.rules.specs.Cycle.{row}
+use Rattle.rules.specs.Walks.{EndsIn}
+use Rattle.rules.specs.Cycle.{rowTold}
 use Rattle.rules.specs.TimeWords.{timeEdges}
 use Rattle.rules.proofs.Times.Closed.{trail-cycle}
-use Rattle.rules.proofs.Times.Refused.{n-few, m-few, accepted-ends}
+use Rattle.rules.proofs.Times.Refused.{vertices-few, time-rows-few, accepted-ends}
 use Rattle.rules.specs.Traces.{Trail}
 use Rattle.rules.proofs.Times.Trail.{trail-start, trail-left, trail-ends, trail-more}
-use Rattle.times.specs.Steps.{rowAt, noRow, Looked, Closing, Went}
+use Rattle.times.specs.Steps.{lastRow, noRow, Looked, Closing, Went}
 
 module _ {ws : List ℤ} {last : List ℕ} {passes v : ℕ} (c : Closing ws last passes v) where
   abbrev l : Looked ws passes (mOf ws) (c .best) last
@@ -40,29 +40,29 @@ module _ {ws : List ℤ} {last : List ℕ} {passes v : ℕ} (c : Closing ws last
     pub path-long : length path ≡ mostVertices
     pub seen-long : length seen ≡ mostVertices
 
-  ends : Ends (timeEdges ws)
+  ends : EndsIn (timeEdges ws)
   ends = accepted-ends (l .fine)
 
   few : nOf ws ≤ mostVertices
-  few = n-few (l .fine)
+  few = vertices-few (l .fine)
 
   late : (q : ℕ) → spare + suc q ≡ nOf ws → mOf ws * q < l .time v
   late q e = let h : q ≤ passes = omega arith in omega (arith, mul-le-mul-left (mOf ws) h, c .late)
 
   pub tracing-start : Tracing (replicate mostVertices 0) (replicate mostVertices 0) v (nOf ws)
   tracing-start = record {
-    trail = trail-start (timeEdges ws) ends _ _ (l .time) (l .far) (rowAt last) (l .traced) (nOf ws) spare
+    trail = trail-start (timeEdges ws) ends _ _ (l .time) (l .far) (lastRow last) (l .traced) (nOf ws) spare
         (replicate mostVertices 0) v mostVertices (c .vertex) late;
     path-long = length-replicate {A = ℕ} mostVertices 0;
     seen-long = length-replicate {A = ℕ} mostVertices 0;
   }
 
   -- a vertex that no row has bettered
-  unbettered : (u : ℕ) → rowAt last u ≡ noRow → l .time u ≡ 0
+  unbettered : (u : ℕ) → lastRow last u ≡ noRow → l .time u ≡ 0
   unbettered u e = go (decLt 0 (l .time u))
     where
       go : Dec (0 < l .time u) → l .time u ≡ 0
-      go (yes h) = let o : ⊥ = omega (arith, l .traced .bettered u h .listed, m-few (l .fine)) in absurd o
+      go (yes h) = let o : ⊥ = omega (arith, l .traced .bettered u h .listed, time-rows-few (l .fine)) in absurd o
       go (no n) = omega arith
 
   module _ (seen path : List ℕ) (here j : ℕ) (t : Tracing seen path here j) where
@@ -72,20 +72,20 @@ module _ {ws : List ℤ} {last : List ℕ} {passes v : ℕ} (c : Closing ws last
     pub tracing-high : j ≤ mostVertices
     tracing-high = omega (arith, t .trail .most, few)
 
-    pub tracing-mark : row seen here ≤ mostVertices
-    tracing-mark = go (row seen here) refl
+    pub tracing-mark : rowTold seen here ≤ mostVertices
+    tracing-mark = go (rowTold seen here) refl
       where
-        go : (m : ℕ) → row seen here ≡ m → row seen here ≤ mostVertices
+        go : (m : ℕ) → rowTold seen here ≡ m → rowTold seen here ≤ mostVertices
         go zero e = omega arith
         go (suc p) e = omega (arith, t .trail .marks here p e .1, few)
 
-    pub tracing-left : row seen here ≡ 0 → 0 < j
+    pub tracing-left : rowTold seen here ≡ 0 → 0 < j
     tracing-left z =
-        trail-left (timeEdges ws) ends _ _ (l .time) (l .far) (rowAt last) (l .traced) (nOf ws) spare
+        trail-left (timeEdges ws) ends _ _ (l .time) (l .far) (lastRow last) (l .traced) (nOf ws) spare
         path seen here j (t .trail) z (omega arith)
 
     -- a vertex met again, its mark m
-    pub tracing-closed : (m : ℕ) → row seen here ≡ m → (m ≡ 0 → ⊥) →
+    pub tracing-closed : (m : ℕ) → rowTold seen here ≡ m → (m ≡ 0 → ⊥) →
         Went ws passes (record { from = j; to = m; path = path })
     tracing-closed zero e h = absurd (h refl)
     tracing-closed (suc p) e h = record {
@@ -100,11 +100,11 @@ module _ {ws : List ℤ} {last : List ℕ} {passes v : ℕ} (c : Closing ws last
     }
 
     -- no row leads on
-    pub tracing-ended : row seen here ≡ 0 → rowAt last here ≡ noRow →
+    pub tracing-ended : rowTold seen here ≡ 0 → lastRow last here ≡ noRow →
         Went ws passes (record { from = j; to = j; path = path })
     tracing-ended z e =
         let s : j ≤ spare =
-        trail-ends (timeEdges ws) ends _ _ (l .time) (l .far) (rowAt last) (l .traced) (nOf ws) spare
+        trail-ends (timeEdges ws) ends _ _ (l .time) (l .far) (lastRow last) (l .traced) (nOf ws) spare
         path seen here j (t .trail) (unbettered here e) in
         record {
           round = λ o. let y : ⊥ = omega arith in absurd y;
@@ -112,26 +112,26 @@ module _ {ws : List ℤ} {last : List ℕ} {passes v : ℕ} (c : Closing ws last
           few = λ o. omega (arith, tracing-left z);
         }
 
-  module _ (seen path : List ℕ) (here q : ℕ) (t : Tracing seen path here (suc q)) (z : row seen here ≡ 0)
-      (n : rowAt last here ≢ noRow) where
-    more : Tracing (set seen here (suc q)) (set path q (rowAt last here)) (timeEdges ws .tail (rowAt last here)) q
+  module _ (seen path : List ℕ) (here q : ℕ) (t : Tracing seen path here (suc q)) (z : rowTold seen here ≡ 0)
+      (n : lastRow last here ≢ noRow) where
+    more : Tracing (set seen here (suc q)) (set path q (lastRow last here)) (timeEdges ws .tail (lastRow last here)) q
     more = record {
-      trail = trail-more (timeEdges ws) ends _ _ (l .time) (l .far) (rowAt last) (l .traced) (nOf ws) spare
+      trail = trail-more (timeEdges ws) ends _ _ (l .time) (l .far) (lastRow last) (l .traced) (nOf ws) spare
           path seen here q (t .trail) z
           (l .stands here (tracing-here seen path here (suc q) t) n)
           (omega (arith, t .path-long, tracing-high seen path here (suc q) t)) (omega (arith, t .seen-long, tracing-here seen path here (suc q) t));
-      path-long = length-set path q (rowAt last here) ∙ t .path-long;
+      path-long = length-set path q (lastRow last here) ∙ t .path-long;
       seen-long = length-set seen here (suc q) ∙ t .seen-long;
     }
 
-  pub tracing-listed : (u : ℕ) → u < mostVertices → rowAt last u ≢ noRow → rowAt last u < mOf ws
+  pub tracing-listed : (u : ℕ) → u < mostVertices → lastRow last u ≢ noRow → lastRow last u < mOf ws
   tracing-listed u h n = l .traced .bettered u (l .stands u h n) .listed
 
   -- by the place that the code has come to
-  module _ (seen path : List ℕ) (here j : ℕ) (t : Tracing seen path here j) (z : row seen here ≡ 0)
-      (n : rowAt last here ≢ noRow) where
+  module _ (seen path : List ℕ) (here j : ℕ) (t : Tracing seen path here j) (z : rowTold seen here ≡ 0)
+      (n : lastRow last here ≢ noRow) where
     abbrev i : ℕ
-    i = rowAt last here
+    i = lastRow last here
 
     one-down : suc (j - 1) ≡ j
     one-down = omega (arith, tracing-left seen path here j t z)

@@ -10,7 +10,7 @@ use Rattle.whole.proofs.Order.{≤ℤ-trans}
 use Rattle.rules.specs.Sizes.{mostVertices}
 use Rattle.rules.specs.Problem.{nOf}
 use Rattle.rules.specs.TimeWords.{AcceptedTimes}
-use Rattle.rules.proofs.Times.Refused.{n-few}
+use Rattle.rules.proofs.Times.Refused.{vertices-few}
 use Rattle.lengths.specs.declared.answer.Way.{Way}
 use Rattle.lengths.specs.Answer.{output}
 use Rattle.times.specs.declared.passes.Ending.{Ending}
@@ -52,7 +52,7 @@ module _ (c : tie.After-settle) where
   n-is = c .before .before .count-at .ensures
 
   n-low : n ≤ mostVertices
-  n-low = omega (arith, n-is, n-few accepted)
+  n-low = omega (arith, n-is, vertices-few accepted)
 
   roomy : 2 + 2 * n ≤ length before
   roomy = omega (arith, n-is, accepted .roomy)

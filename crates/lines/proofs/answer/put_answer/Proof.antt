@@ -11,7 +11,7 @@ use mir.Val.{SFits, ofZ}
 use Rattle.whole.proofs.Tests.{test-eq}
 use Rattle.rules.specs.Problem.{word}
 use Rattle.rules.specs.Text.{ascii, canText, cannotText, rangeText, answerText}
-use Rattle.rules.proofs.Text.Verdicts.{answer-can, answer-cannot, answer-range}
+use Rattle.rules.proofs.Text.Verdicts.{text-can, text-cannot, text-range}
 use Rattle.rules.proofs.Text.Lengths.{range-short}
 use Rattle.put.proofs.Texts.{put-length}
 use Rattle.lines.proofs.answer.put_answer.Statement.{statement}
@@ -33,7 +33,7 @@ module _ (c : tie.After-verdict) where
 
 is-can : (c : tie.Then1) → text (c .before) ≡ canText (answer (c .before)) (start (c .before) .args .variables)
 is-can c =
-    answer-can (answer (c .before)) (start (c .before) .args .variables)
+    text-can (answer (c .before)) (start (c .before) .args .variables)
     (test-eq w64 (fit (c .before)) (sfits-lit tt) (c .if1 .taken))
 
 is-cannot :
@@ -41,12 +41,12 @@ is-cannot :
     → text (c .before .before) ≡ cannotText (answer (c .before .before)) (start (c .before .before) .args .variables)
 is-cannot c =
     let at = c .before .before in
-    answer-cannot (answer at) (start at .args .variables) (test-eq w64 (fit at) (sfits-lit tt) (c .if2 .taken))
+    text-cannot (answer at) (start at .args .variables) (test-eq w64 (fit at) (sfits-lit tt) (c .if2 .taken))
 
 is-range : (c : tie.Else2) → text (c .before .before) ≡ rangeText (answer (c .before .before))
 is-range c =
     let at = c .before .before in
-    answer-range (answer at) (start at .args .variables)
+    text-range (answer at) (start at .args .variables)
     (λ e. c .before .if1 .left (ap (ofZ w64) e)) (λ e. c .if2 .left (ap (ofZ w64) e))
 
 shared-slice-copy-out-verdict : tie.Need-shared-slice-copy-out-verdict

@@ -8,7 +8,7 @@ use Rattle.rules.specs.Sizes.{mostMultiplierLines}
 use Rattle.rules.specs.Text.{linesBelow, multiplierLines}
 use Rattle.put.specs.Put.{PutShort}
 use Rattle.put.proofs.Texts.{put-length}
-use Rattle.lines.proofs.Texts.{lines-start, lines-room, lines-more}
+use Rattle.lines.proofs.Texts.{text-lines-start, lines-room, text-lines-more}
 use Rattle.lines.proofs.answer.put_evidence.Statement.{statement}
 use Rattle.lines.proofs.answer.put_evidence.Tie as tie
 
@@ -28,7 +28,7 @@ module _ (c : tie.Start Inv-loop μ-loop) where
 loop-holds : tie.Need-loop-holds Inv-loop μ-loop
 loop-holds c =
     let start = c .before in
-    (omega arith, lines-start (entry start) mostMultiplierLines (start .args .out .now) (start .args .at))
+    (omega arith, text-lines-start (entry start) mostMultiplierLines (start .args .out .now) (start .args .at))
 
 put-multipliers-requires : tie.Need-put-multipliers-requires Inv-loop μ-loop
 put-multipliers-requires c κs =
@@ -46,7 +46,7 @@ loop-again : tie.Need-loop-again Inv-loop μ-loop
 loop-again c =
     let line = c .before .before .put-multipliers .ensures in
     let at = c .before .before .before .before .before in
-    (omega arith, lines-more (entry (at .before .before)) mostMultiplierLines (at .loop .v) (at .loop .inv .1) line)
+    (omega arith, text-lines-more (entry (at .before .before)) mostMultiplierLines (at .loop .v) (at .loop .inv .1) line)
 
 same-length : tie.Need-same-length Inv-loop μ-loop
 same-length c = put-length (c .before .loop .inv .1 .put)

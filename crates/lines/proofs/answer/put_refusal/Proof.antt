@@ -10,7 +10,7 @@ use mir.Syntax.{w64}
 use mir.Val.{toZ}
 use Rattle.rules.specs.Sizes.{mostText}
 use Rattle.rules.specs.Text.{ascii, refusalText}
-use Rattle.rules.proofs.Text.Lengths.{refusal-short}
+use Rattle.rules.proofs.Text.Lengths.{refusal-text-short}
 use Rattle.put.proofs.Texts.{put-length}
 use Rattle.lines.proofs.answer.put_refusal.Statement.{statement}
 use Rattle.lines.proofs.answer.put_refusal.Tie as tie
@@ -23,7 +23,7 @@ module _ (c : tie.Start) where
   wide = toZ-pos w64 (omega (arith, c .fits .number .fits))
 
   short : length (refusalText number) ≤ mostText
-  short = refusal-short number (record { sfits = omega (arith, c .fits .number .fits) })
+  short = refusal-text-short number (record { sfits = omega (arith, c .fits .number .fits) })
 
 slice-aggregate-put-line : tie.Need-slice-aggregate-put-line
 slice-aggregate-put-line c = search needs

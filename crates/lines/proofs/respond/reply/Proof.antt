@@ -13,7 +13,7 @@ use Rattle.rules.specs.Refusal.{Accepted, problemRefusal, refusal}
 use Rattle.rules.specs.Sizes.{mostRows, mostVariables}
 use Rattle.rules.specs.Text.{answerText}
 use Rattle.solver.proofs.Laws.Refusals.{accepted-of}
-use Rattle.lines.proofs.Replies.{fine-words, printed-same, reply-answered, reply-refused, vars-few, written-long}
+use Rattle.lines.proofs.Replies.{fine-words, printed-same, replied-answered, replied-refused, vars-few, written-long}
 use Rattle.lines.proofs.respond.reply.Statement.{statement}
 use Rattle.lines.proofs.respond.reply.Tie as tie
 
@@ -38,7 +38,7 @@ number-is c = c .solve .ensures .0
 returns : tie.Need-returns
 returns c =
     let t = c .before .before .before .before in let s = t .before .before in
-    printed-same (reply-refused (words (s .before .before .before)) (s .solve .result) (number-is s) (t .if1 .taken))
+    printed-same (replied-refused (words (s .before .before .before)) (s .solve .result) (number-is s) (t .if1 .taken))
     (c .before .before .write-refusal .ensures)
 
 fine : (c : tie.Else1) → problemRefusal (words (c .before .before .before .before .before)) ≡ 0
@@ -82,7 +82,7 @@ returns-2 c =
     let a = c .before .before in let k = a .before .before .before in let s = k .before .before .before .before in
     printed-same
     (ap₂ answerText (s .solve .ensures .1 ∙ ap (λ (j : ℕ). written j (words (s .before .before .before)) (replicate 51 (pos 0))) (k .before .before .if1 .left)) (many k)
-    ∙ reply-answered (words (s .before .before .before)) (replicate 51 (pos 0)) (fine (k .before .before)))
+    ∙ replied-answered (words (s .before .before .before)) (replicate 51 (pos 0)) (fine (k .before .before)))
     (a .write-answer .ensures)
 
 pub reply-spec : {M : Type 1} → statement M

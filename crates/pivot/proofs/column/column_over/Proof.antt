@@ -11,14 +11,14 @@ use mir.Facts.{toZ-ofZ}
 use mir.Syntax.{w32, w64}
 use mir.Val.{SFits}
 use Rattle.layout.specs.Layout.{mostEntries}
-use Rattle.pivot.specs.Trials.{Apart, Quotient, crossedIn}
-use Rattle.pivot.proofs.Laws.Columns.{apart-start, apart-more, each-more}
+use Rattle.pivot.specs.Trials.{Spared, Quotient, crossedIn}
+use Rattle.pivot.proofs.Laws.Columns.{spared-start, spared-more, each-more}
 use Rattle.pivot.proofs.column.column_over.Statement.{statement}
 use Rattle.pivot.proofs.column.column_over.Tie as tie
 
 abbrev Inv-loop : tie.InvT-loop
 Inv-loop entries besides column divider out₀ start rows wrong₀ i₀ out wrong i =
-    (i ≤ rows) × (wrong ≤ i) × Apart (column .start) i out₀ out
+    (i ≤ rows) × (wrong ≤ i) × Spared (column .start) i out₀ out
     × (wrong ≡ 0 → (u : ℕ) → u < i →
     Quotient (divider .by) (crossedIn entries besides column u) (getD out (column .start + u) (pos 0)))
 
@@ -29,7 +29,7 @@ loop-holds : tie.Need-loop-holds Inv-loop μ-loop
 loop-holds c = (
   omega arith,
   omega arith,
-  apart-start (c .args .column .start) (c .args .out .now),
+  spared-start (c .args .column .start) (c .args .out .now),
   λ e u h. let z : ⊥ = omega arith in absurd z,
 )
 
@@ -99,7 +99,7 @@ loop-again : tie.Need-loop-again Inv-loop μ-loop
 loop-again c = let l = a c .before .before .before .loop in let b = s c .args in simp (toZ-ofZ (fit-q c)) (
   omega arith,
   (let h = c .wrong-of .ensures .0 in omega arith),
-  apart-more (b .column .start) (i (a c)) (b .out .now) (l .out) (a c .guess .result) (l .inv .2),
+  spared-more (b .column .start) (i (a c)) (b .out .now) (l .out) (a c .guess .result) (l .inv .2),
   λ e. each-more (λ u z. Quotient (b .divider .by) (crossedIn (b .entries .now) (b .besides .now) (b .column) u) z)
       (b .column .start) (i (a c)) (l .out) (a c .guess .result) (room c) (l .inv .3 (omega arith))
       (right c (omega arith)),
@@ -110,7 +110,7 @@ returns c =
     let l = c .before .loop in
     let b = c .before .before .args in
     let e : l .i ≡ b .column .rows = omega arith in (
-      subst (λ k. Apart (b .column .start) k (b .out .now) (l .out)) e (l .inv .2),
+      subst (λ k. Spared (b .column .start) k (b .out .now) (l .out)) e (l .inv .2),
       λ w u h. l .inv .3 w u (rw e h),
     )
 

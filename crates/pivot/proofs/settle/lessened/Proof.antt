@@ -14,7 +14,7 @@ use Rattle.divisor.specs.Cells.{largestSize}
 use Rattle.rules.specs.Sizes.{largestNumber}
 use Rattle.pivot.specs.Pivot.{signedBy}
 use Rattle.pivot.specs.declared.column.Column.{Column}
-use Rattle.pivot.specs.Trials.{Columned, columnOf, columnDivisor}
+use Rattle.pivot.specs.Trials.{Columned, borderColumn, columnDivisor}
 use Rattle.pivot.proofs.Laws.Columns.{columned, column-divides}
 use Rattle.pivot.proofs.Laws.Halves.{wide, widened}
 use Rattle.pivot.proofs.Laws.Signs.{size-signed}
@@ -41,7 +41,7 @@ module _ (c : tie.After-column-divisor) where
 
   abbrev left : ℕ
   left = columnDivisor (start .args .entries .now) (start .args .t2 .besides)
-      (columnOf (start .args .t2) (start .args .j)) (start .args .t2 .rows) (natAbs (start .args .by))
+      (borderColumn (start .args .t2) (start .args .j)) (start .args .t2 .rows) (natAbs (start .args .by))
 
   left-is : c .column-divisor .result ≡ left
   left-is = c .column-divisor .ensures
@@ -53,7 +53,7 @@ module _ (c : tie.After-column-divisor) where
   left-most = le-trans
       (le-of-dvd (size-pos (start .args .by) (start .pre .0 .1))
       (column-divides (start .args .entries .now) (start .args .t2 .besides)
-      (columnOf (start .args .t2) (start .args .j)) (start .args .t2 .rows) (natAbs (start .args .by)) .0))
+      (borderColumn (start .args .t2) (start .args .j)) (start .args .t2 .rows) (natAbs (start .args .by)) .0))
       (start .pre .0 .2 .within)
 
 cast-signed : tie.Need-cast-signed

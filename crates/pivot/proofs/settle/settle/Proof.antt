@@ -15,15 +15,15 @@ use Rattle.pivot.specs.declared.border.Border.{Border}
 use Rattle.pivot.specs.declared.settle.Tried.{Tried}
 use Rattle.pivot.specs.declared.settle.Tried.the-variants as tries
 use Rattle.pivot.specs.Border.{inBorder}
-use Rattle.pivot.specs.Trials.{Apart, TriedAs, columnOf, columnDivisor}
-use Rattle.pivot.proofs.Laws.Columns.{apart-start, apart-wider, apart-twice}
+use Rattle.pivot.specs.Trials.{Spared, TriedAs, borderColumn, columnDivisor}
+use Rattle.pivot.proofs.Laws.Columns.{spared-start, spared-wider, spared-twice}
 use Rattle.pivot.proofs.Laws.Trying.{Trying, trying-start, trying-less, less-falls, exceeds}
 use Rattle.pivot.proofs.settle.settle.Statement.{statement}
 use Rattle.pivot.proofs.settle.settle.Tie as tie
 
 abbrev Inv-loop : tie.InvT-loop
 Inv-loop entries border from out₀ by₀ out by =
-    Trying entries border (toZ w32 from) (toZ w32 by) × Apart 0 (inBorder border) out₀ out × Fits w32 by
+    Trying entries border (toZ w32 from) (toZ w32 by) × Spared 0 (inBorder border) out₀ out × Fits w32 by
 
 abbrev μ-loop : tie.MeasureT-loop
 μ-loop entries border from out₀ by₀ out by = natAbs (toZ w32 by)
@@ -32,8 +32,8 @@ loop-holds : tie.Need-loop-holds Inv-loop μ-loop
 loop-holds c = (
   simp (toZ-ofZ (c .fits .from))
       (trying-start (c .args .entries .now) (c .args .border) (c .args .from) (c .pre .1 .1 .0) (c .pre .1 .1 .1)),
-  apart-wider 0 (inBorder (c .args .border)) (c .args .out .now) (c .args .out .now) (omega arith)
-      (apart-start 0 (c .args .out .now)),
+  spared-wider 0 (inBorder (c .args .border)) (c .args .out .now) (c .args .out .now) (omega arith)
+      (spared-start 0 (c .args .out .now)),
   fits-ofZ (c .fits .from),
 )
 
@@ -61,8 +61,8 @@ module _ (c : tie.After-try-all Inv-loop μ-loop) where
   trying : Trying l border (s .args .from) z
   trying = simp (toZ-ofZ (s .fits .from)) at (c .before .before .loop .inv .0)
 
-  apart : Apart 0 (inBorder border) (s .args .out .now) new
-  apart = apart-twice (inBorder border) (s .args .out .now) (c .before .before .loop .out) new
+  apart : Spared 0 (inBorder border) (s .args .out .now) new
+  apart = spared-twice (inBorder border) (s .args .out .now) (c .before .before .loop .out) new
       (c .before .before .loop .inv .1)
       (c .try-all .ensures .0)
 
@@ -106,7 +106,7 @@ module _ (c : tie.After-lessened Inv-loop μ-loop) where
   t = a (c .before)
 
   abbrev left : ℤ
-  left = signedBy (z t) (columnDivisor (l t) (border t .besides) (columnOf (border t) (j (c .before))) (border t .rows)
+  left = signedBy (z t) (columnDivisor (l t) (border t .besides) (borderColumn (border t) (j (c .before))) (border t .rows)
       (natAbs (z t)))
 
   fit : SFits w32 (c .lessened .result)

@@ -15,8 +15,8 @@ use Rattle.pivot.specs.declared.border.Border.{Border}
 use Rattle.pivot.specs.declared.column.Column.{Column}
 use Rattle.layout.specs.Layout.{mostEntries, lineAt, live}
 use Rattle.pivot.specs.Border.{Bordered, crossedAt}
-use Rattle.pivot.specs.Trials.{Apart, Quotient, Columned, columnOf, crossedIn}
-use Rattle.pivot.proofs.Laws.Columns.{apart-start, apart-then, apart-wider, column-alike, column-end}
+use Rattle.pivot.specs.Trials.{Spared, Quotient, Columned, borderColumn, crossedIn}
+use Rattle.pivot.proofs.Laws.Columns.{spared-start, spared-then, spared-wider, column-alike, column-end}
 use Rattle.pivot.proofs.Laws.Columns.{column-most, columned, columns-all, quotients-then}
 use Rattle.layout.proofs.Laws.Layout.{lines-are}
 use Rattle.pivot.proofs.settle.try_all.Statement.{statement}
@@ -24,7 +24,7 @@ use Rattle.pivot.proofs.settle.try_all.Tie as tie
 
 abbrev Inv-loop : tie.InvT-loop
 Inv-loop entries by out₀ border divider rows columns j₀ out j =
-    (j ≤ columns) × Apart 0 (lineAt rows columns j) out₀ out
+    (j ≤ columns) × Spared 0 (lineAt rows columns j) out₀ out
     × ((k : ℕ) → k < lineAt rows columns j → Quotient (toZ w32 by) (crossedAt entries border k) (getD out k (pos 0)))
 
 abbrev μ-loop : tie.MeasureT-loop
@@ -39,8 +39,8 @@ none m n = omega arith
 loop-holds : tie.Need-loop-holds Inv-loop μ-loop
 loop-holds c = let b = c .before .args .t2 in (
   omega arith,
-  subst (λ (k : ℕ). Apart 0 k (c .before .args .out .now) (c .before .args .out .now)) (none (b .rows) (b .columns))
-      (apart-start 0 (c .before .args .out .now)),
+  subst (λ (k : ℕ). Spared 0 k (c .before .args .out .now) (c .before .args .out .now)) (none (b .rows) (b .columns))
+      (spared-start 0 (c .before .args .out .now)),
   λ k h. let z : ⊥ = omega (arith, none (b .rows) (b .columns)) in absurd z,
 )
 
@@ -100,7 +100,7 @@ module _ (c : tie.After-column-over-arg2 Inv-loop μ-loop) where
     above = toZ w32 (ofZ w32 (getD (border turn .aboves) (j turn) (pos 0)));
   }
 
-  column-is : given ≡ columnOf (border turn) (j turn)
+  column-is : given ≡ borderColumn (border turn) (j turn)
   column-is = column-alike (m turn) (lined .line-at .ensures) (toZ-ofZ fit-pivot) (toZ-ofZ fit-above)
 
   long : length (turn .before .loop .out) ≡ mostEntries
@@ -130,12 +130,12 @@ module _ (c : tie.After-column-over Inv-loop μ-loop) where
   abbrev new : List ℤ
   new = c .column-over .last .1 .1 .1 .1 .0
 
-  written : Apart from (m t) old new
+  written : Spared from (m t) old new
   written =
-      subst (λ (k : Column). Apart (k .start) (k .rows) old new) (column-is (c .before)) (c .column-over .ensures .0)
+      subst (λ (k : Column). Spared (k .start) (k .rows) old new) (column-is (c .before)) (c .column-over .ensures .0)
 
-  so-far : Apart 0 (from + m t) (s .args .out .now) new
-  so-far = apart-then from (m t) (s .args .out .now) old new (t .before .loop .inv .1) written
+  so-far : Spared 0 (from + m t) (s .args .out .now) new
+  so-far = spared-then from (m t) (s .args .out .now) old new (t .before .loop .inv .1) written
 
   fit-by : SFits w32 (s .args .by)
   fit-by = s .fits .by
@@ -144,7 +144,7 @@ module _ (c : tie.After-column-over Inv-loop μ-loop) where
   by-is = t .before .before .divider-of .ensures .0 ∙ toZ-ofZ fit-by
 
   in-column : c .column-over .result ≡ 0 → (i : ℕ) → i < m t →
-      Quotient (s .args .by) (crossedIn (s .args .entries .now) (border t .besides) (columnOf (border t) (j t)) i)
+      Quotient (s .args .by) (crossedIn (s .args .entries .now) (border t .besides) (borderColumn (border t) (j t)) i)
       (getD new (from + i) (pos 0))
   in-column e i h =
       subst (λ (k : Column). Quotient (s .args .by) (crossedIn (s .args .entries .now) (border t .besides) k i)
@@ -154,7 +154,7 @@ module _ (c : tie.After-column-over Inv-loop μ-loop) where
 
 returns : tie.Need-returns Inv-loop μ-loop
 returns c = let o = c .before in let x = t o in let l = s o .args .entries .now in (
-  apart-wider (from o + m x) (live (m x) (n x)) (s o .args .out .now) (new o)
+  spared-wider (from o + m x) (live (m x) (n x)) (s o .args .out .now) (new o)
       (column-most l (border x) (j x) (in-columns x)) (so-far o),
   in-columns x,
 )
@@ -172,7 +172,7 @@ loop-again c =
     let l = s o .args .entries .now in
     let e = column-end l (border x) (j x) (in-columns x) in (
       omega arith,
-      subst (λ (k : ℕ). Apart 0 k (s o .args .out .now) (new o)) e (so-far o),
+      subst (λ (k : ℕ). Spared 0 k (s o .args .out .now) (new o)) e (so-far o),
       simp (toZ-ofZ (fit-by o))
           (λ k h. quotients-then l (border x) (j x) (in-columns x) (s o .args .by) (old o) (new o) (written o)
           (simp (toZ-ofZ (fit-by o)) at (x .before .loop .inv .2)) (in-column o (c .if1 .left)) k
@@ -186,7 +186,7 @@ returns-2 c =
     let b = s .args .t2 in
     let e : l .j ≡ b .columns = omega arith in
     let f = columns-all b e in (
-      subst (λ (k : ℕ). Apart 0 k (s .args .out .now) (l .out)) f (l .inv .1),
+      subst (λ (k : ℕ). Spared 0 k (s .args .out .now) (l .out)) f (l .inv .1),
       subst (λ (n : ℕ). (k : ℕ) → k < n →
           Quotient (s .args .by) (crossedAt (s .args .entries .now) b k) (getD (l .out) k (pos 0))) f
           (simp (toZ-ofZ (s .fits .by)) at (l .inv .2)),

@@ -8,7 +8,7 @@ use lib.ListN.{length}
 use Rattle.answers.specs.Answer.{isShort}
 use Rattle.solver.specs.Spend.{manyOf}
 use Rattle.solver.specs.declared.spend.Spent.{Spent}
-use Rattle.session.proofs.Laws.Checks.{checks-as, long-is, short-is, slice-of}
+use Rattle.session.proofs.Laws.Checks.{checks-as, check-long, check-short, slice-of}
 use Rattle.session.proofs.Session.check.Statement.{statement}
 use Rattle.session.proofs.Session.check.Tie as tie
 
@@ -20,7 +20,7 @@ is-short-requires c κs = search needs
 
 returns : tie.Need-returns
 returns c = let o = c .before in let s = o .before .before .before in let a = s .args in
-    let e = short-is (a .self) (a .out .now) (sym (o .is-short .ensures) ∙ c .if1 .taken) in
+    let e = check-short (a .self) (a .out .now) (sym (o .is-short .ensures) ∙ c .if1 .taken) in
     (e .0, (e .1, checks-as (a .self) (a .out .now) (s .pre) (e .0) (e .1)))
 
 -- there is room
@@ -42,7 +42,7 @@ same-length c = search needs
 
 returns-2 : tie.Need-returns-2
 returns-2 c = let o = c .before .before .before .before in let s = start o in let a = s .args in
-    let e = long-is (a .self) (a .out .now) (room o) in
+    let e = check-long (a .self) (a .out .now) (room o) in
     let r = ap (λ (p : Spent). record { refused = 0; session = record { tableau = p .tableau } })
     (c .before .before .spend .ensures .0) ∙ e .0 in
     let l = c .before .before .spend .ensures .1 ∙ e .1 in

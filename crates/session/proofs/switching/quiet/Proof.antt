@@ -3,7 +3,7 @@ use mathlib.Core.List.{List}
 use mathlib.Core.Path.{ap₂}
 use borrow.Author.Needs.{needs}
 use Rattle.tableau.specs.declared.Given.{Given}
-use Rattle.session.specs.Switching.{furnished, noughts, quietAt}
+use Rattle.session.specs.Switching.{furnished, zeroValues, quietAt}
 use Rattle.session.proofs.switching.quiet.Statement.{statement}
 use Rattle.session.proofs.switching.quiet.Tie as tie
 
@@ -17,7 +17,7 @@ returns : tie.Need-returns
 unfolding quietAt
 returns c = let t = c .before .before .before .before .before .args .tableau in
     ap₂ (λ (a b : List Given).
-    furnished t noughts noughts (record { lower = a; upper = b; strict = t .limits .strict }))
+    furnished t zeroValues zeroValues (record { lower = a; upper = b; strict = t .limits .strict }))
     (c .before .all-off .ensures) (c .all-off2 .ensures)
 
 pub quiet-spec : {M : Type 1} → statement M

@@ -8,7 +8,7 @@ use lib.ListN.{length}
 use Rattle.answers.specs.Answer.{isShort}
 use Rattle.solver.specs.Spend.{manyOf}
 use Rattle.slices.specs.Slices.{wentOnBy}
-use Rattle.slices.proofs.Laws.GoesOn.{goes-on-as, long-is, short-is}
+use Rattle.slices.proofs.Laws.GoesOn.{goes-on-as, slice-long, slice-short}
 use Rattle.slices.proofs.Slice.go_on.Statement.{statement}
 use Rattle.slices.proofs.Slice.go_on.Tie as tie
 
@@ -20,7 +20,7 @@ is-short-requires c κs = search needs
 
 returns : tie.Need-returns
 returns c = let o = c .before in let s = o .before .before .before in let a = s .args in
-    let e = short-is (a .self) (a .pivots) (a .out .now) (sym (o .is-short .ensures) ∙ c .if1 .taken) in
+    let e = slice-short (a .self) (a .pivots) (a .out .now) (sym (o .is-short .ensures) ∙ c .if1 .taken) in
     (e .0, (e .1, goes-on-as (a .self) (a .pivots) (a .out .now) (s .pre) (e .0) (e .1)))
 
 -- there is room
@@ -39,7 +39,7 @@ same-length c = search needs
 
 returns-2 : tie.Need-returns-2
 returns-2 c = let o = c .before .before .before .before in let s = start o in let a = s .args in
-    let e = long-is (a .self) (a .pivots) (a .out .now) (room o) in
+    let e = slice-long (a .self) (a .pivots) (a .out .now) (room o) in
     let r = ap wentOnBy (c .before .before .spend .ensures .0) ∙ e .0 in
     let l = c .before .before .spend .ensures .1 ∙ e .1 in
     (r, (l, goes-on-as (a .self) (a .pivots) (a .out .now) (s .pre) r l))

@@ -18,7 +18,7 @@ use Rattle.tableau.specs.declared.amount.Value.{Value}
 use Rattle.tableau.specs.Pivot.{Swappable}
 use Rattle.search.specs.Search.{nextAt}
 use Rattle.steps.specs.Step.{Course, Held, leftAt, on, outcomeAt, over, steppedAt}
-use Rattle.steps.proofs.Laws.Stepped.{Chosen, exchanged, going, outcome-goes, readOf}
+use Rattle.steps.proofs.Laws.Stepped.{Chosen, exchanged, course-on, outcome-goes, readOf}
 use Rattle.steps.proofs.Laws.Steps.{common-held, places-held, small-held, steppable-held, value-held}
 use Rattle.solver.specs.declared.spend.Course as code
 use Rattle.solver.specs.declared.spend.Course.the-variants as courses
@@ -101,7 +101,7 @@ module _ (c : tie.After-next2 Inv-run μ-run) where
   chosen = outcome-goes (here turn) row column value common (sym (step-is (c .before .before) .0) ∙ c .next2 .given .1)
 
   goes : steppedAt (here turn) .course ≡ on
-  goes = going (here turn) row column value common chosen
+  goes = course-on (here turn) row column value common chosen
 
   places : Swappable (here turn) (row .0) (column .0)
   places = places-held (held turn) chosen

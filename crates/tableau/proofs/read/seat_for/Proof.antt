@@ -5,14 +5,14 @@ use Prim.Native.Nat.{ℕ, _-_}
 use native.Mathlib.Omega.{arith}
 use borrow.Author.Needs.{needs}
 use borrow.Author.Tests.{lt-ltb, le-ltb}
-use Rattle.layout.specs.Layout.{row, column}
+use Rattle.layout.specs.Layout.{rowPlace, columnPlace}
 use Rattle.tableau.specs.declared.Seat.{Seat}
 use Rattle.tableau.proofs.read.seat_for.Statement.{statement}
 use Rattle.tableau.proofs.read.seat_for.Tie as tie
 
 -- the seat of v in its column, by its flag and its row
 abbrev seat : ℕ → Bool → ℕ → Seat
-seat v b i = record { basic = not b; row = row i; column = column v }
+seat v b i = record { basic = not b; row = rowPlace i; column = columnPlace v }
 
 cast-v : tie.Need-cast-v
 cast-v c = search needs

@@ -10,15 +10,15 @@ use borrow.Author.Tests.{eq-eqb, ne-eqb, le-ltb, lt-ltb}
 use lib.IntN.{ℤ}
 use lib.ListN.{length}
 use Rattle.whole.proofs.Order.{≤ℤ-trans}
-use Rattle.whole.proofs.Tests.{under}
+use Rattle.whole.proofs.Tests.{under-size}
 use Rattle.rules.specs.Sizes.{mostVertices, mostTimeRows}
 use Rattle.rules.specs.Problem.{word, nOf, mOf}
 use Rattle.rules.specs.Refusal.{first, tooFew}
 use Rattle.rules.specs.TimeWords.{timesLength, badTimeSize, badWordCount, noRoom, rowTests, timeTests, timeRefusal}
 use Rattle.rules.proofs.First.{first-hit, first-skip}
 use Rattle.rules.specs.Meanings.{InRange}
-use Rattle.rules.proofs.Times.Refused.{size-tells}
-use Rattle.timerows.specs.Judged.{Framed, rowsNumber}
+use Rattle.rules.proofs.Times.Refused.{times-size-tells}
+use Rattle.timerows.specs.Judged.{TimeFramed, rowsNumber}
 use Rattle.timerows.proofs.Laws.Numbers.{rows-refuse, rows-pass}
 use Rattle.timerows.proofs.judge.judge.Statement.{statement}
 use Rattle.timerows.proofs.judge.judge.Tie as tie
@@ -69,10 +69,10 @@ module _ (c : tie.Else2) where
   begun = start (c .before)
 
   fine : InRange 1 mostVertices (word (ws begun) 0) × InRange 0 mostTimeRows (word (ws begun) 1)
-  fine = size-tells (ws begun) .if-false (sym (bad-size-is (c .before)) ∙ c .if2 .left)
+  fine = times-size-tells (ws begun) .if-false (sym (bad-size-is (c .before)) ∙ c .if2 .left)
 
   m-few : mOf (ws begun) ≤ mostTimeRows
-  m-few = under mostTimeRows 0 (word (ws begun) 1) (fine .1 .0) (fine .1 .1)
+  m-few = under-size mostTimeRows 0 (word (ws begun) 1) (fine .1 .0) (fine .1 .1)
 
   sized : {k : ℕ} → first ((badWordCount (ws begun), 13) ∷ row-tests begun) ≡ k → Is begun k
   sized e = enough (c .before) (first-skip 12 _ (sym (bad-size-is (c .before)) ∙ c .if2 .left) ∙ e)
@@ -106,10 +106,10 @@ module _ (c : tie.Else3) where
   exact : length (ws s) ≡ 2 + 4 * mOf (ws s)
   exact = c .if3 .left ∙ ap (λ m. 2 + 4 * m) (m-is (c .before))
 
-  framed : Framed (ws s)
+  framed : TimeFramed (ws s)
   framed = record {
     n-least = fine sizes .0 .0;
-    n-few = under mostVertices 1 (word (ws s) 0) (fine sizes .0 .0) (fine sizes .0 .1);
+    n-few = under-size mostVertices 1 (word (ws s) 0) (fine sizes .0 .0) (fine sizes .0 .1);
     m-few = m-few sizes;
     exact = exact;
   }

@@ -15,7 +15,7 @@ use Rattle.whole.specs.Numbers.{outside, within}
 use Rattle.rules.specs.Sizes.{largestLength}
 use Rattle.rules.specs.Problem.{nOf}
 use Rattle.rules.specs.TimeWords.{fromWord, toWord, strictWord, lengthWord, badEnd, badStrict, badRowLength}
-use Rattle.timerows.specs.Judged.{numberOf, rowNumber}
+use Rattle.timerows.specs.Judged.{testNumber, rowNumber}
 use Rattle.timerows.proofs.judge.number_at.Statement.{statement}
 use Rattle.timerows.proofs.judge.number_at.Tie as tie
 
@@ -72,7 +72,7 @@ returns c =
     let w = ws t in
     let j = i t in
     (simp (x-is t, y-is t, strict-is t, length-is t, toZ-ofZ (start t .fits .most)) at (c .row-number .ensures))
-    ∙ ap (λ z. numberOf (outside 0 (natAbs z) (fromWord w j) || outside 0 (natAbs z) (toWord w j))
+    ∙ ap (λ z. testNumber (outside 0 (natAbs z) (fromWord w j) || outside 0 (natAbs z) (toWord w j))
     (outside 0 1 (strictWord w j)) (not (within largestLength (lengthWord w j)))) (start t .pre .2)
 
 pub number-at-spec : {M : Type 1} → statement M

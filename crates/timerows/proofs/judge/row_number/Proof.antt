@@ -15,7 +15,7 @@ use Rattle.whole.proofs.Tests.{own-size}
 use Rattle.rules.specs.Sizes.{largestLength}
 use Rattle.rules.specs.Refusal.{first}
 use Rattle.rules.proofs.First.{first-hit, first-skip}
-use Rattle.timerows.specs.Judged.{numberOf}
+use Rattle.timerows.specs.Judged.{testNumber}
 use Rattle.timerows.proofs.judge.row_number.Statement.{statement}
 use Rattle.timerows.proofs.judge.row_number.Tie as tie
 
@@ -34,7 +34,7 @@ module _ (s : tie.Start) where
   bad-length = not (within largestLength (s .args .c))
 
   abbrev number : ℕ
-  number = numberOf (bad-x || bad-y) bad-strict bad-length
+  number = testNumber (bad-x || bad-y) bad-strict bad-length
 
 -- a word fits 64 bits too
 wide : {z : ℤ} → SFits w32 z → SFits w64 z
@@ -58,7 +58,7 @@ told-x c =
     ∙ outside-most (s .args .most) (s .args .x) (s .pre)
 
 returns : tie.Need-returns
-unfolding numberOf
+unfolding testNumber
 returns c = sym (first-hit 14 _ (ap (λ t. t || bad-y (c .before .before)) (sym (told-x (c .before)) ∙ c .if1 .taken)))
 
 cast-is-outside-2 : tie.Need-cast-is-outside-2
@@ -79,7 +79,7 @@ module _ (c : tie.After-is-outside2) where
       ∙ ap (λ t. t || bad-y start) (sym (sym (told-x (c .before .before)) ∙ c .before .if1 .left))
 
 returns-2 : tie.Need-returns-2
-unfolding numberOf
+unfolding testNumber
 returns-2 c = sym (first-hit 14 _ (sym (told-y (c .before)) ∙ c .if2 .taken))
 
 cast-is-outside-3 : tie.Need-cast-is-outside-3
@@ -97,7 +97,7 @@ module _ (c : tie.After-is-outside3) where
   told-strict = simp (toZ-ofZ (s .fits .strict), toZ-ofZ (wide (s .fits .strict))) at (c .is-outside3 .ensures)
 
   ends-pass : {k : ℕ} → first ((bad-strict s, 15) ∷ (bad-length s, 16) ∷ (true, 17) ∷ []) ≡ k → k ≡ number s
-  unfolding numberOf
+  unfolding testNumber
   ends-pass e = sym (first-skip 14 _ (sym (told-y (c .before .before)) ∙ c .before .if2 .left) ∙ e)
 
 returns-3 : tie.Need-returns-3

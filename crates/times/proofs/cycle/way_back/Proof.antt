@@ -4,8 +4,8 @@ use mathlib.Core.Path.{refl, sym, subst}
 use Prim.Native.Nat.{ℕ, _≤_, _<_, _-_}
 use native.Mathlib.Omega.{arith}
 use Rattle.rules.specs.Problem.{mOf}
-use Rattle.rules.proofs.Times.Refused.{m-few}
-use Rattle.times.specs.Steps.{rowAt, Closing}
+use Rattle.rules.proofs.Times.Refused.{time-rows-few}
+use Rattle.times.specs.Steps.{lastRow, Closing}
 use Rattle.times.proofs.Laws.Tracing.{Tracing, tracing-start, tracing-more, tracing-left, tracing-closed}
 use Rattle.times.proofs.Laws.Tracing.{tracing-ended, tracing-here, tracing-high, tracing-mark, tracing-listed}
 use Rattle.times.proofs.cycle.way_back.Statement.{statement}
@@ -57,11 +57,11 @@ module _ (c : tie.Else2 Inv-loop μ-loop) where
   left : 0 < top .loop .j
   left = tracing-left (closing top) _ _ _ _ (trace top) (c .before .if1 .left)
 
-  listed : rowAt (top .before .args .t3) (top .loop .here) < mOf (top .before .args .rows .now)
+  listed : lastRow (top .before .args .t3) (top .loop .here) < mOf (top .before .args .rows .now)
   listed = tracing-listed (closing top) (top .loop .here) (here-low top) (c .if2 .left)
 
-  row-low : rowAt (top .before .args .t3) (top .loop .here) < 256
-  row-low = omega (arith, listed, m-few (closing top .looked .fine))
+  row-low : lastRow (top .before .args .t3) (top .loop .here) < 256
+  row-low = omega (arith, listed, time-rows-few (closing top .looked .fine))
 
 returns-2 : tie.Need-returns-2 Inv-loop μ-loop
 returns-2 c p k =

@@ -10,7 +10,7 @@ use lib.IntN.{ℤ}
 use Rattle.rules.specs.Sizes.{mostVertices}
 use Rattle.rules.specs.Problem.{mOf}
 use Rattle.rules.specs.TimeWords.{timeEdges}
-use Rattle.rules.proofs.Times.Refused.{m-few}
+use Rattle.rules.proofs.Times.Refused.{time-rows-few}
 use Rattle.lengths.specs.declared.Length.{Length}
 use Rattle.times.specs.Steps.{isLess, Looking}
 use Rattle.times.proofs.Laws.Looks.{tail-low, head-low, test-is}
@@ -102,7 +102,7 @@ returns : tie.Need-returns Inv-loop μ-loop
 returns c = let k = t (c .before) in (i k, listed k, same-test (c .before) ∙ c .if1 .taken)
 
 add-i : tie.Need-add-i Inv-loop μ-loop
-add-i c = let k = t (c .before) in omega (arith, listed k, m-few (looking k .fine))
+add-i c = let k = t (c .before) in omega (arith, listed k, time-rows-few (looking k .fine))
 
 loop-less : tie.Need-loop-less Inv-loop μ-loop
 loop-less c = omega arith

@@ -8,7 +8,7 @@ use lib.IntN.{_+ℤ_}
 use Rattle.whole.specs.Numbers.{Within}
 use Rattle.whole.proofs.Sizes.{within-le}
 use Rattle.rules.specs.Sizes.{mostVertices, largestLength}
-use Rattle.lengths.specs.Lengths.{unit, lengthOf, looks}
+use Rattle.lengths.specs.Lengths.{unit, lengthOf, looksMade}
 use Rattle.lengths.proofs.Laws.Keys.{near-within, size-near}
 use Rattle.times.proofs.passes.offer.Statement.{statement}
 use Rattle.times.proofs.passes.offer.Tie as tie
@@ -20,7 +20,7 @@ plus-requires : tie.Need-plus-requires
 plus-requires c κs =
     let s = c .before in (
       s .pre .2,
-      subst (λ z. Within z ((unit * largestLength + 1) * looks mostVertices 0)) (sym (c .size .ensures))
+      subst (λ z. Within z ((unit * largestLength + 1) * looksMade mostVertices 0)) (sym (c .size .ensures))
           (within-le (near-within (size-near (s .pre .0) (s .args .i) (s .pre .1))) (omega arith)),
     )
 

@@ -10,14 +10,14 @@ use lib.IntN.{ℤ}
 use Rattle.rules.specs.Sizes.{mostVertices}
 use Rattle.rules.specs.Problem.{mOf}
 use Rattle.rules.specs.TimeWords.{timeEdges}
-use Rattle.rules.proofs.Times.Refused.{m-few}
+use Rattle.rules.proofs.Times.Refused.{time-rows-few}
 use Rattle.lengths.specs.declared.Length.{Length}
 use Rattle.timerows.specs.Judged.{Fine}
 use Rattle.times.specs.Steps.{isLess, Looked, Pass, Closing, Went}
 use Rattle.times.proofs.Laws.Due.{Due, due-start, due-first, due-next, due-again, due-falls, pass-on}
 use Rattle.times.proofs.Laws.Looks.{tail-low, head-low, test-is, pass-more}
 use Rattle.times.proofs.Laws.Passing.{looked-start, looked-modest, pass-start, pass-closing}
-use Rattle.times.proofs.Laws.Passing.{settled-still, settled-quiet}
+use Rattle.times.proofs.Laws.Passing.{pass-settled, settled-quiet}
 use Rattle.times.proofs.passes.settle.Statement.{statement}
 use Rattle.times.proofs.passes.settle.Tie as tie
 
@@ -110,7 +110,7 @@ array-read-held : tie.Need-array-read-held Inv-loop2 μ-loop2 Inv-loop μ-loop
 array-read-held c = y-low (c .before .before .before)
 
 cast-this : tie.Need-cast-this Inv-loop2 μ-loop2 Inv-loop μ-loop
-cast-this c = let t = turn (c .before .before .before) in omega (arith, listed t, m-few (fine t))
+cast-this c = let t = turn (c .before .before .before) in omega (arith, listed t, time-rows-few (fine t))
 
 less-requires : tie.Need-less-requires Inv-loop2 μ-loop2 Inv-loop μ-loop
 less-requires c κs = tt
@@ -149,7 +149,7 @@ row-if-requires-2 : tie.Need-row-if-requires-2 Inv-loop2 μ-loop2 Inv-loop μ-lo
 row-if-requires-2 c κs = tt
 
 add-i : tie.Need-add-i Inv-loop2 μ-loop2 Inv-loop μ-loop
-add-i c = let q = t (c .before .before .before) in omega (arith, listed q, m-few (fine q))
+add-i c = let q = t (c .before .before .before) in omega (arith, listed q, time-rows-few (fine q))
 
 loop2-less : tie.Need-loop2-less Inv-loop2 μ-loop2 Inv-loop μ-loop
 loop2-less c = let q = t (c .before .before .before) in omega (arith, listed q, begun q .pre .m-is)
@@ -184,7 +184,7 @@ module _ (c : tie.After-loop2 Inv-loop2 μ-loop2 Inv-loop μ-loop) where
       rw e at (c .before .loop2 .inv .2)
 
 returns : tie.Need-returns Inv-loop2 μ-loop2 Inv-loop μ-loop
-returns c = settled-still (passed (c .before)) (c .if1 .taken)
+returns c = pass-settled (passed (c .before)) (c .if1 .taken)
 
 add-k : tie.Need-add-k Inv-loop2 μ-loop2 Inv-loop μ-loop
 add-k c = omega (arith, due (c .before) .early, due (c .before) .few)
@@ -213,7 +213,7 @@ loop-again-2 c = let d = c .before .before .before in pass-on (passed d) (due-ne
 
 cast-head : tie.Need-cast-head Inv-loop2 μ-loop2 Inv-loop μ-loop
 cast-head c = let d = c .before .before .before in
-    omega (arith, passed d .finds .listed (c .before .before .if1 .left), m-few (start d .pre .fine))
+    omega (arith, passed d .finds .listed (c .before .before .if1 .left), time-rows-few (start d .pre .fine))
 
 head-requires-2 : tie.Need-head-requires-2 Inv-loop2 μ-loop2 Inv-loop μ-loop
 head-requires-2 c κs = let d = c .before .before .before in
