@@ -1,7 +1,6 @@
 -- Laws that this crate's proofs, and those of its callers, cite. Assumes nothing.
-pub mod Pulls
-pub mod Readable
-pub mod Writes
-pub mod Halves
-pub mod Crossings
+pub mod Pull
+pub mod Needs
+pub mod Write
 pub mod Only
+pub mod Stands

@@ -6,7 +6,7 @@ ghost use lib.IntN.{ℤ, pos};
 ghost use lib.ListN.{length, replicate};
 ghost use lib.Seq.{paste};
 ghost use Rattle.rules.specs.Sizes.{mostVertices};
-ghost use Rattle.rules.specs.Times.{cycleWords};
+ghost use Rattle.rules.specs.Times.Answer.{cycleWords};
 ghost use Rattle.lengths.specs.Answer.{AllPassed, Gathering, rowsOf, output};
 ghost use Rattle.lengths.specs.Lengths.{plainPart, smallPart};
 use crate::Length;

@@ -15,16 +15,16 @@ use lib.IntN.{ℤ, pos}
 use lib.ListN.{drop, length, take, length-append, List·getD-append}
 use Rattle.rules.specs.Answer.{answer, written}
 use Rattle.rules.specs.Problem.{answerLength, varsOf, word}
-use Rattle.rules.specs.Bytes.{countRefusal, wordsFrom}
-use Rattle.rules.specs.Program.{programText, replyAfter, replyTo}
+use Rattle.rules.specs.Program.Bytes.{countRefusal, wordsFrom}
+use Rattle.rules.specs.Program.Reply.{programText, replyAfter, replyTo}
 use Rattle.rules.specs.Refusal.{Accepted, problemRefusal, refusal}
 use Rattle.rules.specs.Sizes.{mostRows, mostVariables}
-use Rattle.rules.specs.Text.{answerText, refusalText}
-use Rattle.rules.proofs.Ranges.{m-few, n-few}
-use Rattle.rules.proofs.Shape.{answer-shaped}
-use Rattle.rules.proofs.Text.Counts.{count-fine}
-use Rattle.rules.proofs.Text.Words.{words-length}
-use Rattle.rules.proofs.Text.Same.{answer-text-same}
+use Rattle.rules.specs.Program.Text.{answerText, refusalText}
+use Rattle.rules.proofs.Refusal.Accepted.{m-few, n-few}
+use Rattle.rules.proofs.Answer.Shape.{answer-shaped}
+use Rattle.rules.proofs.Program.Counts.{count-fine}
+use Rattle.rules.proofs.Program.Words.{words-length}
+use Rattle.rules.proofs.Program.Same.{answer-text-same}
 use Rattle.lines.specs.Printed.{Printed}
 use Rattle.lines.specs.declared.Written.{Written}
 use Rattle.solver.proofs.Laws.Refusals.{accepted-of, refusal-none, refusal-problem}

@@ -12,10 +12,10 @@ use native.Mathlib.Omega.{arith}
 use borrow.Author.Tests.{le-leb, lt-leb}
 use lib.Dec.{leb}
 use lib.ListN.{length, drop, length-append}
-use Rattle.whole.proofs.Stores.{sets-front}
+use Rattle.whole.proofs.Lists.Stores.{sets-front}
 use Rattle.rules.specs.Sizes.{mostMultiplierLines, mostText, mostVariables}
-use Rattle.rules.specs.Text.{linesBelow, printed}
-use Rattle.rules.proofs.Text.Lengths.{lines-longer}
+use Rattle.rules.specs.Program.Text.{linesBelow, printed}
+use Rattle.rules.proofs.Program.Lengths.{lines-longer}
 use Rattle.put.specs.Put.{Put, PutShort}
 use Rattle.put.proofs.Texts.{put-none, put-then}
 use Rattle.lines.specs.Printed.{Printed, bytesTold}

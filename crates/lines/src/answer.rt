@@ -6,8 +6,8 @@ use put::put_text;
 ghost use Prim.Native.Nat.{_+_, _*_, _≤_};
 ghost use lib.ListN.{length};
 ghost use Rattle.rules.specs.Sizes.{mostVariables, mostPivotsLine, mostValueLine, mostMultiplierLines, mostText};
-ghost use Rattle.rules.specs.Text.{linesBelow, headLines, valueLine, multiplierLines};
-ghost use Rattle.rules.specs.Text.{canText, cannotText, answerText, refusalText};
+ghost use Rattle.rules.specs.Program.Text.{linesBelow, headLines, valueLine, multiplierLines};
+ghost use Rattle.rules.specs.Program.Text.{canText, cannotText, answerText, refusalText};
 ghost use Rattle.put.specs.Put.{PutShort};
 
 // The numerators, by variable.

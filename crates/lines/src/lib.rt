@@ -8,7 +8,7 @@ use answer::put_refusal;
 ghost use Prim.Native.Nat.{_+_, _*_, _≤_};
 ghost use lib.ListN.{length};
 ghost use Rattle.rules.specs.Sizes.{mostVariables};
-ghost use Rattle.rules.specs.Text.{answerText, refusalText};
+ghost use Rattle.rules.specs.Program.Text.{answerText, refusalText};
 ghost use Rattle.lines.specs.Printed.{Printed};
 
 // What became of a text: all of it, so many bytes, stands at the front of the slice; or the slice is too short for it

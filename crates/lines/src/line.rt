@@ -7,8 +7,8 @@ ghost use Prim.Native.Nat.{_+_, _^_, _<_};
 ghost use lib.ListN.{length};
 ghost use Rattle.rules.specs.Sizes.{mostVariables, mostValueLine, mostMultiplierLines};
 ghost use mathlib.Core.List.{_++_};
-ghost use Rattle.rules.specs.Text.{ascii, decimal, digits, line, variableLine, multiplierLine, smallEnd};
-ghost use Rattle.rules.specs.Text.{valueLine, multiplierLines};
+ghost use Rattle.rules.specs.Program.Text.{ascii, decimal, digits, line, variableLine, multiplierLine, smallEnd};
+ghost use Rattle.rules.specs.Program.Text.{valueLine, multiplierLines};
 ghost use Rattle.put.specs.Put.{Put, PutShort, Room};
 
 // A name and a number.

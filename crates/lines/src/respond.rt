@@ -1,6 +1,6 @@
 // The whole program as one function: bytes of standard input in, bytes to print out.
 ghost use Rattle.rules.specs.Refusal.{problemRefusal};
-ghost use Rattle.rules.specs.Program.{programText, replyTo};
+ghost use Rattle.rules.specs.Program.Reply.{programText, replyTo};
 ghost use Rattle.lines.specs.Printed.{Printed};
 use crate::Written;
 use crate::write_answer;

@@ -9,7 +9,7 @@ use Prim.Native.Nat.{ℕ}
 use native.Mathlib.Omega.{arith}
 use lib.ListN.{length, length-append}
 use lib.Seq.{sets, length-sets}
-use Rattle.whole.proofs.Stores.{sets-then}
+use Rattle.whole.proofs.Lists.Stores.{sets-then}
 use Rattle.put.specs.Put.{Put, Room}
 
 pub put-none : (before : List ℕ) (at : ℕ) → Put before at [] before at

@@ -4,7 +4,7 @@ ghost use mathlib.Core.Path.{_≡_};
 ghost use mathlib.Core.List.{[], _∷_};
 ghost use lib.IntN.{pos, natAbs};
 ghost use lib.Signed.{_<ℤ_};
-ghost use Rattle.rules.specs.Text.{digits, decimal};
+ghost use Rattle.rules.specs.Program.Text.{digits, decimal};
 ghost use Rattle.put.specs.Put.{Put, Room};
 
 // One byte.

@@ -18,36 +18,36 @@ use native.Mathlib.Omega.{arith}
 use lib.IntN.{pos, ℤ}
 use lib.ListN.{drop, length, length-append, length-drop}
 use lib.Seq.{getD-append-add, getD-drop}
-use Rattle.whole.proofs.Beside.{pairs-laws}
-use Rattle.whole.proofs.Tables.{table-at, table-length}
-use Rattle.whole.proofs.Values.{le-le, lt-irrefl, lt-le-trans, total-same, up-strict}
+use Rattle.whole.proofs.Values.Beside.{pairs-laws}
+use Rattle.whole.proofs.Lists.Tables.{table-at, table-length}
+use Rattle.whole.proofs.Values.Laws.{le-le, lt-irrefl, lt-le-trans, total-same, up-strict}
 use Rattle.whole.specs.Tables.{table}
 use Rattle.whole.specs.Values.{Laws, Values, pairs}
-use Rattle.rules.proofs.AnswerIs.{answer-crossed, answer-run, crosses-exactly}
-use Rattle.rules.proofs.Answers.{answered, denominator-word, lower-part, other-verdict, upper-part}
-use Rattle.rules.proofs.Bounded.{below-bound, bound-some}
-use Rattle.rules.proofs.Ends.{ready-start, start-seated}
-use Rattle.rules.proofs.Evidence.Answers.{answer-accepted}
+use Rattle.rules.proofs.Answer.Run.{answer-crossed, answer-run, crosses-exactly}
+use Rattle.rules.proofs.Answer.Cases.{answered, denominator-word, lower-part, other-verdict, upper-part}
+use Rattle.rules.proofs.Termination.Bound.{below-bound, bound-some}
+use Rattle.rules.proofs.Termination.Ends.{ready-start, start-seated}
+use Rattle.rules.proofs.Evidence.Own.Accepted.{answer-accepted}
 use Rattle.rules.proofs.Evidence.Means.{can-means}
 use Rattle.rules.proofs.Evidence.Satisfied.{pairs-satisfied, unmet-none}
 use Rattle.rules.proofs.Evidence.Separate.{unsatisfied-fractions}
-use Rattle.rules.proofs.Fractions.{can-is-met, cannot-is-unmet}
-use Rattle.rules.proofs.Moved.{twice-never}
-use Rattle.rules.proofs.Shape.{answer-shaped}
-use Rattle.rules.proofs.Started.{no-conflict, sound-start}
+use Rattle.rules.proofs.Step.Means.{can-is-met, cannot-is-unmet}
+use Rattle.rules.proofs.Run.Steady.{twice-never}
+use Rattle.rules.proofs.Answer.Shape.{answer-shaped}
+use Rattle.rules.proofs.Run.Start.{no-conflict, sound-start}
 use Rattle.rules.specs.Answer.{answer, answerFrom, written}
-use Rattle.rules.specs.Answers.{Answered, can-at, cannot-at, crossing, range-at}
+use Rattle.rules.specs.Facts.Answer.{Answered, can-at, cannot-at, crossing, range-at}
 use Rattle.rules.specs.Evidence.{AtLeast, AtMost, Meets, Unmet, Unsatisfied, checked, denominatorOf, pairPart}
 use Rattle.rules.specs.Evidence.{verdictOf}
-use Rattle.rules.specs.Fractions.{Fraction, FractionsMeet}
+use Rattle.rules.specs.Facts.Fractions.{Fraction, FractionsMeet}
 use Rattle.rules.specs.Problem.{Problem, inner, answerLength, problem, vars, word}
 use Rattle.rules.specs.Refusal.{Accepted, refusal}
 use Rattle.rules.specs.Run.{Runs, after, bound, conflict}
-use Rattle.rules.specs.Shows.{MetSmall}
+use Rattle.rules.specs.Facts.Evidence.{MetSmall}
 use Rattle.rules.specs.Sizes.{mostRows}
-use Rattle.rules.specs.State.{Apart, Ready, Sound}
+use Rattle.rules.specs.Facts.State.{Apart, Ready, Sound}
 use Rattle.rules.specs.Step.{State, common, positive, scaled}
-use Rattle.rules.specs.TheRun.{Crosses, TheRun, begin}
+use Rattle.rules.specs.Facts.Run.{Crosses, TheRun, begin}
 
 -- ---- fractions, in the answer from any state that is ready
 

@@ -1,48 +1,31 @@
--- The theory of the rules. Nothing is assumed.
-pub mod Gaps
-pub mod Relation
-pub mod Lowest
-pub mod Moves
-pub mod Leaves
-pub mod Swaps
-pub mod Enters
-pub mod Sides
-pub mod Clash
-pub mod Arrangements
-pub mod Units
-pub mod Sound
-pub mod Twice
-pub mod Pivoted
-pub mod Runs
-pub mod Moved
-pub mod Started
-pub mod Bounded
-pub mod Ends
-pub mod Fractions
+-- The theory of the rules, in folders named after the definitions that it is about. Nothing is assumed.
+--   Refusal      refusals 1 to 7 and 10: each line of the table, exactly
+--   Tableau      the tableau by variable: rows that hold, the pivot, lowest common form
+--   Step         one step: who leaves, who enters, what moves, and what it comes to
+--   Run          the states of a run, what is known of each, and runs that are cut
+--   Termination  no arrangement comes twice, so the count is bounded and every run ends
+--   Answer       the words of an answer
+--   Evidence     the checker: what it accepts, what that means, and that it accepts the answers of the run (Own)
+--   Idle         nothing is idle in a "cannot"
+--   Plain        where no limit is strict the run over pairs is the run over whole numbers. A map of values that
+--                keeps 0, sums, multiples and the order goes through the whole run; the tableau is the same
+--   Session      sessions: what holds of each that opening or an operation handed back, what an operation changes,
+--                and the demands of each check, over the limits that are on
+--   Times        time rows: refusals exactly, times or a bad cycle and never both, and what each means
+--   Program      the program's bytes and text
+--   Cases        every worked case and edge is right, by computing
+--   Demands      the demands of docs/RULES.md, at the level of words
+pub mod Refusal
+pub mod Tableau
+pub mod Step
+pub mod Run
+pub mod Termination
+pub mod Answer
 pub mod Evidence
-pub mod First
-pub mod Refused
-pub mod Ranges
-pub mod Small
-pub mod Kept
-pub mod AnswerIs
-pub mod Blame
-pub mod Answers
-pub mod Shape
-pub mod Demands
-pub mod Through
-pub mod Plain
-pub mod Slices
-pub mod Holds
-pub mod AllNamed
 pub mod Idle
-pub mod Rule
-pub mod Only
-pub mod Range
-pub mod Sessions
-pub mod Entries
+pub mod Plain
+pub mod Session
 pub mod Times
-pub mod Text
-pub mod Worked
-pub mod SlicesWorked
-pub mod SessionsWorked
+pub mod Program
+pub mod Cases
+pub mod Demands

@@ -1,12 +1,17 @@
-pub mod Still
-pub mod Traced
-pub mod Falling
-pub mod Trail
-pub mod Closed
+-- Time rows: refusals exactly, times or a bad cycle and never both, and what each means.
+--   Refused  each line of the table of refusals, exactly
+--   Passes   what looking at rows keeps, and the way back to a bad cycle
+--   Decide   the passes decide: shortest distances, or a bad cycle
+--   Smalls   small parts of shortest distances are few
+--   Means    what the two answers mean
+--   Tested   the test for a bad cycle is exact
+--   Unique   what the promise leaves open, and what not
+--   Told     the words of an answered output
+pub mod Refused
+pub mod Passes
 pub mod Decide
 pub mod Smalls
-pub mod Refused
 pub mod Means
-pub mod Only
 pub mod Tested
+pub mod Unique
 pub mod Told

@@ -9,7 +9,7 @@ use Rattle.rules.specs.Problem.{Problem, vars, inner, problem, answerLen
 use Rattle.rules.specs.Step.{State, can, cannot, range, goes, common, scaled, start}
 use Rattle.rules.specs.Run.{Ending, ending}
 
--- 0, for a run whose fuel ran out, is no verdict of the rules: proofs/Shape.antt shows that no answer has it
+-- 0, for a run whose fuel ran out, is no verdict of the rules: proofs/Answer/Shape.antt shows that no answer has it
 unfoldable pub wordsOf : Problem (ℤ × ℤ) → Ending (ℤ × ℤ) → List ℤ
 wordsOf P e = let N : ℕ = vars P in elim (e .how) [
   | can ↦ pos 1 ∷ pos (e .pivots) ∷ common (e .last)

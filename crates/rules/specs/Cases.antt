@@ -1,9 +1,17 @@
--- docs/RULES.md, "Runs worked by hand": all cases and edges as one list. One theorem says that all are right (proofs/Worked.antt).
-use mathlib.Core.List.{List, _++_}
-use Rattle.rules.specs.EvidenceCases.{evidenceCases}
-use Rattle.rules.specs.Expected.{Case}
-use Rattle.rules.specs.LimitCases.{limitCases}
-use Rattle.rules.specs.TimeCases.{timeCases}
-
-unfoldable pub cases : List Case
-cases = limitCases ++ evidenceCases ++ timeCases
+-- docs/RULES.md, "Runs worked by hand": words, and what is expected of them.
+--   Expected  the form of a case
+--   Limits    cases A to I, strict limits, edges
+--   Evidence  strangers' answers
+--   Slices    runs in slices
+--   Sessions  sessions
+--   Times     cases J to L, strict rows
+--   All       limit problems, evidence and time rows as one list
+--   Program   what is printed on them
+pub mod Expected
+pub mod Limits
+pub mod Evidence
+pub mod Slices
+pub mod Sessions
+pub mod Times
+pub mod All
+pub mod Program

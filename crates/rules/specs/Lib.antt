@@ -1,52 +1,37 @@
 -- The rules of docs/RULES.md as definitions. Whoever reads these files and that page side by side finds each sentence:
--- once as what computes and, where the theorems of docs/PROMISES.md speak of it, once more in plain words:
---   Meanings, SessionFacts                 the tables of refusals; what opening, a switch and a check do
---   Rule, Blame, State, Unique, Range      a step, its multipliers, what is known of a state, the one tableau, range
---   TheRun, Answers, Cut                   the run that an answer is, the words, the run in slices
---   Fractions, Shows                       fractions that meet a problem, and evidence
---   Traces                                 the looks at time rows
--- No file here stands on a proof.
+-- once as what computes and, where theorems of docs/PROMISES.md speak of it, once more in plain words (Facts). No file
+-- here stands on a proof.
+--   Sizes     each number of the rules, once
+--   Limit     the limits of a variable, by its kind
+--   Problem   the words of a problem
+--   Refusal   refusals in their order
+--   Tableau   the tableau by variable, and the pivot
+--   Step      the start, who leaves, who enters, one step
+--   Run       the steps one after the other
+--   Answer    the words of an answer
+--   Plain     the run where no limit is strict
+--   Slices    the run in slices
+--   Session   limits switched on and off
+--   Evidence  the checker
+--   Keeping   a problem with some of its limits alone
+--   Times     time rows
+--   Program   bytes and text
+--   Facts     what theorems speak of, in plain facts
+--   Cases     cases worked by hand
 pub mod Sizes
 pub mod Limit
 pub mod Problem
 pub mod Refusal
-pub mod Meanings
 pub mod Tableau
 pub mod Step
-pub mod Rule
-pub mod Blame
 pub mod Run
 pub mod Answer
 pub mod Plain
 pub mod Slices
-pub mod Evidence
-pub mod Fractions
-pub mod Shows
-pub mod State
-pub mod Cut
-pub mod Unique
-pub mod Range
-pub mod TheRun
-pub mod Answers
-pub mod Keeping
 pub mod Session
-pub mod SessionFacts
-pub mod LiveWords
-pub mod Idle
-pub mod Walks
-pub mod Passes
-pub mod Cycle
-pub mod Traces
-pub mod TimeWords
+pub mod Evidence
+pub mod Keeping
 pub mod Times
-pub mod Expected
-pub mod LimitCases
-pub mod EvidenceCases
-pub mod SliceCases
-pub mod SessionCases
-pub mod TimeCases
-pub mod Cases
-pub mod Bytes
-pub mod Text
 pub mod Program
-pub mod ProgramCases
+pub mod Facts
+pub mod Cases

@@ -1,5 +1,5 @@
 -- docs/RULES.md, "The run", where no limit is strict: the run over whole numbers, and its words. They are the answer's
--- (proofs/Plain.antt), so what is said of pairs changes nothing where there is no mark.
+-- (proofs/Plain/Answer.antt), so what is said of pairs changes nothing where there is no mark.
 use mathlib.Core.List.{List, _∷_, _++_}
 use Prim.Native.Nat.{ℕ, _*_, _<_}
 use lib.IntN.{ℤ, pos}

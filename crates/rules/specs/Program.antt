@@ -1,23 +1,7 @@
--- docs/RULES.md, "The program": all that is printed for the bytes of standard input.
-use mathlib.Core.List.{List}
-use Prim.Native.Nat.{ℕ, zero, suc}
-use lib.IntN.{ℤ}
-use lib.ListN.{length}
-use Rattle.rules.specs.Problem.{varsOf}
-use Rattle.rules.specs.Refusal.{problemRefusal}
-use Rattle.rules.specs.Answer.{answer}
-use Rattle.rules.specs.Bytes.{countRefusal, wordsFrom}
-use Rattle.rules.specs.Text.{answerText, refusalText}
-
--- by the refusal of the words
-unfoldable pub replyTo : ℕ → List ℤ → List ℕ
-replyTo zero ws = answerText (answer ws) (varsOf ws)
-replyTo (suc k) ws = refusalText (suc k)
-
--- by the refusal of the byte count, which comes first
-unfoldable pub replyAfter : ℕ → List ℤ → List ℕ
-replyAfter zero ws = replyTo (problemRefusal ws) ws
-replyAfter (suc k) ws = refusalText (suc k)
-
-unfoldable pub programText : List ℕ → List ℕ
-programText input = replyAfter (countRefusal (length input)) (wordsFrom input)
+-- docs/RULES.md, "The program".
+--   Bytes  bytes as words, and the byte count
+--   Text   numbers, answers and refusals as text
+--   Reply  all that is printed for an input
+pub mod Bytes
+pub mod Text
+pub mod Reply

@@ -1,5 +1,5 @@
 -- docs/RULES.md, "The run": the steps one after the other. For statements: `after`, `Runs`, `Ends`. For computing: `run`, with the bound as fuel.
--- A theorem joins the two (proofs/Ends.antt).
+-- A theorem joins the two (proofs/Termination/Ends.antt).
 use mathlib.Core.Bool.{Bool, true, false, cond}
 use mathlib.Core.List.{List}
 use mathlib.Core.Option.{Option, none, some}

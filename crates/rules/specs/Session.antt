@@ -11,7 +11,7 @@ use lib.ListN.{drop, getD, replicate, set}
 use Rattle.whole.specs.Tables.{table}
 use Rattle.whole.specs.Values.{Values}
 use Rattle.rules.specs.Answer.{answerFrom}
-use Rattle.rules.specs.Keeping.{keeping, limitOf}
+use Rattle.rules.specs.Keeping.Limits.{keeping, limitOf}
 use Rattle.rules.specs.Problem.{Problem, vars}
 use Rattle.rules.specs.Refusal.{first}
 use Rattle.rules.specs.Run.{ending}

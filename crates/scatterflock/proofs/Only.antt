@@ -10,7 +10,7 @@
 use mathlib.Core.Logic.{_⊎_}
 use mathlib.Core.Path.{_≡_, ap, sym, _∙_}
 use Rattle.rules.specs.Answer.{written}
-use Rattle.rules.specs.Times.{BothNamed}
+use Rattle.rules.specs.Times.Answer.{BothNamed}
 use Rattle.rules.proofs.Times.Told.{told-only}
 use Rattle.scatterflock.proofs.scatterflock_solve.Reads as solve
 use Rattle.scatterflock.proofs.scatterflock_check.Reads as check

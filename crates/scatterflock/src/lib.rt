@@ -5,7 +5,7 @@ ghost use lib.ListN.{length};
 ghost use Rattle.rules.specs.Answer.{written};
 ghost use Rattle.rules.specs.Evidence.{checked};
 ghost use Rattle.rules.specs.Refusal.{refusal};
-ghost use Rattle.rules.specs.Times.{Timed};
+ghost use Rattle.rules.specs.Times.Answer.{Timed};
 ghost use Rattle.slices.specs.Slices.{GoesOnAs, SliceStanding, StartsAs, begunAt, sliceOutputAt, wentOnAt};
 ghost use Rattle.session.specs.Sessions as sessions;
 ghost use Rattle.session.specs.Sessions.{ChecksAs, OpensAs, SwitchesAs, checkedAt, openedAt, switchedAt};

@@ -1,8 +1,8 @@
 -- Laws that the proofs cite. Assumes nothing.
 pub mod Sums
-pub mod Choices
+pub mod Turns
 pub mod Rows
-pub mod Searches
+pub mod Stands
 pub mod Seen
 pub mod Shortfalls
 pub mod TwoOrders

@@ -13,7 +13,7 @@ use Rattle.rules.specs.Refusal.{problemRefusal}
 use Rattle.rules.specs.Session as rules
 use Rattle.rules.specs.Session.{checkOutput, checkRefusal, liveOf, opened, restedBy, switchRefusal, switched}
 use Rattle.rules.specs.Sizes.{mostVariables}
-use Rattle.rules.specs.SessionFacts.{Fair}
+use Rattle.rules.specs.Facts.Session.{Fair}
 use Rattle.tableau.specs.declared.Limits.{Limits}
 use Rattle.tableau.specs.Parts.{lowerGiven, upperGiven}
 use Rattle.tableau.specs.Stands.{Ranged, Stands}

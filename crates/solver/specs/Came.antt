@@ -8,7 +8,7 @@ use lib.IntN.{ℤ}
 use Rattle.whole.specs.Values.{pairs}
 use Rattle.rules.specs.Problem.{Problem, vars}
 use Rattle.rules.specs.Run.{Ending}
-use Rattle.rules.specs.State.{Rowed}
+use Rattle.rules.specs.Facts.State.{Rowed}
 use Rattle.rules.specs.Step.{Leaving, Outcome, State, can, evidence, goes, leaving, range}
 use Rattle.rules.specs.Tableau.{relation}
 use Rattle.tableau.specs.Stands.{Ranged, Stands}

@@ -8,7 +8,7 @@ use Rattle.whole.specs.Values.{pairs}
 use Rattle.rules.specs.Problem.{Problem}
 use Rattle.rules.specs.Run.{conflict}
 use Rattle.rules.specs.Step.{State}
-use Rattle.rules.specs.State.{Ready}
+use Rattle.rules.specs.Facts.State.{Ready}
 use Rattle.tableau.specs.declared.Tableau.{Tableau}
 use Rattle.layout.specs.Layout.{Order, inUse}
 use Rattle.tableau.specs.Stands.{Ranged, Stands}

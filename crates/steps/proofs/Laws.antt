@@ -1,5 +1,5 @@
 -- Laws that this crate's proofs, and those of its callers, cite. Assumes nothing.
-pub mod Pivots
-pub mod Stepped
-pub mod Steps
+pub mod Pivot
+pub mod Cases
+pub mod Stands
 pub mod Only

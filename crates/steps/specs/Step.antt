@@ -8,7 +8,7 @@ use Rattle.whole.specs.Values.{pairs}
 use Rattle.rules.specs.Problem.{Problem}
 use Rattle.rules.specs.Sizes.{mostRows, mostVariables}
 use Rattle.rules.specs.Step.{State}
-use Rattle.rules.specs.State.{Rowed}
+use Rattle.rules.specs.Facts.State.{Rowed}
 use Rattle.tableau.specs.declared.Given.{Given}
 use Rattle.tableau.specs.declared.Tableau.{Tableau}
 use Rattle.layout.specs.Layout.{Order, inUse}

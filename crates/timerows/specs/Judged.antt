@@ -10,7 +10,7 @@ use Rattle.whole.specs.Below.{someBelow}
 use Rattle.rules.specs.Sizes.{mostVertices, mostTimeRows}
 use Rattle.rules.specs.Problem.{word, nOf, mOf}
 use Rattle.rules.specs.Refusal.{first}
-use Rattle.rules.specs.TimeWords.{badEnd, badStrict, badRowLength, timesLength, AcceptedTimes}
+use Rattle.rules.specs.Times.Words.{badEnd, badStrict, badRowLength, timesLength, AcceptedTimes}
 
 -- words whose sizes and whose length are fine
 pub record TimeFramed (ws : List ℤ) : Type 0 where

@@ -8,7 +8,7 @@ ghost use lib.Signed.{_≤ℤ_};
 ghost use Rattle.whole.specs.Numbers.{within, outside};
 ghost use Rattle.rules.specs.Sizes.{largestLength};
 ghost use Rattle.rules.specs.Problem.{nOf, mOf};
-ghost use Rattle.rules.specs.TimeWords.{timeRefusal};
+ghost use Rattle.rules.specs.Times.Words.{timeRefusal};
 ghost use Rattle.timerows.specs.Judged.{TimeFramed, testNumber, rowNumber, rowsNumber};
 use crate::word_of;
 use lengths::Length;

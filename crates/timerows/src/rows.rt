@@ -3,7 +3,7 @@
 ghost use mathlib.Core.Path.{_≡_};
 ghost use Prim.Native.Nat.{_<_};
 ghost use Rattle.rules.specs.Problem.{mOf};
-ghost use Rattle.rules.specs.TimeWords.{timeEdges};
+ghost use Rattle.rules.specs.Times.Words.{timeEdges};
 ghost use Rattle.lengths.specs.Lengths.{lengthOf, keyOf};
 ghost use Rattle.timerows.specs.Judged.{Fine};
 use crate::word_of;

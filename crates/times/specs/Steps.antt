@@ -11,10 +11,10 @@ use lib.Signed.{ltZ}
 use Rattle.whole.specs.Values.{pairs}
 use Rattle.rules.specs.Sizes.{mostVertices, mostTimeRows}
 use Rattle.rules.specs.Problem.{nOf, mOf}
-use Rattle.rules.specs.Passes.{distance, distances, canMeet}
-use Rattle.rules.specs.Cycle.{BadCycle}
-use Rattle.rules.specs.TimeWords.{timeEdges}
-use Rattle.rules.specs.Traces.{Traced}
+use Rattle.rules.specs.Times.Passes.{distance, distances, canMeet}
+use Rattle.rules.specs.Times.Cycle.{BadCycle}
+use Rattle.rules.specs.Times.Words.{timeEdges}
+use Rattle.rules.specs.Times.Traces.{Traced}
 use Rattle.lengths.specs.declared.answer.Way.{Way}
 use Rattle.lengths.specs.declared.Length.{Length}
 use Rattle.lengths.specs.Answer.{AllPassed, rowsOf}

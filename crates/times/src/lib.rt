@@ -3,8 +3,8 @@
 //   passes   distances, pass by pass
 //   cycle    the way back to a cycle
 ghost use lib.ListN.{length};
-ghost use Rattle.rules.specs.TimeWords.{AcceptedTimes};
-ghost use Rattle.rules.specs.Times.{Timed};
+ghost use Rattle.rules.specs.Times.Words.{AcceptedTimes};
+ghost use Rattle.rules.specs.Times.Answer.{Timed};
 use lengths::answer;
 use timerows::judge;
 use words::count_at;

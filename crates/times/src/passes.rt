@@ -5,7 +5,7 @@ ghost use mathlib.Core.Bool.{Bool, cond};
 ghost use Prim.Native.Nat.{ℕ, _<_, min};
 ghost use lib.IntN.{ℤ, _+ℤ_};
 ghost use Rattle.rules.specs.Problem.{mOf};
-ghost use Rattle.rules.specs.TimeWords.{timeEdges};
+ghost use Rattle.rules.specs.Times.Words.{timeEdges};
 ghost use Rattle.lengths.specs.Lengths.{lengthOf, keyOf, ModestLength};
 ghost use Rattle.timerows.specs.Judged.{Fine};
 ghost use Rattle.times.specs.Steps.{Looking, Quiet, Solvable, Settling};

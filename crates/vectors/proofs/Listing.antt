@@ -14,8 +14,8 @@ use lib.IntN.{ℤ, pos, natAbs}
 use lib.ListN.{length}
 use lib.Signed.{_≤ℤ_, _<ℤ_}
 use Rattle.whole.specs.Numbers.{eqZ}
-use Rattle.whole.proofs.Below.{some-start, some-more, some-of}
-use Rattle.whole.proofs.Order.{lt→true, le→false}
+use Rattle.whole.proofs.Lists.Below.{some-start, some-more, some-of}
+use Rattle.whole.proofs.Numbers.Order.{lt→true, le→false}
 use Rattle.whole.proofs.Tells.{tells-true, tells-false, tells-eqZ}
 use Rattle.rules.specs.Problem.{word}
 use Rattle.vectors.specs.Listed.{isTold, rowsTold, isListed}

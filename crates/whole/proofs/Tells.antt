@@ -18,11 +18,11 @@ use lib.Signed.{<ℤ-irrefl, <ℤ-≤ℤ-trans, clashℤ, leZ, ltZ, _<ℤ_, _≤
 use mir.Facts.{toZ-ofZ}
 use mir.Syntax.{Width}
 use mir.Val.{SFits, ofZ, toZ}
-use Rattle.whole.proofs.Below.{all-each, all-fails, some-at, some-none}
+use Rattle.whole.proofs.Lists.Below.{all-each, all-fails, some-at, some-none}
 use Rattle.whole.proofs.Bools.{T→true, and-false, and-true, not-false, not-true, or-false, or-true, true-false}
-use Rattle.whole.proofs.Order.{false→le, true→lt}
-use Rattle.whole.proofs.Sizes.{within-hi, within-lo, within-of}
-use Rattle.whole.proofs.Tests.{leZ-false, leZ-true}
+use Rattle.whole.proofs.Numbers.Order.{false→le, true→lt}
+use Rattle.whole.proofs.Numbers.Sizes.{within-hi, within-lo, within-of}
+use Rattle.whole.proofs.Numbers.Tests.{leZ-false, leZ-true}
 use Rattle.whole.specs.Below.{allBelow, someBelow}
 use Rattle.whole.specs.Numbers.{Within, eqZ, outside, within}
 use Rattle.whole.specs.Tells.{Tells}

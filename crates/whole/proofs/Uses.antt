@@ -8,11 +8,11 @@ use lib.Signed.{_≤ℤ_, _<ℤ_}
 use lib.IntN.{ℤ, pos, _+ℤ_, _-ℤ_, _*ℤ_}
 use Rattle.whole.specs.Sums.{sum}
 use Rattle.whole.specs.Divisors.{gcd, gcdTurns}
-use Rattle.whole.proofs.Reify.{reify}
-use Rattle.whole.proofs.Nonneg.{of-le, of-lt, of-eq, _⊞_, _⊠_, slk, blw, contra}
-use Rattle.whole.proofs.Tools.{ring-at, eq-by, of-≡, _⊞₀_, _⊠₀_, le-at}
-use Rattle.whole.proofs.Omega.{out, le-ω}
-use Rattle.whole.proofs.Sums.{sum-mono}
+use Rattle.whole.proofs.Ring.Reify.{reify}
+use Rattle.whole.proofs.Ring.Nonneg.{of-le, of-lt, of-eq, _⊞_, _⊠_, slk, blw, contra}
+use Rattle.whole.proofs.Ring.Tools.{ring-at, eq-by, of-≡, _⊞₀_, _⊠₀_, le-at}
+use Rattle.whole.proofs.Ring.Omega.{out, le-ω}
+use Rattle.whole.proofs.Numbers.Sums.{sum-mono}
 
 -- an identity; the atoms may be reads and fields
 reads : (l : List ℤ) (i : ℕ) (r : record { common : ℤ; value : ℤ }) →

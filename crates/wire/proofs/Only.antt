@@ -4,7 +4,7 @@
 use mathlib.Core.List.{_++_}
 use mathlib.Core.Path.{_≡_, ap, sym, _∙_}
 use lib.ListN.{drop}
-use Rattle.rules.specs.Bytes.{wordsFrom}
+use Rattle.rules.specs.Program.Bytes.{wordsFrom}
 use Rattle.wire.proofs.count_refusal.Reads as count-refusal
 use Rattle.wire.proofs.words_of.Reads as words-of
 use Rattle.wire.proofs.join.Reads as join

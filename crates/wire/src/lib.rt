@@ -4,7 +4,7 @@ ghost use mathlib.Core.Path.{_≡_};
 ghost use mathlib.Core.List.{_++_};
 ghost use Prim.Native.Nat.{_+_, _/_, _^_, _≤_, _<_};
 ghost use lib.ListN.{length, drop};
-ghost use Rattle.rules.specs.Bytes.{joined, signed, wordAt, wordsFrom, countRefusal};
+ghost use Rattle.rules.specs.Program.Bytes.{joined, signed, wordAt, wordsFrom, countRefusal};
 
 // The most bytes that a problem has.
 const MOST_BYTES: usize = 808;

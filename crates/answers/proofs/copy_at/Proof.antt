@@ -10,7 +10,7 @@ use mir.Facts.{toZ-ofZ}
 use mir.Syntax.{w64}
 use mir.Val.{SFits}
 use Rattle.answers.specs.Answer.{copiedAt}
-use Rattle.answers.proofs.Laws.Writes.{copied-start, copied-more, copied-length}
+use Rattle.answers.proofs.Laws.Write.{copied-start, copied-more, copied-length}
 use Rattle.answers.proofs.copy_at.Statement.{statement}
 use Rattle.answers.proofs.copy_at.Tie as tie
 

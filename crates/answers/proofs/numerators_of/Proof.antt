@@ -11,7 +11,7 @@ use mir.Val.{SFits, ofZ, toZ}
 use Rattle.whole.specs.Tables.{filled}
 use Rattle.rules.specs.Sizes.{mostVariables}
 use Rattle.answers.specs.Answer.{numeratorIn, numeratorsIn, numeratorsLaid}
-use Rattle.whole.proofs.Prefix.{filled-start, filled-more}
+use Rattle.whole.proofs.Lists.Prefix.{filled-start, filled-more}
 use Rattle.answers.proofs.numerators_of.Statement.{statement}
 use Rattle.answers.proofs.numerators_of.Tie as tie
 

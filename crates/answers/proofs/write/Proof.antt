@@ -9,11 +9,11 @@ use lib.ListN.{length, length-set, set}
 use mir.Facts.{toZ-ofZ, toZ-pos}
 use mir.Syntax.{w64}
 use mir.Val.{SFits}
-use Rattle.whole.proofs.Sizes.{fits-by}
+use Rattle.whole.proofs.Numbers.Sizes.{fits-by}
 use Rattle.answers.specs.declared.Verdict.{Verdict}
 use Rattle.answers.specs.declared.Verdict.the-variants as verdicts
 use Rattle.answers.specs.Answer.{copiedAt, numberOf}
-use Rattle.answers.proofs.Laws.Writes.{copied-length, written-all}
+use Rattle.answers.proofs.Laws.Write.{copied-length, written-all}
 use Rattle.answers.proofs.write.Statement.{statement}
 use Rattle.answers.proofs.write.Tie as tie
 

@@ -7,9 +7,9 @@ use borrow.Author.Needs.{needs}
 use lib.IntN.{natAbs}
 use mir.Facts.{toZ-ofZ}
 use Rattle.whole.specs.Numbers.{Within}
-use Rattle.whole.proofs.Below.{all-each}
+use Rattle.whole.proofs.Lists.Below.{all-each}
 use Rattle.whole.proofs.Bools.{not-true, not-false}
-use Rattle.whole.proofs.Sizes.{within-le}
+use Rattle.whole.proofs.Numbers.Sizes.{within-le}
 use Rattle.whole.proofs.Tells.{tells-within}
 use Rattle.rules.specs.Sizes.{largestNumerator}
 use Rattle.rules.specs.Evidence.{lowerPart}

@@ -8,7 +8,7 @@ use lib.Dec.{lit<}
 use lib.IntN.{ℤ, pos}
 use mir.Syntax.{w64}
 use mir.Val.{SFits}
-use Rattle.whole.proofs.Below.{all-start}
+use Rattle.whole.proofs.Lists.Below.{all-start}
 use Rattle.whole.proofs.Tells.{bits-eq}
 use Rattle.rules.specs.Evidence.{lowerPart}
 use Rattle.parts.specs.Reads.{isZero}

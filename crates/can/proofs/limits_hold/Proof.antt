@@ -9,7 +9,7 @@ use lib.IntN.{ℤ}
 use mir.Facts.{toZ-ofZ}
 use mir.Syntax.{w64}
 use mir.Val.{SFits, toZ}
-use Rattle.whole.proofs.Below.{all-start}
+use Rattle.whole.proofs.Lists.Below.{all-start}
 use Rattle.rules.specs.Evidence.{atLeast, atMost, lowerPart, pairPart, upperPart}
 use Rattle.tableau.specs.Parts.{lowerOf, upperOf}
 use Rattle.tableau.specs.declared.Limits.{Limits}

@@ -10,8 +10,8 @@ use mir.Facts.{toZ-ofZ}
 use mir.Syntax.{w64}
 use mir.Val.{SFits, toZ}
 use Rattle.whole.specs.Numbers.{within}
-use Rattle.whole.proofs.Below.{all-start}
-use Rattle.whole.proofs.Sizes.{fits-by, within-neg}
+use Rattle.whole.proofs.Lists.Below.{all-start}
+use Rattle.whole.proofs.Numbers.Sizes.{fits-by, within-neg}
 use Rattle.rules.specs.Evidence.{lowerPart}
 use Rattle.parts.specs.Reads.{numeratorsFit}
 use Rattle.parts.proofs.Laws.Tests.{not-not, outside-largest, tests-more}

@@ -11,8 +11,8 @@ use mir.Syntax.{w32, w64}
 use mir.Val.{SFits, toZ}
 use Rattle.whole.specs.Numbers.{Within}
 use Rattle.whole.specs.Sums.{sum, sumBy}
-use Rattle.whole.proofs.Sizes.{within-*, within-le, fits-by}
-use Rattle.whole.proofs.Sums.{sum-step, sum-within}
+use Rattle.whole.proofs.Numbers.Sizes.{within-*, within-le, fits-by}
+use Rattle.whole.proofs.Numbers.Sums.{sum-step, sum-within}
 use Rattle.rules.specs.Sizes.{largestCoefficient, largestNumerator, mostColumns}
 use Rattle.rules.specs.Evidence.{lowerPart}
 use Rattle.layout.specs.Layout.{mostEntries, entryIn}

@@ -10,7 +10,7 @@ use mir.Syntax.{w64}
 use mir.Val.{SFits, ofZ}
 use Rattle.whole.specs.Below.{allBelow}
 use Rattle.whole.specs.Numbers.{eqZ}
-use Rattle.whole.proofs.Below.{all-start}
+use Rattle.whole.proofs.Lists.Below.{all-start}
 use Rattle.whole.proofs.Tells.{bits-eq}
 use Rattle.rules.specs.Evidence.{lowerPart}
 use Rattle.parts.specs.Reads.{rowSumAt}

@@ -6,7 +6,7 @@ use lib.IntN.{_*ℤ_}
 use mir.Facts.{toZ-ofZ, sfits-widen}
 use mir.Syntax.{w32, w64}
 use mir.Val.{SFits}
-use Rattle.whole.proofs.Sizes.{within-*, fits-by}
+use Rattle.whole.proofs.Numbers.Sizes.{within-*, fits-by}
 use Rattle.can.proofs.scaled.Statement.{statement}
 use Rattle.can.proofs.scaled.Tie as tie
 

@@ -14,7 +14,7 @@ use mir.Val.{SFits}
 use Rattle.whole.specs.Numbers.{Within, outside}
 use Rattle.whole.proofs.Bools.{not-true, not-false}
 use Rattle.whole.proofs.Tells.{tells-outside}
-use Rattle.whole.proofs.Tests.{under-size}
+use Rattle.whole.proofs.Numbers.Tests.{under-size}
 use Rattle.rules.specs.Sizes.{largestNumber, largestNumerator, largestSmall}
 use Rattle.rules.specs.Evidence.{denominatorOf}
 use Rattle.parts.specs.Reads.{halfHolds}

@@ -6,7 +6,7 @@ use lib.IntN.{ℤ, _-ℤ_}
 use mir.Facts.{toZ-ofZ}
 use mir.Syntax.{w64}
 use mir.Val.{SFits}
-use Rattle.whole.proofs.Sizes.{within--, fits-by}
+use Rattle.whole.proofs.Numbers.Sizes.{within--, fits-by}
 use Rattle.rules.specs.Evidence.{lowerPart, upperPart}
 use Rattle.cannot.proofs.balance.Statement.{statement}
 use Rattle.cannot.proofs.balance.Tie as tie

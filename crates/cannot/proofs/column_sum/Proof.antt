@@ -12,8 +12,8 @@ use mir.Syntax.{w32, w64}
 use mir.Val.{SFits, toZ}
 use Rattle.whole.specs.Numbers.{Within}
 use Rattle.whole.specs.Sums.{sumBy}
-use Rattle.whole.proofs.Sizes.{within-*, within-+, within--, within-le, fits-by}
-use Rattle.whole.proofs.Sums.{sum-step, sum-within}
+use Rattle.whole.proofs.Numbers.Sizes.{within-*, within-+, within--, within-le, fits-by}
+use Rattle.whole.proofs.Numbers.Sums.{sum-step, sum-within}
 use Rattle.rules.specs.Sizes.{largestCoefficient, largestNumber, mostRows}
 use Rattle.layout.specs.Layout.{mostEntries, entryIn}
 use Rattle.layout.proofs.Laws.Layout.{flat-in}

@@ -9,7 +9,7 @@ use mir.Facts.{toZ-ofZ}
 use mir.Syntax.{w64}
 use mir.Val.{SFits}
 use Rattle.whole.specs.Below.{allBelow}
-use Rattle.whole.proofs.Below.{all-start}
+use Rattle.whole.proofs.Lists.Below.{all-start}
 use Rattle.rules.specs.Evidence.{fair, lowerPart, upperPart}
 use Rattle.tableau.specs.Parts.{lowerOf, upperOf}
 use Rattle.parts.specs.Reads.{fairAt, multipliersFair}

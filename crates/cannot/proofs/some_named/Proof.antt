@@ -9,7 +9,7 @@ use mir.Facts.{toZ-ofZ}
 use mir.Syntax.{w64}
 use mir.Val.{SFits}
 use Rattle.whole.specs.Below.{someBelow}
-use Rattle.whole.proofs.Below.{some-start}
+use Rattle.whole.proofs.Lists.Below.{some-start}
 use Rattle.rules.specs.Evidence.{lowerPart, strictNamed, upperPart}
 use Rattle.tableau.specs.Parts.{lowerOf, upperOf}
 use Rattle.parts.specs.Reads.{namedAt, someNamed}

@@ -10,8 +10,8 @@ use mir.Syntax.{w64}
 use mir.Val.{SFits, toZ}
 use Rattle.whole.specs.Numbers.{Within}
 use Rattle.whole.specs.Sums.{sumBy}
-use Rattle.whole.proofs.Sizes.{within-le, fits-by}
-use Rattle.whole.proofs.Sums.{sum-step, sum-within}
+use Rattle.whole.proofs.Numbers.Sizes.{within-le, fits-by}
+use Rattle.whole.proofs.Numbers.Sums.{sum-step, sum-within}
 use Rattle.rules.specs.Sizes.{largestLimit, largestNumber, mostVariables}
 use Rattle.rules.specs.Evidence.{lowerPart, plainOf, upperPart}
 use Rattle.tableau.specs.declared.Limits.{Limits}

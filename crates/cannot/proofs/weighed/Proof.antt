@@ -7,7 +7,7 @@ use lib.IntN.{ℤ, _*ℤ_, zero-*ℤ}
 use mir.Facts.{toZ-ofZ, sfits-widen}
 use mir.Syntax.{w32, w64}
 use mir.Val.{SFits}
-use Rattle.whole.proofs.Sizes.{within-*, fits-by}
+use Rattle.whole.proofs.Numbers.Sizes.{within-*, fits-by}
 use Rattle.rules.specs.Limit.{present}
 use Rattle.rules.specs.Evidence.{plainOf}
 use Rattle.tableau.specs.declared.Given.{Given}

@@ -19,8 +19,8 @@ use mir.Val.{SFits}
 use Rattle.whole.specs.Below.{foldBelow}
 use Rattle.whole.specs.Divisors.{gcd}
 use Rattle.whole.specs.Numbers.{Within}
-use Rattle.whole.proofs.Divisors.{fold-dvd, fold-greatest, fold-pos, fold-most}
-use Rattle.whole.proofs.Sizes.{fits-abs, size-pos}
+use Rattle.whole.proofs.Numbers.Divisors.{fold-dvd, fold-greatest, fold-pos, fold-most}
+use Rattle.whole.proofs.Numbers.Sizes.{fits-abs, size-pos}
 use Rattle.divisor.specs.Cells.{largestSize, divisorBelow}
 
 pub fits-size : {z : ℤ} → Within z largestSize → SFits w64 z

@@ -5,7 +5,7 @@ use mathlib.Core.Path.{_≡_, refl, sym, _∙_, ap}
 use native.Mathlib.Nat.{mod-lt}
 use native.Mathlib.Omega.{arith}
 use Rattle.whole.specs.Divisors.{gcd}
-use Rattle.whole.proofs.Divisors.{gcd-zero, gcd-step}
+use Rattle.whole.proofs.Numbers.Divisors.{gcd-zero, gcd-step}
 use Rattle.divisor.proofs.common_of.Statement.{statement}
 use Rattle.divisor.proofs.common_of.Tie as tie
 

@@ -12,8 +12,8 @@ use mir.Facts.{toZ-ofZ}
 use mir.Syntax.{w64}
 use mir.Val.{SFits, toZ}
 use Rattle.whole.specs.Tables.{table, tableFrom}
-use Rattle.whole.proofs.Division.{within-quot, bits-nonzero}
-use Rattle.whole.proofs.Prefix.{set-table, table-next}
+use Rattle.whole.proofs.Numbers.Division.{within-quot, bits-nonzero}
+use Rattle.whole.proofs.Lists.Prefix.{set-table, table-next}
 use Rattle.divisor.specs.Cells.{quotients}
 use Rattle.divisor.proofs.Laws.Cells.{fits-size}
 use Rattle.divisor.proofs.divide.Statement.{statement}

@@ -5,9 +5,9 @@ use lib.Signed.{_≤ℤ_, _<ℤ_}
 use mir.Facts.{toZ-ofZ, fits-natAbs}
 use mir.Syntax.{w64}
 use mir.Val.{SFits}
-use Rattle.whole.proofs.Order.{true→lt, false→le}
-use Rattle.whole.proofs.Sizes.{abs-neg, within-neg}
-use Rattle.whole.proofs.Tests.{not-neg, neg-not-neg}
+use Rattle.whole.proofs.Numbers.Order.{true→lt, false→le}
+use Rattle.whole.proofs.Numbers.Sizes.{abs-neg, within-neg}
+use Rattle.whole.proofs.Numbers.Tests.{not-neg, neg-not-neg}
 use Rattle.divisor.proofs.Laws.Cells.{fits-size}
 use Rattle.divisor.proofs.size.Statement.{statement}
 use Rattle.divisor.proofs.size.Tie as tie

@@ -13,7 +13,7 @@ use Rattle.whole.proofs.Tells.{tells-eqZ, tells-false, tells-true}
 use Rattle.rules.specs.Problem.{answerLength, mOf, nOf, problem}
 use Rattle.rules.specs.Refusal.{problemRefusal}
 use Rattle.rules.specs.Evidence.{verdictOf, showsCan, showsCannot, accepted, checked}
-use Rattle.rules.proofs.Refused.{room-tells}
+use Rattle.rules.proofs.Refusal.Exactly.{room-tells}
 use Rattle.rules.proofs.Evidence.Checked.{checked-by-answer}
 
 pub length-is : (ws : List ℤ) {n m : ℕ} → n ≡ nOf ws → m ≡ mOf ws → 3 + 2 * (n + m) ≡ answerLength ws

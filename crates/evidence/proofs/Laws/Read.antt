@@ -12,22 +12,22 @@ use lib.ListN.{length}
 use Rattle.whole.specs.Below.{allBelow, someBelow}
 use Rattle.whole.specs.Numbers.{within, outside, eqZ}
 use Rattle.whole.specs.Values.{whole}
-use Rattle.whole.proofs.Below.{all-same, some-at, some-of}
+use Rattle.whole.proofs.Lists.Below.{all-same, some-at, some-of}
 use Rattle.whole.proofs.Bools.{same-tests}
-use Rattle.whole.proofs.Sums.{sum-same}
+use Rattle.whole.proofs.Numbers.Sums.{sum-same}
 use Rattle.rules.specs.Sizes.{largestNumber, largestNumerator, largestSmall, mostRows}
 use Rattle.rules.specs.Limit.{Limit}
 use Rattle.rules.specs.Problem.{Problem, answerLength, problem, vars}
 use Rattle.rules.specs.Refusal.{Accepted}
 use Rattle.rules.specs.Evidence.{denominatorOf, lowerPart, upperPart, pairPart, rowSum, fair, column, surplus}
 use Rattle.rules.specs.Evidence.{contradicts, plainOf, someStrict, strictNamed, showsCan, showsCannot}
-use Rattle.rules.proofs.Ranges.{problem-m, problem-n}
+use Rattle.rules.proofs.Refusal.Accepted.{problem-m, problem-n}
 use Rattle.judge.specs.Words.{Framed}
 use Rattle.tableau.specs.declared.Limits.{Limits}
 use Rattle.tableau.specs.Start.{limitsFor, startEntries, startLaid}
-use Rattle.tableau.proofs.Laws.Fitting.{Fitting, coefficient-start, coefficients-start, fitting-accepted}
-use Rattle.tableau.proofs.Laws.Fitting.{serves-start}
-use Rattle.tableau.proofs.Laws.Reading.{lower-of, upper-of}
+use Rattle.tableau.proofs.Laws.Fits.{Fitting, coefficient-start, coefficients-start, fitting-accepted}
+use Rattle.tableau.proofs.Laws.Fits.{serves-start}
+use Rattle.tableau.proofs.Laws.Read.{lower-of, upper-of}
 use Rattle.parts.specs.Reads.{problemOf, Readable, meetsBoth}
 
 record ReadFrom (P : Problem Limit) (entries : List ℤ) (limits : Limits) (rows columns : ℕ) : Type 0 where

@@ -13,12 +13,12 @@ use lib.Signed.{leZ-yes}
 use mir.Facts.{toZ-ofZ}
 use mir.Syntax.{w64}
 use mir.Val.{SFits, ofZ, toZ}
-use Rattle.whole.proofs.Order.{≤ℤ-trans}
+use Rattle.whole.proofs.Numbers.Order.{≤ℤ-trans}
 use Rattle.rules.specs.Sizes.{mostRows}
 use Rattle.rules.specs.Problem.{answerLength}
 use Rattle.rules.specs.Refusal.{Accepted, problemRefusal}
 use Rattle.rules.specs.Evidence.{verdictOf, checked}
-use Rattle.rules.proofs.Refused.{accepted-exactly}
+use Rattle.rules.proofs.Refusal.Exactly.{accepted-exactly}
 use Rattle.rules.proofs.Evidence.Checked.{checked-by-problem}
 use Rattle.judge.specs.Words.{Framed}
 use Rattle.judge.proofs.Laws.Judged.{accepted-framed}

@@ -18,13 +18,13 @@ use lib.Signed.{leZ, ltZ, remZ, _≤ℤ_}
 use mir.Syntax.{w32}
 use mir.Val.{SFits, ofZ}
 use Rattle.whole.specs.Numbers.{within, eqZ}
-use Rattle.whole.proofs.Order.{true→lt, false→le}
-use Rattle.whole.proofs.Sizes.{abs-neg, fits-abs}
+use Rattle.whole.proofs.Numbers.Order.{true→lt, false→le}
+use Rattle.whole.proofs.Numbers.Sizes.{abs-neg, fits-abs}
 use Rattle.whole.proofs.Tells.{within-over, within-under}
 use Rattle.rules.specs.Sizes.{mostRows}
 use Rattle.rules.specs.Problem.{mOf, nOf, varsOf, kindPlace}
 use Rattle.rules.specs.Refusal.{Accepted}
-use Rattle.rules.proofs.Ranges.{m-few, n-few}
+use Rattle.rules.proofs.Refusal.Accepted.{m-few, n-few}
 use Rattle.judge.specs.Words.{Framed}
 
 -- ---- bits

@@ -8,8 +8,8 @@ use lib.Signed.{ltZ-yes, quotZ}
 use mir.Facts.{toZ-ofZ}
 use mir.Syntax.{w32}
 use mir.Val.{SFits}
-use Rattle.whole.proofs.Division.{size-quot}
-use Rattle.whole.proofs.Sizes.{divisor-bits, quot-fits}
+use Rattle.whole.proofs.Numbers.Division.{size-quot}
+use Rattle.whole.proofs.Numbers.Sizes.{divisor-bits, quot-fits}
 use Rattle.rules.specs.Limit.{bit}
 use Rattle.judge.proofs.Laws.Judged.{parity}
 use Rattle.judge.proofs.has_bit.Statement.{statement}

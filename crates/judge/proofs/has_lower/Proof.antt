@@ -7,7 +7,7 @@ use lib.Dec.{eqb}
 use lib.IntN.{natAbs, pos}
 use lib.Signed.{ltZ-yes}
 use mir.Facts.{toZ-ofZ}
-use Rattle.whole.proofs.Sizes.{quot-fits}
+use Rattle.whole.proofs.Numbers.Sizes.{quot-fits}
 use Rattle.rules.specs.Limit.{bit}
 use Rattle.judge.proofs.Laws.Judged.{parity}
 use Rattle.judge.proofs.has_lower.Statement.{statement}

@@ -16,7 +16,7 @@ use mir.Syntax.{w32}
 use mir.Val.{SFits, ofZ}
 use Rattle.whole.specs.Below.{allBelow}
 use Rattle.whole.specs.Numbers.{eqZ}
-use Rattle.whole.proofs.Below.{all-more, all-not, all-start}
+use Rattle.whole.proofs.Lists.Below.{all-more, all-not, all-start}
 use Rattle.rules.specs.Problem.{word}
 use Rattle.rules.specs.Refusal.{blankRow}
 use Rattle.judge.proofs.Laws.Judged.{few-words, zero-bits}

@@ -10,15 +10,15 @@ use borrow.Author.Needs.{needs}
 use lib.IntN.{ℤ, pos}
 use lib.ListN.{drop}
 use lib.Signed.{leZ-yes}
-use Rattle.whole.proofs.Order.{≤ℤ-trans}
+use Rattle.whole.proofs.Numbers.Order.{≤ℤ-trans}
 use Rattle.whole.proofs.Tells.{tells-false, tells-true}
-use Rattle.whole.proofs.Tests.{under-size}
+use Rattle.whole.proofs.Numbers.Tests.{under-size}
 use Rattle.rules.specs.Sizes.{mostColumns, mostRows}
 use Rattle.rules.specs.Problem.{mOf, nOf, varsOf, word}
 use Rattle.rules.specs.Refusal.{badCoefficient, badKind, badSize, first, problemRefusal, problemTests}
-use Rattle.rules.proofs.First.{first-hit, first-skip}
-use Rattle.rules.specs.Meanings.{InRange}
-use Rattle.rules.proofs.Refused.{few-tells, length-tells, size-tells}
+use Rattle.rules.proofs.Refusal.First.{first-hit, first-skip}
+use Rattle.rules.specs.Facts.Refusal.{InRange}
+use Rattle.rules.proofs.Refusal.Exactly.{few-tells, length-tells, size-tells}
 use Rattle.judge.specs.Words.{Framed}
 use Rattle.judge.proofs.judge.Statement.{statement}
 use Rattle.judge.proofs.judge.Tie as tie

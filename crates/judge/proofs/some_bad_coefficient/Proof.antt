@@ -13,7 +13,7 @@ use mir.Syntax.{w32}
 use mir.Val.{SFits}
 use Rattle.whole.specs.Below.{someBelow}
 use Rattle.whole.specs.Numbers.{within}
-use Rattle.whole.proofs.Below.{some-more, some-start}
+use Rattle.whole.proofs.Lists.Below.{some-more, some-start}
 use Rattle.rules.specs.Sizes.{largestCoefficient}
 use Rattle.rules.specs.Problem.{word}
 use Rattle.rules.specs.Refusal.{badCoefficient}

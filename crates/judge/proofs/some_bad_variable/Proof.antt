@@ -12,7 +12,7 @@ use mir.Facts.{toZ-ofZ}
 use mir.Syntax.{w32}
 use mir.Val.{SFits}
 use Rattle.whole.specs.Below.{someBelow}
-use Rattle.whole.proofs.Below.{some-more, some-start}
+use Rattle.whole.proofs.Lists.Below.{some-more, some-start}
 use Rattle.rules.specs.Problem.{kind, lowerWord, upperWord, varsOf, word}
 use Rattle.rules.specs.Refusal.{badKind, badLimit}
 use Rattle.judge.specs.Words.{badBy, badVariable}

@@ -6,7 +6,7 @@ use Prim.Native.Nat.{_-_, _≤_, _<_}
 use native.Mathlib.Numerals.{add-one}
 use native.Mathlib.Omega.{arith}
 use Rattle.whole.specs.Below.{someBelow}
-use Rattle.whole.proofs.Below.{some-more, some-of, some-start}
+use Rattle.whole.proofs.Lists.Below.{some-more, some-of, some-start}
 use Rattle.rules.specs.Refusal.{blankRow, someBlank}
 use Rattle.judge.proofs.some_blank_row.Statement.{statement}
 use Rattle.judge.proofs.some_blank_row.Tie as tie

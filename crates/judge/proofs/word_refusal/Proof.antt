@@ -4,7 +4,7 @@ use mathlib.Core.Bool.{Bool}
 use mathlib.Core.List.{List, [], _∷_}
 use Prim.Native.Nat.{ℕ}
 use Rattle.rules.specs.Refusal.{first}
-use Rattle.rules.proofs.First.{first-hit, first-skip}
+use Rattle.rules.proofs.Refusal.First.{first-hit, first-skip}
 use Rattle.judge.proofs.word_refusal.Statement.{statement}
 use Rattle.judge.proofs.word_refusal.Tie as tie
 

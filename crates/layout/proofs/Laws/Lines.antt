@@ -10,7 +10,7 @@ use mathlib.Core.Path.{_≡_, ap, _∙_}
 use lib.IntN.{ℤ, pos}
 use lib.ListN.{replicate, set}
 use Rattle.whole.specs.Tables.{filled}
-use Rattle.whole.proofs.Prefix.{filled-more, filled-start}
+use Rattle.whole.proofs.Lists.Prefix.{filled-more, filled-start}
 use Rattle.layout.specs.declared.Spot.{Spot}
 use Rattle.layout.specs.Layout.{OnLine, lineAt, lines, live, mostEntries, spotAt, steps}
 use Rattle.layout.proofs.Laws.Layout.{column-live, line-next, lines-live, live-most, row-live, step-live}

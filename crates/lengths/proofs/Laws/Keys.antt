@@ -15,15 +15,15 @@ use lib.IntN.{ℤ, pos, natAbs, negℤ, _+ℤ_, _-ℤ_, _*ℤ_}
 use lib.Signed.{ltZ, _≤ℤ_, _<ℤ_}
 use Rattle.whole.specs.Numbers.{Within}
 use Rattle.whole.specs.Values.{pairs, Le}
-use Rattle.whole.proofs.Mixed.{mixed-le, mixed-lt}
-use Rattle.whole.proofs.Nonneg.{of-le, slk, _⊞_}
-use Rattle.whole.proofs.Order.{false→le, lt→true, le→false}
-use Rattle.whole.proofs.Reify.{reify}
-use Rattle.whole.proofs.Sizes.{abs-neg, within-+, within-*, within-le, within-neg, within-hi, within-lo}
-use Rattle.whole.proofs.Tools.{le-at, lt-at, ring-at}
+use Rattle.whole.proofs.Values.Mixed.{mixed-le, mixed-lt}
+use Rattle.whole.proofs.Ring.Nonneg.{of-le, slk, _⊞_}
+use Rattle.whole.proofs.Numbers.Order.{false→le, lt→true, le→false}
+use Rattle.whole.proofs.Ring.Reify.{reify}
+use Rattle.whole.proofs.Numbers.Sizes.{abs-neg, within-+, within-*, within-le, within-neg, within-hi, within-lo}
+use Rattle.whole.proofs.Ring.Tools.{le-at, lt-at, ring-at}
 use Rattle.rules.specs.Sizes.{largestLength}
 use Rattle.rules.specs.Problem.{mOf}
-use Rattle.rules.specs.TimeWords.{AcceptedTimes, timeEdges}
+use Rattle.rules.specs.Times.Words.{AcceptedTimes, timeEdges}
 use Rattle.rules.proofs.Times.Refused.{strict-within}
 use Rattle.lengths.specs.Lengths.{unit, keyOf, Near}
 

@@ -9,9 +9,9 @@ use native.Mathlib.Omega.{arith}
 use lib.IntN.{ℤ, pos}
 use lib.ListN.{length, getD, set, take, drop, replicate, length-map, length-replicate, List·getD-map}
 use lib.Seq.{length-take-le, paste, take-at, take-append-add, drop-append-add, drop-drop}
-use Rattle.whole.proofs.Prefix.{set-prefix, prefix-all}
+use Rattle.whole.proofs.Lists.Prefix.{set-prefix, prefix-all}
 use Rattle.rules.specs.Sizes.{mostVertices}
-use Rattle.rules.specs.Times.{cycleWords}
+use Rattle.rules.specs.Times.Answer.{cycleWords}
 
 drop-replicate : {A : Type 0} (k n : ℕ) (a : A) → drop k (replicate n a) ≡ replicate (n - k) a
 drop-replicate zero n a = ap (λ m. replicate m a) (let z : n ≡ n - 0 = omega arith in z)

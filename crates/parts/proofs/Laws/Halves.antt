@@ -10,9 +10,9 @@ use native.Mathlib.Omega.{arith}
 use lib.IntN.{ℤ, *ℤ-zero, pos, _*ℤ_}
 use lib.ListN.{drop, length, length-drop, take}
 use lib.Seq.{getD-drop, take-all}
-use Rattle.whole.proofs.Below.{all-each, all-of}
+use Rattle.whole.proofs.Lists.Below.{all-each, all-of}
 use Rattle.whole.proofs.Bools.{and-of}
-use Rattle.whole.proofs.Sums.{sum-zero}
+use Rattle.whole.proofs.Numbers.Sums.{sum-zero}
 use Rattle.whole.proofs.Tells.{tells-eqZ, tells-true, tells-within}
 use Rattle.rules.specs.Problem.{word}
 use Rattle.rules.specs.Evidence.{lowerPart, upperPart}

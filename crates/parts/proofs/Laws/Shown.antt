@@ -12,7 +12,7 @@ use lib.ListN.{drop}
 use Rattle.whole.specs.Below.{allBelow}
 use Rattle.whole.specs.Numbers.{outside, eqZ, isPos, within}
 use Rattle.whole.specs.Sums.{sum}
-use Rattle.whole.proofs.Below.{some-empty}
+use Rattle.whole.proofs.Lists.Below.{some-empty}
 use Rattle.whole.proofs.Bools.{or-of}
 use Rattle.whole.proofs.Tells.{tells-eqZ}
 use Rattle.rules.specs.Sizes.{largestNumber, largestNumerator, largestSmall}

@@ -16,9 +16,9 @@ use lib.Signed.{ltZ, _≤ℤ_}
 use Rattle.whole.specs.Below.{allBelow, someBelow}
 use Rattle.whole.specs.Numbers.{outside, eqZ, within}
 use Rattle.whole.specs.Values.{lexicographic}
-use Rattle.whole.proofs.Below.{some-more}
+use Rattle.whole.proofs.Lists.Below.{some-more}
 use Rattle.whole.proofs.Bools.{true-false}
-use Rattle.whole.proofs.Order.{<ℤ→≤ℤ, le→false, true→lt}
+use Rattle.whole.proofs.Numbers.Order.{<ℤ→≤ℤ, le→false, true→lt}
 use Rattle.whole.proofs.Tells.{outside-within}
 use Rattle.rules.specs.Limit.{Limit, present}
 use Rattle.rules.specs.Sizes.{largestNumber}

@@ -8,11 +8,11 @@ use Prim.Native.Nat.{ℕ, _+_, _*_, _<_}
 use lib.Dec.{lit≤}
 use lib.IntN.{ℤ, pos, zero-*ℤ, _-ℤ_, _*ℤ_}
 use Rattle.whole.specs.Numbers.{Within}
-use Rattle.whole.proofs.Below.{all-each}
+use Rattle.whole.proofs.Lists.Below.{all-each}
 use Rattle.whole.proofs.Bools.{and-true, not-true}
 use Rattle.whole.proofs.Tells.{tells-eqZ, tells-outside}
-use Rattle.whole.proofs.Tests.{under-size}
-use Rattle.whole.proofs.Sizes.{within-*, within--}
+use Rattle.whole.proofs.Numbers.Tests.{under-size}
+use Rattle.whole.proofs.Numbers.Sizes.{within-*, within--}
 use Rattle.rules.specs.Sizes.{largestLimit, largestNumber}
 use Rattle.rules.specs.Limit.{Limit, present}
 use Rattle.rules.specs.Evidence.{lowerPart, upperPart, fair, plainOf}

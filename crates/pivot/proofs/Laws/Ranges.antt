@@ -13,7 +13,7 @@ use native.Mathlib.Numerals.{add-one}
 use native.Mathlib.Omega.{arith}
 use lib.IntN.{ℤ, pos, negsuc, natAbs}
 use lib.ListN.{getD}
-use Rattle.whole.proofs.Below.{all-each, all-fails, all-more, all-not, all-start}
+use Rattle.whole.proofs.Lists.Below.{all-each, all-fails, all-more, all-not, all-start}
 use Rattle.whole.proofs.Bools.{and-of, zero-one}
 use Rattle.whole.proofs.Tells.{tells-within, tells-true, tells-false}
 use Rattle.whole.specs.Below.{allBelow, foldBelow}

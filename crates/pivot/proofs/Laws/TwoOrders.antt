@@ -12,9 +12,9 @@ use lib.ListN.{getD}
 use lib.Signed.{quotZ}
 use Rattle.whole.specs.Below.{allBelow}
 use Rattle.whole.specs.Tables.{filled}
-use Rattle.whole.proofs.Below.{all-each, all-of}
+use Rattle.whole.proofs.Lists.Below.{all-each, all-of}
 use Rattle.whole.proofs.Bools.{same-tests}
-use Rattle.whole.proofs.Tables.{filled-in}
+use Rattle.whole.proofs.Lists.Tables.{filled-in}
 use Rattle.divisor.specs.Cells.{divisorBelow, quotients}
 use Rattle.divisor.proofs.Laws.Cells.{cells-divide, cells-greatest}
 use Rattle.layout.specs.Layout.{Order, mostEntries, flatLaid, rowLaid, columnLaid, live, entryLaid}

@@ -5,8 +5,8 @@ use Prim.Native.Nat.{ℕ, _/_, _%_, _<_}
 use native.Mathlib.Omega.{arith}
 use borrow.Fn.Kinds.{In}
 use borrow.Fn.PlainCycle.{Measures, is, falls, and}
-use Rattle.rules.specs.Text.{digit, digits}
-use Rattle.rules.proofs.Text.Numbers.{digits-one, digits-more}
+use Rattle.rules.specs.Program.Text.{digit, digits}
+use Rattle.rules.proofs.Program.Numbers.{digits-one, digits-more}
 use Rattle.put.proofs.Texts.{put-then, put-length, room-left, room-right}
 use Rattle.put.proofs.put_digits.Reads as put-digits
 use Rattle.put.proofs.put_digits.Kinds as put-digits-kinds

@@ -7,9 +7,9 @@ use lib.IntN.{ℤ, pos, natAbs}
 use lib.Signed.{_≤ℤ_}
 use mir.Facts.{toZ-ofZ, sfits-lit, fits-natAbs}
 use mir.Syntax.{w64}
-use Rattle.whole.proofs.Tests.{test-lt, test-nlt, not-neg}
-use Rattle.rules.specs.Text.{digits, decimal}
-use Rattle.rules.proofs.Text.Numbers.{decimal-below, decimal-above}
+use Rattle.whole.proofs.Numbers.Tests.{test-lt, test-nlt, not-neg}
+use Rattle.rules.specs.Program.Text.{digits, decimal}
+use Rattle.rules.proofs.Program.Numbers.{decimal-below, decimal-above}
 use Rattle.put.specs.Put.{Put, Room}
 use Rattle.put.proofs.Texts.{put-then, room-left, room-right}
 use Rattle.put.proofs.put_number.Statement.{statement}

@@ -6,7 +6,7 @@ use native.Mathlib.Numerals.{add-one}
 use native.Mathlib.Omega.{arith}
 use lib.ListN.{length, take}
 use lib.Seq.{length-take-le, take-suc}
-use Rattle.whole.proofs.Prefix.{take-end}
+use Rattle.whole.proofs.Lists.Prefix.{take-end}
 use Rattle.put.specs.Put.{Put}
 use Rattle.put.proofs.Texts.{put-none, put-then, put-length}
 use Rattle.put.proofs.put_text.Statement.{statement}

@@ -1,7 +1,7 @@
 -- The checker's number, exactly: 1 to 6 and 10 by the problem, 7 for an answer too short, 8 accepted, 9 not; nothing else.
 --   checked-exactly                line by line: k where no earlier line of `checkerTable` applies, and k's does
 --   checks, checks-only            `checked` is the number with the facts that it stands for, `Checks`; no other is.
---                                  The table and `Checks` are in specs/Shows
+--                                  The table and `Checks` are in specs/Facts/Evidence
 --   checked-by-problem, checked-by-answer       the number from the problem's refusal, and else from the two tests of the answer
 --   checked-accepted               8 exactly when its facts hold
 --   checked-same                   word 1 and the words past 3 + 2N never matter
@@ -18,14 +18,15 @@ use Rattle.whole.proofs.Bools.{true-false}
 use Rattle.whole.specs.Tells.{Tells}
 use Rattle.rules.proofs.Evidence.Same.{multipliers-same, numerators-same}
 use Rattle.rules.proofs.Evidence.Shows.{shown-tells}
-use Rattle.rules.proofs.First.{Tested, first-exactly, first-kept, first-passed, no-test, tested, tested-then}
-use Rattle.rules.proofs.Refused.{numbered, problem-tested, room-tells}
+use Rattle.rules.proofs.Refusal.First.{Tested, first-exactly, first-kept, first-passed, no-test, tested}
+use Rattle.rules.proofs.Refusal.First.{tested-then}
+use Rattle.rules.proofs.Refusal.Exactly.{numbered, problem-tested, room-tells}
 use Rattle.rules.specs.Evidence.{accepted, checked, denominatorOf, lowerPart, upperPart, verdictOf}
 use Rattle.rules.specs.Limit.{Limit}
-use Rattle.rules.specs.Meanings.{First}
+use Rattle.rules.specs.Facts.Refusal.{First}
 use Rattle.rules.specs.Problem.{Problem, answerLength, problem, vars, word}
 use Rattle.rules.specs.Refusal.{first, problemRefusal, problemTests, tooShort}
-use Rattle.rules.specs.Shows.{Checks, Own, Shown, checkerTable, refused, right, short, wrong}
+use Rattle.rules.specs.Facts.Evidence.{Checks, Own, Shown, checkerTable, refused, right, short, wrong}
 use Rattle.rules.specs.Sizes.{mostRows}
 
 -- ---- the first test that applies

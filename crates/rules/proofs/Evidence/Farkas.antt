@@ -10,20 +10,21 @@ use mathlib.Core.Path.{_∙_, _≡_, ap, refl, sym}
 use Prim.Native.Nat.{_+_, _<_, ℕ}
 use lib.IntN.{*ℤ-comm, *ℤ-zero, _*ℤ_, _+ℤ_, _-ℤ_, pos, zero-*ℤ, ℤ}
 use lib.Signed.{<ℤ-irrefl, <ℤ-≤ℤ-trans, _<ℤ_, _≤ℤ_}
-use Rattle.whole.proofs.Instances.{whole-laws}
-use Rattle.whole.proofs.Nonneg.{_⊞_, _⊠_, nn-nat, of-le, of-lt, slk}
-use Rattle.whole.proofs.Order.{*ℤ-pos-pos, Sign, le→false, lt→true, minus, null, plus, sign, true→lt, ≤ℤ-<ℤ-trans}
-use Rattle.whole.proofs.Reify.{reify}
-use Rattle.whole.proofs.RingLaws.{*ℤ-distribr}
-use Rattle.whole.proofs.Sums.{sum-mono, sum-parts, sum-plus, sum-same, sum-swap, sum-times, sum-zero}
-use Rattle.whole.proofs.Tools.{le-at, lt-at, ring-at}
-use Rattle.whole.proofs.Values.{total-lt}
+use Rattle.whole.proofs.Values.Instances.{whole-laws}
+use Rattle.whole.proofs.Ring.Nonneg.{_⊞_, _⊠_, nn-nat, of-le, of-lt, slk}
+use Rattle.whole.proofs.Numbers.Order.{*ℤ-pos-pos, Sign, le→false, lt→true, minus, null, plus, sign, true→lt}
+use Rattle.whole.proofs.Numbers.Order.{≤ℤ-<ℤ-trans}
+use Rattle.whole.proofs.Ring.Reify.{reify}
+use Rattle.whole.proofs.Ring.Laws.{*ℤ-distribr}
+use Rattle.whole.proofs.Numbers.Sums.{sum-mono, sum-parts, sum-plus, sum-same, sum-swap, sum-times, sum-zero}
+use Rattle.whole.proofs.Ring.Tools.{le-at, lt-at, ring-at}
+use Rattle.whole.proofs.Values.Laws.{total-lt}
 use Rattle.whole.specs.Sums.{sum}
 use Rattle.whole.specs.Values.{whole}
 use Rattle.rules.specs.Evidence.{Above, Below, Clears, Rows, Unsatisfied, column, plainOf, surplus}
 use Rattle.rules.specs.Limit.{Limit}
 use Rattle.rules.specs.Problem.{Problem, vars}
-use Rattle.rules.specs.Shows.{Contradiction, Multiplier, Multipliers, StrictNamed}
+use Rattle.rules.specs.Facts.Evidence.{Contradiction, Multiplier, Multipliers, StrictNamed}
 
 -- sum over v of y v times x v is the sum over the columns of column j times x j
 pub rows-balance : {X : Type 0} (P : Problem X) (x y : ℕ → ℤ) → Rows whole P x →

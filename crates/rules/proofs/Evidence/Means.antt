@@ -1,7 +1,7 @@
 -- What the number 8 means. With verdict 1, put any fraction e / k above 0 and up to 1 / 17,179,869,177 for the small
 -- amount: the answer's pairs are then fractions that meet every row and limit, a strict one strictly. With verdict 2 no
 -- fractions do.
---   accepted-means             `Meant` of specs/Shows, with `MetSmall`: every such fraction
+--   accepted-means             `Meant` of specs/Facts/Evidence, with `MetSmall`: every such fraction
 --   can-means                  the same for verdict 1
 use mathlib.Core.List.{List}
 use mathlib.Core.Logic.{inl, inr}
@@ -14,7 +14,7 @@ use Rattle.rules.proofs.Evidence.Farkas.{farkas}
 use Rattle.rules.proofs.Evidence.Satisfied.{satisfied}
 use Rattle.rules.specs.Evidence.{Unsatisfied, checked, denominatorOf, lowerPart, upperPart, verdictOf}
 use Rattle.rules.specs.Problem.{problem, vars}
-use Rattle.rules.specs.Shows.{Meant, MetSmall, Shown, can-be-met, cannot-be-met}
+use Rattle.rules.specs.Facts.Evidence.{Meant, MetSmall, Shown, can-be-met, cannot-be-met}
 
 -- no word is both
 pub one-two : {A : Type 0} {z : ℤ} → z ≡ pos 1 → z ≡ pos 2 → A

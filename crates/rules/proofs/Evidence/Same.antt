@@ -5,8 +5,8 @@ use mathlib.Core.Path.{ap, ap₂, sym, _∙_, _≡_}
 use Prim.Native.Nat.{ℕ, _+_, _<_}
 use native.Mathlib.Omega.{arith}
 use lib.IntN.{ℤ, _*ℤ_, _+ℤ_, _-ℤ_}
-use Rattle.whole.proofs.Sums.{sum-same}
-use Rattle.rules.specs.Shows.{Contradiction, Multipliers, Numerators}
+use Rattle.whole.proofs.Numbers.Sums.{sum-same}
+use Rattle.rules.specs.Facts.Evidence.{Contradiction, Multipliers, Numerators}
 use Rattle.rules.specs.Evidence.{column, plainOf, surplus}
 use Rattle.rules.specs.Problem.{Problem, vars}
 use Rattle.rules.specs.Limit.{Limit}

@@ -15,25 +15,25 @@ use native.Mathlib.Decide.{ℕ-discrete}
 use lib.Dec.{le→leb}
 use lib.IntN.{ℤ, negsuc, negℤ, pos, *ℤ-zero, _+ℤ_, _-ℤ_, _*ℤ_, natAbs}
 use lib.Signed.{≤ℤ-refl, <ℤ-irrefl, <ℤ-≤ℤ-trans, ltZ-yes, _≤ℤ_, _<ℤ_}
-use Rattle.whole.proofs.Nonneg.{of-le, of-lt, slk, _⊞_, _⊠_}
-use Rattle.whole.proofs.Order.{*ℤ-pos-pos, <ℤ→≤ℤ, false→le, le→false, lt→true}
-use Rattle.whole.proofs.Reify.{reify}
-use Rattle.whole.proofs.Sizes.{within-hi, within-lo}
-use Rattle.whole.proofs.Sums.{sum-zero}
-use Rattle.whole.proofs.Tools.{lt-at, ring-at}
-use Rattle.whole.proofs.Values.{le-lt-trans, lt-le-trans}
+use Rattle.whole.proofs.Ring.Nonneg.{of-le, of-lt, slk, _⊞_, _⊠_}
+use Rattle.whole.proofs.Numbers.Order.{*ℤ-pos-pos, <ℤ→≤ℤ, false→le, le→false, lt→true}
+use Rattle.whole.proofs.Ring.Reify.{reify}
+use Rattle.whole.proofs.Numbers.Sizes.{within-hi, within-lo}
+use Rattle.whole.proofs.Numbers.Sums.{sum-zero}
+use Rattle.whole.proofs.Ring.Tools.{lt-at, ring-at}
+use Rattle.whole.proofs.Values.Laws.{le-lt-trans, lt-le-trans}
 use Rattle.whole.specs.Numbers.{Within}
 use Rattle.whole.specs.Values.{Le, Lt, mixed, whole, pairs}
-use Rattle.whole.proofs.Beside.{beside-joined, pairs-laws}
-use Rattle.whole.proofs.Mixed.{mixed-le, mixed-lt, mixed-sum, total-parts}
+use Rattle.whole.proofs.Values.Beside.{beside-joined, pairs-laws}
+use Rattle.whole.proofs.Values.Mixed.{mixed-le, mixed-lt, mixed-sum, total-parts}
 use Rattle.whole.specs.Sums.{sum}
-use Rattle.whole.proofs.RingLaws.{*ℤ-idl}
+use Rattle.whole.proofs.Ring.Laws.{*ℤ-idl}
 use Rattle.rules.specs.Evidence.{Satisfiable, AtLeast, AtMost, Meets, Rows, Unmet, Above, Below, Clears}
 use Rattle.rules.specs.Evidence.{Satisfies, Unsatisfied}
 use Rattle.rules.specs.Problem.{Problem, vars, inner, mapped}
 use Rattle.rules.specs.Sizes.{largestSmall}
 use Rattle.rules.specs.Limit.{Limit, inset, lowerPair, upperPair}
-use Rattle.rules.specs.Shows.{Numerators, Passes}
+use Rattle.rules.specs.Facts.Evidence.{Numerators, Passes}
 
 -- ---- the algebra: S is the largest small part, and e (S + 1) is at most k
 

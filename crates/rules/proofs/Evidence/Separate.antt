@@ -2,7 +2,7 @@
 -- rows and limits, a strict one strictly, whole numbers over one denominator do. So `Unsatisfied` says that there are
 -- no fractions at all.
 --   one-denominator            whole numbers over one denominator, with the values of the fractions
---   unsatisfied-fractions      where none of those meet a problem, no fractions do (`FractionsMeet`, specs/Fractions)
+--   unsatisfied-fractions      where none of those meet a problem, no fractions do (`FractionsMeet`, specs/Facts/Fractions)
 use mathlib.Core.Bool.{Bool, cond, false, not, true}
 use mathlib.Core.List.{[], _∷_}
 use mathlib.Core.Option.{Option, none, some}
@@ -13,14 +13,14 @@ use lib.Dec.{ltb, ltb→lt, nltb→le}
 use lib.IntN.{*ℤ-zero, negℤ, pos, ℤ, _*ℤ_, _+ℤ_}
 use lib.Signed.{ltZ-yes, _<ℤ_, _≤ℤ_}
 use Rattle.whole.proofs.Bools.{true→T}
-use Rattle.whole.proofs.Nonneg.{of-le, of-lt, slk, _⊞_, _⊠_}
-use Rattle.whole.proofs.Order.{*ℤ-cancel, *ℤ-pos-pos, false→le, true→lt}
-use Rattle.whole.proofs.Reify.{reify}
-use Rattle.whole.proofs.Tools.{eq-by, le-at, lt-at, of-≡, ring-at, _⊞₀_, _⊠₀_}
+use Rattle.whole.proofs.Ring.Nonneg.{of-le, of-lt, slk, _⊞_, _⊠_}
+use Rattle.whole.proofs.Numbers.Order.{*ℤ-cancel, *ℤ-pos-pos, false→le, true→lt}
+use Rattle.whole.proofs.Ring.Reify.{reify}
+use Rattle.whole.proofs.Ring.Tools.{eq-by, le-at, lt-at, of-≡, ring-at, _⊞₀_, _⊠₀_}
 use Rattle.whole.specs.Sums.{sum, sumBy}
 use Rattle.whole.specs.Values.{total, whole}
 use Rattle.rules.specs.Evidence.{Above, Below, Clears, Satisfies, Unsatisfied, rowSum}
-use Rattle.rules.specs.Fractions.{Fraction, FractionsMeet, InOrder, fractions, overOne}
+use Rattle.rules.specs.Facts.Fractions.{Fraction, FractionsMeet, InOrder, fractions, overOne}
 use Rattle.rules.specs.Limit.{Limit}
 use Rattle.rules.specs.Problem.{Problem, vars}
 

@@ -1,4 +1,4 @@
--- The two tests of evidence say what the plain facts of specs/Shows do.
+-- The two tests of evidence say what the plain facts of specs/Facts/Evidence do.
 --   shows-can       verdict 1: `showsCan` passes exactly when `ShowsCan` holds
 --   shows-cannot    verdict 2: likewise
 --   shown-tells     the verdict with its evidence: `accepted` passes exactly when `Shown` holds
@@ -22,7 +22,7 @@ use Rattle.rules.specs.Evidence.{upperPart, verdictOf}
 use Rattle.rules.specs.Problem.{Problem, vars}
 use Rattle.rules.specs.Sizes.{largestNumber, largestNumerator, largestSmall}
 use Rattle.rules.specs.Limit.{Limit}
-use Rattle.rules.specs.Shows.{Multiplier, Passes, Shown, ShowsCan, ShowsCannot, StrictNamed}
+use Rattle.rules.specs.Facts.Evidence.{Multiplier, Passes, Shown, ShowsCan, ShowsCannot, StrictNamed}
 
 -- ---- one limit
 

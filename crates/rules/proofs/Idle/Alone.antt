@@ -9,14 +9,14 @@ use Prim.Native.Nat.{ℕ, _+_, _-_, _<_}
 use native.Mathlib.Decide.{decLt}
 use native.Mathlib.Omega.{arith}
 use lib.IntN.{pos, ℤ, _*ℤ_}
-use Rattle.whole.proofs.Values.{same-le}
+use Rattle.whole.proofs.Values.Laws.{same-le}
 use Rattle.whole.specs.Values.{Laws, Values}
 use Rattle.rules.proofs.Idle.Blocked.{rows-times, square}
 use Rattle.rules.proofs.Idle.Kept.{Met, Within-side, meets-kept}
-use Rattle.rules.proofs.Units.{problem-row, row-row, same-self, unit-solves}
+use Rattle.rules.proofs.Tableau.Units.{problem-row, row-row, same-self, unit-solves}
 use Rattle.rules.specs.Evidence.{Rows}
-use Rattle.rules.specs.Idle.{NoBlank}
-use Rattle.rules.specs.Keeping.{keeping, limitOf}
+use Rattle.rules.specs.Keeping.Idle.{NoBlank}
+use Rattle.rules.specs.Keeping.Limits.{keeping, limitOf}
 use Rattle.rules.specs.Problem.{Problem, vars}
 use Rattle.rules.specs.Step.{Side, above, below, startEntry}
 

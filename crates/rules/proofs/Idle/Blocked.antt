@@ -12,20 +12,20 @@ use Prim.Native.Nat.{ℕ, _<_}
 use lib.IntN.{pos, ℤ, _*ℤ_}
 use lib.Signed.{_<ℤ_}
 use Rattle.whole.proofs.Bools.{zero-one}
-use Rattle.whole.proofs.Nonneg.{of-lt, slk, _⊞_, _⊠_}
-use Rattle.whole.proofs.Order.{Sign, *ℤ-pos-pos, minus, null, plus, sign}
-use Rattle.whole.proofs.Reify.{reify}
-use Rattle.whole.proofs.Tools.{lt-at, ring-at}
-use Rattle.whole.proofs.Values.{same-le, scale-nil, scale-total, sum-scale, total-plus, total-same, up}
+use Rattle.whole.proofs.Ring.Nonneg.{of-lt, slk, _⊞_, _⊠_}
+use Rattle.whole.proofs.Numbers.Order.{Sign, *ℤ-pos-pos, minus, null, plus, sign}
+use Rattle.whole.proofs.Ring.Reify.{reify}
+use Rattle.whole.proofs.Ring.Tools.{lt-at, ring-at}
+use Rattle.whole.proofs.Values.Laws.{same-le, scale-nil, scale-total, sum-scale, total-plus, total-same, up}
 use Rattle.whole.specs.Values.{Laws, Values, whole}
-use Rattle.rules.proofs.Gaps.{gap-back}
+use Rattle.rules.proofs.Step.Gaps.{gap-back}
 use Rattle.rules.proofs.Idle.Kept.{Within-side, meets-kept}
-use Rattle.rules.proofs.Sound.{seated-scaled, values-solve}
+use Rattle.rules.proofs.Run.State.{seated-scaled, values-solve}
 use Rattle.rules.specs.Evidence.{Meets, Rows}
-use Rattle.rules.specs.Keeping.{keeping, limitOf}
+use Rattle.rules.specs.Keeping.Limits.{keeping, limitOf}
 use Rattle.rules.specs.Problem.{Problem, vars}
-use Rattle.rules.specs.Rule.{Left, Outside, too-high, too-low}
-use Rattle.rules.specs.State.{Sound}
+use Rattle.rules.specs.Facts.Rule.{Left, Outside, too-high, too-low}
+use Rattle.rules.specs.Facts.State.{Sound}
 use Rattle.rules.specs.Step.{Leaving, Side, State, above, below, common, gap, limitAt, scaled, seat}
 use Rattle.rules.specs.Tableau.{entry}
 

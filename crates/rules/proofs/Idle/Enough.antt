@@ -10,21 +10,21 @@ use mathlib.Core.Path.{ap, ap₂, refl, subst, sym, _∙_, _≡_}
 use Prim.Native.Nat.{ℕ}
 use native.Mathlib.Omega.{arith}
 use lib.IntN.{*ℤ-zero, pos, ℤ, _*ℤ_, _-ℤ_}
-use Rattle.whole.proofs.Sums.{sum-same}
+use Rattle.whole.proofs.Numbers.Sums.{sum-same}
 use Rattle.whole.proofs.Tells.{tells-eqZ}
 use Rattle.whole.specs.Numbers.{eqZ}
-use Rattle.rules.proofs.Evidence.Answers.{answer-accepted}
+use Rattle.rules.proofs.Evidence.Own.Accepted.{answer-accepted}
 use Rattle.rules.proofs.Evidence.Checked.{checked-accepted}
 use Rattle.rules.proofs.Evidence.Farkas.{farkas}
 use Rattle.rules.specs.Answer.{answer}
 use Rattle.rules.specs.Evidence.{Unsatisfied, checked, column, denominatorOf, lowerPart, plainOf, surplus}
 use Rattle.rules.specs.Evidence.{upperPart, verdictOf}
-use Rattle.rules.specs.Idle.{named}
-use Rattle.rules.specs.Keeping.{kept}
+use Rattle.rules.specs.Keeping.Idle.{named}
+use Rattle.rules.specs.Keeping.Limits.{kept}
 use Rattle.rules.specs.Limit.{Limit}
 use Rattle.rules.specs.Problem.{Problem, problem, vars}
 use Rattle.rules.specs.Refusal.{Accepted}
-use Rattle.rules.specs.Shows.{Contradiction, Multiplier, Shown, ShowsCannot, StrictNamed}
+use Rattle.rules.specs.Facts.Evidence.{Contradiction, Multiplier, Shown, ShowsCannot, StrictNamed}
 use Rattle.rules.specs.Sizes.{mostRows}
 
 -- ---- a limit, kept where its multiplier k is not 0

@@ -15,10 +15,10 @@ use lib.Signed.{_<ℤ_}
 use Rattle.whole.proofs.Bools.{zero-one}
 use Rattle.whole.proofs.Tells.{tells-eq, tells-eqZ, tells-not}
 use Rattle.whole.specs.Values.{Le, Values}
-use Rattle.rules.proofs.Fractions.{lower-met, upper-met}
+use Rattle.rules.proofs.Step.Means.{lower-met, upper-met}
 use Rattle.rules.specs.Evidence.{Meets, Rows}
-use Rattle.rules.specs.Idle.{isNamed, isOther, multiplier}
-use Rattle.rules.specs.Keeping.{keeping, kept, limitOf}
+use Rattle.rules.specs.Keeping.Idle.{isNamed, isOther, multiplier}
+use Rattle.rules.specs.Keeping.Limits.{keeping, kept, limitOf}
 use Rattle.rules.specs.Limit.{Limit, lowerPair, upperPair}
 use Rattle.rules.specs.Problem.{Problem, inner, mapped, vars}
 use Rattle.rules.specs.Step.{Side, above, below}

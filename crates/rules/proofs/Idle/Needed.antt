@@ -7,21 +7,21 @@ use mathlib.Core.Logic.{_≢_}
 use mathlib.Core.Path.{ap, subst, sym, _∙_, _≡_}
 use Prim.Native.Nat.{ℕ, _<_}
 use lib.IntN.{pos, ℤ}
-use Rattle.whole.proofs.Beside.{pairs-laws}
+use Rattle.whole.proofs.Values.Beside.{pairs-laws}
 use Rattle.whole.specs.Values.{pairs}
-use Rattle.rules.proofs.Ends.{ready-start}
+use Rattle.rules.proofs.Termination.Ends.{ready-start}
 use Rattle.rules.proofs.Evidence.Satisfied.{pairs-satisfied}
 use Rattle.rules.proofs.Idle.Kept.{Met, keeping-inner}
 use Rattle.rules.proofs.Idle.Pairs.{met-from}
 use Rattle.rules.specs.Answer.{answer, answerFrom}
 use Rattle.rules.specs.Evidence.{Satisfiable, verdictOf}
-use Rattle.rules.specs.Idle.{NoBlank, isNamed, isOther, multiplier, named, without}
-use Rattle.rules.specs.Keeping.{keeping}
+use Rattle.rules.specs.Keeping.Idle.{NoBlank, isNamed, isOther, multiplier, named, without}
+use Rattle.rules.specs.Keeping.Limits.{keeping}
 use Rattle.rules.specs.Limit.{Limit}
 use Rattle.rules.specs.Problem.{Problem, inner, problem, vars}
 use Rattle.rules.specs.Refusal.{Accepted}
 use Rattle.rules.specs.Sizes.{mostRows}
-use Rattle.rules.specs.State.{Ready}
+use Rattle.rules.specs.Facts.State.{Ready}
 use Rattle.rules.specs.Step.{Side, State, start}
 
 -- what is left, read as pairs

@@ -15,32 +15,32 @@ use native.Mathlib.Omega.{arith}
 use lib.IntN.{natAbs, negℤ, pos, ℤ}
 use lib.ListN.{length}
 use lib.Signed.{<ℤ-irrefl, <ℤ-≤ℤ-trans, _<ℤ_}
-use Rattle.whole.proofs.Beside.{pairs-laws}
+use Rattle.whole.proofs.Values.Beside.{pairs-laws}
 use Rattle.whole.proofs.Bools.{and-true}
-use Rattle.whole.proofs.Order.{<ℤ→≤ℤ, neg-down-back, neg-up-back}
+use Rattle.whole.proofs.Numbers.Order.{<ℤ→≤ℤ, neg-down-back, neg-up-back}
 use Rattle.whole.specs.Values.{pairs}
-use Rattle.rules.proofs.AllNamed.{crossed-cannot, crossed-named, evidence-cannot, evidence-named}
-use Rattle.rules.proofs.AnswerIs.{answer-run, crosses-exactly}
-use Rattle.rules.proofs.Answers.{lower-part, upper-part}
+use Rattle.rules.proofs.Idle.Named.{crossed-cannot, crossed-named, evidence-cannot, evidence-named}
+use Rattle.rules.proofs.Answer.Run.{answer-run, crosses-exactly}
+use Rattle.rules.proofs.Answer.Cases.{lower-part, upper-part}
 use Rattle.rules.proofs.Idle.Alone.{alone-meets}
 use Rattle.rules.proofs.Idle.Blocked.{pivot-meets, stay-meets}
 use Rattle.rules.proofs.Idle.Kept.{Met, keeping-twice, named-is, other-is}
-use Rattle.rules.proofs.Leaves.{left}
-use Rattle.rules.proofs.Moves.{Stepped, is-can, is-cannot, is-goes, is-range, stepped}
-use Rattle.rules.proofs.Relation.{relation-off, relation-own}
+use Rattle.rules.proofs.Step.Leaving.{left}
+use Rattle.rules.proofs.Step.Cases.{Stepped, is-can, is-cannot, is-goes, is-range, stepped}
+use Rattle.rules.proofs.Tableau.Relation.{relation-off, relation-own}
 use Rattle.rules.specs.Answer.{answerFrom, wordsOf}
-use Rattle.rules.specs.Answers.{laid}
-use Rattle.rules.specs.Blame.{Stopped, multipliersOn}
+use Rattle.rules.specs.Facts.Answer.{laid}
+use Rattle.rules.specs.Facts.Blame.{Stopped, multipliersOn}
 use Rattle.rules.specs.Evidence.{lowerPart, upperPart, verdictOf}
-use Rattle.rules.specs.Idle.{NoBlank, isNamed, isOther, multiplier, named, without}
-use Rattle.rules.specs.Keeping.{keeping, limitOf}
+use Rattle.rules.specs.Keeping.Idle.{NoBlank, isNamed, isOther, multiplier, named, without}
+use Rattle.rules.specs.Keeping.Limits.{keeping, limitOf}
 use Rattle.rules.specs.Problem.{Problem, vars, word}
-use Rattle.rules.specs.Rule.{Left}
+use Rattle.rules.specs.Facts.Rule.{Left}
 use Rattle.rules.specs.Run.{Ending, after, bound, conflict, ending}
-use Rattle.rules.specs.State.{Ready, Sound}
+use Rattle.rules.specs.Facts.State.{Ready, Sound}
 use Rattle.rules.specs.Step.{Leaving, Outcome, Side, State, above, below, cannot, pull, seat, step}
 use Rattle.rules.specs.Tableau.{Tableau, entry, relation}
-use Rattle.rules.specs.TheRun.{Crosses, TheRun, ended}
+use Rattle.rules.specs.Facts.Run.{Crosses, TheRun, ended}
 
 -- ---- what is named, of a row that nothing can move
 

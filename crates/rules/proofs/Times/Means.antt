@@ -20,22 +20,22 @@ use lib.Signed.{ltZ, _≤ℤ_, _<ℤ_}
 use Rattle.whole.specs.Numbers.{eqZ}
 use Rattle.whole.specs.Sums.{sumBy}
 use Rattle.whole.specs.Values.{whole, lexicographic, pairs, mixed, total, Lt}
-use Rattle.whole.proofs.Beside.{pairs-laws}
+use Rattle.whole.proofs.Values.Beside.{pairs-laws}
 use Rattle.whole.proofs.Bools.{either, true-false}
-use Rattle.whole.proofs.Instances.{whole-laws}
-use Rattle.whole.proofs.Mixed.{mixed-le, mixed-total}
-use Rattle.whole.proofs.Nonneg.{of-le, of-lt, slk, _⊞_, _⊠_}
-use Rattle.whole.proofs.Order.{true→lt, false→le, lt→true, le→false}
-use Rattle.whole.proofs.Reify.{reify}
-use Rattle.whole.proofs.Tools.{le-at, lt-at}
+use Rattle.whole.proofs.Values.Instances.{whole-laws}
+use Rattle.whole.proofs.Values.Mixed.{mixed-le, mixed-total}
+use Rattle.whole.proofs.Ring.Nonneg.{of-le, of-lt, slk, _⊞_, _⊠_}
+use Rattle.whole.proofs.Numbers.Order.{true→lt, false→le, lt→true, le→false}
+use Rattle.whole.proofs.Ring.Reify.{reify}
+use Rattle.whole.proofs.Ring.Tools.{le-at, lt-at}
 use Rattle.rules.specs.Problem.{nOf}
-use Rattle.rules.specs.Walks.{Edges, EndsIn, Shortest}
-use Rattle.rules.specs.Passes.{distance, distances, canMeet}
-use Rattle.rules.specs.Cycle.{rowTold, Cycle, around, BadCycle}
-use Rattle.rules.specs.TimeWords.{strictWord, lengthWord, AcceptedTimes, timeEdges}
-use Rattle.rules.specs.Times.{RowSays, MeetsRows, MeetsSmall, NoFractions, timeOf}
-use Rattle.rules.proofs.Times.Still.{bad-no-still}
-use Rattle.rules.specs.Traces.{NoneOrOne}
+use Rattle.rules.specs.Times.Walks.{Edges, EndsIn, Shortest}
+use Rattle.rules.specs.Times.Passes.{distance, distances, canMeet}
+use Rattle.rules.specs.Times.Cycle.{rowTold, Cycle, around, BadCycle}
+use Rattle.rules.specs.Times.Words.{strictWord, lengthWord, AcceptedTimes, timeEdges}
+use Rattle.rules.specs.Times.Answer.{RowSays, MeetsRows, MeetsSmall, NoFractions, timeOf}
+use Rattle.rules.proofs.Times.Passes.Still.{bad-no-still}
+use Rattle.rules.specs.Times.Traces.{NoneOrOne}
 use Rattle.rules.proofs.Times.Smalls.{smalls-few}
 use Rattle.rules.proofs.Times.Decide.{can-still, distances-low, can-shortest, cannot-cycle}
 use Rattle.rules.proofs.Times.Refused.{vertices-some, accepted-ends, strict-is}

@@ -1,5 +1,5 @@
 -- docs/RULES.md, "Time rows", the table of refusals, line by line: each test is true exactly where its line applies
--- (`timesTable` of specs/TimeWords), and the refusal is the first that applies.
+-- (`timesTable` of specs/Times/Words), and the refusal is the first that applies.
 --   times-refusal-exactly         the refusal is k exactly where no earlier line's meaning holds and line k's does, and 0 where none does
 --   times-accepted-exactly        it is 0 exactly for accepted words with room enough
 --   accepted-ends, vertices-few, ..      what accepted words hold, as facts about their sizes and their edges
@@ -14,16 +14,16 @@ use lib.Signed.{_≤ℤ_}
 use Rattle.whole.specs.Numbers.{Within}
 use Rattle.whole.specs.Tells.{Tells}
 use Rattle.whole.proofs.Tells.{tells-eq, tells-lt, tells-not, tells-or, tells-outside, tells-some, tells-within}
-use Rattle.whole.proofs.Tests.{above, own-size, under-size}
+use Rattle.whole.proofs.Numbers.Tests.{above, own-size, under-size}
 use Rattle.rules.specs.Sizes.{mostVertices, mostTimeRows, largestLength}
 use Rattle.rules.specs.Problem.{word, nOf, mOf}
-use Rattle.rules.specs.Walks.{EndsIn}
-use Rattle.rules.specs.TimeWords.{fromWord, toWord, strictWord, lengthWord, timesLength, badTimeSize}
-use Rattle.rules.specs.TimeWords.{badWordCount, badEnd, badStrict, badRowLength, noRoom, timeTests, timeRefusal}
-use Rattle.rules.specs.TimeWords.{AcceptedTimes, timeEdges, timesTable}
-use Rattle.rules.proofs.First.{Tested, first-exactly, first-fine, no-test, tested}
-use Rattle.rules.proofs.Refused.{few-tells}
-use Rattle.rules.specs.Meanings.{AllFine, First, InRange, OutOfRange}
+use Rattle.rules.specs.Times.Walks.{EndsIn}
+use Rattle.rules.specs.Times.Words.{fromWord, toWord, strictWord, lengthWord, timesLength, badTimeSize}
+use Rattle.rules.specs.Times.Words.{badWordCount, badEnd, badStrict, badRowLength, noRoom, timeTests, timeRefusal}
+use Rattle.rules.specs.Times.Words.{AcceptedTimes, timeEdges, timesTable}
+use Rattle.rules.proofs.Refusal.First.{Tested, first-exactly, first-fine, no-test, tested}
+use Rattle.rules.proofs.Refusal.Exactly.{few-tells}
+use Rattle.rules.specs.Facts.Refusal.{AllFine, First, InRange, OutOfRange}
 
 module _ (ws : List ℤ) where
   pub times-size-tells : Tells (badTimeSize ws) (OutOfRange 1 mostVertices (word ws 0) ⊎ OutOfRange 0 mostTimeRows (word ws 1))

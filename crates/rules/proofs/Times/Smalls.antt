@@ -9,12 +9,12 @@ use native.Mathlib.Nat.{add-zero}
 use native.Mathlib.Omega.{arith}
 use lib.IntN.{ℤ, pos, natAbs, negℤ, _+ℤ_, +ℤ-idr}
 use Rattle.whole.specs.Values.{pairs, Le}
-use Rattle.whole.proofs.Beside.{pairs-laws}
-use Rattle.whole.proofs.Pigeons.{pigeons}
-use Rattle.whole.proofs.Sizes.{abs-neg}
-use Rattle.rules.specs.Walks.{Edges, EndsIn, Walk, stay, on}
-use Rattle.rules.specs.Traces.{NoneOrOne, Still}
-use Rattle.rules.proofs.Times.Still.{still-back}
+use Rattle.whole.proofs.Values.Beside.{pairs-laws}
+use Rattle.whole.proofs.Lists.Pigeons.{pigeons}
+use Rattle.whole.proofs.Numbers.Sizes.{abs-neg}
+use Rattle.rules.specs.Times.Walks.{Edges, EndsIn, Walk, stay, on}
+use Rattle.rules.specs.Times.Traces.{NoneOrOne, Still}
+use Rattle.rules.proofs.Times.Passes.Still.{still-back}
 
 one-more : (q : ℕ) → negℤ (pos q) +ℤ negℤ (pos 1) ≡ negℤ (pos (suc q))
 one-more zero = refl

@@ -9,11 +9,11 @@ use lib.Dec.{eqb, ltb}
 use lib.ListN.{length}
 use Rattle.whole.specs.Below.{allBelow}
 use Rattle.whole.specs.Values.{Values}
-use Rattle.whole.proofs.Below.{all-each, all-of}
+use Rattle.whole.proofs.Lists.Below.{all-each, all-of}
 use Rattle.whole.proofs.Bools.{and-of, and-true, not-true}
 use Rattle.whole.proofs.Tells.{tells-eq, tells-false, tells-lt, tells-true}
-use Rattle.rules.specs.Walks.{Edges}
-use Rattle.rules.specs.Cycle.{rowTold, around, BadCycle, isBadCycle}
+use Rattle.rules.specs.Times.Walks.{Edges}
+use Rattle.rules.specs.Times.Cycle.{rowTold, around, BadCycle, isBadCycle}
 
 module _ {X : Type 0} (𝓥 : Values X) (E : Edges X) (rows : List ℕ) where
   -- the parts of the test

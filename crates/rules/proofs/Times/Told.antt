@@ -17,17 +17,17 @@ use Rattle.whole.specs.Numbers.{eqZ}
 use Rattle.whole.specs.Values.{pairs, mixed}
 use Rattle.whole.proofs.Bools.{either}
 use Rattle.rules.specs.Problem.{nOf, word}
-use Rattle.rules.specs.Walks.{Shortest}
-use Rattle.rules.specs.Passes.{distances, canMeet}
-use Rattle.rules.specs.Cycle.{BadCycle, rowTold}
-use Rattle.rules.specs.TimeWords.{timesLength, AcceptedTimes, timeEdges, strictWord, lengthWord}
-use Rattle.rules.specs.Times.{plainTime, smallTime, timesOf, cycleWords, timesAnswer, timesWritten, Timed}
-use Rattle.rules.specs.Times.{RowSays, MeetsSmall, timeIn, TimesTold, CycleTold, BothNamed, timeOf, Free}
+use Rattle.rules.specs.Times.Walks.{Shortest}
+use Rattle.rules.specs.Times.Passes.{distances, canMeet}
+use Rattle.rules.specs.Times.Cycle.{BadCycle, rowTold}
+use Rattle.rules.specs.Times.Words.{timesLength, AcceptedTimes, timeEdges, strictWord, lengthWord}
+use Rattle.rules.specs.Times.Answer.{plainTime, smallTime, timesOf, cycleWords, timesAnswer, timesWritten, Timed}
+use Rattle.rules.specs.Times.Answer.{RowSays, MeetsSmall, timeIn, TimesTold, CycleTold, BothNamed, timeOf, Free}
 use Rattle.rules.proofs.Times.Decide.{cycle-short}
 use Rattle.rules.proofs.Times.Means.{some-vertex, once, times-few, times-meet, times-shortest}
 use Rattle.rules.proofs.Times.Means.{cycle-no-fractions}
-use Rattle.rules.proofs.Times.Only.{times-only, answer-can, answer-cannot, half-long, times-long, times-length}
-use Rattle.rules.proofs.Times.Only.{times-past, cycle-long}
+use Rattle.rules.proofs.Times.Unique.{times-only, answer-can, answer-cannot, half-long, times-long, times-length}
+use Rattle.rules.proofs.Times.Unique.{times-past, cycle-long}
 use Rattle.rules.proofs.Times.Refused.{accepted-ends, times-accepted-exactly}
 
 -- past the first two words

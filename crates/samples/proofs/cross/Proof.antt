@@ -5,7 +5,7 @@ use lib.IntN.{ℤ, _*ℤ_, _-ℤ_}
 use mir.Syntax.{w64}
 use mir.Val.{SFits}
 use Rattle.whole.specs.Numbers.{Within}
-use Rattle.whole.proofs.Sizes.{within-*, within--, fits-by}
+use Rattle.whole.proofs.Numbers.Sizes.{within-*, within--, fits-by}
 use Rattle.samples.proofs.cross.Statement.{statement}
 use Rattle.samples.proofs.cross.Tie as tie
 

@@ -11,13 +11,13 @@ use lib.IntN.{ℤ, pos, zero-*ℤ, _*ℤ_}
 use Rattle.whole.specs.Sums.{sum}
 use Rattle.whole.specs.Values.{pairs}
 use Rattle.whole.proofs.Bools.{true-false}
-use Rattle.whole.proofs.Mixed.{total-parts}
-use Rattle.whole.proofs.Places.{sum-places}
-use Rattle.whole.proofs.Sums.{sum-same}
+use Rattle.whole.proofs.Values.Mixed.{total-parts}
+use Rattle.whole.proofs.Lists.Places.{sum-places}
+use Rattle.whole.proofs.Numbers.Sums.{sum-same}
 use Rattle.rules.specs.Problem.{Problem, vars}
 use Rattle.rules.specs.Step.{State, scaled, seat, seated}
 use Rattle.rules.specs.Tableau.{entry}
-use Rattle.rules.specs.State.{Rowed}
+use Rattle.rules.specs.Facts.State.{Rowed}
 use Rattle.tableau.specs.declared.Tableau.{Tableau}
 use Rattle.tableau.specs.Parts.{cellAt, nonbasicAt, valueAt, seatAt, rowOf, columnOf}
 use Rattle.tableau.specs.Stands.{HasRow, Ranged, Stands}

@@ -11,16 +11,16 @@ use native.Mathlib.Omega.{arith}
 use lib.IntN.{ℤ, _*ℤ_, _-ℤ_}
 use Rattle.whole.specs.Numbers.{Within}
 use Rattle.whole.specs.Values.{Lt, pairs}
-use Rattle.whole.proofs.Below.{lowest-some}
-use Rattle.whole.proofs.Beside.{pairs-laws}
-use Rattle.whole.proofs.Sizes.{within--, within-*, within-le}
+use Rattle.whole.proofs.Lists.Below.{lowest-some}
+use Rattle.whole.proofs.Values.Beside.{pairs-laws}
+use Rattle.whole.proofs.Numbers.Sizes.{within--, within-*, within-le}
 use Rattle.rules.specs.Limit.{Limit, lowerPair, present, upperPair}
 use Rattle.rules.specs.Problem.{Problem, mapped}
 use Rattle.rules.specs.Sizes.{largestNumber, mostColumns}
 use Rattle.rules.specs.Step.{Leaving, Side, State, above, below, leaves, seated, shortfallBy}
-use Rattle.rules.proofs.Leaves.{left}
-use Rattle.rules.proofs.Rule.{shortfall-positive}
-use Rattle.rules.specs.State.{Rowed}
+use Rattle.rules.proofs.Step.Leaving.{left}
+use Rattle.rules.proofs.Step.Rule.{shortfall-positive}
+use Rattle.rules.specs.Facts.State.{Rowed}
 use Rattle.tableau.specs.declared.Given.{Given}
 use Rattle.tableau.specs.declared.Tableau.{Tableau}
 use Rattle.tableau.specs.Amounts.{limitIn}
@@ -32,7 +32,7 @@ use Rattle.sides.proofs.Laws.Sides.{gap-parts, stated}
 use Rattle.search.specs.Search.{Searchable, brokenAt, brokenLaid, leavingAt, leavingLaid, scaledAt, shortAt}
 use Rattle.search.specs.Search.{sideAt, tagged}
 use Rattle.search.specs.Shortfall.{Short}
-use Rattle.search.proofs.Laws.Searches.{leaving-is}
+use Rattle.search.proofs.Laws.Stands.{leaving-is}
 use Rattle.search.proofs.Laws.Sums.{row-within}
 
 -- a limit that is missing counts as 0

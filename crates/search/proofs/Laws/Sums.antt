@@ -8,8 +8,8 @@ use lib.IntN.{ℤ, pos, *ℤ-zero, _+ℤ_, _*ℤ_}
 use lib.ListN.{getD}
 use Rattle.whole.specs.Numbers.{Within}
 use Rattle.whole.specs.Sums.{sumBy}
-use Rattle.whole.proofs.Sizes.{within-*}
-use Rattle.whole.proofs.Sums.{sum-within, sum-zero}
+use Rattle.whole.proofs.Numbers.Sizes.{within-*}
+use Rattle.whole.proofs.Numbers.Sums.{sum-within, sum-zero}
 use Rattle.rules.specs.Sizes.{largestNumber}
 use Rattle.layout.specs.Layout.{flat, entryIn}
 use Rattle.search.specs.Search.{partSum, sumLaid}

@@ -10,10 +10,10 @@ use Prim.Native.Nat.{ℕ, _+_, _<_}
 use lib.IntN.{ℤ, pos, _*ℤ_}
 use lib.ListN.{getD}
 use Rattle.whole.specs.Values.{pairs}
-use Rattle.whole.proofs.Below.{lowest-some}
+use Rattle.whole.proofs.Lists.Below.{lowest-some}
 use Rattle.whole.proofs.Bools.{zero-one}
-use Rattle.whole.proofs.Sums.{sum-same}
-use Rattle.whole.proofs.Turns.{lowest-same}
+use Rattle.whole.proofs.Numbers.Sums.{sum-same}
+use Rattle.whole.proofs.Lists.Turns.{lowest-same}
 use Rattle.rules.specs.Step.{Side, Leaving, shortfallBy, pull, suits}
 use Rattle.tableau.specs.declared.Tableau.{Tableau}
 use Rattle.layout.specs.Layout.{Order}

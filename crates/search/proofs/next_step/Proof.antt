@@ -7,11 +7,11 @@ use native.Mathlib.Omega.{arith}
 use borrow.Author.Needs.{needs}
 use borrow.Author.Tests.{not-true}
 use mir.Facts.{toZ-ofZ}
-use Rattle.whole.proofs.Turns.{lowest-start}
+use Rattle.whole.proofs.Lists.Turns.{lowest-start}
 use Rattle.sides.specs.Sides.{sideBy}
 use Rattle.search.specs.Search.{brokenAt}
-use Rattle.search.proofs.Laws.Choices.{enters-here, past-basic, past-nonbasic, past-unfit, past-within}
-use Rattle.search.proofs.Laws.Choices.{next-pivot, next-stuck, next-within}
+use Rattle.search.proofs.Laws.Turns.{enters-here, past-basic, past-nonbasic, past-unfit, past-within}
+use Rattle.search.proofs.Laws.Turns.{next-pivot, next-stuck, next-within}
 use Rattle.search.proofs.Laws.Shortfalls.{scaled-modest}
 use Rattle.search.proofs.next_step.Proof.Places.{Inv-loop, Inv-search, μ-loop, μ-search, read}
 use Rattle.search.proofs.next_step.Proof.Places.{start, t, v, in-range, few, none-before, outer, is-basic}

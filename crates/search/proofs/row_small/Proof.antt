@@ -3,7 +3,7 @@ use mathlib.Core.Path.{sym}
 use native.Mathlib.Omega.{arith}
 use borrow.Author.Needs.{needs}
 use borrow.Author.Tests.{not-true}
-use Rattle.whole.proofs.Sizes.{within-le}
+use Rattle.whole.proofs.Numbers.Sizes.{within-le}
 use Rattle.search.proofs.Laws.Sums.{row-nothing}
 use Rattle.search.proofs.row_small.Statement.{statement}
 use Rattle.search.proofs.row_small.Tie as tie

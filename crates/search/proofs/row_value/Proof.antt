@@ -11,7 +11,7 @@ use mir.Syntax.{w32, w64}
 use mir.Val.{SFits, toZ}
 use Rattle.whole.specs.Numbers.{Within}
 use Rattle.whole.specs.Sums.{sumBy}
-use Rattle.whole.proofs.Sizes.{within-+, within-*, within-le, fits-by}
+use Rattle.whole.proofs.Numbers.Sizes.{within-+, within-*, within-le, fits-by}
 use Rattle.rules.specs.Sizes.{mostColumns, largestNumber, largestLimit}
 use Rattle.layout.specs.Layout.{flat, entryIn}
 use Rattle.search.specs.Search.{partSum, sumLaid}

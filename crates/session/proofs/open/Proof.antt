@@ -8,7 +8,7 @@ use Rattle.slices.specs.Slices.{begunAt}
 use Rattle.session.specs.declared.Opened.{Opened}
 use Rattle.session.specs.Sessions.{openedAt}
 use Rattle.session.specs.Switching.{quietAt}
-use Rattle.session.proofs.Laws.Opens.{opens-as}
+use Rattle.session.proofs.Laws.Stands.Open.{opens-as}
 use Rattle.session.proofs.open.Statement.{statement}
 use Rattle.session.proofs.open.Tie as tie
 

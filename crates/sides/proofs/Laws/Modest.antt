@@ -7,7 +7,7 @@ use native.Mathlib.Omega.{arith}
 use lib.IntN.{ℤ}
 use Rattle.whole.specs.Numbers.{Within}
 use Rattle.whole.specs.Values.{pairs}
-use Rattle.whole.proofs.Sizes.{within-*, within-le, within-neg}
+use Rattle.whole.proofs.Numbers.Sizes.{within-*, within-le, within-neg}
 use Rattle.rules.specs.Limit.{inset}
 use Rattle.rules.specs.Sizes.{largestLimit, largestNumber}
 use Rattle.tableau.specs.declared.Given.{Given}

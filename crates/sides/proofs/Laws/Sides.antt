@@ -16,8 +16,8 @@ use lib.Signed.{ltZ}
 use Rattle.whole.specs.Numbers.{eqZ}
 use Rattle.whole.specs.Values.{pairs, whole}
 use Rattle.whole.proofs.Bools.{true-false}
-use Rattle.whole.proofs.Reify.{reify}
-use Rattle.whole.proofs.Tools.{ring-at}
+use Rattle.whole.proofs.Ring.Reify.{reify}
+use Rattle.whole.proofs.Ring.Tools.{ring-at}
 use Rattle.rules.specs.Limit.{Limit, lowerPair, present, upperPair}
 use Rattle.rules.specs.Problem.{mapped}
 use Rattle.rules.specs.Step.{Side, above, below, gap, mayFall, mayRise, over, pull, seated, shortfallBy, suits, under}

@@ -5,7 +5,7 @@ use lib.IntN.{_-ℤ_}
 use mir.Facts.{toZ-ofZ}
 use mir.Syntax.{w64}
 use mir.Val.{SFits}
-use Rattle.whole.proofs.Sizes.{fits-by, within--}
+use Rattle.whole.proofs.Numbers.Sizes.{fits-by, within--}
 use Rattle.tableau.specs.Amounts.{amountOf, pairOf}
 use Rattle.tableau.proofs.Laws.Parts.{Parted}
 use Rattle.sides.proofs.Laws.Sides.{gap-parts}

@@ -13,9 +13,9 @@ use Rattle.rules.specs.Problem.{Problem, vars}
 use Rattle.rules.specs.Slices as rules
 use Rattle.rules.specs.Step.{State, common, seat}
 use Rattle.rules.specs.Tableau.{entry}
-use Rattle.rules.proofs.Holds.{rows-only}
-use Rattle.rules.proofs.Slices.{on-way-rowed}
-use Rattle.rules.specs.State.{Rowed}
+use Rattle.rules.proofs.Tableau.Problem.{rows-only}
+use Rattle.rules.proofs.Run.Slices.{on-way-rowed}
+use Rattle.rules.specs.Facts.State.{Rowed}
 use Rattle.tableau.specs.declared.Tableau.{Tableau}
 use Rattle.tableau.specs.Parts.{columnOf, rowOf}
 use Rattle.tableau.specs.Stands.{Stands}

@@ -1,7 +1,7 @@
 -- `slices::start` meets its contract: the refusal of the problem with the state of case H, or 0 with the first state of
 -- the run. Assumes nothing.
 use borrow.Author.Needs.{needs}
-use Rattle.slices.proofs.Laws.Starts.{begun-refused, begun-fine, idle-fine, starts-as}
+use Rattle.slices.proofs.Laws.Stands.Start.{begun-refused, begun-fine, idle-fine, starts-as}
 use Rattle.slices.proofs.start.Statement.{statement}
 use Rattle.slices.proofs.start.Tie as tie
 

@@ -13,27 +13,27 @@ use native.Mathlib.Omega.{arith}
 use borrow.Author.Tests.{le-ltb}
 use lib.IntN.{ℤ}
 use Rattle.whole.specs.Values.{pairs}
-use Rattle.whole.proofs.Beside.{pairs-laws}
+use Rattle.whole.proofs.Values.Beside.{pairs-laws}
 use Rattle.rules.specs.Answer.{written}
 use Rattle.rules.specs.Problem.{answerLength, inner, mOf, nOf, problem, varsOf}
 use Rattle.rules.specs.Refusal.{Accepted, first, problemRefusal, problemTests, refusal, tooShort}
 use Rattle.rules.specs.Sizes.{mostRows}
 use Rattle.rules.specs.Slices.{begun, continuedBy, sliceOutput}
 use Rattle.rules.specs.Step.{start}
-use Rattle.rules.proofs.Ends.{ready-start}
-use Rattle.rules.proofs.First.{first-hit, first-kept, first-passed, first-skip}
-use Rattle.rules.proofs.Refused.{accepted-exactly, numbered}
-use Rattle.rules.proofs.Slices.{cut-answer, on-way-start, sliced-words}
+use Rattle.rules.proofs.Termination.Ends.{ready-start}
+use Rattle.rules.proofs.Refusal.First.{first-hit, first-kept, first-passed, first-skip}
+use Rattle.rules.proofs.Refusal.Exactly.{accepted-exactly, numbered}
+use Rattle.rules.proofs.Run.Slices.{cut-answer, on-way-start, sliced-words}
 use Rattle.tableau.specs.declared.Tableau.{Tableau}
 use Rattle.tableau.specs.Stands.{Ranged, Stands}
 use Rattle.tableau.specs.Start.{startTableau, startLaid}
-use Rattle.tableau.proofs.Laws.Fitting.{fitting-accepted, ranged-start}
-use Rattle.tableau.proofs.Laws.Started.{stands-start}
+use Rattle.tableau.proofs.Laws.Fits.{fitting-accepted, ranged-start}
+use Rattle.tableau.proofs.Laws.Stands.Start.{stands-start}
 use Rattle.answers.specs.Answer.{isShort, mostCount}
 use Rattle.solver.specs.Run.{Begun}
 use Rattle.solver.specs.Spend.{Holds, outAt}
-use Rattle.solver.proofs.Laws.Runs.{bound-small}
-use Rattle.solver.proofs.Laws.Slices.{out-is}
+use Rattle.solver.proofs.Laws.Stands.Run.{bound-small}
+use Rattle.solver.proofs.Laws.Stands.Slices.{out-is}
 
 module _ (ws : List ℤ) (room : ℕ) where
   pub refusal-problem : problemRefusal ws ≢ 0 → problemRefusal ws ≡ refusal ws room

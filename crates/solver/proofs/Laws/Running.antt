@@ -17,11 +17,11 @@ use Rattle.answers.specs.Answer.{mostCount}
 use Rattle.steps.specs.declared.End.{End}
 use Rattle.steps.specs.declared.Outcome.the-variants as outcomes
 use Rattle.steps.specs.Step.{Held, leftAt, on, outcomeAt, over, steppedAt}
-use Rattle.steps.proofs.Laws.Stepped.{outcome-ended, outcome-left, readOf}
+use Rattle.steps.proofs.Laws.Cases.{outcome-ended, outcome-left, readOf}
 use Rattle.solver.specs.Run.{GoesOn, Tellable, afterAt}
 use Rattle.solver.specs.Spend.{Ran, Standing, Uncrossed, manyOf, ranAt}
-use Rattle.solver.proofs.Laws.Runs.{after-more, after-none, goes-more, held-after}
-use Rattle.solver.proofs.Laws.Slices.{many-same, tellable-slice, total-few}
+use Rattle.solver.proofs.Laws.Stands.Run.{after-more, after-none, goes-more, held-after}
+use Rattle.solver.proofs.Laws.Stands.Slices.{many-same, tellable-slice, total-few}
 use Rattle.solver.proofs.Laws.Spends.{ran-over, ran-spent}
 
 pub record Running (t : Tableau) (most : ℕ) (u : Tableau) (k : ℕ) (saved : List ℤ) : Type 0 where

@@ -17,7 +17,7 @@ use lib.Dec.{eqb}
 use lib.IntN.{ℤ, negℤ, pos, _*ℤ_}
 use lib.ListN.{getD}
 use Rattle.whole.specs.Values.{pairs}
-use Rattle.whole.proofs.Prefix.{filled-same}
+use Rattle.whole.proofs.Lists.Prefix.{filled-same}
 use Rattle.rules.specs.Answer.{answerFrom}
 use Rattle.rules.specs.Problem.{inner, problem, varsOf}
 use Rattle.rules.specs.Refusal.{problemRefusal}
@@ -48,13 +48,13 @@ use Rattle.answers.specs.Multipliers.{multipliersLaid, pullInLaid, pullLaid, re
 use Rattle.steps.specs.declared.End.{End}
 use Rattle.steps.specs.declared.End.the-variants as ends
 use Rattle.steps.specs.Step.{admitAt, fitsByLaid, movedLaid, on, stepLaid, steppedAt, steppedLaid, valueAfter}
-use Rattle.steps.proofs.Laws.Steps.{search-held}
+use Rattle.steps.proofs.Laws.Stands.{search-held}
 use Rattle.solver.specs.TwoOrders.{RowsAndColumns, SameAfter, SameStep}
 use Rattle.solver.specs.Run.{Begun, Finished, FinishedLaid, GoesOn, GoesOnLaid, Startable}
 use Rattle.solver.specs.Run.{afterAt, afterLaid, endWords, wordsLaid}
 use Rattle.solver.proofs.Laws.Refusals.{begun-start, start-many}
-use Rattle.solver.proofs.Laws.Runs.{held-after, held-begun}
-use Rattle.solver.proofs.Laws.Told.{ended-tellable, last-many, told-answer}
+use Rattle.solver.proofs.Laws.Stands.Run.{held-after, held-begun}
+use Rattle.solver.proofs.Laws.Stands.Told.{ended-tellable, last-many, told-answer}
 
 -- ---- one step
 

@@ -7,11 +7,11 @@ use borrow.Author.Needs.{needs}
 use borrow.Author.Tests.{ltb-false}
 use lib.IntN.{ℤ}
 use lib.ListN.{length}
-use Rattle.whole.proofs.Order.{≤ℤ-trans}
+use Rattle.whole.proofs.Numbers.Order.{≤ℤ-trans}
 use Rattle.rules.specs.Problem.{answerLength, mOf, nOf, varsOf}
 use Rattle.rules.specs.Refusal.{Accepted, problemRefusal}
 use Rattle.rules.specs.Sizes.{mostColumns, mostRows}
-use Rattle.rules.proofs.Ranges.{m-few, n-few}
+use Rattle.rules.proofs.Refusal.Accepted.{m-few, n-few}
 use Rattle.answers.specs.Answer.{isShort}
 use Rattle.solver.proofs.Laws.Refusals.{
   accepted-of,

@@ -9,12 +9,12 @@ use mir.Facts.{toZ-ofZ}
 use mir.Syntax.{w32}
 use mir.Val.{SFits}
 use Rattle.whole.proofs.Bools.{zero-one}
-use Rattle.whole.proofs.Sizes.{fits-by}
+use Rattle.whole.proofs.Numbers.Sizes.{fits-by}
 use Rattle.pivot.specs.declared.Pivoted.the-variants as pivots
 use Rattle.tableau.specs.declared.Tableau.{Tableau}
 use Rattle.tableau.specs.Amounts.{valueOf}
 use Rattle.pivot.specs.Pivot.{commonAfter, entriesAfter, entriesBy, pivotedBy}
-use Rattle.pivot.proofs.Laws.Reductions.{fits-common}
+use Rattle.pivot.proofs.Laws.Wide.Reductions.{fits-common}
 use Rattle.search.specs.declared.Choice.{Choice}
 use Rattle.search.specs.declared.Next.the-variants as nexts
 use Rattle.search.specs.Search.{nextAt, seen}

@@ -9,9 +9,9 @@ use Prim.Native.Nat.{ℕ, zero, suc, _≤_, min}
 use native.Mathlib.Omega.{arith}
 use lib.IntN.{ℤ}
 use Rattle.whole.specs.Below.{someBelow}
-use Rattle.whole.proofs.Below.{some-more}
+use Rattle.whole.proofs.Lists.Below.{some-more}
 use Rattle.rules.specs.Refusal.{first}
-use Rattle.rules.specs.TimeWords.{badEnd, badStrict, badRowLength, rowTests}
+use Rattle.rules.specs.Times.Words.{badEnd, badStrict, badRowLength, rowTests}
 use Rattle.timerows.specs.Judged.{testNumber, rowNumber, rowsNumber}
 
 -- ---- the least number

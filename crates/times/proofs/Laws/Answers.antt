@@ -12,16 +12,16 @@ use lib.IntN.{ℤ, pos}
 use lib.ListN.{length, take, drop, replicate}
 use lib.Seq.{length-slice}
 use Rattle.whole.specs.Values.{pairs}
-use Rattle.whole.proofs.Beside.{pairs-laws}
+use Rattle.whole.proofs.Values.Beside.{pairs-laws}
 use Rattle.whole.proofs.Bools.{true-false}
 use Rattle.rules.specs.Sizes.{mostVertices}
 use Rattle.rules.specs.Problem.{nOf}
-use Rattle.rules.specs.Passes.{canMeet}
-use Rattle.rules.specs.TimeWords.{timesLength, timeRefusal, AcceptedTimes, timeEdges}
-use Rattle.rules.specs.Times.{timesOf, cycleWords, timesWritten, Timed}
-use Rattle.rules.proofs.Times.Closed.{slice-at}
+use Rattle.rules.specs.Times.Passes.{canMeet}
+use Rattle.rules.specs.Times.Words.{timesLength, timeRefusal, AcceptedTimes, timeEdges}
+use Rattle.rules.specs.Times.Answer.{timesOf, cycleWords, timesWritten, Timed}
+use Rattle.rules.proofs.Times.Passes.Closed.{slice-at}
 use Rattle.rules.proofs.Times.Decide.{cycle-short, bad-cannot}
-use Rattle.rules.proofs.Times.Only.{answer-can, answer-cannot}
+use Rattle.rules.proofs.Times.Unique.{answer-can, answer-cannot}
 use Rattle.rules.proofs.Times.Refused.{vertices-few, time-rows-few, accepted-ends, times-accepted-exactly}
 use Rattle.lengths.specs.declared.answer.Halves.{Halves}
 use Rattle.lengths.specs.declared.answer.Way.{Way}

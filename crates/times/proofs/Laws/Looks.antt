@@ -14,7 +14,7 @@ use lib.Seq.{set-getD}
 use lib.Signed.{ltZ}
 use Rattle.rules.specs.Sizes.{mostVertices}
 use Rattle.rules.specs.Problem.{mOf}
-use Rattle.rules.specs.TimeWords.{timeEdges}
+use Rattle.rules.specs.Times.Words.{timeEdges}
 use Rattle.rules.proofs.Times.Refused.{vertices-few, accepted-ends}
 use Rattle.lengths.specs.declared.Length.{Length}
 use Rattle.lengths.specs.Lengths.{lengthOf, keyOf, lengthAt, keyAt}

@@ -2,7 +2,7 @@
 -- κs are lifetimes, x the arguments, e what lent words hold at the exit.
 use mathlib.Core.Logic.{_⊎_}
 use mathlib.Core.Path.{_≡_}
-use Rattle.rules.specs.Times.{BothNamed}
+use Rattle.rules.specs.Times.Answer.{BothNamed}
 use Rattle.rules.proofs.Times.Told.{told-only}
 use Rattle.times.proofs.times.Reads as times
 

@@ -9,14 +9,14 @@ use lib.ListN.{length, getD, take, length-map, length-take, List·getD-map}
 use lib.Seq.{ext-getD, getD-take}
 use lib.Signed.{_≤ℤ_, _<ℤ_}
 use Rattle.whole.specs.Values.{whole, pairs}
-use Rattle.whole.proofs.Beside.{Parts, parts, pairs-laws}
-use Rattle.whole.proofs.Order.{false→le, <ℤ→≤ℤ}
-use Rattle.whole.proofs.Tests.{own-size, under-size}
+use Rattle.whole.proofs.Values.Beside.{Parts, parts, pairs-laws}
+use Rattle.whole.proofs.Numbers.Order.{false→le, <ℤ→≤ℤ}
+use Rattle.whole.proofs.Numbers.Tests.{own-size, under-size}
 use Rattle.rules.specs.Sizes.{mostVertices}
 use Rattle.rules.specs.Problem.{nOf}
-use Rattle.rules.specs.Passes.{distance, distances}
-use Rattle.rules.specs.TimeWords.{timeEdges}
-use Rattle.rules.specs.Times.{plainTime, smallTime}
+use Rattle.rules.specs.Times.Passes.{distance, distances}
+use Rattle.rules.specs.Times.Words.{timeEdges}
+use Rattle.rules.specs.Times.Answer.{plainTime, smallTime}
 use Rattle.rules.proofs.Times.Decide.{distances-long, distances-low}
 use Rattle.rules.proofs.Times.Means.{times-few}
 use Rattle.rules.proofs.Times.Refused.{vertices-few, accepted-ends}

@@ -20,18 +20,18 @@ use lib.ListN.{length, set, replicate, length-set, length-replicate, getD-replic
 use lib.Signed.{ltZ, _≤ℤ_}
 use Rattle.whole.specs.Numbers.{Within}
 use Rattle.whole.specs.Values.{pairs}
-use Rattle.whole.proofs.Beside.{pairs-laws}
-use Rattle.whole.proofs.Sizes.{within-le}
+use Rattle.whole.proofs.Values.Beside.{pairs-laws}
+use Rattle.whole.proofs.Numbers.Sizes.{within-le}
 use Rattle.rules.specs.Sizes.{mostVertices, largestLength}
 use Rattle.rules.specs.Problem.{nOf, mOf}
-use Rattle.rules.specs.Walks.{Edges, EndsIn}
-use Rattle.rules.specs.Passes.{through, betters, distance, distances}
-use Rattle.rules.specs.TimeWords.{timeEdges}
+use Rattle.rules.specs.Times.Walks.{Edges, EndsIn}
+use Rattle.rules.specs.Times.Passes.{through, betters, distance, distances}
+use Rattle.rules.specs.Times.Words.{timeEdges}
 use Rattle.rules.proofs.Times.Decide.{set-put, still-can, still-distance}
 use Rattle.rules.proofs.Times.Refused.{vertices-few, time-rows-few, accepted-ends}
-use Rattle.rules.specs.Traces.{Still, Traced}
-use Rattle.rules.proofs.Times.Traced.{ButAt, put, put-put, traced-start, traced-kept, traced-taken, traced-pass}
-use Rattle.rules.proofs.Times.Traced.{traced-still}
+use Rattle.rules.specs.Times.Traces.{Still, Traced}
+use Rattle.rules.proofs.Times.Passes.Traced.{ButAt, put, put-put, traced-start, traced-kept, traced-taken, traced-pass}
+use Rattle.rules.proofs.Times.Passes.Traced.{traced-still}
 use Rattle.lengths.specs.declared.Length.{Length}
 use Rattle.lengths.specs.Lengths.{unit, lengthOf, noRows, keyOf, looksMade, Near, lengthAt, keyAt}
 use Rattle.lengths.proofs.Laws.Keys.{key-plus, near-le, near-plus, near-within, size-near, key-less, key-low}

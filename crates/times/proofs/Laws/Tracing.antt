@@ -15,16 +15,16 @@ use native.Mathlib.Nat.{mul-le-mul-left}
 use lib.IntN.{ℤ}
 use lib.ListN.{length, set, replicate, length-set, length-replicate}
 use Rattle.whole.specs.Values.{pairs}
-use Rattle.whole.proofs.Beside.{pairs-laws}
+use Rattle.whole.proofs.Values.Beside.{pairs-laws}
 use Rattle.rules.specs.Sizes.{mostVertices}
 use Rattle.rules.specs.Problem.{nOf, mOf}
-use Rattle.rules.specs.Walks.{EndsIn}
-use Rattle.rules.specs.Cycle.{rowTold}
-use Rattle.rules.specs.TimeWords.{timeEdges}
-use Rattle.rules.proofs.Times.Closed.{trail-cycle}
+use Rattle.rules.specs.Times.Walks.{EndsIn}
+use Rattle.rules.specs.Times.Cycle.{rowTold}
+use Rattle.rules.specs.Times.Words.{timeEdges}
+use Rattle.rules.proofs.Times.Passes.Closed.{trail-cycle}
 use Rattle.rules.proofs.Times.Refused.{vertices-few, time-rows-few, accepted-ends}
-use Rattle.rules.specs.Traces.{Trail}
-use Rattle.rules.proofs.Times.Trail.{trail-start, trail-left, trail-ends, trail-more}
+use Rattle.rules.specs.Times.Traces.{Trail}
+use Rattle.rules.proofs.Times.Passes.Trail.{trail-start, trail-left, trail-ends, trail-more}
 use Rattle.times.specs.Steps.{lastRow, noRow, Looked, Closing, Went}
 
 module _ {ws : List ℤ} {last : List ℕ} {passes v : ℕ} (c : Closing ws last passes v) where

@@ -6,10 +6,10 @@ use native.Mathlib.Omega.{arith}
 use borrow.Author.Needs.{needs}
 use lib.IntN.{ℤ, pos}
 use lib.ListN.{length}
-use Rattle.whole.proofs.Order.{≤ℤ-trans}
+use Rattle.whole.proofs.Numbers.Order.{≤ℤ-trans}
 use Rattle.rules.specs.Sizes.{mostVertices}
 use Rattle.rules.specs.Problem.{nOf}
-use Rattle.rules.specs.TimeWords.{AcceptedTimes}
+use Rattle.rules.specs.Times.Words.{AcceptedTimes}
 use Rattle.rules.proofs.Times.Refused.{vertices-few}
 use Rattle.lengths.specs.declared.answer.Way.{Way}
 use Rattle.lengths.specs.Answer.{output}

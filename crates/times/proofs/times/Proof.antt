@@ -4,7 +4,7 @@ use mathlib.Core.List.{[]}
 use Prim.Native.Nat.{ℕ, zero, suc}
 use borrow.Author.Needs.{needs}
 use lib.ListN.{length}
-use Rattle.rules.specs.Times.{timesWritten}
+use Rattle.rules.specs.Times.Answer.{timesWritten}
 use Rattle.rules.proofs.Times.Refused.{times-accepted-exactly}
 use Rattle.times.proofs.Laws.Answers.{timed-refused}
 use Rattle.times.proofs.times.Statement.{statement}

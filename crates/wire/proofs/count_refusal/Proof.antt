@@ -2,7 +2,7 @@
 use mathlib.Core.Logic.{inl, inr}
 use mathlib.Core.Path.{refl, sym}
 use native.Mathlib.Omega.{arith}
-use Rattle.rules.proofs.Text.Counts.{count-exactly, count-fine}
+use Rattle.rules.proofs.Program.Counts.{count-exactly, count-fine}
 use Rattle.wire.proofs.count_refusal.Statement.{statement}
 use Rattle.wire.proofs.count_refusal.Tie as tie
 

@@ -9,7 +9,7 @@ use lib.IntN.{pos, _-ℤ_}
 use mir.Facts.{toZ-ofZ, toZ-pos, sfits-widen}
 use mir.Syntax.{w32, w64}
 use mir.Val.{SFits, ofZ, toZ}
-use Rattle.rules.specs.Bytes.{signed}
+use Rattle.rules.specs.Program.Bytes.{signed}
 use Rattle.wire.proofs.sign.Statement.{statement}
 use Rattle.wire.proofs.sign.Tie as tie
 

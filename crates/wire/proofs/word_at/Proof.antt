@@ -4,7 +4,7 @@ use mathlib.Core.Path.{_∙_, ap}
 use mir.Facts.{toZ-ofZ}
 use mir.Syntax.{w32}
 use mir.Val.{SFits}
-use Rattle.rules.specs.Bytes.{signed, wordAt}
+use Rattle.rules.specs.Program.Bytes.{signed, wordAt}
 use Rattle.wire.proofs.word_at.Statement.{statement}
 use Rattle.wire.proofs.word_at.Tie as tie
 

@@ -11,9 +11,9 @@ use mir.Facts.{toZ-ofZ}
 use mir.Syntax.{w32}
 use mir.Val.{SFits}
 use Rattle.whole.specs.Tables.{table, tableFrom}
-use Rattle.whole.proofs.Tables.{table-length}
-use Rattle.whole.proofs.Prefix.{set-table}
-use Rattle.rules.specs.Bytes.{wordAt, wordsFrom}
+use Rattle.whole.proofs.Lists.Tables.{table-length}
+use Rattle.whole.proofs.Lists.Prefix.{set-table}
+use Rattle.rules.specs.Program.Bytes.{wordAt, wordsFrom}
 use Rattle.wire.proofs.words_of.Statement.{statement}
 use Rattle.wire.proofs.words_of.Tie as tie
 

@@ -5,7 +5,7 @@ use lib.IntN.{natAbs}
 use mir.Facts.{toZ-ofZ, fits-natAbs}
 use mir.Syntax.{w32}
 use mir.Val.{SFits}
-use Rattle.whole.proofs.Tests.{not-neg}
+use Rattle.whole.proofs.Numbers.Tests.{not-neg}
 use Rattle.rules.specs.Problem.{word}
 use Rattle.words.proofs.count_at.Statement.{statement}
 use Rattle.words.proofs.count_at.Tie as tie

@@ -7,7 +7,7 @@ use Prim.Native.Nat.{ℕ, _-_, _≤_}
 use native.Mathlib.Omega.{arith}
 use borrow.Author.Needs.{needs}
 use Rattle.whole.specs.Below.{lowest}
-use Rattle.whole.proofs.Turns.{lowest-start, lowest-more, lowest-here}
+use Rattle.whole.proofs.Lists.Turns.{lowest-start, lowest-more, lowest-here}
 use Rattle.tableau.specs.declared.Limits.{Limits}
 use Rattle.answers.specs.Conflict.{crossesAt, crossedFrom, conflictAt}
 use Rattle.answers.proofs.conflict.conflict_of.Statement.{statement}

@@ -11,13 +11,13 @@ use mir.Syntax.{w32, w64}
 use mir.Val.{SFits, ofZ, toZ}
 use Rattle.whole.specs.Numbers.{Within}
 use Rattle.whole.specs.Tables.{filled}
-use Rattle.whole.proofs.Sizes.{fits-by, within-neg}
+use Rattle.whole.proofs.Numbers.Sizes.{fits-by, within-neg}
 use Rattle.rules.specs.Sizes.{largestNumber, mostVariables}
 use Rattle.rules.specs.Step.{positive}
 use Rattle.tableau.specs.Parts.{nowhere}
 use Rattle.answers.specs.Multipliers.{Blockable, multipliersIn, multipliersLaid, pullIn}
-use Rattle.whole.proofs.Prefix.{filled-start, filled-more}
-use Rattle.answers.proofs.Laws.Pulls.{pull-within}
+use Rattle.whole.proofs.Lists.Prefix.{filled-start, filled-more}
+use Rattle.answers.proofs.Laws.Pull.{pull-within}
 use Rattle.answers.proofs.multipliers.multipliers_of.Statement.{statement}
 use Rattle.answers.proofs.multipliers.multipliers_of.Tie as tie
 

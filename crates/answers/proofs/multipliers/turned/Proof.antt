@@ -4,7 +4,7 @@ use lib.IntN.{negℤ, +ℤ-idl}
 use mir.Facts.{toZ-ofZ}
 use mir.Syntax.{w64}
 use mir.Val.{SFits}
-use Rattle.whole.proofs.Sizes.{within-neg, fits-by}
+use Rattle.whole.proofs.Numbers.Sizes.{within-neg, fits-by}
 use Rattle.rules.specs.Step as step
 use Rattle.sides.specs.Sides.{sideBy}
 use Rattle.answers.proofs.multipliers.turned.Statement.{statement}

@@ -8,9 +8,9 @@ use mir.Facts.{toZ-ofZ}
 use mir.Syntax.{w64}
 use mir.Val.{SFits}
 use Rattle.whole.specs.Numbers.{Within}
-use Rattle.whole.proofs.Reify.{reify}
-use Rattle.whole.proofs.Sizes.{fits-by, within--, within-*}
-use Rattle.whole.proofs.Tools.{ring-at}
+use Rattle.whole.proofs.Ring.Reify.{reify}
+use Rattle.whole.proofs.Numbers.Sizes.{fits-by, within--, within-*}
+use Rattle.whole.proofs.Ring.Tools.{ring-at}
 use Rattle.rules.specs.Sizes.{largestLength}
 use Rattle.lengths.specs.Lengths.{keyOf}
 use Rattle.lengths.proofs.Length.of.Statement.{statement}

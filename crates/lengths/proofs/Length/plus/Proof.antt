@@ -4,7 +4,7 @@ use lib.IntN.{_+ℤ_}
 use mir.Facts.{toZ-ofZ}
 use mir.Syntax.{w64}
 use mir.Val.{SFits}
-use Rattle.whole.proofs.Sizes.{fits-by, within-+}
+use Rattle.whole.proofs.Numbers.Sizes.{fits-by, within-+}
 use Rattle.lengths.proofs.Length.plus.Statement.{statement}
 use Rattle.lengths.proofs.Length.plus.Tie as tie
 

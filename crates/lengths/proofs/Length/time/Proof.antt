@@ -4,8 +4,8 @@ use lib.IntN.{negℤ, +ℤ-idl}
 use mir.Facts.{toZ-ofZ, fits-natAbs}
 use mir.Syntax.{w64}
 use mir.Val.{SFits}
-use Rattle.whole.proofs.Sizes.{abs-neg, fits-by, within-neg}
-use Rattle.whole.proofs.Tests.{not-neg}
+use Rattle.whole.proofs.Numbers.Sizes.{abs-neg, fits-by, within-neg}
+use Rattle.whole.proofs.Numbers.Tests.{not-neg}
 use Rattle.lengths.proofs.Laws.Keys.{turned-up}
 use Rattle.lengths.proofs.Length.time.Statement.{statement}
 use Rattle.lengths.proofs.Length.time.Tie as tie

@@ -11,9 +11,9 @@ use lib.Seq.{length-slice}
 use mir.Facts.{toZ-ofZ}
 use mir.Syntax.{w64}
 use mir.Val.{SFits}
-use Rattle.whole.proofs.Sizes.{fits-abs}
+use Rattle.whole.proofs.Numbers.Sizes.{fits-abs}
 use Rattle.rules.specs.Sizes.{mostVertices, mostTimeRows}
-use Rattle.rules.proofs.Times.Closed.{slice-at}
+use Rattle.rules.proofs.Times.Passes.Closed.{slice-at}
 use Rattle.lengths.specs.declared.answer.Way.{Way}
 use Rattle.lengths.specs.Answer.{rowsOf}
 use Rattle.lengths.proofs.Laws.Words.{words-more, words-all}

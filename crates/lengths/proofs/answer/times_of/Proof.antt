@@ -10,7 +10,7 @@ use lib.ListN.{length, getD, set, take, drop, replicate, length-map, length-repl
 use mir.Facts.{toZ-ofZ}
 use mir.Syntax.{w64}
 use mir.Val.{SFits}
-use Rattle.whole.proofs.Prefix.{set-prefix, prefix-all}
+use Rattle.whole.proofs.Lists.Prefix.{set-prefix, prefix-all}
 use Rattle.rules.specs.Sizes.{mostVertices}
 use Rattle.lengths.specs.declared.Length.{Length}
 use Rattle.lengths.specs.Lengths.{noRows, plainPart, smallPart}

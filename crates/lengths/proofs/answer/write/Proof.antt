@@ -10,7 +10,7 @@ use lib.Seq.{paste, length-paste}
 use mir.Facts.{toZ-ofZ}
 use mir.Syntax.{w64}
 use mir.Val.{SFits, toZ, ofZ}
-use Rattle.whole.proofs.Sizes.{fits-abs}
+use Rattle.whole.proofs.Numbers.Sizes.{fits-abs}
 use Rattle.lengths.proofs.Laws.Words.{two-halves}
 use Rattle.lengths.proofs.answer.write.Statement.{statement}
 use Rattle.lengths.proofs.answer.write.Tie as tie

@@ -8,11 +8,11 @@ use lib.IntN.{ℤ}
 use mir.Facts.{sfits-lit}
 use mir.Syntax.{w64}
 use mir.Val.{SFits, ofZ}
-use Rattle.whole.proofs.Tests.{test-eq}
+use Rattle.whole.proofs.Numbers.Tests.{test-eq}
 use Rattle.rules.specs.Problem.{word}
-use Rattle.rules.specs.Text.{ascii, canText, cannotText, rangeText, answerText}
-use Rattle.rules.proofs.Text.Verdicts.{text-can, text-cannot, text-range}
-use Rattle.rules.proofs.Text.Lengths.{range-short}
+use Rattle.rules.specs.Program.Text.{ascii, canText, cannotText, rangeText, answerText}
+use Rattle.rules.proofs.Program.Verdicts.{text-can, text-cannot, text-range}
+use Rattle.rules.proofs.Program.Lengths.{range-short}
 use Rattle.put.proofs.Texts.{put-length}
 use Rattle.lines.proofs.answer.put_answer.Statement.{statement}
 use Rattle.lines.proofs.answer.put_answer.Tie as tie

@@ -10,8 +10,8 @@ use mir.Syntax.{w64}
 use mir.Val.{SFits}
 use Rattle.rules.specs.Problem.{word}
 use Rattle.rules.specs.Sizes.{mostPivotsLine}
-use Rattle.rules.specs.Text.{ascii, line, headLines, canText}
-use Rattle.rules.proofs.Text.Lengths.{line-short, can-short}
+use Rattle.rules.specs.Program.Text.{ascii, line, headLines, canText}
+use Rattle.rules.proofs.Program.Lengths.{line-short, can-short}
 use Rattle.put.specs.Put.{Put, PutShort}
 use Rattle.put.proofs.Texts.{put-then, put-length}
 use Rattle.lines.proofs.answer.put_can.Statement.{statement}

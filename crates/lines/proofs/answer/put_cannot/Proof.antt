@@ -4,8 +4,8 @@ use mathlib.Core.List.{List, _++_}
 use Prim.Native.Nat.{ℕ, _+_}
 use native.Mathlib.Omega.{arith}
 use Rattle.rules.specs.Sizes.{mostPivotsLine}
-use Rattle.rules.specs.Text.{ascii, headLines, linesBelow, multiplierLines, cannotText}
-use Rattle.rules.proofs.Text.Lengths.{cannot-short}
+use Rattle.rules.specs.Program.Text.{ascii, headLines, linesBelow, multiplierLines, cannotText}
+use Rattle.rules.proofs.Program.Lengths.{cannot-short}
 use Rattle.put.specs.Put.{Put, PutShort}
 use Rattle.put.proofs.Texts.{put-then, put-length}
 use Rattle.lines.proofs.answer.put_cannot.Statement.{statement}

@@ -9,8 +9,8 @@ use mir.Syntax.{w64}
 use mir.Val.{SFits}
 use Rattle.rules.specs.Problem.{word}
 use Rattle.rules.specs.Sizes.{mostPivotsLine}
-use Rattle.rules.specs.Text.{ascii, line, headLines}
-use Rattle.rules.proofs.Text.Lengths.{head-short}
+use Rattle.rules.specs.Program.Text.{ascii, line, headLines}
+use Rattle.rules.proofs.Program.Lengths.{head-short}
 use Rattle.put.specs.Put.{Put, Room}
 use Rattle.put.proofs.Texts.{put-then, put-length, room-right}
 use Rattle.lines.proofs.answer.put_head.Statement.{statement}

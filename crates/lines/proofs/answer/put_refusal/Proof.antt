@@ -9,8 +9,8 @@ use mir.Facts.{toZ-pos}
 use mir.Syntax.{w64}
 use mir.Val.{toZ}
 use Rattle.rules.specs.Sizes.{mostText}
-use Rattle.rules.specs.Text.{ascii, refusalText}
-use Rattle.rules.proofs.Text.Lengths.{refusal-text-short}
+use Rattle.rules.specs.Program.Text.{ascii, refusalText}
+use Rattle.rules.proofs.Program.Lengths.{refusal-text-short}
 use Rattle.put.proofs.Texts.{put-length}
 use Rattle.lines.proofs.answer.put_refusal.Statement.{statement}
 use Rattle.lines.proofs.answer.put_refusal.Tie as tie

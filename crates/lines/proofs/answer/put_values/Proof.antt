@@ -5,7 +5,7 @@ use mathlib.Core.Path.{_≡_}
 use Prim.Native.Nat.{ℕ, _-_, _*_, _≤_}
 use native.Mathlib.Omega.{arith}
 use Rattle.rules.specs.Sizes.{mostValueLine}
-use Rattle.rules.specs.Text.{linesBelow, valueLine}
+use Rattle.rules.specs.Program.Text.{linesBelow, valueLine}
 use Rattle.put.specs.Put.{PutShort}
 use Rattle.put.proofs.Texts.{put-length}
 use Rattle.lines.proofs.Texts.{text-lines-start, lines-room, text-lines-more}

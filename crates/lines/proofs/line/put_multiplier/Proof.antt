@@ -3,9 +3,9 @@ use mathlib.Core.Path.{_≡_, ap}
 use mir.Facts.{toZ-ofZ, sfits-lit}
 use mir.Syntax.{w64}
 use mir.Val.{ofZ}
-use Rattle.whole.proofs.Tests.{test-eq}
-use Rattle.rules.specs.Text.{variableLine, multiplierLine}
-use Rattle.rules.proofs.Text.Verdicts.{multiplier-none, multiplier-some}
+use Rattle.whole.proofs.Numbers.Tests.{test-eq}
+use Rattle.rules.specs.Program.Text.{variableLine, multiplierLine}
+use Rattle.rules.proofs.Program.Verdicts.{multiplier-none, multiplier-some}
 use Rattle.put.proofs.Texts.{put-none, put-length}
 use Rattle.lines.proofs.line.put_multiplier.Statement.{statement}
 use Rattle.lines.proofs.line.put_multiplier.Tie as tie

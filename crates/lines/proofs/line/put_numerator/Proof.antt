@@ -2,7 +2,7 @@
 use mathlib.Core.List.{List, _++_}
 use Prim.Native.Nat.{ℕ}
 use mir.Facts.{toZ-ofZ}
-use Rattle.rules.specs.Text.{ascii, decimal, digits}
+use Rattle.rules.specs.Program.Text.{ascii, decimal, digits}
 use Rattle.put.specs.Put.{Put, Room}
 use Rattle.put.proofs.Texts.{put-then, put-length, room-left, room-right}
 use Rattle.lines.proofs.line.put_numerator.Statement.{statement}

@@ -4,9 +4,9 @@ use borrow.Author.Needs.{needs}
 use mir.Facts.{toZ-ofZ, sfits-lit}
 use mir.Syntax.{w64}
 use mir.Val.{ofZ}
-use Rattle.whole.proofs.Tests.{test-eq}
-use Rattle.rules.specs.Text.{ascii, line, smallEnd}
-use Rattle.rules.proofs.Text.Verdicts.{end-none, end-some}
+use Rattle.whole.proofs.Numbers.Tests.{test-eq}
+use Rattle.rules.specs.Program.Text.{ascii, line, smallEnd}
+use Rattle.rules.proofs.Program.Verdicts.{end-none, end-some}
 use Rattle.put.proofs.Texts.{put-length}
 use Rattle.lines.proofs.line.put_small.Statement.{statement}
 use Rattle.lines.proofs.line.put_small.Tie as tie

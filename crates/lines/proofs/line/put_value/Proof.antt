@@ -10,8 +10,8 @@ use mir.Syntax.{w64}
 use mir.Val.{SFits}
 use Rattle.rules.specs.Sizes.{mostValueLine}
 use Rattle.rules.specs.Problem.{word}
-use Rattle.rules.specs.Text.{ascii, decimal, digits, smallEnd, valueLine}
-use Rattle.rules.proofs.Text.Lengths.{value-short}
+use Rattle.rules.specs.Program.Text.{ascii, decimal, digits, smallEnd, valueLine}
+use Rattle.rules.proofs.Program.Lengths.{value-short}
 use Rattle.put.specs.Put.{Put, Room}
 use Rattle.put.proofs.Texts.{put-then, put-length, room-left, room-right}
 use Rattle.lines.proofs.line.put_value.Statement.{statement}

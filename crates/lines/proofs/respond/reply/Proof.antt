@@ -6,12 +6,12 @@ use native.Mathlib.Omega.{arith}
 use borrow.Author.Needs.{needs}
 use lib.IntN.{ℤ, pos}
 use lib.ListN.{length, replicate}
-use Rattle.whole.proofs.Order.{≤ℤ-trans}
+use Rattle.whole.proofs.Numbers.Order.{≤ℤ-trans}
 use Rattle.rules.specs.Answer.{written}
 use Rattle.rules.specs.Problem.{varsOf}
 use Rattle.rules.specs.Refusal.{Accepted, problemRefusal, refusal}
 use Rattle.rules.specs.Sizes.{mostRows, mostVariables}
-use Rattle.rules.specs.Text.{answerText}
+use Rattle.rules.specs.Program.Text.{answerText}
 use Rattle.solver.proofs.Laws.Refusals.{accepted-of}
 use Rattle.lines.proofs.Replies.{fine-words, printed-same, replied-answered, replied-refused, vars-few, written-long}
 use Rattle.lines.proofs.respond.reply.Statement.{statement}

@@ -6,10 +6,10 @@ use native.Mathlib.Omega.{arith}
 use borrow.Author.Needs.{needs}
 use lib.IntN.{ℤ, pos}
 use lib.ListN.{drop, length, replicate, take, length-take, length-append, length-drop, length-replicate}
-use Rattle.rules.specs.Bytes.{countRefusal, wordsFrom}
-use Rattle.rules.specs.Program.{replyTo}
+use Rattle.rules.specs.Program.Bytes.{countRefusal, wordsFrom}
+use Rattle.rules.specs.Program.Reply.{replyTo}
 use Rattle.rules.specs.Refusal.{problemRefusal}
-use Rattle.rules.proofs.Text.Words.{words-length}
+use Rattle.rules.proofs.Program.Words.{words-length}
 use Rattle.lines.proofs.Replies.{printed-same, program-refused, program-replied, words-few, words-front}
 use Rattle.lines.proofs.respond.respond.Statement.{statement}
 use Rattle.lines.proofs.respond.respond.Tie as tie

@@ -7,7 +7,7 @@ use lib.IntN.{pos}
 use lib.ListN.{getD}
 use mir.Facts.{toZ-ofZ}
 use Rattle.layout.specs.Layout.{mostEntries}
-use Rattle.pivot.proofs.Laws.Reductions.{pivot-in}
+use Rattle.pivot.proofs.Laws.Wide.Reductions.{pivot-in}
 use Rattle.pivot.proofs.asked.pivot_of.Statement.{statement}
 use Rattle.pivot.proofs.asked.pivot_of.Tie as tie
 

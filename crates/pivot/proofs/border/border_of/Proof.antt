@@ -8,13 +8,13 @@ use lib.IntN.{ℤ, pos, negℤ, _-ℤ_, +ℤ-idl}
 use mir.Facts.{toZ-ofZ}
 use mir.Syntax.{w32}
 use mir.Val.{SFits, toZ, ofZ}
-use Rattle.whole.proofs.Sizes.{within-neg, fits-by}
+use Rattle.whole.proofs.Numbers.Sizes.{within-neg, fits-by}
 use Rattle.pivot.specs.declared.asked.Asked.{Asked}
 use Rattle.pivot.specs.declared.border.Border.{Border}
 use Rattle.layout.specs.declared.Strip.{Strip}
 use Rattle.pivot.specs.Asked.{Able}
 use Rattle.pivot.specs.Border.{Bears, raisedStrip}
-use Rattle.pivot.proofs.Laws.Crossed.{besides-bear, aboves-bear}
+use Rattle.pivot.proofs.Laws.Trial.Border.{besides-bear, aboves-bear}
 use Rattle.pivot.proofs.border.border_of.Statement.{statement}
 use Rattle.pivot.proofs.border.border_of.Tie as tie
 

@@ -3,7 +3,7 @@ use lib.IntN.{_+ℤ_}
 use mir.Facts.{toZ-ofZ}
 use mir.Syntax.{w32}
 use mir.Val.{SFits}
-use Rattle.whole.proofs.Sizes.{fits-by}
+use Rattle.whole.proofs.Numbers.Sizes.{fits-by}
 use Rattle.pivot.proofs.border.raised.Statement.{statement}
 use Rattle.pivot.proofs.border.raised.Tie as tie
 

@@ -13,7 +13,7 @@ use mir.Syntax.{w32}
 use mir.Val.{SFits, toZ}
 use Rattle.whole.specs.Tables.{filled}
 use Rattle.whole.specs.Numbers.{Within}
-use Rattle.whole.proofs.Prefix.{filled-start, filled-more}
+use Rattle.whole.proofs.Lists.Prefix.{filled-start, filled-more}
 use Rattle.whole.proofs.Tells.{tells-eq}
 use Rattle.rules.specs.Sizes.{mostRows, largestNumber}
 use Rattle.layout.specs.declared.Strip.{Strip}

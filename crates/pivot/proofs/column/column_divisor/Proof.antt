@@ -5,7 +5,7 @@ use mathlib.Core.Path.{_≡_, ap, ap₂, sym, _∙_}
 use Prim.Native.Nat.{_≤_, _-_}
 use Rattle.whole.specs.Divisors.{gcd}
 use Rattle.pivot.specs.Trials.{columnDivisor}
-use Rattle.pivot.proofs.Laws.Columns.{column-none, column-more}
+use Rattle.pivot.proofs.Laws.Trial.Columns.{column-none, column-more}
 use Rattle.pivot.proofs.column.column_divisor.Statement.{statement}
 use Rattle.pivot.proofs.column.column_divisor.Tie as tie
 

@@ -12,7 +12,7 @@ use mir.Syntax.{w32, w64}
 use mir.Val.{SFits}
 use Rattle.layout.specs.Layout.{mostEntries}
 use Rattle.pivot.specs.Trials.{Spared, Quotient, crossedIn}
-use Rattle.pivot.proofs.Laws.Columns.{spared-start, spared-more, each-more}
+use Rattle.pivot.proofs.Laws.Trial.Columns.{spared-start, spared-more, each-more}
 use Rattle.pivot.proofs.column.column_over.Statement.{statement}
 use Rattle.pivot.proofs.column.column_over.Tie as tie
 

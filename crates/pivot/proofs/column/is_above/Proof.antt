@@ -5,7 +5,7 @@ use mathlib.Core.Path.{_≡_, sym, subst}
 use mathlib.Core.Bool.{false}
 use Prim.Native.Nat.{ℕ, _≤_, _<_, _-_}
 use Rattle.pivot.specs.Trials.{someAbove}
-use Rattle.pivot.proofs.Laws.Columns.{above-none, above-more, above-here}
+use Rattle.pivot.proofs.Laws.Trial.Columns.{above-none, above-more, above-here}
 use Rattle.pivot.proofs.column.is_above.Statement.{statement}
 use Rattle.pivot.proofs.column.is_above.Tie as tie
 

@@ -5,7 +5,7 @@ use lib.IntN.{natAbs}
 use mir.Facts.{toZ-ofZ}
 use mir.Syntax.{w64}
 use mir.Val.{SFits}
-use Rattle.pivot.proofs.Laws.Columns.{crossed-within}
+use Rattle.pivot.proofs.Laws.Trial.Columns.{crossed-within}
 use Rattle.pivot.proofs.column.size_at.Statement.{statement}
 use Rattle.pivot.proofs.column.size_at.Tie as tie
 

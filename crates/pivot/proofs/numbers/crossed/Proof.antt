@@ -3,8 +3,8 @@ use lib.IntN.{_*ℤ_, _-ℤ_}
 use mir.Facts.{toZ-ofZ}
 use mir.Syntax.{w64}
 use mir.Val.{SFits}
-use Rattle.whole.proofs.Sizes.{within-*, within--, fits-by}
-use Rattle.pivot.proofs.Laws.Halves.{wide, half-product, widened}
+use Rattle.whole.proofs.Numbers.Sizes.{within-*, within--, fits-by}
+use Rattle.pivot.proofs.Laws.Numbers.Halves.{wide, half-product, widened}
 use Rattle.pivot.proofs.numbers.crossed.Statement.{statement}
 use Rattle.pivot.proofs.numbers.crossed.Tie as tie
 

@@ -8,10 +8,10 @@ use lib.IntN.{pos, negℤ, _-ℤ_, +ℤ-idl}
 use mir.Facts.{toZ-ofZ, toZ-pos}
 use mir.Syntax.{w64}
 use mir.Val.{SFits, toZ, ofZ, hbits}
-use Rattle.whole.proofs.Sizes.{within-neg}
+use Rattle.whole.proofs.Numbers.Sizes.{within-neg}
 use Rattle.divisor.specs.Cells.{largestSize}
 use Rattle.divisor.proofs.Laws.Cells.{fits-size}
-use Rattle.pivot.proofs.Laws.Mixes.{signed-down, signed-up}
+use Rattle.pivot.proofs.Laws.Wide.Mixes.{signed-down, signed-up}
 use Rattle.pivot.proofs.numbers.signed.Statement.{statement}
 use Rattle.pivot.proofs.numbers.signed.Tie as tie
 

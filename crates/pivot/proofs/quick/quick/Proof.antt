@@ -15,7 +15,7 @@ use mir.Syntax.{w32, w64}
 use mir.Val.{SFits}
 use Rattle.whole.specs.Numbers.{Within}
 use Rattle.whole.proofs.Bools.{not-false, true→T}
-use Rattle.whole.proofs.Sizes.{fits-by, size-pos, within-le}
+use Rattle.whole.proofs.Numbers.Sizes.{fits-by, size-pos, within-le}
 use Rattle.rules.specs.Sizes.{largestNumber}
 use Rattle.divisor.specs.Cells.{largestSize}
 use Rattle.pivot.specs.declared.asked.Asked.{Asked}
@@ -26,12 +26,12 @@ use Rattle.layout.specs.Layout.{mostEntries}
 use Rattle.pivot.specs.Pivot.{product, signedBy}
 use Rattle.pivot.specs.Border.{borderFor, borderDivisor, Bordered}
 use Rattle.pivot.specs.Trials.{SettledAs}
-use Rattle.pivot.proofs.Laws.Crossed.{bordered}
-use Rattle.pivot.proofs.Laws.Halves.{wide, widened}
-use Rattle.pivot.proofs.Laws.Mixes.{signed-nonzero}
-use Rattle.pivot.proofs.Laws.Reductions.{within-size, nonzero-product}
-use Rattle.pivot.proofs.Laws.Settling.{first-multiple, first-divides, first-above, settled-ends}
-use Rattle.pivot.proofs.Laws.Signs.{size-signed}
+use Rattle.pivot.proofs.Laws.Trial.Border.{bordered}
+use Rattle.pivot.proofs.Laws.Numbers.Halves.{wide, widened}
+use Rattle.pivot.proofs.Laws.Wide.Mixes.{signed-nonzero}
+use Rattle.pivot.proofs.Laws.Wide.Reductions.{within-size, nonzero-product}
+use Rattle.pivot.proofs.Laws.Trial.Settling.{first-multiple, first-divides, first-above, settled-ends}
+use Rattle.pivot.proofs.Laws.Numbers.Signs.{size-signed}
 use Rattle.pivot.proofs.quick.quick.Statement.{statement}
 use Rattle.pivot.proofs.quick.quick.Tie as tie
 

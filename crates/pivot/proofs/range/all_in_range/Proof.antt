@@ -11,7 +11,7 @@ use mir.Facts.{toZ-ofZ}
 use mir.Syntax.{w64}
 use mir.Val.{SFits, toZ}
 use Rattle.whole.specs.Below.{allBelow}
-use Rattle.whole.proofs.Below.{all-more}
+use Rattle.whole.proofs.Lists.Below.{all-more}
 use Rattle.whole.proofs.Bools.{not-true, not-false}
 use Rattle.pivot.specs.Pivot.{inRange}
 use Rattle.pivot.proofs.Laws.Ranges.{small-common, small-cell, small-all}

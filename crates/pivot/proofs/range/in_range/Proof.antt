@@ -3,7 +3,7 @@ use mathlib.Core.Path.{sym}
 use borrow.Author.Needs.{needs}
 use lib.IntN.{pos, negℤ}
 use mir.Facts.{toZ-ofZ}
-use Rattle.whole.proofs.Order.{true→lt, false→le}
+use Rattle.whole.proofs.Numbers.Order.{true→lt, false→le}
 use Rattle.whole.proofs.Tells.{within-over, within-under}
 use Rattle.rules.specs.Sizes.{largestNumber}
 use Rattle.pivot.proofs.range.in_range.Statement.{statement}

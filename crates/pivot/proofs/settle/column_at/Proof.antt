@@ -6,7 +6,7 @@ use mir.Facts.{toZ-ofZ}
 use mir.Syntax.{w32}
 use mir.Val.{SFits}
 use Rattle.pivot.specs.declared.border.Border.{Border}
-use Rattle.pivot.proofs.Laws.Columns.{column-alike}
+use Rattle.pivot.proofs.Laws.Trial.Columns.{column-alike}
 use Rattle.layout.proofs.Laws.Layout.{lines-are}
 use Rattle.pivot.proofs.settle.column_at.Statement.{statement}
 use Rattle.pivot.proofs.settle.column_at.Tie as tie

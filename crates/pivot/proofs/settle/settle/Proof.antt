@@ -16,8 +16,8 @@ use Rattle.pivot.specs.declared.settle.Tried.{Tried}
 use Rattle.pivot.specs.declared.settle.Tried.the-variants as tries
 use Rattle.pivot.specs.Border.{inBorder}
 use Rattle.pivot.specs.Trials.{Spared, TriedAs, borderColumn, columnDivisor}
-use Rattle.pivot.proofs.Laws.Columns.{spared-start, spared-wider, spared-twice}
-use Rattle.pivot.proofs.Laws.Trying.{Trying, trying-start, trying-less, less-falls, exceeds}
+use Rattle.pivot.proofs.Laws.Trial.Columns.{spared-start, spared-wider, spared-twice}
+use Rattle.pivot.proofs.Laws.Trial.Trying.{Trying, trying-start, trying-less, less-falls, exceeds}
 use Rattle.pivot.proofs.settle.settle.Statement.{statement}
 use Rattle.pivot.proofs.settle.settle.Tie as tie
 

@@ -16,8 +16,8 @@ use Rattle.pivot.specs.declared.column.Column.{Column}
 use Rattle.layout.specs.Layout.{mostEntries, lineAt, live}
 use Rattle.pivot.specs.Border.{Bordered, crossedAt}
 use Rattle.pivot.specs.Trials.{Spared, Quotient, Columned, borderColumn, crossedIn}
-use Rattle.pivot.proofs.Laws.Columns.{spared-start, spared-then, spared-wider, column-alike, column-end}
-use Rattle.pivot.proofs.Laws.Columns.{column-most, columned, columns-all, quotients-then}
+use Rattle.pivot.proofs.Laws.Trial.Columns.{spared-start, spared-then, spared-wider, column-alike, column-end}
+use Rattle.pivot.proofs.Laws.Trial.Columns.{column-most, columned, columns-all, quotients-then}
 use Rattle.layout.proofs.Laws.Layout.{lines-are}
 use Rattle.pivot.proofs.settle.try_all.Statement.{statement}
 use Rattle.pivot.proofs.settle.try_all.Tie as tie

@@ -11,9 +11,9 @@ use mir.Facts.{toZ-ofZ}
 use mir.Syntax.{w32, w64}
 use mir.Val.{SFits}
 use Rattle.whole.specs.Tables.{filled, table}
-use Rattle.whole.proofs.Prefix.{filled-start, filled-more, filled-all}
-use Rattle.whole.proofs.Sizes.{fits-by}
-use Rattle.whole.proofs.Tables.{table-all}
+use Rattle.whole.proofs.Lists.Prefix.{filled-start, filled-more, filled-all}
+use Rattle.whole.proofs.Numbers.Sizes.{fits-by}
+use Rattle.whole.proofs.Lists.Tables.{table-all}
 use Rattle.layout.specs.Layout.{mostEntries}
 use Rattle.pivot.proofs.wide.halves_of.Statement.{statement}
 use Rattle.pivot.proofs.wide.halves_of.Tie as tie

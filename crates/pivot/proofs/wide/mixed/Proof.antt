@@ -6,8 +6,8 @@ use lib.IntN.{ℤ, pos, negℤ, _*ℤ_, _-ℤ_}
 use mir.Facts.{toZ-ofZ}
 use mir.Syntax.{w32, w64}
 use mir.Val.{SFits}
-use Rattle.whole.proofs.Reify.{reify}
-use Rattle.whole.proofs.Tools.{ring-at}
+use Rattle.whole.proofs.Ring.Reify.{reify}
+use Rattle.whole.proofs.Ring.Tools.{ring-at}
 use Rattle.pivot.proofs.wide.mixed.Statement.{statement}
 use Rattle.pivot.proofs.wide.mixed.Tie as tie
 

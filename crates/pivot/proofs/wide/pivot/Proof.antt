@@ -12,9 +12,9 @@ use mir.Facts.{toZ-ofZ}
 use mir.Syntax.{w32, w64}
 use mir.Val.{SFits, toZ, ofZ}
 use Rattle.whole.specs.Numbers.{AllWithin}
-use Rattle.whole.proofs.Division.{bits-nonzero}
-use Rattle.whole.proofs.Sizes.{fits-by}
-use Rattle.whole.proofs.Tables.{filled-length}
+use Rattle.whole.proofs.Numbers.Division.{bits-nonzero}
+use Rattle.whole.proofs.Numbers.Sizes.{fits-by}
+use Rattle.whole.proofs.Lists.Tables.{filled-length}
 use Rattle.divisor.specs.Cells.{dividedCells, divisorBelow}
 use Rattle.rules.specs.Sizes.{largestNumber}
 use Rattle.pivot.specs.declared.asked.Asked.{Asked}
@@ -23,8 +23,8 @@ use Rattle.pivot.specs.declared.Pivoted.the-variants as pivots
 use Rattle.pivot.specs.Asked.{Able, commonFor, entriesFor, fitsFor}
 use Rattle.layout.specs.Layout.{live, mostEntries}
 use Rattle.pivot.specs.Pivot.{signedBy, smallBelow, entriesBy, product, mix, by, pivotedBy}
-use Rattle.pivot.proofs.Laws.Reductions.{end-in, within-size, mix-within, size-most}
-use Rattle.pivot.proofs.Laws.Reductions.{nonzero-by, quotient-fits, divided-all, fits-common, fits-entries}
+use Rattle.pivot.proofs.Laws.Wide.Reductions.{end-in, within-size, mix-within, size-most}
+use Rattle.pivot.proofs.Laws.Wide.Reductions.{nonzero-by, quotient-fits, divided-all, fits-common, fits-entries}
 use Rattle.pivot.proofs.wide.pivot.Statement.{statement}
 use Rattle.pivot.proofs.wide.pivot.Tie as tie
 

@@ -31,7 +31,7 @@ use Rattle.tableau.specs.Parts.{columnOf, highestOf, lowestOf, plainAt, rowOf, 
 use Rattle.sides.specs.declared.Breach.{Breach}
 use Rattle.sides.specs.Sides.{asBreach, breachAt, breachOf, sideBy, suitsOf}
 use Rattle.search.specs.Search.{brokenAt, enteringOf, fitting, leavingAt, scaledAt, seen, shortAt, sideAt}
-use Rattle.search.proofs.Laws.Choices.{leaves-here, variable-few}
+use Rattle.search.proofs.Laws.Turns.{leaves-here, variable-few}
 use Rattle.search.proofs.next_step.Tie as tie
 
 abbrev pub Inv-loop : tie.InvT-loop

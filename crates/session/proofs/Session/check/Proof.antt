@@ -8,7 +8,7 @@ use lib.ListN.{length}
 use Rattle.answers.specs.Answer.{isShort}
 use Rattle.solver.specs.Spend.{manyOf}
 use Rattle.solver.specs.declared.spend.Spent.{Spent}
-use Rattle.session.proofs.Laws.Checks.{checks-as, check-long, check-short, slice-of}
+use Rattle.session.proofs.Laws.Stands.Check.{checks-as, check-long, check-short, slice-of}
 use Rattle.session.proofs.Session.check.Statement.{statement}
 use Rattle.session.proofs.Session.check.Tie as tie
 

@@ -6,7 +6,7 @@ use borrow.Author.Needs.{needs}
 use Rattle.tableau.specs.declared.Given.{Given}
 use Rattle.solver.specs.Spend.{manyOf}
 use Rattle.session.specs.Switching.{givenAt, limitRefusal}
-use Rattle.session.proofs.Laws.Switches.{done, refused-limit, refused-unknown, settleable, switches-as}
+use Rattle.session.proofs.Laws.Stands.Switch.{done, refused-limit, refused-unknown, settleable, switches-as}
 use Rattle.session.proofs.Session.switch.Statement.{statement}
 use Rattle.session.proofs.Session.switch.Tie as tie
 

@@ -8,7 +8,7 @@ use lib.ListN.{length}
 use Rattle.answers.specs.Answer.{isShort}
 use Rattle.solver.specs.Spend.{manyOf}
 use Rattle.slices.specs.Slices.{wentOnBy}
-use Rattle.slices.proofs.Laws.GoesOn.{goes-on-as, slice-long, slice-short}
+use Rattle.slices.proofs.Laws.Stands.GoesOn.{goes-on-as, slice-long, slice-short}
 use Rattle.slices.proofs.Slice.go_on.Statement.{statement}
 use Rattle.slices.proofs.Slice.go_on.Tie as tie
 

@@ -4,7 +4,7 @@ use borrow.Author.Tests.{not-true}
 use mir.Facts.{toZ-ofZ}
 use mir.Syntax.{w32}
 use mir.Val.{SFits}
-use Rattle.answers.proofs.Laws.Readable.{numerable-small, smalls-nought}
+use Rattle.answers.proofs.Laws.Needs.{numerable-small, smalls-nought}
 use Rattle.solver.proofs.run.smalls_of.Statement.{statement}
 use Rattle.solver.proofs.run.smalls_of.Tie as tie
 

@@ -10,12 +10,12 @@ use mir.Syntax.{w32, w64}
 use mir.Val.{SFits}
 use Rattle.rules.specs.Sizes.{mostVariables}
 use Rattle.tableau.specs.declared.Tableau.{Tableau}
-use Rattle.pivot.proofs.Laws.Halves.{wide}
+use Rattle.pivot.proofs.Laws.Numbers.Halves.{wide}
 use Rattle.search.specs.Search.{Searchable}
 use Rattle.search.specs.declared.Blocked.{Blocked}
 use Rattle.answers.specs.declared.Verdict.the-variants as verdicts
 use Rattle.answers.specs.Answer.{laidOver, wordsAt}
-use Rattle.answers.proofs.Laws.Readable.{blockable, numerable}
+use Rattle.answers.proofs.Laws.Needs.{blockable, numerable}
 use Rattle.steps.specs.declared.End.{End}
 use Rattle.solver.specs.Run.{endWords, wordsLaid}
 use Rattle.solver.proofs.run.tell.Statement.{statement}

@@ -10,7 +10,7 @@ use lib.IntN.{ℤ}
 use mir.Facts.{toZ-ofZ}
 use mir.Syntax.{w32}
 use mir.Val.{SFits}
-use Rattle.whole.proofs.Sizes.{fits-by}
+use Rattle.whole.proofs.Numbers.Sizes.{fits-by}
 use Rattle.layout.specs.declared.ColumnPlace.{ColumnPlace}
 use Rattle.layout.specs.declared.RowPlace.{RowPlace}
 use Rattle.tableau.specs.declared.Tableau.{Tableau}
@@ -18,14 +18,14 @@ use Rattle.tableau.specs.declared.amount.Value.{Value}
 use Rattle.tableau.specs.Pivot.{Swappable}
 use Rattle.search.specs.Search.{nextAt}
 use Rattle.steps.specs.Step.{Course, Held, leftAt, on, outcomeAt, over, steppedAt}
-use Rattle.steps.proofs.Laws.Stepped.{Chosen, exchanged, course-on, outcome-goes, readOf}
-use Rattle.steps.proofs.Laws.Steps.{common-held, places-held, small-held, steppable-held, value-held}
+use Rattle.steps.proofs.Laws.Cases.{Chosen, exchanged, course-on, outcome-goes, readOf}
+use Rattle.steps.proofs.Laws.Stands.{common-held, places-held, small-held, steppable-held, value-held}
 use Rattle.solver.specs.declared.spend.Course as code
 use Rattle.solver.specs.declared.spend.Course.the-variants as courses
 use Rattle.solver.specs.Spend.{Ran, ranAt, ranOut, spentFrom}
 use Rattle.solver.proofs.Laws.Running.{Running, ran-few, ran-many, ran-tellable, running-held, running-more}
 use Rattle.solver.proofs.Laws.Running.{running-over, running-spent, running-start}
-use Rattle.solver.proofs.Laws.Slices.{held-slice}
+use Rattle.solver.proofs.Laws.Stands.Slices.{held-slice}
 use Rattle.solver.proofs.spend.advance.Statement.{statement}
 use Rattle.solver.proofs.spend.advance.Tie as tie
 

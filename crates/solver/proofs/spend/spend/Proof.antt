@@ -10,7 +10,7 @@ use Rattle.answers.specs.declared.conflict.Crossed.the-variants as crossings
 use Rattle.answers.specs.Answer.{laidOver, wordsAt}
 use Rattle.answers.specs.Conflict.{conflictAt}
 use Rattle.solver.specs.Spend.{Uncrossed, manyOf}
-use Rattle.solver.proofs.Laws.Slices.{count-few, crossing-seat, few-variables, out-where, spent-where}
+use Rattle.solver.proofs.Laws.Stands.Slices.{count-few, crossing-seat, few-variables, out-where, spent-where}
 use Rattle.solver.proofs.spend.spend.Statement.{statement}
 use Rattle.solver.proofs.spend.spend.Tie as tie
 

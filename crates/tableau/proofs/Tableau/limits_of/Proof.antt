@@ -14,18 +14,18 @@ use mir.Syntax.{w32}
 use mir.Val.{SFits}
 use Rattle.whole.specs.Below.{someBelow}
 use Rattle.whole.specs.Tables.{filled}
-use Rattle.whole.proofs.Below.{some-more, some-start}
-use Rattle.whole.proofs.Prefix.{filled-start, filled-more}
+use Rattle.whole.proofs.Lists.Below.{some-more, some-start}
+use Rattle.whole.proofs.Lists.Prefix.{filled-start, filled-more}
 use Rattle.rules.specs.Sizes.{mostVariables}
 use Rattle.rules.specs.Limit.{Limit, bit}
 use Rattle.rules.specs.Problem.{Problem, problem, vars, word}
-use Rattle.rules.proofs.Ranges.{problem-vars}
+use Rattle.rules.proofs.Refusal.Accepted.{problem-vars}
 use Rattle.judge.proofs.Laws.Judged.{few-words, vars-are}
 use Rattle.tableau.specs.declared.Given.{Given}
 use Rattle.tableau.specs.declared.Limits.{Limits}
 use Rattle.tableau.specs.Amounts.{absent}
 use Rattle.tableau.specs.Start.{givenOf, limitsFor, strictAt}
-use Rattle.tableau.proofs.Laws.Reading.{lower-read, marks-read, upper-read}
+use Rattle.tableau.proofs.Laws.Read.{lower-read, marks-read, upper-read}
 use Rattle.tableau.proofs.Tableau.limits_of.Statement.{statement}
 use Rattle.tableau.proofs.Tableau.limits_of.Tie as tie
 

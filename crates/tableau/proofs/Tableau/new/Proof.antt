@@ -6,13 +6,13 @@ use native.Mathlib.Omega.{arith}
 use borrow.Author.Needs.{needs}
 use lib.IntN.{ℤ, pos}
 use lib.Signed.{leZ-yes}
-use Rattle.whole.proofs.Order.{≤ℤ-trans}
+use Rattle.whole.proofs.Numbers.Order.{≤ℤ-trans}
 use Rattle.rules.specs.Sizes.{mostRows}
 use Rattle.rules.specs.Limit.{Limit}
 use Rattle.rules.specs.Problem.{Problem, problem, vars}
 use Rattle.rules.specs.Refusal.{Accepted, problemRefusal}
-use Rattle.rules.proofs.Ranges.{problem-m, problem-n}
-use Rattle.rules.proofs.Refused.{accepted-exactly}
+use Rattle.rules.proofs.Refusal.Accepted.{problem-m, problem-n}
+use Rattle.rules.proofs.Refusal.Exactly.{accepted-exactly}
 use Rattle.judge.specs.Words.{Framed}
 use Rattle.judge.proofs.Laws.Judged.{accepted-framed}
 use Rattle.tableau.specs.declared.Limits.{Limits}
@@ -22,7 +22,7 @@ use Rattle.tableau.specs.declared.Variable.{Variable}
 use Rattle.tableau.specs.declared.read.Starts.{Starts}
 use Rattle.tableau.specs.Start.{limitsFor, startBasic, startEntries, startNonbasic, startSeats}
 use Rattle.tableau.specs.Start.{startLaid, startSmalls, startTableau, startValues, startsFor}
-use Rattle.tableau.proofs.Laws.Reading.{starts-same}
+use Rattle.tableau.proofs.Laws.Read.{starts-same}
 use Rattle.tableau.proofs.Tableau.new.Statement.{statement}
 use Rattle.tableau.proofs.Tableau.new.Tie as tie
 

@@ -4,7 +4,7 @@ use lib.IntN.{_*ℤ_}
 use mir.Facts.{toZ-ofZ}
 use mir.Syntax.{w32, w64}
 use mir.Val.{SFits}
-use Rattle.pivot.proofs.Laws.Halves.{half-product, wide, widened}
+use Rattle.pivot.proofs.Laws.Numbers.Halves.{half-product, wide, widened}
 use Rattle.tableau.specs.Amounts.{pairIn}
 use Rattle.tableau.proofs.Laws.Parts.{Parted}
 use Rattle.tableau.proofs.amount.times.Statement.{statement}

@@ -2,7 +2,7 @@
 use borrow.Author.Needs.{needs}
 use mir.Facts.{toZ-ofZ}
 use mir.Syntax.{w32}
-use Rattle.pivot.proofs.Laws.Halves.{wide, widened}
+use Rattle.pivot.proofs.Laws.Numbers.Halves.{wide, widened}
 use Rattle.tableau.specs.Amounts.{pairIn}
 use Rattle.tableau.proofs.Laws.Parts.{Parted}
 use Rattle.tableau.proofs.amount.widened.Statement.{statement}

@@ -10,7 +10,7 @@ use mir.Syntax.{w32}
 use mir.Val.{SFits}
 use Rattle.rules.specs.Problem.{word}
 use Rattle.judge.proofs.Laws.Judged.{few-words}
-use Rattle.tableau.proofs.Laws.Reading.{coefficient-in, coefficient-is}
+use Rattle.tableau.proofs.Laws.Read.{coefficient-in, coefficient-is}
 use Rattle.tableau.proofs.read.coefficient_at.Statement.{statement}
 use Rattle.tableau.proofs.read.coefficient_at.Tie as tie
 

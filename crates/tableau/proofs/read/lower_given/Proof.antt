@@ -3,7 +3,7 @@ use mathlib.Core.Path.{ap₂}
 use mathlib.Core.Bool.{Bool}
 use borrow.Author.Needs.{needs}
 use mir.Facts.{toZ-ofZ}
-use Rattle.tableau.proofs.Laws.Reading.{given}
+use Rattle.tableau.proofs.Laws.Read.{given}
 use Rattle.tableau.proofs.read.lower_given.Statement.{statement}
 use Rattle.tableau.proofs.read.lower_given.Tie as tie
 

@@ -4,7 +4,7 @@ use mathlib.Core.Path.{_≡_, refl, _∙_, ap}
 use Prim.Native.Nat.{ℕ, _+_, _-_, _≤_}
 use native.Mathlib.Omega.{arith}
 use Rattle.whole.specs.Tables.{filled}
-use Rattle.whole.proofs.Prefix.{filled-start, filled-more, filled-all}
+use Rattle.whole.proofs.Lists.Prefix.{filled-start, filled-more, filled-all}
 use Rattle.rules.specs.Sizes.{mostRows}
 use Rattle.tableau.specs.declared.Variable.{Variable}
 use Rattle.tableau.specs.Parts.{variable}

@@ -4,7 +4,7 @@ use mathlib.Core.Path.{_≡_, refl, _∙_, ap}
 use Prim.Native.Nat.{_-_, _≤_}
 use native.Mathlib.Omega.{arith}
 use Rattle.whole.specs.Tables.{filled}
-use Rattle.whole.proofs.Prefix.{filled-start, filled-more, filled-all}
+use Rattle.whole.proofs.Lists.Prefix.{filled-start, filled-more, filled-all}
 use Rattle.rules.specs.Sizes.{mostColumns}
 use Rattle.tableau.specs.Parts.{variable}
 use Rattle.tableau.proofs.read.start_nonbasic.Statement.{statement}

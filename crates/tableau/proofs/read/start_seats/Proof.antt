@@ -4,7 +4,7 @@ use mathlib.Core.Path.{_≡_, _∙_, ap}
 use Prim.Native.Nat.{_-_, _≤_}
 use native.Mathlib.Omega.{arith}
 use borrow.Author.Needs.{needs}
-use Rattle.whole.proofs.Prefix.{filled-start, filled-more}
+use Rattle.whole.proofs.Lists.Prefix.{filled-start, filled-more}
 use Rattle.rules.specs.Sizes.{mostVariables}
 use Rattle.tableau.specs.Parts.{nowhere}
 use Rattle.tableau.specs.Start.{seatFor, startSeats}

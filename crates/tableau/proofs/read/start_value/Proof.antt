@@ -2,7 +2,7 @@
 use mathlib.Core.Path.{_∙_, ap, sym}
 use borrow.Author.Needs.{needs}
 use Rattle.tableau.specs.Amounts.{valueOf}
-use Rattle.tableau.proofs.Laws.Reading.{value-is}
+use Rattle.tableau.proofs.Laws.Read.{value-is}
 use Rattle.tableau.proofs.read.start_value.Statement.{statement}
 use Rattle.tableau.proofs.read.start_value.Tie as tie
 

@@ -9,7 +9,7 @@ use lib.IntN.{ℤ, pos}
 use mir.Facts.{toZ-ofZ}
 use mir.Syntax.{w32}
 use mir.Val.{SFits}
-use Rattle.whole.proofs.Prefix.{filled-start, filled-more}
+use Rattle.whole.proofs.Lists.Prefix.{filled-start, filled-more}
 use Rattle.rules.specs.Sizes.{mostColumns}
 use Rattle.tableau.specs.declared.Limits.{Limits}
 use Rattle.tableau.specs.declared.read.Starts.{Starts}

@@ -9,14 +9,14 @@ use borrow.Author.Needs.{needs}
 use borrow.Author.Tests.{eq-eqb, ne-eqb, le-ltb, lt-ltb}
 use lib.IntN.{ℤ}
 use lib.ListN.{length}
-use Rattle.whole.proofs.Order.{≤ℤ-trans}
-use Rattle.whole.proofs.Tests.{under-size}
+use Rattle.whole.proofs.Numbers.Order.{≤ℤ-trans}
+use Rattle.whole.proofs.Numbers.Tests.{under-size}
 use Rattle.rules.specs.Sizes.{mostVertices, mostTimeRows}
 use Rattle.rules.specs.Problem.{word, nOf, mOf}
 use Rattle.rules.specs.Refusal.{first, tooFew}
-use Rattle.rules.specs.TimeWords.{timesLength, badTimeSize, badWordCount, noRoom, rowTests, timeTests, timeRefusal}
-use Rattle.rules.proofs.First.{first-hit, first-skip}
-use Rattle.rules.specs.Meanings.{InRange}
+use Rattle.rules.specs.Times.Words.{timesLength, badTimeSize, badWordCount, noRoom, rowTests, timeTests, timeRefusal}
+use Rattle.rules.proofs.Refusal.First.{first-hit, first-skip}
+use Rattle.rules.specs.Facts.Refusal.{InRange}
 use Rattle.rules.proofs.Times.Refused.{times-size-tells}
 use Rattle.timerows.specs.Judged.{TimeFramed, rowsNumber}
 use Rattle.timerows.proofs.Laws.Numbers.{rows-refuse, rows-pass}

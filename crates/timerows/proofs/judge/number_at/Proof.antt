@@ -14,7 +14,7 @@ use mir.Val.{SFits, ofZ, toZ}
 use Rattle.whole.specs.Numbers.{outside, within}
 use Rattle.rules.specs.Sizes.{largestLength}
 use Rattle.rules.specs.Problem.{nOf}
-use Rattle.rules.specs.TimeWords.{fromWord, toWord, strictWord, lengthWord, badEnd, badStrict, badRowLength}
+use Rattle.rules.specs.Times.Words.{fromWord, toWord, strictWord, lengthWord, badEnd, badStrict, badRowLength}
 use Rattle.timerows.specs.Judged.{testNumber, rowNumber}
 use Rattle.timerows.proofs.judge.number_at.Statement.{statement}
 use Rattle.timerows.proofs.judge.number_at.Tie as tie

@@ -11,10 +11,10 @@ use mir.Facts.{sfits-widen, toZ-ofZ}
 use mir.Syntax.{w32, w64}
 use mir.Val.{SFits}
 use Rattle.whole.specs.Numbers.{outside, within}
-use Rattle.whole.proofs.Tests.{own-size}
+use Rattle.whole.proofs.Numbers.Tests.{own-size}
 use Rattle.rules.specs.Sizes.{largestLength}
 use Rattle.rules.specs.Refusal.{first}
-use Rattle.rules.proofs.First.{first-hit, first-skip}
+use Rattle.rules.proofs.Refusal.First.{first-hit, first-skip}
 use Rattle.timerows.specs.Judged.{testNumber}
 use Rattle.timerows.proofs.judge.row_number.Statement.{statement}
 use Rattle.timerows.proofs.judge.row_number.Tie as tie

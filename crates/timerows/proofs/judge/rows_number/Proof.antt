@@ -11,8 +11,8 @@ use mir.Facts.{sfits-widen, toZ-ofZ}
 use mir.Syntax.{w32, w64}
 use mir.Val.{SFits}
 use Rattle.whole.specs.Numbers.{Within}
-use Rattle.whole.proofs.Nonneg.{sub-ge}
-use Rattle.whole.proofs.Sizes.{fits-by, within--}
+use Rattle.whole.proofs.Ring.Nonneg.{sub-ge}
+use Rattle.whole.proofs.Numbers.Sizes.{fits-by, within--}
 use Rattle.rules.specs.Sizes.{mostVertices}
 use Rattle.rules.specs.Problem.{word}
 use Rattle.timerows.specs.Judged.{rowsNumber}

@@ -7,7 +7,7 @@ use lib.IntN.{ℤ}
 use mir.Facts.{toZ-ofZ}
 use mir.Syntax.{w32}
 use mir.Val.{SFits, ofZ, toZ}
-use Rattle.rules.specs.TimeWords.{lengthWord, strictWord}
+use Rattle.rules.specs.Times.Words.{lengthWord, strictWord}
 use Rattle.rules.proofs.Times.Refused.{strict-within}
 use Rattle.timerows.proofs.rows.size.Statement.{statement}
 use Rattle.timerows.proofs.rows.size.Tie as tie

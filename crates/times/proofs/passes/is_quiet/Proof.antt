@@ -9,7 +9,7 @@ use native.Mathlib.Decide.{ℕ-discrete}
 use lib.IntN.{ℤ}
 use Rattle.rules.specs.Sizes.{mostVertices}
 use Rattle.rules.specs.Problem.{mOf}
-use Rattle.rules.specs.TimeWords.{timeEdges}
+use Rattle.rules.specs.Times.Words.{timeEdges}
 use Rattle.rules.proofs.Times.Refused.{time-rows-few}
 use Rattle.lengths.specs.declared.Length.{Length}
 use Rattle.times.specs.Steps.{isLess, Looking}

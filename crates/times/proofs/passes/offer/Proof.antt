@@ -6,7 +6,7 @@ use native.Mathlib.Omega.{arith}
 use borrow.Author.Needs.{needs}
 use lib.IntN.{_+ℤ_}
 use Rattle.whole.specs.Numbers.{Within}
-use Rattle.whole.proofs.Sizes.{within-le}
+use Rattle.whole.proofs.Numbers.Sizes.{within-le}
 use Rattle.rules.specs.Sizes.{mostVertices, largestLength}
 use Rattle.lengths.specs.Lengths.{unit, lengthOf, looksMade}
 use Rattle.lengths.proofs.Laws.Keys.{near-within, size-near}

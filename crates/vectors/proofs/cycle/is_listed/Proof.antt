@@ -10,7 +10,7 @@ use lib.IntN.{ℤ}
 use mir.Facts.{toZ-ofZ}
 use mir.Syntax.{w64}
 use mir.Val.{SFits, ofZ, toZ}
-use Rattle.whole.proofs.Tests.{test-eq}
+use Rattle.whole.proofs.Numbers.Tests.{test-eq}
 use Rattle.rules.specs.Problem.{word}
 use Rattle.vectors.specs.Listed.{isListed}
 use Rattle.vectors.proofs.Listing.{none-listed, one-listed, more-listed}

@@ -11,7 +11,7 @@ use lib.Signed.{ltZ, _≤ℤ_}
 use mir.Facts.{toZ-ofZ, sfits-lit, fits-natAbs}
 use mir.Syntax.{w64}
 use mir.Val.{SFits, ofZ, toZ}
-use Rattle.whole.proofs.Tests.{test-lt, test-nlt, not-neg}
+use Rattle.whole.proofs.Numbers.Tests.{test-lt, test-nlt, not-neg}
 use Rattle.rules.specs.Problem.{word}
 use Rattle.vectors.proofs.Listing.{rows-none, rows-few, rows-most}
 use Rattle.vectors.proofs.cycle.rows_of.Statement.{statement}

@@ -8,8 +8,8 @@ use native.Mathlib.Omega.{arith}
 use lib.IntN.{ℤ}
 use lib.ListN.{length, drop}
 use lib.Seq.{drop-append-add}
-use Rattle.whole.proofs.Tables.{table-length}
-use Rattle.rules.specs.Bytes.{wordAt, wordsFrom}
+use Rattle.whole.proofs.Lists.Tables.{table-length}
+use Rattle.rules.specs.Program.Bytes.{wordAt, wordsFrom}
 use Rattle.vectors.proofs.input.words.Statement.{statement}
 use Rattle.vectors.proofs.input.words.Tie as tie
 

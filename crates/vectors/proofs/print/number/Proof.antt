@@ -2,7 +2,7 @@
 use borrow.Author.Needs.{needs}
 use mir.Facts.{toZ-ofZ, sfits-lit, fits-natAbs}
 use mir.Syntax.{w64}
-use Rattle.whole.proofs.Tests.{test-nlt, not-neg}
+use Rattle.whole.proofs.Numbers.Tests.{test-nlt, not-neg}
 use Rattle.vectors.proofs.print.number.Statement.{statement}
 use Rattle.vectors.proofs.print.number.Tie as tie
 

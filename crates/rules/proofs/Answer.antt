@@ -1,0 +1,9 @@
+-- The words of an answer.
+--   Run         the answer is the run; crossed limits
+--   Cases       the four answers there are, with what each knows
+--   Shape       3 + 2N words, verdict 1 to 3, the zeros
+--   OutOfRange  verdict 3 exactly where the next tableau is too large
+pub mod Run
+pub mod Cases
+pub mod Shape
+pub mod OutOfRange

@@ -1,0 +1,25 @@
+-- What theorems speak of: the rules once more, in plain facts. Nothing here computes.
+--   Refusal    the tables of refusals, line by line
+--   Rule       who leaves, who enters, what moves
+--   Blame      the multipliers of a row that nothing can move
+--   State      what is known of a state
+--   Tableau    the one tableau of a basic set
+--   Range      in range, and out of range
+--   Run        that the answer is the run
+--   Answer     what every answer is
+--   Slices     a run that is cut anywhere
+--   Session    opening, switches and checks
+--   Fractions  fractions over denominators of their own
+--   Evidence   the checker, sentence by sentence, and what an accepted answer means
+pub mod Refusal
+pub mod Rule
+pub mod Blame
+pub mod State
+pub mod Tableau
+pub mod Range
+pub mod Run
+pub mod Answer
+pub mod Slices
+pub mod Session
+pub mod Fractions
+pub mod Evidence
