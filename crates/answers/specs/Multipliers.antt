@@ -1,5 +1,5 @@
 -- The multipliers of "cannot", by place: docs/RULES.md, "The run", the sentences on verdict 2.
-use mathlib.Core.Bool.{Bool, true, false, cond}
+use mathlib.Core.Bool.{Bool, true, false}
 use mathlib.Core.List.{List}
 use Prim.Native.Nat.{ℕ, _+_, _≤_, _<_}
 use mathlib.Core.Path.{_≡_}
@@ -22,7 +22,8 @@ use Rattle.answers.specs.declared.multipliers.Multipliers.{Multipliers}
 unfoldable pub unitAt : ℕ → List ℤ
 unitAt v = set (replicate mostVariables (pos 0)) v (pos 1)
 
--- the row as an equation "the sum is 0", at the variable of a seat: its entry, minus D at the row's own variable, 0 at the other basic ones
+-- the row as an equation "the sum is 0", at the variable of a seat: its entry, minus D at the row's own variable, 0 at
+-- the other basic ones
 abbrev pub relationFrom : Bool → Bool → ℤ → ℤ → ℤ
 relationFrom true true common entry = negℤ common
 relationFrom true false common entry = pos 0

@@ -32,7 +32,7 @@ pub fn common_of(a: u64, b: u64) -> u64
     x
 }
 
-// The greatest common divisor of a number and the live cells. Once it is 1 it stays 1, and no further cell is looked at.
+// The greatest common divisor of a number and the live cells. Once it is 1 it stays 1, and no other cell is looked at.
 pub fn divisor_of(cells: &[i64; MOST_CELLS], live: usize, common: i64) -> u64
     requires { ⌜ live ≤ mostCells ⌝ }
     requires { ⌜ Within common largestSize ⌝ }

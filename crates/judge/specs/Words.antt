@@ -1,5 +1,5 @@
--- The words of a problem whose sizes and whose length are fine, with n and m at hand: what the loops over words ask. And
--- the tests of a variable, which one loop makes.
+-- The words of a problem whose sizes and whose length are fine, with n and m at hand: what the loops over words ask.
+-- And the tests of a variable, which one loop makes.
 use Prim.Native.Nat.{ℕ, _+_, _*_, _≤_}
 use mathlib.Core.Path.{_≡_}
 use mathlib.Core.Bool.{Bool, true, false, _||_}

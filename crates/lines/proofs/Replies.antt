@@ -9,16 +9,16 @@
 use mathlib.Core.List.{List, [], _∷_, _++_}
 use mathlib.Core.Logic.{_≢_}
 use mathlib.Core.Path.{_≡_, ap, refl, sym, _∙_}
-use Prim.Native.Nat.{ℕ, zero, suc, _*_, _+_, _/_, _<_, _≤_}
+use Prim.Native.Nat.{ℕ, zero, suc, _/_, _<_, _≤_}
 use native.Mathlib.Omega.{arith}
 use lib.IntN.{ℤ, pos}
 use lib.ListN.{drop, length, take, length-append, List·getD-append}
 use Rattle.rules.specs.Answer.{answer, written}
-use Rattle.rules.specs.Problem.{answerLength, varsOf, word}
+use Rattle.rules.specs.Problem.{answerLength, varsOf}
 use Rattle.rules.specs.Program.Bytes.{countRefusal, wordsFrom}
 use Rattle.rules.specs.Program.Reply.{programText, replyAfter, replyTo}
-use Rattle.rules.specs.Refusal.{Accepted, problemRefusal, refusal}
-use Rattle.rules.specs.Sizes.{mostRows, mostVariables}
+use Rattle.rules.specs.Refusal.{problemRefusal, refusal}
+use Rattle.rules.specs.Sizes.{mostVariables}
 use Rattle.rules.specs.Program.Text.{answerText, refusalText}
 use Rattle.rules.proofs.Refusal.Accepted.{m-few, n-few}
 use Rattle.rules.proofs.Answer.Shape.{answer-shaped}
@@ -37,7 +37,7 @@ module _ (ws : List ℤ) where
   pub vars-few : problemRefusal ws ≡ 0 → varsOf ws ≤ mostVariables
   vars-few e = let n = n-few (accepted-of ws e) in let m = m-few (accepted-of ws e) in omega arith
 
-  pub room-enough : problemRefusal ws ≡ 0 → answerLength ws ≤ 51
+  room-enough : problemRefusal ws ≡ 0 → answerLength ws ≤ 51
   room-enough e = let h = vars-few e in omega arith
 
   pub fine-words : (r : ℕ) → r ≡ refusal ws 51 → r ≡ 0 → problemRefusal ws ≡ 0
@@ -86,7 +86,8 @@ module _ (bs : List ℕ) where
   pub words-few : countRefusal (length bs) ≡ 0 → length bs / 4 ≤ 202
   words-few e = let h = count-fine (length bs) .0 e in omega arith
 
-  pub program-replied : countRefusal (length bs) ≡ 0 → replyTo (problemRefusal (wordsFrom bs)) (wordsFrom bs) ≡ programText bs
+  pub program-replied : countRefusal (length bs) ≡ 0 →
+      replyTo (problemRefusal (wordsFrom bs)) (wordsFrom bs) ≡ programText bs
   unfolding programText replyAfter
   program-replied e = sym (ap (λ j. replyAfter j (wordsFrom bs)) e)
 

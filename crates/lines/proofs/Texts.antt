@@ -71,7 +71,8 @@ pub printed-only :
 printed-only p q = (p .bytes ∙ sym (q .bytes), p .answer ∙ sym (q .answer))
 
 -- the bytes that are said to be there are there
-pub bytes-fit : {text before after : List ℕ} {r : Written} {n : ℕ} → Printed text before after r → r ≡ Bytes n → n ≤ length after
+pub bytes-fit : {text before after : List ℕ} {r : Written} {n : ℕ} →
+    Printed text before after r → r ≡ Bytes n → n ≤ length after
 unfolding bytesTold printed
 bytes-fit {text} {before} {after} {r} {n} p e = go (leb (length text) (length before)) refl
   where
@@ -80,9 +81,11 @@ bytes-fit {text} {before} {after} {r} {n} p e = go (leb (length text) (length be
 
     go : (b : Bool) → leb (length text) (length before) ≡ b → n ≤ length after
     go true q =
-        let told : Bytes (length text) ≡ Bytes n = sym (ap (λ c. cond c (Bytes (length text)) TooShort) q) ∙ sym (p .answer) ∙ e in
+        let told : Bytes (length text) ≡ Bytes n =
+        sym (ap (λ c. cond c (Bytes (length text)) TooShort) q) ∙ sym (p .answer) ∙ e in
         let same : length text ≡ n = cc in
-        let kept : after ≡ text ++ drop (length text) before = p .bytes ∙ ap (λ c. cond c (text ++ drop (length text) before) before) q in
+        let kept : after ≡ text ++ drop (length text) before =
+        p .bytes ∙ ap (λ c. cond c (text ++ drop (length text) before) before) q in
         rw kept (simp length-append (omega arith))
     go false q =
         let told : TooShort ≡ Bytes n = sym (ap (λ c. cond c (Bytes (length text)) TooShort) q) ∙ sym (p .answer) ∙ e in

@@ -14,7 +14,8 @@ const MOST_ANSWER: usize = 51;
 
 // What the program prints for these words. An answer always has room, so the refusal is the problem's own.
 fn reply(words: &[i32], out: &mut [u8]) -> Written
-    ensures { λ r. ⌜ Printed (replyTo (problemRefusal (now (words .entry))) (now (words .entry))) (now (out .entry)) (now (out .exit)) r ⌝ }
+    ensures { λ r. ⌜ Printed (replyTo (problemRefusal (now (words .entry))) (now (words .entry)))
+        (now (out .entry)) (now (out .exit)) r ⌝ }
 {
     let mut answer = [0i64; MOST_ANSWER];
     let number = solver::solve(words, &mut answer);

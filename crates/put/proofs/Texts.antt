@@ -32,5 +32,6 @@ module _ (s t : List ℕ) {i : ℕ} (r : Room i (s ++ t)) where
   pub room-right : {l m : List ℕ} {j : ℕ} → Put l i s m j → Room j t
   room-right p = record { room = omega (arith, length-append s t, p .place) }
 
-pub put-only : {before text a b : List ℕ} {at i j : ℕ} → Put before at text a i → Put before at text b j → (a ≡ b) × (i ≡ j)
+pub put-only : {before text a b : List ℕ} {at i j : ℕ} → Put before at text a i →
+    Put before at text b j → (a ≡ b) × (i ≡ j)
 put-only p q = (p .bytes ∙ sym (q .bytes), p .place ∙ sym (q .place))

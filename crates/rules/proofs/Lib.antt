@@ -7,10 +7,8 @@
 --   Answer       the words of an answer
 --   Evidence     the checker: what it accepts, what that means, and that it accepts the answers of the run (Own)
 --   Idle         nothing is idle in a "cannot"
---   Plain        where no limit is strict the run over pairs is the run over whole numbers. A map of values that
---                keeps 0, sums, multiples and the order goes through the whole run; the tableau is the same
---   Session      sessions: what holds of each that opening or an operation handed back, what an operation changes,
---                and the demands of each check, over the limits that are on
+--   Plain        where no limit is strict, the run over pairs is the run over whole numbers
+--   Session      sessions: what holds of each handed back, what an operation changes, the demands of each check
 --   Times        time rows: refusals exactly, times or a bad cycle and never both, and what each means
 --   Program      the program's bytes and text
 --   Cases        every worked case and edge is right, by computing

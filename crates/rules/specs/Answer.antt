@@ -1,4 +1,5 @@
--- docs/RULES.md, "Refusal numbers and their order": the words of an answer. Word 0 is the verdict, word 1 the pivots, word 2 the denominator.
+-- docs/RULES.md, "Refusal numbers and their order": the words of an answer. Word 0 is the verdict, word 1 the pivots,
+-- word 2 the denominator.
 use mathlib.Core.List.{List, _∷_, _++_}
 use Prim.Native.Nat.{ℕ, zero, suc, _*_}
 use lib.IntN.{ℤ, pos}

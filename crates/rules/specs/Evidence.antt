@@ -114,7 +114,8 @@ accepted P a =
     (cond (eqZ (verdictOf a) (pos 2)) (showsCannot P a) false)
 
 unfoldable pub checked : List ℤ → List ℤ → ℕ
-checked ws a = first (problemTests mostRows ws ++ ((tooShort ws (length a), 7) ∷ (accepted (problem ws) a, 8) ∷ (true, 9) ∷ []))
+checked ws a =
+    first (problemTests mostRows ws ++ ((tooShort ws (length a), 7) ∷ (accepted (problem ws) a, 8) ∷ (true, 9) ∷ []))
 
 -- ---- what it means: fractions over one positive denominator
 

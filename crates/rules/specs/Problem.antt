@@ -1,4 +1,5 @@
--- docs/RULES.md, "The limit problem as words": n, m, then m rows of n coefficients, then kind, lower and upper of each variable.
+-- docs/RULES.md, "The limit problem as words": n, m, then m rows of n coefficients, then kind, lower and upper of each
+-- variable.
 use mathlib.Core.List.{List}
 use mathlib.Core.Option.{Option, none, some}
 use Prim.Native.Nat.{ℕ, _+_, _*_}

@@ -1,4 +1,5 @@
--- docs/RULES.md, "Refusal numbers and their order": a list of tests with their numbers, each over the whole input, the first that applies winning.
+-- docs/RULES.md, "Refusal numbers and their order": a list of tests with their numbers, each over the whole input, the
+-- first that applies winning.
 use mathlib.Core.Path.{_≡_}
 use mathlib.Core.Logic.{_≢_}
 use mathlib.Core.Bool.{Bool, true, false, _||_, not}
@@ -53,7 +54,8 @@ tooShort ws room = ltb room (answerLength ws)
 -- refusals 1 to 6, then 10: the problem alone
 unfoldable pub problemTests : ℕ → List ℤ → List (Bool × ℕ)
 problemTests rows ws =
-    (tooFew ws, 1) ∷ (badSize rows ws, 2) ∷ (badLength ws, 3) ∷ (badCoefficient ws, 4) ∷ (badKind ws, 5) ∷ (badLimit ws, 6)
+    (tooFew ws, 1) ∷ (badSize rows ws, 2) ∷ (badLength ws, 3) ∷
+    (badCoefficient ws, 4) ∷ (badKind ws, 5) ∷ (badLimit ws, 6)
     ∷ (someBlank ws, 10) ∷ []
 
 unfoldable pub problemRefusal : List ℤ → ℕ

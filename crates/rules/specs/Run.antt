@@ -1,10 +1,8 @@
--- docs/RULES.md, "The run": the steps one after the other. For statements: `after`, `Runs`, `Ends`. For computing: `run`, with the bound as fuel.
--- A theorem joins the two (proofs/Termination/Ends.antt).
-use mathlib.Core.Bool.{Bool, true, false, cond}
-use mathlib.Core.List.{List}
+-- docs/RULES.md, "The run": the steps one after the other. For statements: `after`, `Runs`, `Ends`. For computing:
+-- `run`, with the bound as fuel. A theorem joins the two (proofs/Termination/Ends.antt).
+use mathlib.Core.Bool.{Bool, false, cond}
 use mathlib.Core.Option.{Option, none, some}
 use Prim.Native.Nat.{ℕ, zero, suc, _+_, _*_, _^_, _<_}
-use lib.IntN.{ℤ}
 use Rattle.whole.specs.Below.{lowest}
 use Rattle.whole.specs.Tables.{table}
 use Rattle.whole.specs.Values.{Values}
@@ -57,7 +55,8 @@ bound P = 3 ^ P .n * choose (vars P) (P .n)
 
 -- ---- the run that computes
 
--- how it ended, the pivots completed, and the last state. How it ended is `goes` only where the run goes on past its fuel
+-- how it ended, the pivots completed, and the last state. How it ended is `goes` only where the run goes on past its
+-- fuel
 pub record Ending (X : Type 0) : Type 0 where
   pub how : Outcome X
   pub pivots : ℕ

@@ -60,10 +60,12 @@ pub data Outcome (X : Type 0) : Type 0 where
 abbrev pub positive : ℤ → ℤ
 positive z = cond (isPos z) z (pos 0)
 
--- The multipliers, from the relation y of the violated row, turned to rise. It is -D at the violated variable, whose lower limit gets D; a variable
--- that would have had to increase has an entry above 0 there, which its upper limit gets; one to decrease an entry below 0, for its lower limit.
+-- The multipliers, from the relation y of the violated row, turned to rise. It is -D at the violated variable, whose
+-- lower limit gets D; a variable that would have had to increase has an entry above 0 there, which its upper limit
+-- gets; one to decrease an entry below 0, for its lower limit.
 unfoldable pub evidence : {X : Type 0} → ℕ → Side → (ℕ → ℤ) → Outcome X
-evidence N side y = cannot (table N (λ v. positive (negℤ (pull side (y v))))) (table N (λ v. positive (pull side (y v))))
+evidence N side y = cannot (table N (λ v. positive (negℤ (pull side (y v)))))
+    (table N (λ v. positive (pull side (y v))))
 
 unfoldable pub admit : {X : Type 0} → ℕ → State X → Outcome X
 admit N s = elim (small N (s .tableau)) [ true ↦ goes s | false ↦ range ]
@@ -113,8 +115,8 @@ module _ {X : Type 0} (𝓥 : Values X) where
   abbrev pub gap : X → X → X
   gap x y = plus x (scale (negsuc 0) y)
 
-  -- how far D times the value is outside D times the limit on a side: below, the limit less the value; above, the value less
-  -- the limit
+  -- how far D times the value is outside D times the limit on a side: below, the limit less the value; above, the value
+  -- less the limit
   unfoldable pub shortfallBy : ℤ → X → Option X → Option X → Side → X
   shortfallBy d x l u below = gap (scale d (seated l)) x
   shortfallBy d x l u above = gap x (scale d (seated u))
@@ -158,7 +160,8 @@ module _ {X : Type 0} (𝓥 : Values X) where
 
   unfoldable pub entering : Problem X → State X → Leaving X → Option ℕ
   entering P s r = lowest (vars P) (λ w.
-      cond (suits (pull (r .side) (entry (s .tableau) (r .variable) w)) (seat s w) (P .lower w) (P .upper w)) (some w) none)
+      cond (suits (pull (r .side) (entry (s .tableau) (r .variable) w)) (seat s w) (P .lower w) (P .upper w))
+      (some w) none)
 
   -- ---- one step
 

@@ -1,6 +1,7 @@
--- docs/RULES.md, "The run": the tableau, by variable. Row v says: `common` times variable v is the sum of the row's entries, each times its
--- variable, over all variables. An entry at a basic variable is 0, and the row of a nonbasic variable is `common` at itself and 0 elsewhere;
--- so what is left are the rules' entries, and one formula pivots every row.
+-- docs/RULES.md, "The run": the tableau, by variable. Row v says: `common` times variable v is the sum of the row's
+-- entries, each times its variable, over all variables. An entry at a basic variable is 0, and the row of a nonbasic
+-- variable is `common` at itself and 0 elsewhere; so what is left are the rules' entries, and one formula pivots every
+-- row.
 use mathlib.Core.Bool.{Bool, cond, _&&_}
 use mathlib.Core.List.{List, []}
 use Prim.Native.Nat.{ℕ}

@@ -1,5 +1,5 @@
-// A small function whose proof shows how the tools of `whole` meet code: a 64-bit expression that fits. A loop to copy is
-// `divisor::common_of`, Euclid's steps.
+// A small function whose proof shows how the tools of `whole` meet code: a 64-bit expression that fits. A loop to copy
+// is `divisor::common_of`, Euclid's steps.
 ghost use mathlib.Core.Path.{_≡_};
 ghost use lib.IntN.{_*ℤ_, _-ℤ_};
 ghost use Rattle.whole.specs.Numbers.{Within};

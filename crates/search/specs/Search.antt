@@ -62,7 +62,7 @@ module _ (o : Order) where
   -- ---- the leaving variable
 
   -- D times the value of variable v, if it is basic
-  abbrev pub scaledLaid : Tableau → ℕ → ℤ × ℤ
+  abbrev scaledLaid : Tableau → ℕ → ℤ × ℤ
   scaledLaid t v = (
     rowSumLaid (t .rows) (t .columns) (t .entries) (t .values) (rowOf t v),
     rowSumLaid (t .rows) (t .columns) (t .entries) (t .smalls) (rowOf t v),

@@ -2,7 +2,8 @@
 // from the values that the last one left. A session goes in and comes back by value.
 ghost use mathlib.Core.Path.{_≡_};
 ghost use lib.ListN.{length};
-ghost use Rattle.session.specs.Sessions.{ChecksAs, OpensAs, SessionStanding, SwitchesAs, checkedAt, openedAt, checkOutputAt};
+ghost use Rattle.session.specs.Sessions.{ChecksAs, OpensAs, SessionStanding, SwitchesAs, checkedAt, openedAt};
+ghost use Rattle.session.specs.Sessions.{checkOutputAt};
 ghost use Rattle.session.specs.Sessions.{switchedAt};
 use answers::TOO_SHORT;
 use solver::spend;

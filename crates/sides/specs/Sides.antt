@@ -2,7 +2,6 @@
 -- The pairs that value and limits stand for are compared.
 use mathlib.Core.Bool.{Bool, true, false}
 use mathlib.Core.Option.{Option, none, some}
-use Prim.Native.Nat.{ℕ}
 use lib.IntN.{ℤ}
 use Rattle.whole.specs.Numbers.{Within}
 use Rattle.whole.specs.Values.{pairs}
@@ -11,9 +10,7 @@ use Rattle.rules.specs.Problem.{mapped}
 use Rattle.rules.specs.Sizes.{largestNumerator, largestSmall}
 use Rattle.rules.specs.Step.{Side, below, above, under, over, shortfallBy, pull, suits}
 use Rattle.tableau.specs.declared.Given.{Given}
-use Rattle.tableau.specs.declared.Limits.{Limits}
 use Rattle.tableau.specs.Amounts.{amountOf, limitIn}
-use Rattle.tableau.specs.Parts.{lowerGiven, upperGiven}
 use Rattle.sides.specs.declared.Breach.{Breach}
 use Rattle.sides.specs.declared.LimitPair.{LimitPair}
 

@@ -23,16 +23,17 @@ enum Course {
     On,
 }
 
-// How far a run came: whether it is over, so that there is an answer, all its pivots up to there, and the last completed
-// tableau.
+// How far a run came: whether it is over, so that there is an answer, all its pivots up to there, and the last
+// completed tableau.
 pub struct Spent {
     pub answered: bool,
     pub count: usize,
     pub tableau: Tableau,
 }
 
-// Completes `most` pivots of a run whose limits don't cross, `before` pivots on, or all that are left, and looks whether
-// it goes on. The look is a step on the run's own entries, which are saved before it; where it goes on they are put back.
+// Completes `most` pivots of a run whose limits don't cross, `before` pivots on, or all that are left, and looks
+// whether it goes on. The look is a step on the run's own entries, which are saved before it; where it goes on they are
+// put back.
 fn advance(mut t: Tableau, before: usize, most: usize, out: &mut [i64]) -> Spent
     requires { ⌜ Standing t before ⌝ }
     requires { ⌜ Uncrossed t ⌝ }

@@ -13,7 +13,8 @@ use Rattle.rules.specs.Sizes.{mostColumns, mostRows, mostVariables}
 use Rattle.rules.specs.Limit.{Limit}
 use Rattle.rules.specs.Problem.{Problem, inner, vars}
 use Rattle.rules.specs.Step.{startValue}
-use Rattle.layout.specs.Layout.{Order, inUse, mostEntries, rowLaid, columnLaid, rowAt, columnAt, live, rowPlace, columnPlace}
+use Rattle.layout.specs.Layout.{Order, inUse, mostEntries, rowLaid, columnLaid, rowAt, columnAt, live, rowPlace}
+use Rattle.layout.specs.Layout.{columnPlace}
 use Rattle.tableau.specs.declared.Variable.{Variable}
 use Rattle.tableau.specs.declared.Seat.{Seat}
 use Rattle.tableau.specs.declared.Given.{Given}
@@ -23,7 +24,7 @@ use Rattle.tableau.specs.declared.read.Starts.{Starts}
 use Rattle.tableau.specs.Amounts.{absent}
 use Rattle.tableau.specs.Parts.{variable, nowhere, lowestOf, highestOf}
 
-abbrev pub startEntriesLaid : {X : Type 0} → Order → Problem X → List ℤ
+abbrev startEntriesLaid : {X : Type 0} → Order → Problem X → List ℤ
 startEntriesLaid o P = filled mostEntries (pos 0) (live (P .m) (P .n))
     (λ k. P .coefficient (rowLaid o (P .m) (P .n) k) (columnLaid o (P .m) (P .n) k))
 

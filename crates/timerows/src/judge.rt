@@ -1,5 +1,5 @@
-// Refusals 11 to 17: whether lent words are time rows, and the output has room. The rows are gone through once: each has
-// a number of its own, and the least of them is that of the first test that applies to any.
+// Refusals 11 to 17: whether lent words are time rows, and the output has room. The rows are gone through once: each
+// has a number of its own, and the least of them is that of the first test that applies to any.
 ghost use mathlib.Core.Path.{_≡_};
 ghost use mathlib.Core.Bool.{_||_, not};
 ghost use Prim.Native.Nat.{_-_, _<_, min};
@@ -35,7 +35,8 @@ fn is_too_long(word: i32) -> bool
 // The number of the first of tests 14 to 16 that applies to a row x, y, strict, c, or 17. The last vertex is `most`.
 fn row_number(x: i32, y: i32, strict: i32, c: i32, most: i64) -> u32
     requires { ⌜ pos 0 ≤ℤ most ⌝ }
-    ensures { λ r. ⌜ r ≡ testNumber (outside 0 (natAbs most) x || outside 0 (natAbs most) y) (outside 0 1 strict) (not (within largestLength c)) ⌝ }
+    ensures { λ r. ⌜ r ≡ testNumber (outside 0 (natAbs most) x || outside 0 (natAbs most) y) (outside 0 1 strict)
+        (not (within largestLength c)) ⌝ }
 {
     if is_outside(x as i64, 0, most) {
         return 14;

@@ -39,7 +39,8 @@ pub record Looking (ws : List ℤ) (best : List Length) : Type 0 where
 
 -- whether row i betters its head, in the code's numbers
 abbrev pub isLess : List ℤ → List Length → ℕ → Bool
-isLess ws best i = ltZ (keyAt best (timeEdges ws .tail i) +ℤ keyOf (timeEdges ws .size i)) (keyAt best (timeEdges ws .head i))
+isLess ws best i =
+    ltZ (keyAt best (timeEdges ws .tail i) +ℤ keyOf (timeEdges ws .size i)) (keyAt best (timeEdges ws .head i))
 
 -- no row betters its head, or some row does
 abbrev pub Quiet : List ℤ → List Length → Bool → Type 0

@@ -1,8 +1,6 @@
 // The way back along the rows that bettered each vertex last, from a vertex that the last pass bettered. It ends at a
 // vertex that no row has bettered, or meets one again, and so closes a cycle of rows whose lengths sum below 0.
 ghost use mathlib.Core.Path.{_≡_};
-ghost use Prim.Native.Nat.{ℕ};
-ghost use lib.IntN.{ℤ};
 ghost use Rattle.rules.specs.Problem.{nOf};
 ghost use Rattle.times.specs.Steps.{Tried, Back};
 use crate::NO_ROW;

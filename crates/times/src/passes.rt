@@ -1,9 +1,9 @@
 // Passes over the rows, in place: after each, what is known of each vertex. They end when no row betters its head, or
 // when the way back closes a cycle.
 ghost use mathlib.Core.Path.{_≡_};
-ghost use mathlib.Core.Bool.{Bool, cond};
-ghost use Prim.Native.Nat.{ℕ, _<_, min};
-ghost use lib.IntN.{ℤ, _+ℤ_};
+ghost use mathlib.Core.Bool.{cond};
+ghost use Prim.Native.Nat.{_<_, min};
+ghost use lib.IntN.{_+ℤ_};
 ghost use Rattle.rules.specs.Problem.{mOf};
 ghost use Rattle.rules.specs.Times.Words.{timeEdges};
 ghost use Rattle.lengths.specs.Lengths.{lengthOf, keyOf, ModestLength};

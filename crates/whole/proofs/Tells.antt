@@ -1,4 +1,5 @@
--- What a test tells: one fact where it is true, another where it is false, never both. Tests are put together as their facts are.
+-- What a test tells: one fact where it is true, another where it is false, never both. Tests are put together as their
+-- facts are.
 --   Tells b Yes No                           specs/Tells: b is true exactly where Yes holds, false where No does
 --   tells-true, tells-false, tells-not       back from a fact to the test; the test turned round
 --   tells-and, tells-or, tells-all, -some    two tests, and one for each number below k
@@ -187,20 +188,23 @@ module _ (n : ℕ) (z : ℤ) where
     where
       go : (b : Bool) → leZ z (pos n) ≡ b → leZ z (pos n) ≡ within n z
       go true q = q ∙ sym (tells-true (tells-within n z) (within-of h (leZ-true q)))
-      go false q = q ∙ sym (tells-false (tells-within n z) (λ w. clashℤ (leZ-false {a = z} {b = pos n} q) (within-hi w)))
+      go false q =
+          q ∙ sym (tells-false (tells-within n z) (λ w. clashℤ (leZ-false {a = z} {b = pos n} q) (within-hi w)))
 
 -- outside -k and k is not within k
 pub outside-within : (k : ℕ) (z : ℤ) → (ltZ z (negℤ (pos k)) || ltZ (pos k) z) ≡ not (within k z)
 outside-within k z = go (within k z) refl
   where
-    test : Tells (ltZ z (negℤ (pos k)) || ltZ (pos k) z) ((z <ℤ negℤ (pos k)) ⊎ (pos k <ℤ z)) ((negℤ (pos k) ≤ℤ z) × (z ≤ℤ pos k))
+    test : Tells (ltZ z (negℤ (pos k)) || ltZ (pos k) z) ((z <ℤ negℤ (pos k)) ⊎ (pos k <ℤ z))
+        ((negℤ (pos k) ≤ℤ z) × (z ≤ℤ pos k))
     test = tells-or (tells-ltZ z (negℤ (pos k))) (tells-ltZ (pos k) z)
 
     go : (b : Bool) → within k z ≡ b → (ltZ z (negℤ (pos k)) || ltZ (pos k) z) ≡ not b
     go true e = let h = tells-within k z .if-true e in tells-false test (within-lo h, within-hi h)
     go false e = not-false _ (by-no (ltZ z (negℤ (pos k)) || ltZ (pos k) z) refl)
       where
-        by-no : (c : Bool) → (ltZ z (negℤ (pos k)) || ltZ (pos k) z) ≡ c → not (ltZ z (negℤ (pos k)) || ltZ (pos k) z) ≡ false
+        by-no : (c : Bool) → (ltZ z (negℤ (pos k)) || ltZ (pos k) z) ≡ c →
+            not (ltZ z (negℤ (pos k)) || ltZ (pos k) z) ≡ false
         by-no true q = rw q refl
         by-no false q = let h = test .if-false q in absurd (tells-within k z .if-false e (within-of (h .0) (h .1)))
 
@@ -210,4 +214,6 @@ bits-eq w {a} {b} f g = go (eqZ a b) refl
   where
     go : (t : Bool) → eqZ a b ≡ t → eqb (ofZ w a) (ofZ w b) ≡ t
     go true e = tells-true (tells-eq (ofZ w a) (ofZ w b)) (ap (ofZ w) (tells-eqZ a b .if-true e))
-    go false e = tells-false (tells-eq (ofZ w a) (ofZ w b)) (λ q. tells-eqZ a b .if-false e (sym (toZ-ofZ f) ∙ ap (toZ w) q ∙ toZ-ofZ g))
+    go false e =
+        tells-false (tells-eq (ofZ w a) (ofZ w b))
+        (λ q. tells-eqZ a b .if-false e (sym (toZ-ofZ f) ∙ ap (toZ w) q ∙ toZ-ofZ g))

@@ -5,7 +5,7 @@ use Prim.Native.Nat.{ℕ, _<_}
 use native.Mathlib.Omega.{arith}
 use lib.ListN.{getD}
 use lib.Signed.{_≤ℤ_, _<ℤ_}
-use lib.IntN.{ℤ, pos, _+ℤ_, _-ℤ_, _*ℤ_}
+use lib.IntN.{ℤ, pos, _+ℤ_, _*ℤ_}
 use Rattle.whole.specs.Sums.{sum}
 use Rattle.whole.specs.Divisors.{gcd, gcdTurns}
 use Rattle.whole.proofs.Ring.Reify.{reify}

@@ -1,6 +1,7 @@
 -- Searches and tests over the numbers below k, each in rising order.
--- `lowest k f`: the answer of f at the lowest number below k that has one. `someBelow`, `allBelow`: a test passes at one, at each.
--- `foldBelow k g a`: g 0, g 1, .. applied one after the other, a first. Below 0 there is nothing: none, false, true, a.
+-- `lowest k f`: the answer of f at the lowest number below k that has one. `someBelow`, `allBelow`: a test passes at
+-- one, at each. `foldBelow k g a`: g 0, g 1, .. applied one after the other, a first. Below 0 there is nothing: none,
+-- false, true, a.
 use mathlib.Core.Bool.{Bool, true, false}
 use mathlib.Core.Option.{Option, none, some}
 use Prim.Native.Nat.{ℕ, zero, suc}

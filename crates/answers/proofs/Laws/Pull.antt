@@ -5,7 +5,7 @@ use mathlib.Core.List.{List}
 use Prim.Native.Nat.{ℕ}
 use native.Mathlib.Omega.{arith}
 use lib.Dec.{eqb}
-use lib.IntN.{ℤ, pos}
+use lib.IntN.{ℤ}
 use Rattle.whole.specs.Numbers.{Within}
 use Rattle.whole.proofs.Numbers.Sizes.{within-neg}
 use Rattle.rules.specs.Sizes.{largestNumber}

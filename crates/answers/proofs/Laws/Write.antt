@@ -2,14 +2,14 @@
 --   copied-start, copied-more, copied-length    an array copied to a place, word by word
 --   written-all                                 the three first words and the two halves
 use mathlib.Core.List.{List, [], _∷_, _++_, append-assoc}
-use mathlib.Core.Path.{_≡_, ap, ap₂, refl, sym, _∙_}
+use mathlib.Core.Path.{_≡_, ap, ap₂, sym, _∙_}
 use Prim.Native.Nat.{ℕ, suc, _+_, _*_, _<_, _≤_}
 use native.Mathlib.Numerals.{add-one}
 use native.Mathlib.Omega.{arith}
 use lib.IntN.{ℤ, pos}
 use lib.ListN.{drop, getD, length, length-append, length-drop, length-take, set, take, take-append-drop}
 use lib.Seq.{drop-append-add, drop-cons, drop-drop, set-at, take-append-seam}
-use Rattle.whole.specs.Tables.{table, tableFrom}
+use Rattle.whole.specs.Tables.{tableFrom}
 use Rattle.whole.proofs.Lists.Tables.{table-last, table-length}
 use Rattle.answers.specs.declared.Verdict.{Verdict}
 use Rattle.answers.specs.Answer.{copiedAt, firstOf, numberOf, wordsAt}
@@ -25,11 +25,13 @@ module _ (l : List ℤ) (at : ℕ) (x : List ℤ) where
   unfolding copiedAt
   copied-length N h = simp (length-append, length-take, length-drop, table-length) (omega arith)
 
-  pub copied-more : (N : ℕ) → at + N < length l → set (copiedAt l at N x) (at + N) (getD x N (pos 0)) ≡ copiedAt l at (N + 1) x
+  pub copied-more : (N : ℕ) → at + N < length l →
+      set (copiedAt l at N x) (at + N) (getD x N (pos 0)) ≡ copiedAt l at (N + 1) x
   unfolding copiedAt
   copied-more N h =
       let ys = drop (suc (at + N)) l in let y = getD l (at + N) (pos 0) in let a = getD x N (pos 0) in
-      let many : length (take at l ++ firstOf N x) ≡ at + N = simp (length-append, length-take, table-length) (omega arith) in
+      let many : length (take at l ++ firstOf N x) ≡ at + N =
+      simp (length-append, length-take, table-length) (omega arith) in
       let past : suc (at + N) ≡ at + suc N = omega arith in
       ap (λ r. set (take at l ++ (firstOf N x ++ r)) (at + N) a) (drop-cons l (at + N) (pos 0) h)
       ∙ ap (λ r. set r (at + N) a) (sym (append-assoc (take at l) (firstOf N x) (y ∷ ys)))
@@ -43,7 +45,8 @@ module _ (l : List ℤ) (at : ℕ) (x : List ℤ) where
 
 module _ (N : ℕ) (x y : List ℤ) (a b c : ℤ) where
   -- of a list that begins with three words
-  both : (r : List ℤ) → copiedAt (copiedAt (a ∷ b ∷ c ∷ r) 3 N x) (3 + N) N y ≡ a ∷ b ∷ c ∷ ((firstOf N x ++ firstOf N y) ++ drop (2 * N) r)
+  both : (r : List ℤ) → copiedAt (copiedAt (a ∷ b ∷ c ∷ r) 3 N x) (3 + N) N y
+      ≡ a ∷ b ∷ c ∷ ((firstOf N x ++ firstOf N y) ++ drop (2 * N) r)
   unfolding copiedAt
   both r =
       ap (λ k. take (3 + N) (front k) ++ (firstOf N y ++ drop (3 + N + N) (front k))) three
@@ -66,7 +69,8 @@ module _ (N : ℕ) (x y : List ℤ) (a b c : ℤ) where
 
       rest : drop (N + N) (firstOf N x ++ drop N r) ≡ drop (2 * N) r
       rest = ap (λ k. drop (k + N) (firstOf N x ++ drop N r)) (sym (table-length N (λ v. getD x v (pos 0))))
-          ∙ drop-append-add (firstOf N x) (drop N r) N ∙ drop-drop N N r ∙ ap (λ k. drop k r) (let z : N + N ≡ 2 * N = omega arith in z)
+          ∙ drop-append-add (firstOf N x) (drop N r) N ∙ drop-drop N N r
+          ∙ ap (λ k. drop k r) (let z : N + N ≡ 2 * N = omega arith in z)
 
 pub written-all : (v : Verdict) (k : ℕ) (d : ℤ) (N : ℕ) (x y before : List ℤ) → 3 + 2 * N ≤ length before →
     copiedAt (copiedAt (set (set (set before 0 (numberOf v)) 1 (pos k)) 2 d) 3 N x) (3 + N) N y

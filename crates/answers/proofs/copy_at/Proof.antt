@@ -1,9 +1,9 @@
 -- `answers::copy_at` meets its contract. The loop's invariant: the words passed stand in the output, which is else as
 -- it was. The measure is the words that are left. Assumes nothing.
-use mathlib.Core.Path.{_≡_, ap, ap₂, sym, _∙_}
-use Prim.Native.Nat.{ℕ, _+_, _-_, _<_, _≤_}
+use mathlib.Core.Path.{_≡_, ap, ap₂, _∙_}
+use Prim.Native.Nat.{_+_, _-_, _<_, _≤_}
 use native.Mathlib.Omega.{arith}
-use borrow.Author.Needs.{needs, sfits-of}
+use borrow.Author.Needs.{sfits-of}
 use lib.IntN.{pos}
 use lib.ListN.{getD, length, set}
 use mir.Facts.{toZ-ofZ}
@@ -49,7 +49,8 @@ add-v c = omega arith
 loop-less : tie.Need-loop-less Inv-loop μ-loop
 loop-less c = omega arith
 
-fit : (c : tie.After-x Inv-loop μ-loop) → SFits w64 (getD (c .before .before .before .args .from .now) (c .before .before .loop .v) (pos 0))
+fit : (c : tie.After-x Inv-loop μ-loop) →
+    SFits w64 (getD (c .before .before .before .args .from .now) (c .before .before .loop .v) (pos 0))
 fit c = sfits-of (c .x .given)
 
 loop-again : tie.Need-loop-again Inv-loop μ-loop

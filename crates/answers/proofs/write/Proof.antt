@@ -71,7 +71,8 @@ module _ (c : tie.After-copy-at) where
 
   half-long : length (c .copy-at .last .0) ≡ length (start .args .out .now)
   half-long = ap length half-is
-      ∙ copied-length three 3 (start .args .lower .now) (start .args .variables) (let z = three-long in omega arith) ∙ three-long
+      ∙ copied-length three 3 (start .args .lower .now) (start .args .variables)
+      (let z = three-long in omega arith) ∙ three-long
 
 add-copy-at : tie.Need-add-copy-at
 add-copy-at c = search needs
@@ -92,7 +93,8 @@ module _ (c : tie.After-copy-at2) where
 
   whole-long : length (c .copy-at2 .last .0) ≡ length (start half .args .out .now)
   whole-long = ap length (c .copy-at2 .ensures)
-      ∙ copied-length (half .copy-at .last .0) (3 + start half .args .variables) (start half .args .upper .now) (start half .args .variables)
+      ∙ copied-length (half .copy-at .last .0) (3 + start half .args .variables)
+      (start half .args .upper .now) (start half .args .variables)
       (let z = half-long half in omega arith) ∙ half-long half
 
 same-length : tie.Need-same-length

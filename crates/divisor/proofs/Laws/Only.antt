@@ -15,5 +15,6 @@ common-of-only κs x a b e h k = h ∙ sym k
 pub divisor-of-only : (κs : _) (x : _) (a b : _) (e : _) → divisor-of.Post κs x a e → divisor-of.Post κs x b e → a ≡ b
 divisor-of-only κs x a b e h k = h ∙ sym k
 
-pub divide-only : (κs : _) (x : _) (a b : _) (e f : _) → divide.Post κs x a e → divide.Post κs x b f → e .0 .now ≡ f .0 .now
+pub divide-only : (κs : _) (x : _) (a b : _) (e f : _) → divide.Post κs x a e →
+    divide.Post κs x b f → e .0 .now ≡ f .0 .now
 divide-only κs x a b e f h k = h ∙ sym k

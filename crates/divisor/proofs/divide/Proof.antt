@@ -59,7 +59,8 @@ module _ (c : tie.After-e Inv-loop μ-loop) where
   fit-quotient : SFits w64 (quotZ (getD cells place (pos 0)) (start .args .by))
   fit-quotient = rw number-is (fits-size (within-quot (start .args .by) (start .pre .1 .1 .each place)))
 
-  quotient-is : quotZ (getD cells place (pos 0)) (start .args .by) ≡ quotients (start .args .cells .now) (start .args .by) place
+  quotient-is : quotZ (getD cells place (pos 0)) (start .args .by)
+      ≡ quotients (start .args .cells .now) (start .args .by) place
   quotient-is = ap (λ z. quotZ z (start .args .by)) number-is
 
 div-cells : tie.Need-div-cells Inv-loop μ-loop

@@ -10,7 +10,6 @@ use mir.Syntax.{w32}
 use mir.Val.{SFits}
 use Rattle.whole.proofs.Numbers.Division.{size-quot}
 use Rattle.whole.proofs.Numbers.Sizes.{divisor-bits, quot-fits}
-use Rattle.rules.specs.Limit.{bit}
 use Rattle.judge.proofs.Laws.Judged.{parity}
 use Rattle.judge.proofs.has_bit.Statement.{statement}
 use Rattle.judge.proofs.has_bit.Tie as tie
@@ -22,7 +21,8 @@ share-fits : (c : tie.Start) → SFits w32 (share c)
 share-fits c = quot-fits (c .args .kind) (c .args .power) (c .pre) (c .fits .kind)
 
 div-result : tie.Need-div-result
-div-result c = simp (toZ-ofZ (c .fits .kind), toZ-ofZ (c .fits .power)) (divisor-bits w32 (c .args .power) (c .pre), share-fits c)
+div-result c = simp (toZ-ofZ (c .fits .kind), toZ-ofZ (c .fits .power))
+    (divisor-bits w32 (c .args .power) (c .pre), share-fits c)
 
 rem-result : tie.Need-rem-result
 rem-result c =

@@ -41,7 +41,8 @@ returns-2 c =
     ∙ ap (λ b. badLimitWord b (s .args .lower))
     (simp (toZ-ofZ (s .fits .kind)) at (c .before .before .before .before .has-lower .ensures)))
     ((simp (toZ-ofZ (s .fits .upper)) at (c .before .is-bad-limit2 .ensures))
-    ∙ ap (λ b. badLimitWord b (s .args .upper)) (simp (toZ-ofZ (s .fits .kind)) at (c .before .before .has-upper .ensures)))
+    ∙ ap (λ b. badLimitWord b (s .args .upper))
+    (simp (toZ-ofZ (s .fits .kind)) at (c .before .before .has-upper .ensures)))
     ∙ sym (ap (λ b. badBy b (s .args .kind) (s .args .lower) (s .args .upper)) (o .if1 .left))
 
 pub is-bad-variable-spec : {M : Type 1} → statement M

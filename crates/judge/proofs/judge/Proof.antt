@@ -173,7 +173,8 @@ returns-4 c =
     c .word-refusal .ensures
     ∙ ap₂ (λ a b. by-words a b (limit .some-bad-variable2 .result) (blank .some-blank-row .result))
     (coefficient .some-bad-coefficient .ensures) (kind .some-bad-variable .ensures)
-    ∙ ap₂ (by-words (badCoefficient ws) (badKind ws)) (limit .some-bad-variable2 .ensures) (blank .some-blank-row .ensures)
+    ∙ ap₂ (by-words (badCoefficient ws) (badKind ws)) (limit .some-bad-variable2 .ensures)
+    (blank .some-blank-row .ensures)
     ∙ sym (skip-3 (coefficient .before))
 
 pub judge-spec : {M : Type 1} → statement M

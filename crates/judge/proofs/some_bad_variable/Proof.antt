@@ -131,7 +131,8 @@ some-is false ws = refl
 returns : tie.Need-returns Inv-loop μ-loop
 returns c = let s = c .before .before in
     let e : c .before .loop .v ≡ s .args .columns + s .args .rows = omega arith in
-    c .before .loop .inv .1 ∙ ap (λ k. someBelow k (bad-at (s .args .kinds) (s .args .words .now))) (e ∙ vars-are (s .pre))
+    c .before .loop .inv .1 ∙ ap (λ k. someBelow k (bad-at (s .args .kinds) (s .args .words .now)))
+    (e ∙ vars-are (s .pre))
     ∙ some-is (s .args .kinds) (s .args .words .now)
 
 pub some-bad-variable-spec : {M : Type 1} → statement M

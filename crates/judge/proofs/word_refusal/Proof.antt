@@ -30,7 +30,9 @@ returns-4 : tie.Need-returns-4
 returns-4 c = sym (past (c .before .before) _ ∙ first-skip 6 _ (c .before .if3 .left) ∙ first-hit 10 _ (c .if4 .taken))
 
 returns-5 : tie.Need-returns-5
-returns-5 c = sym (past (c .before .before) _ ∙ first-skip 6 _ (c .before .if3 .left) ∙ first-skip 10 _ (c .if4 .left) ∙ none-applies)
+returns-5 c =
+    sym (past (c .before .before) _ ∙ first-skip 6 _ (c .before .if3 .left)
+    ∙ first-skip 10 _ (c .if4 .left) ∙ none-applies)
 
 pub word-refusal-spec : {M : Type 1} → statement M
 word-refusal-spec = tie.close (tie.spec returns returns-2 returns-3 returns-4 returns-5)

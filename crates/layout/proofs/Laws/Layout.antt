@@ -19,7 +19,8 @@ use lib.Arith.{digits-lt}
 use Rattle.rules.specs.Sizes.{mostColumns, mostRows}
 use Rattle.layout.specs.Layout.{Order, byRows, byColumns, inUse, mostEntries, flatLaid, rowLaid, columnLaid}
 use Rattle.layout.specs.Layout.{linesLaid, stepsLaid, flat, rowAt, columnAt, lines, steps, lineAt, live}
-use Rattle.layout.specs.Layout.{rowPlace, columnPlace, spotAt, along, rowStripLaid, columnStripLaid, rowStrip, columnStrip}
+use Rattle.layout.specs.Layout.{rowPlace, columnPlace, spotAt, along, rowStripLaid, columnStripLaid, rowStrip}
+use Rattle.layout.specs.Layout.{columnStrip}
 
 -- ---- a number by its quotient and its remainder
 
@@ -142,12 +143,12 @@ line-next m n line = omega (arith, suc-mul line (steps m n))
 
 -- ---- strips, in either order
 
-pub row-strip-laid : (o : Order) (m n i j : ℕ) → along (rowStripLaid o m n i) j ≡ flatLaid o m n i j
+row-strip-laid : (o : Order) (m n i j : ℕ) → along (rowStripLaid o m n i) j ≡ flatLaid o m n i j
 unfolding rowStripLaid flatLaid
 row-strip-laid byRows m n i j = omega arith
 row-strip-laid byColumns m n i j = omega arith
 
-pub column-strip-laid : (o : Order) (m n i j : ℕ) → along (columnStripLaid o m n j) i ≡ flatLaid o m n i j
+column-strip-laid : (o : Order) (m n i j : ℕ) → along (columnStripLaid o m n j) i ≡ flatLaid o m n i j
 unfolding columnStripLaid flatLaid
 column-strip-laid byRows m n i j = omega arith
 column-strip-laid byColumns m n i j = omega arith

@@ -1,7 +1,6 @@
 -- Two results that a promise of this crate's public functions allows are equal: NAME-only for each.
 -- The contracts themselves are compared: κs are lifetimes, x the arguments, e what lent words hold at the exit.
 use mathlib.Core.Path.{_≡_, sym, _∙_, ap, ap₂}
-use lib.IntN.{ℤ}
 use Rattle.lengths.specs.declared.Length.{Length}
 use Rattle.lengths.specs.declared.answer.Halves.{Halves}
 use Rattle.lengths.proofs.Length.of.Reads as of

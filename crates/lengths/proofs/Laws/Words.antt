@@ -16,7 +16,8 @@ use Rattle.rules.specs.Times.Answer.{cycleWords}
 drop-replicate : {A : Type 0} (k n : ℕ) (a : A) → drop k (replicate n a) ≡ replicate (n - k) a
 drop-replicate zero n a = ap (λ m. replicate m a) (let z : n ≡ n - 0 = omega arith in z)
 drop-replicate (suc k) zero a = ap (λ m. replicate m a) (let z : 0 ≡ 0 - suc k = omega arith in z)
-drop-replicate (suc k) (suc n) a = drop-replicate k n a ∙ ap (λ m. replicate m a) (let z : n - k ≡ suc n - suc k = omega arith in z)
+drop-replicate (suc k) (suc n) a = drop-replicate k n a
+    ∙ ap (λ m. replicate m a) (let z : n - k ≡ suc n - suc k = omega arith in z)
 
 pub take-replicate : {A : Type 0} (k n : ℕ) (a : A) → k ≤ n → take k (replicate n a) ≡ replicate k a
 take-replicate zero n a h = refl
@@ -34,20 +35,24 @@ module _ (rows : List ℕ) where
       ∙ set-prefix (map pos rows) (replicate mostVertices (pos 0)) k (pos 0)
       (omega (arith, length-map rows pos)) (omega (arith, length-map rows pos, length-replicate mostVertices (pos 0)))
 
-  pub words-all : (k : ℕ) → k ≡ length rows → take k (map pos rows) ++ drop k (replicate mostVertices (pos 0)) ≡ cycleWords mostVertices rows
+  pub words-all : (k : ℕ) → k ≡ length rows →
+      take k (map pos rows) ++ drop k (replicate mostVertices (pos 0)) ≡ cycleWords mostVertices rows
   unfolding cycleWords
   words-all k e =
       prefix-all (map pos rows) (replicate mostVertices (pos 0)) k (e ∙ sym (length-map rows pos))
       ∙ ap (λ l. map pos rows ++ l)
-      (drop-replicate (length (map pos rows)) mostVertices (pos 0) ∙ ap (λ m. replicate (mostVertices - m) (pos 0)) (length-map rows pos))
+      (drop-replicate (length (map pos rows)) mostVertices (pos 0)
+      ∙ ap (λ m. replicate (mostVertices - m) (pos 0)) (length-map rows pos))
 
-  pub words-take : (n : ℕ) → length rows ≤ n → n ≤ mostVertices → take n (cycleWords mostVertices rows) ≡ cycleWords n rows
+  pub words-take : (n : ℕ) → length rows ≤ n → n ≤ mostVertices →
+      take n (cycleWords mostVertices rows) ≡ cycleWords n rows
   unfolding cycleWords
   words-take n h l =
       let e : length (map pos rows) + (n - length rows) ≡ n = omega (arith, length-map rows pos) in
       ap (λ m. take m (map pos rows ++ replicate (mostVertices - length rows) (pos 0))) (sym e)
       ∙ take-append-add (map pos rows) (replicate (mostVertices - length rows) (pos 0)) (n - length rows)
-      ∙ ap (λ l. map pos rows ++ l) (take-replicate (n - length rows) (mostVertices - length rows) (pos 0) (omega arith))
+      ∙ ap (λ l. map pos rows ++ l) (take-replicate (n - length rows)
+      (mostVertices - length rows) (pos 0) (omega arith))
 
 -- the first 2n words of a cycle are its rows and zeros up to n, and n zeros more
 pub words-twice : (rows : List ℕ) (n : ℕ) → length rows ≤ n →

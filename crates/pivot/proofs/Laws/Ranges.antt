@@ -75,13 +75,13 @@ module _ (l : List ℤ) where
   beyond-most zero = omega arith
   beyond-most (suc k) = omega (arith, beyond-most k, beyond-one (getD l k (pos 0)))
 
-  pub beyond-none : (k : ℕ) → beyondBelow k l ≡ 0 → allBelow k (fine l) ≡ true
+  beyond-none : (k : ℕ) → beyondBelow k l ≡ 0 → allBelow k (fine l) ≡ true
   unfolding beyondBelow foldBelow
   beyond-none zero e = all-start (fine l)
   beyond-none (suc k) e = subst (λ (n : ℕ). allBelow n (fine l) ≡ true) (add-one k)
       (all-more k (fine l) (beyond-none k (omega arith)) (one-none (fine l k) (omega arith)))
 
-  pub beyond-all : (k : ℕ) → ((i : ℕ) → i < k → fine l i ≡ true) → beyondBelow k l ≡ 0
+  beyond-all : (k : ℕ) → ((i : ℕ) → i < k → fine l i ≡ true) → beyondBelow k l ≡ 0
   unfolding beyondBelow foldBelow
   beyond-all zero h = refl
   beyond-all (suc k) h = rw (h k (omega arith), beyond-all k (λ i b. h i (omega arith))) refl

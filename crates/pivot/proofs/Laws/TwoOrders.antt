@@ -32,7 +32,7 @@ cell-filled o m n f i j h k =
     (flat-laid-live o m n i j h k)
     ∙ ap₂ f (row-laid o m n i j h k) (column-laid o m n i j h k)
 
-pub same-back : {o u : Order} {m n : ℕ} {l r : List ℤ} → SameCells o u m n l r → SameCells u o m n r l
+same-back : {o u : Order} {m n : ℕ} {l r : List ℤ} → SameCells o u m n l r → SameCells u o m n r l
 same-back S = record { same-cell = λ i j h k. sym (S .same-cell i j h k) }
 
 module _ {o u : Order} {m n : ℕ} {l r : List ℤ} (S : SameCells o u m n l r) where
@@ -55,10 +55,10 @@ module _ {o u : Order} {m n : ℕ} {l r : List ℤ} (S : SameCells o u m n l r) 
   in-range-other e = all-of (live m n) _ (each-live (λ z. inRange z ≡ true) (all-each (live m n) _ e))
 
 module _ {o u : Order} {m n : ℕ} {l r : List ℤ} (S : SameCells o u m n l r) (d : ℤ) where
-  pub divisor-same : divisorBelow (live m n) l d ≡ divisorBelow (live m n) r d
+  divisor-same : divisorBelow (live m n) l d ≡ divisorBelow (live m n) r d
   divisor-same = dvd-antisymm (divisor-divides-other S d) (divisor-divides-other (same-back S) d)
 
-  pub small-same : smallBelow (live m n) l d ≡ smallBelow (live m n) r d
+  small-same : smallBelow (live m n) l d ≡ smallBelow (live m n) r d
   unfolding smallBelow
   small-same = ap (λ b. inRange d && b) (same-tests _ _ (in-range-other S) (in-range-other (same-back S)))
 

@@ -1,9 +1,8 @@
 -- `ramp::main` is safe and ends: what `respond` says it wrote is in the slice, and the slice is never too short.
 -- Assumes nothing but the kit's contracts of read and write.
 use borrow.Author.Needs.{needs}
-use Prim.Native.Nat.{_≤_}
 use native.Mathlib.Omega.{arith}
-use lib.ListN.{length, length-take}
+use lib.ListN.{length-take}
 use Rattle.lines.proofs.Texts.{bytes-fit, short-clash}
 use Rattle.ramp.proofs.main.Statement.{statement}
 use Rattle.ramp.proofs.main.Tie as tie
@@ -30,7 +29,8 @@ enum-known-written : tie.Need-enum-known-written
 enum-known-written c = search needs
 
 array-share-prefix-out : tie.Need-array-share-prefix-out
-array-share-prefix-out c = let r = c .before .before .before .before in bytes-fit (r .respond .ensures) (c .before .written .given .1)
+array-share-prefix-out c = let r = c .before .before .before .before in
+    bytes-fit (r .respond .ensures) (c .before .written .given .1)
 
 slice-aggregate-write-all : tie.Need-slice-aggregate-write-all
 slice-aggregate-write-all c = let r = c .before .before .before .before .before in

@@ -1,7 +1,8 @@
--- Out of range, exactly: there are a leaving and an entering variable, and the lowest-form tableau of the next basic set, which is one, holds a
--- number beyond the largest.
+-- Out of range, exactly: there are a leaving and an entering variable, and the lowest-form tableau of the next basic
+-- set, which is one, holds a number beyond the largest.
 --   range-exactly    a step is out of range exactly then: `TooLarge` of specs/Facts/Range
---   range-verdict    the verdict is 3 exactly where no limits cross and, for some k, the run has k pivots and the state after them is so
+--   range-verdict    the verdict is 3 exactly where no limits cross and, for some k, the run has k pivots and the state
+--                    after them is so
 --   range-words      the same of the answer to any words
 use mathlib.Core.Bool.{false}
 use mathlib.Core.List.{List}
@@ -43,7 +44,7 @@ module _ {X : Type 0} (𝓥 : Values X) (P : Problem X) where
   beyond-same t u e (inl n) = inl (subst (λ z. ¬ Within z largestNumber) (e .0) n)
   beyond-same t u e (inr (v, h, (w, k, n))) = inr (v, h, (w, k, subst (λ z. ¬ Within z largestNumber) (e .1 v w h k) n))
 
-  pub range-exactly : (s : State X) → Rowed 𝓥 P s → (step 𝓥 P s ≡ range) ↔ TooLarge 𝓥 P s
+  range-exactly : (s : State X) → Rowed 𝓥 P s → (step 𝓥 P s ≡ range) ↔ TooLarge 𝓥 P s
   range-exactly s S = (
     λ e. there (step-range 𝓥 P s .0 e),
     λ T. step-range 𝓥 P s .1 (

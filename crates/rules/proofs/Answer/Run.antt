@@ -1,5 +1,6 @@
--- The answer is the run: from a state that is ready, where no limits cross, it ends once, after fewer pivots than the bound, and the
--- words are those of the state that it ends at; where some cross, the lowest such variable is the evidence, with no pivot.
+-- The answer is the run: from a state that is ready, where no limits cross, it ends once, after fewer pivots than the
+-- bound, and the words are those of the state that it ends at; where some cross, the lowest such variable is the
+-- evidence, with no pivot.
 --   crosses-exactly                           the lowest variable whose lower limit exceeds its upper
 --   spending-run, spending-crossed            what a run with pivots to spend comes to, of any values
 --   ending-run, ending-crossed                .. and a check
@@ -13,7 +14,7 @@ use mathlib.Core.Path.{ap, refl, _∙_, _≡_}
 use Prim.Native.Nat.{ℕ, _<_}
 use native.Mathlib.Omega.{arith}
 use lib.IntN.{pos, ℤ}
-use Rattle.whole.proofs.Lists.Below.{lowest-passes, none-passes}
+use Rattle.whole.proofs.Lists.Below.{lowest-passes}
 use Rattle.whole.proofs.Bools.{true-false}
 use Rattle.whole.proofs.Values.Beside.{pairs-laws}
 use Rattle.whole.specs.Tells.{Tells}

@@ -1,4 +1,5 @@
--- The shape of an answer: 3 + 2N words, a verdict 1, 2 or 3, never 0; word 2 and the zeros as docs/RULES.md says for each.
+-- The shape of an answer: 3 + 2N words, a verdict 1, 2 or 3, never 0; word 2 and the zeros as docs/RULES.md says for
+-- each.
 --   shaped          `Shaped` of specs/Facts/Answer, of the answer from any state that is ready
 --   answer-shaped   of the answer to any words
 --   never-zero      no verdict is 0

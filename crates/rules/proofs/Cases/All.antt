@@ -34,7 +34,8 @@ unfolding cases limitCases evidenceCases timeCases comesOut wanted
     leaving broken under over entering suits mayRise mayFall pull moved limitAt admit evidence scaled seated shortfallBy
     start startEntry startSeat startValue pivot solved reduced relation divisor divisorSize small
     problem present bit mapped badKindWord
-    refusal first problemTests tooFew badSize badLength badCoefficient badKind badLimit blankRow someBlank badLimitWord tooShort
+    refusal first problemTests tooFew badSize badLength badCoefficient badKind
+    badLimit blankRow someBlank badLimitWord tooShort
     checked accepted showsCan showsCannot atLeast atMost fair column surplus plainOf strictNamed someStrict contradicts
     timeRefusal timeTests badTimeSize badWordCount badEnd badStrict badRowLength noRoom
     timesAnswer timesOf cycleWords canMeet distances passes look settled isBadCycle

@@ -15,7 +15,8 @@ use Rattle.rules.specs.Problem.{mapped, problem}
 use Rattle.rules.specs.Refusal.{badCoefficient, badKind, badLength, badLimit, badSize, blankRow, first}
 use Rattle.rules.specs.Refusal.{problemTests, someBlank, tooFew, tooShort}
 use Rattle.rules.specs.Run.{bound, choose, conflict, crossed, ending, run, spending}
-use Rattle.rules.specs.Session.{checkAnswer, flagged, inside, insideSeat, opened, rested, allInside, switchRefusal}
+use Rattle.rules.specs.Session.{checkAnswer, flagged, inside, insideSeat, opened, rested, allInside}
+use Rattle.rules.specs.Session.{switchRefusal}
 use Rattle.rules.specs.Session.{switchTests, switched}
 use Rattle.rules.specs.Cases.Sessions.{SessionsRight, repliesTo, sessionCases}
 use Rattle.rules.specs.Step.{admit, broken, entering, evidence, leaving, limitAt, mayFall, mayRise, moved, over}
@@ -24,7 +25,8 @@ use Rattle.rules.specs.Step.{suits, under}
 use Rattle.rules.specs.Tableau.{divisor, divisorSize, pivot, reduced, relation, small, solved}
 
 pub sessions-right : SessionsRight sessionCases
-unfolding sessionCases repliesTo opened switched switchRefusal switchTests flagged allInside insideSeat inside kept rested
+unfolding sessionCases repliesTo opened switched switchRefusal switchTests
+    flagged allInside insideSeat inside kept rested
     checkAnswer answerFrom wordsOf ending spending conflict crossed run bound choose step
     leaving broken under over entering suits mayRise mayFall pull moved limitAt admit evidence scaled seated shortfallBy
     start startEntry startSeat startValue pivot solved reduced relation divisor divisorSize small

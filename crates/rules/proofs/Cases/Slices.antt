@@ -11,7 +11,9 @@ use Rattle.rules.specs.Problem.{mapped, problem}
 use Rattle.rules.specs.Run.{conflict, crossed, run, spending}
 use Rattle.rules.specs.Cases.Slices.{SlicesRight, repliesOf, sliceCases}
 use Rattle.rules.specs.Slices.{begun, continued, sliceAnswer, told}
-use Rattle.rules.specs.Step.{admit, broken, entering, evidence, leaving, limitAt, mayFall, mayRise, moved, over, pull, scaled, seated, shortfallBy, start, startEntry, startSeat, startValue, step, suits, under}
+use Rattle.rules.specs.Step.{admit, broken, entering, evidence, leaving, limitAt, mayFall, mayRise, moved, over}
+use Rattle.rules.specs.Step.{pull, scaled, seated, shortfallBy, start, startEntry, startSeat, startValue, step}
+use Rattle.rules.specs.Step.{suits, under}
 use Rattle.rules.specs.Tableau.{divisor, divisorSize, pivot, reduced, relation, small, solved}
 
 pub slices-right : SlicesRight sliceCases

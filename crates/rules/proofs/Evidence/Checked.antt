@@ -1,8 +1,10 @@
--- The checker's number, exactly: 1 to 6 and 10 by the problem, 7 for an answer too short, 8 accepted, 9 not; nothing else.
+-- The checker's number, exactly: 1 to 6 and 10 by the problem, 7 for an answer too short, 8 accepted, 9 not; nothing
+-- else.
 --   checked-exactly                line by line: k where no earlier line of `checkerTable` applies, and k's does
 --   checks, checks-only            `checked` is the number with the facts that it stands for, `Checks`; no other is.
 --                                  The table and `Checks` are in specs/Facts/Evidence
---   checked-by-problem, checked-by-answer       the number from the problem's refusal, and else from the two tests of the answer
+--   checked-by-problem, checked-by-answer       the number from the problem's refusal, and else from the two tests of
+--                                               the answer
 --   checked-accepted               8 exactly when its facts hold
 --   checked-same                   word 1 and the words past 3 + 2N never matter
 --   check-only                     what is allowed to come out is one number
@@ -105,7 +107,7 @@ module _ (ws a : List ℤ) where
     ),
   )
 
-  pub checks : Checks ws a (checked ws a)
+  checks : Checks ws a (checked ws a)
   checks = go (problemRefusal ws) refl
     where
       judged : problemRefusal ws ≡ 0 → (b c : Bool) → tooShort ws (length a) ≡ b → accepted (problem ws) a ≡ c →

@@ -12,7 +12,7 @@ use lib.IntN.{pos, ℤ}
 use Rattle.rules.proofs.Evidence.Checked.{checked-accepted}
 use Rattle.rules.proofs.Evidence.Farkas.{farkas}
 use Rattle.rules.proofs.Evidence.Satisfied.{satisfied}
-use Rattle.rules.specs.Evidence.{Unsatisfied, checked, denominatorOf, lowerPart, upperPart, verdictOf}
+use Rattle.rules.specs.Evidence.{checked, denominatorOf, lowerPart, upperPart, verdictOf}
 use Rattle.rules.specs.Problem.{problem, vars}
 use Rattle.rules.specs.Facts.Evidence.{Meant, MetSmall, Shown, can-be-met, cannot-be-met}
 

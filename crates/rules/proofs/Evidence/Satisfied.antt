@@ -103,7 +103,7 @@ module _ (P : Problem Limit) (d : ℤ) (x y : ℕ → ℤ) (K : ℕ) (d-pos : po
       go false m = subst (λ a. z v ≤ℤ a) (limit-mixed e k d (u .plain))
           (mixed-le e k e-pos (x v, y v) (d *ℤ u .plain, pos 0) (<ℤ→≤ℤ k-pos) (<ℤ→≤ℤ near) m)
 
-  pub satisfied-by : Satisfies P (k *ℤ d) z
+  satisfied-by : Satisfies P (k *ℤ d) z
   satisfied-by = record {
     positive = *ℤ-pos-pos k-pos d-pos;
     rows = λ i h. ap₂ (λ a b. k *ℤ a +ℤ e *ℤ b) (rows i h) (small-rows i h)
@@ -221,7 +221,7 @@ high-pair d x (some u) h = go (u .strict) h
       second = λ e. le→false {a = pos 0} {b = d *ℤ pos 0} (rw (*ℤ-zero d) (≤ℤ-refl (pos 0)));
     })
 
-pub pairs-of : (P : Problem Limit) (d : ℤ) (x : ℕ → ℤ) → Satisfies P d x → Meets pairs (inner P) d (λ v. (x v, pos 0))
+pairs-of : (P : Problem Limit) (d : ℤ) (x : ℕ → ℤ) → Satisfies P d x → Meets pairs (inner P) d (λ v. (x v, pos 0))
 pairs-of P d x F = record {
   positive = F .positive;
   rows = λ i h. ap₂ (λ a b. (a, b)) (F .rows i h)

@@ -2,7 +2,8 @@
 -- rows and limits, a strict one strictly, whole numbers over one denominator do. So `Unsatisfied` says that there are
 -- no fractions at all.
 --   one-denominator            whole numbers over one denominator, with the values of the fractions
---   unsatisfied-fractions      where none of those meet a problem, no fractions do (`FractionsMeet`, specs/Facts/Fractions)
+--   unsatisfied-fractions      where none of those meet a problem, no fractions do (`FractionsMeet`,
+--                              specs/Facts/Fractions)
 use mathlib.Core.Bool.{Bool, cond, false, not, true}
 use mathlib.Core.List.{[], _∷_}
 use mathlib.Core.Option.{Option, none, some}
@@ -25,7 +26,7 @@ use Rattle.rules.specs.Limit.{Limit}
 use Rattle.rules.specs.Problem.{Problem, vars}
 
 -- whole numbers over one denominator that meet the problem, with the same values
-pub record OneDenominator (P : Problem Limit) (x : ℕ → Fraction) : Type 0 where
+record OneDenominator (P : Problem Limit) (x : ℕ → Fraction) : Type 0 where
   pub denominator : ℤ
   pub numerator : ℕ → ℤ
   pub meets : Satisfies P denominator numerator
@@ -173,7 +174,7 @@ module _ (P : Problem Limit) (x : ℕ → Fraction) (M : FractionsMeet P x) wher
       high v h (some u) e = subst (λ c. Clears (u .strict) (y v) (c *ℤ u .plain)) (S .is-common v h)
           (high-over (u .strict) (S .factor v) (u .plain) (x v) (S .factor-pos v h) (M .uppers v h u e))
 
-  pub one-denominator : OneDenominator P x
+  one-denominator : OneDenominator P x
   one-denominator = record { denominator = d; numerator = y; meets = over-one-meets; same-value = same-value }
 
 pub unsatisfied-fractions : (P : Problem Limit) → Unsatisfied P → (x : ℕ → Fraction) → ¬ FractionsMeet P x

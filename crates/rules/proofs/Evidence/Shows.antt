@@ -125,7 +125,7 @@ module _ (P : Problem Limit) (a : List ℤ) where
 
   -- ---- verdict 2
 
-  pub shows-cannot : (showsCannot P a ≡ true) ↔ ShowsCannot P a
+  shows-cannot : (showsCannot P a ≡ true) ↔ ShowsCannot P a
   unfolding showsCannot contradicts someStrict
   shows-cannot =
       let t = tells-and (tells-and (tells-and (tells-eqZ d (pos 0))

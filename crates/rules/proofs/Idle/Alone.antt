@@ -23,7 +23,7 @@ use Rattle.rules.specs.Step.{Side, above, below, startEntry}
 one-not-zero : pos 1 ≢ pos 0
 one-not-zero e = let z : _≡_ {A = ℕ} 1 0 = cc in let y : ⊥ = omega arith in y
 
-pub touched : {X : Type 0} (P : Problem X) → NoBlank P → (v : ℕ) → v < vars P →
+touched : {X : Type 0} (P : Problem X) → NoBlank P → (v : ℕ) → v < vars P →
     (j : ℕ) × (j < P .n) × (startEntry P v j ≢ pos 0)
 touched P B v h = go (decLt v (P .n))
   where

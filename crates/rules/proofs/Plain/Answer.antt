@@ -35,7 +35,7 @@ use Rattle.rules.specs.Sizes.{mostRows}
 use Rattle.rules.specs.Step.{Outcome, State, can, cannot, common, goes, range, scaled, start}
 
 -- a whole number as a pair
-abbrev pub level : ℤ → ℤ × ℤ
+abbrev level : ℤ → ℤ × ℤ
 level z = (z, pos 0)
 
 level-less : (a b : Bool) → lexicographic a b false ≡ a
@@ -43,7 +43,7 @@ level-less true b = refl
 level-less false true = refl
 level-less false false = refl
 
-pub level-keeps : Keeps whole pairs level
+level-keeps : Keeps whole pairs level
 level-keeps = record {
   keeps-nil = refl;
   keeps-plus = λ x y. refl;
@@ -75,11 +75,12 @@ level-words P e = go (e .how)
     go range = refl
     go (goes t) = refl
 
-pub level-answer : (P : Problem ℤ) (s : State ℤ) →
+level-answer : (P : Problem ℤ) (s : State ℤ) →
     answerFrom (problemThrough level P) (stateThrough level s) ≡ plainWords P (ending whole P s)
 unfolding answerFrom
 level-answer P s =
-    ap (wordsOf (problemThrough level P)) (ending-through whole pairs level level-keeps P s) ∙ level-words P (ending whole P s)
+    ap (wordsOf (problemThrough level P)) (ending-through whole pairs level level-keeps P s)
+    ∙ level-words P (ending whole P s)
 
 -- ---- words with no mark
 

@@ -22,7 +22,7 @@ use Rattle.rules.specs.Step.{startValue, step}
 module _ {X Y : Type 0} (𝓧 : Values X) (𝓨 : Values Y) (h : X → Y) (K : Keeps 𝓧 𝓨 h) where
   -- ---- the run
 
-  pub run-through : (f : ℕ) (P : Problem X) (s : State X) (k : ℕ) →
+  run-through : (f : ℕ) (P : Problem X) (s : State X) (k : ℕ) →
       run 𝓨 f (problemThrough h P) (stateThrough h s) k ≡ endingThrough h (run 𝓧 f P s k)
   unfolding run byStep outcomeThrough
   run-through zero P s k =
@@ -34,8 +34,10 @@ module _ {X Y : Type 0} (𝓧 : Values X) (𝓨 : Values Y) (h : X → Y) (K : K
       ∙ ap (endingThrough h) (sym (run-stepped 𝓧 f P s k))
     where
       go : (o : Outcome X) →
-          ((t : State X) → run 𝓨 f (problemThrough h P) (stateThrough h t) (suc k) ≡ endingThrough h (run 𝓧 f P t (suc k))) →
-          byStep 𝓨 f (problemThrough h P) (stateThrough h s) k (outcomeThrough h o) ≡ endingThrough h (byStep 𝓧 f P s k o)
+          ((t : State X) → run 𝓨 f (problemThrough h P) (stateThrough h t) (suc k)
+          ≡ endingThrough h (run 𝓧 f P t (suc k))) →
+          byStep 𝓨 f (problemThrough h P) (stateThrough h s) k (outcomeThrough h o)
+          ≡ endingThrough h (byStep 𝓧 f P s k o)
       go can rest = refl
       go (cannot ls us) rest = refl
       go range rest = refl

@@ -64,15 +64,16 @@ module _ {X Y : Type 0} (𝓧 : Values X) (𝓨 : Values Y) (h : X → Y) (K : K
   broken-through P s v (some x) = refl
   broken-through P s v none = outside-through P s v
 
-  pub leaving-through : (P : Problem X) (s : State X) →
+  leaving-through : (P : Problem X) (s : State X) →
       leaving 𝓨 (problemThrough h P) (stateThrough h s) ≡ mapped (leavingThrough h) (leaving 𝓧 P s)
   unfolding leaving
   leaving-through P s =
       ap (lowest (vars P)) (fun-ext (λ v.
-      ap (broken 𝓨 (problemThrough h P) (stateThrough h s) v) (seat-through 𝓧 𝓨 h K s v) ∙ broken-through P s v (seat s v)))
+      ap (broken 𝓨 (problemThrough h P) (stateThrough h s) v) (seat-through 𝓧 𝓨 h K s v)
+      ∙ broken-through P s v (seat s v)))
       ∙ lowest-mapped (leavingThrough h) (vars P) (λ v. broken 𝓧 P s v (seat s v))
 
-  pub entering-through : (P : Problem X) (s : State X) (r : Leaving X) →
+  entering-through : (P : Problem X) (s : State X) (r : Leaving X) →
       entering 𝓨 (problemThrough h P) (stateThrough h s) (leavingThrough h r) ≡ entering 𝓧 P s r
   unfolding entering
   entering-through P s r = ap (lowest (vars P)) (fun-ext (λ w.
@@ -89,7 +90,7 @@ module _ {X Y : Type 0} (𝓧 : Values X) (𝓨 : Values Y) (h : X → Y) (K : K
   limit-through P v below x = seated-through 𝓧 𝓨 h K (P .lower v)
   limit-through P v above x = seated-through 𝓧 𝓨 h K (P .upper v)
 
-  pub moved-through : (P : Problem X) (s : State X) (r : Leaving X) (w : ℕ) →
+  moved-through : (P : Problem X) (s : State X) (r : Leaving X) (w : ℕ) →
       moved 𝓨 (problemThrough h P) (stateThrough h s) (leavingThrough h r) w ≡ stateThrough h (moved 𝓧 P s r w)
   unfolding moved mapped
   moved-through P s r w = ap (λ l. record { tableau = pivot (vars P) (s .tableau) (r .variable) w; seats = l })
@@ -106,14 +107,16 @@ module _ {X Y : Type 0} (𝓧 : Values X) (𝓨 : Values Y) (h : X → Y) (K : K
       go false e = rw (e, admit) refl
 
   byEntering-through : (P : Problem X) (s : State X) (r : Leaving X) (o : Option ℕ) →
-      byEntering 𝓨 (problemThrough h P) (stateThrough h s) (leavingThrough h r) o ≡ outcomeThrough h (byEntering 𝓧 P s r o)
+      byEntering 𝓨 (problemThrough h P) (stateThrough h s) (leavingThrough h r) o
+      ≡ outcomeThrough h (byEntering 𝓧 P s r o)
   unfolding byEntering evidence outcomeThrough
   byEntering-through P s r none = refl
   byEntering-through P s r (some w) =
       ap (admit (vars P)) (moved-through P s r w) ∙ admit-through (vars P) (moved 𝓧 P s r w)
 
   byLeaving-through : (P : Problem X) (s : State X) (o : Option (Leaving X)) →
-      byLeaving 𝓨 (problemThrough h P) (stateThrough h s) (mapped (leavingThrough h) o) ≡ outcomeThrough h (byLeaving 𝓧 P s o)
+      byLeaving 𝓨 (problemThrough h P) (stateThrough h s) (mapped (leavingThrough h) o)
+      ≡ outcomeThrough h (byLeaving 𝓧 P s o)
   unfolding byLeaving mapped outcomeThrough
   byLeaving-through P s none = refl
   byLeaving-through P s (some r) =

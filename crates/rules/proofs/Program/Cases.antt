@@ -1,6 +1,5 @@
--- The whole output on the worked cases of specs/Cases/Program, by computing the definitions (program-cases); and numbers
--- (number-cases).
-use Prim.Native.String
+-- The whole output on the worked cases of specs/Cases/Program, by computing the definitions (program-cases); and
+-- numbers (number-cases).
 use mathlib.Core.Path.{_≡_, refl}
 use mathlib.Core.List.{[], map, _∷_}
 use lib.IntN.{pos}

@@ -47,4 +47,5 @@ module _ (ws us : List ℤ) (N : ℕ) (same : (i : ℕ) → i < 3 + 2 * N → wo
       texts z a = cond (eqZ z (pos 1)) (canText a N) (cond (eqZ z (pos 2)) (cannotText a N) (rangeText a))
 
       at : (z : ℤ) → texts z ws ≡ texts z us
-      at z = ap₂ (λ c r. cond (eqZ z (pos 1)) c r) can-same (ap₂ (λ c r. cond (eqZ z (pos 2)) c r) cannot-same range-same)
+      at z = ap₂ (λ c r. cond (eqZ z (pos 1)) c r) can-same
+          (ap₂ (λ c r. cond (eqZ z (pos 2)) c r) cannot-same range-same)

@@ -30,14 +30,14 @@ signed-high : (u : ℕ) → 2 ^ 31 ≤ u → u < 2 ^ 32 → signed u ≡ negsuc 
 unfolding signed
 signed-high u h l = rw (le-ltb u (2 ^ 31) h, lt-ltb u (2 ^ 32) l) refl
 
-pub signed-unsigned : (z : ℤ) → SFits w32 z → signed (unsigned z) ≡ z
+signed-unsigned : (z : ℤ) → SFits w32 z → signed (unsigned z) ≡ z
 unfolding unsigned
 signed-unsigned (pos n) f = signed-low n (f .sfits)
 signed-unsigned (negsuc k) f =
     signed-high (2 ^ 32 - suc k) (omega arith) (omega arith)
     ∙ ap negsuc (let z : 2 ^ 32 - suc (2 ^ 32 - suc k) ≡ k = omega arith in z)
 
-pub unsigned-signed : (u : ℕ) → u < 2 ^ 32 → unsigned (signed u) ≡ u
+unsigned-signed : (u : ℕ) → u < 2 ^ 32 → unsigned (signed u) ≡ u
 unfolding unsigned
 unsigned-signed u h = elim (decLt u (2 ^ 31)) [
   | yes s ↦ ap unsigned (signed-low u s)
@@ -71,7 +71,7 @@ pub words-length : (bs : List ℕ) → length (wordsFrom bs) ≡ length bs / 4
 unfolding wordsFrom
 words-length bs = table-length (length bs / 4) (λ i. wordAt bs (4 * i))
 
-pub bytes-length : (ws : List ℤ) → length (bytesFrom ws) ≡ 4 * length ws
+bytes-length : (ws : List ℤ) → length (bytesFrom ws) ≡ 4 * length ws
 unfolding bytesFrom
 bytes-length ws = table-length (4 * length ws) (λ i. byteOf (unsigned (word ws (i / 4))) (i % 4))
 

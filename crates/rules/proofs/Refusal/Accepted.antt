@@ -9,8 +9,8 @@ use mathlib.Core.Option.{Option·none-ne-some, some}
 use mathlib.Core.Path.{ap, refl, _≡_}
 use Prim.Native.Nat.{ℕ, _*_, _+_, _<_, _≤_}
 use lib.Arith.{digits-lt}
-use lib.IntN.{pos, ℤ}
-use Rattle.whole.proofs.Numbers.Tests.{above, own-size, under-size}
+use lib.IntN.{ℤ}
+use Rattle.whole.proofs.Numbers.Tests.{under-size}
 use Rattle.whole.specs.Numbers.{Within}
 use Rattle.rules.specs.Limit.{Limit, strictLower, strictUpper, hasLower, hasUpper, present}
 use Rattle.rules.specs.Problem.{kind, lowerWord, mOf, nOf, problem, upperWord, vars, varsOf, word}

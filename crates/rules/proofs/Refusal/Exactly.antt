@@ -1,6 +1,7 @@
 -- docs/RULES.md, "Refusal numbers and their order", line by line: each test of specs/Refusal is true exactly where its
 -- line of specs/Facts/Refusal applies, and the refusal is the first that applies.
---   refusal-exactly              the refusal is k exactly where no earlier line's meaning holds and line k's does, and 0 where none does
+--   refusal-exactly              the refusal is k exactly where no earlier line's meaning holds and line k's does, and
+--                                0 where none does
 --   problem-refusal-exactly      the same of refusals 1 to 6 and 10
 --   few-tells, .., room-tells    each test, and its line
 --   problem-tested               all of them
@@ -26,7 +27,9 @@ use Rattle.rules.specs.Facts.Refusal.{coefficientLine}
 use Rattle.rules.specs.Facts.Refusal.{fewLine, kindLine, lengthLine, limitLine, problemTable, roomLine, sizeLine}
 use Rattle.rules.specs.Facts.Refusal.{solverTable}
 use Rattle.rules.specs.Problem.{answerLength, coefficientWord, kind, lowerWord, mOf, nOf, upperWord, varsOf, word}
-use Rattle.rules.specs.Refusal.{Accepted, FineLimit, badCoefficient, badKind, badLength, badLimit, badSize, blankRow, first, problemRefusal, problemTests, refusal, someBlank, tooFew, tooShort}
+use Rattle.rules.specs.Refusal.{Accepted, FineLimit, badCoefficient, badKind, badLength, badLimit, badSize}
+use Rattle.rules.specs.Refusal.{blankRow, first, problemRefusal, problemTests, refusal, someBlank, tooFew}
+use Rattle.rules.specs.Refusal.{tooShort}
 use Rattle.rules.specs.Sizes.{largestCoefficient, largestLimit, mostColumns, mostRows}
 
 -- the numbers of the problem's tests
@@ -52,7 +55,7 @@ stray-tells false p = record {
   not-both = λ y n. true-false (y .0) refl;
 }
 
-pub kind-word-tells : (k : ℤ) → Tells (badKindWord k) (BadKind k) (FineKind k)
+kind-word-tells : (k : ℤ) → Tells (badKindWord k) (BadKind k) (FineKind k)
 unfolding badKindWord
 kind-word-tells k = tells-or (tells-outside 0 15 k)
     (tells-or (stray-tells (strictLower k) (hasLower k)) (stray-tells (strictUpper k) (hasUpper k)))

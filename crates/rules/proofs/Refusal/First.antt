@@ -1,4 +1,5 @@
--- A list of tests with their numbers: the number that `first` gives is the one beside the first test whose meaning holds, or 0.
+-- A list of tests with their numbers: the number that `first` gives is the one beside the first test whose meaning
+-- holds, or 0.
 --   Tested           each test has the number of a line of a table (specs/Facts/Refusal), and tells what it says
 --   tested-then      two lists of tests, one after the other
 --   first-exactly    `first` gives k exactly where `First` of the table says k

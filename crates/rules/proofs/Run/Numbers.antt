@@ -1,4 +1,5 @@
--- Every state of a run from the start of accepted words is `Kept`: lowest common form, no number too large, n variables seated.
+-- Every state of a run from the start of accepted words is `Kept`: lowest common form, no number too large, n variables
+-- seated.
 --   kept-start     the start, where the coefficients are in range; kept-begin of accepted words
 --   kept-goes      a step that moves keeps it, from any state whose rows hold
 --   kept-after     so every state of a run has it
@@ -64,7 +65,7 @@ module _ {X : Type 0} (𝓥 : Values X) where
 
   -- ---- a step, and the run
 
-  pub kept-goes : (P : Problem X) (s t : State X) → Rowed 𝓥 P s → Kept 𝓥 P s → step 𝓥 P s ≡ goes t → Kept 𝓥 P t
+  kept-goes : (P : Problem X) (s t : State X) → Rowed 𝓥 P s → Kept 𝓥 P s → step 𝓥 P s ≡ goes t → Kept 𝓥 P t
   kept-goes P s t S K e =
       let g = step-goes 𝓥 P s t e in
       let L = left 𝓥 P s (g .out) (g .leaves) in

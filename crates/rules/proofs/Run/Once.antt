@@ -27,7 +27,7 @@ module _ {X : Type 0} (𝓥 : Values X) where
       go (no h) (no g) = omega arith
 
   -- k steps, then c steps
-  pub slices-join : (P : Problem X) (s : State X) (k c : ℕ) → after 𝓥 P (after 𝓥 P s k) c ≡ after 𝓥 P s (k + c)
+  slices-join : (P : Problem X) (s : State X) (k c : ℕ) → after 𝓥 P (after 𝓥 P s k) c ≡ after 𝓥 P s (k + c)
   unfolding after
   slices-join P s k zero = rw add-zero refl
   slices-join P s k (suc c) = rw (slices-join P s k c, add-suc) refl

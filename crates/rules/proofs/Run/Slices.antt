@@ -1,7 +1,8 @@
 -- A run cut anywhere is the run.
 --   spent-to, cut-at         i pivots on with b to spend: at i + b pivots, or at the end of the run
 --   told-ended, told-moves   where a step ends the run the words are told, and else nothing
---   answer-whole, answer-short     the answer comes with the last pivot, and is that of the uncut run; none comes before
+--   answer-whole, answer-short     the answer comes with the last pivot, and is that of the uncut run; none comes
+--                                  before
 --   conflict-slice           crossed limits: finished at 0
 --   sliced                   all of it, of any problem and state from which a check may start, crossed limits or not
 --   cut-by, answer-by, none-by     continues one after the other, however the numbers are chosen
@@ -90,13 +91,13 @@ module _ (P : Problem (ℤ × ℤ)) (s : State (ℤ × ℤ)) (T : TheRun P s) (b
   spent : spending pairs b P (after pairs P s i) i ≡ ended pairs P s (min (T .count) (i + b))
   spent = spent-to pairs P s (T .count) (T .ends) (T .uncrossed) b i g
 
-  pub answer-whole : T .count ≤ i + b → sliceAnswer (cutAt pairs P s i) b ≡ some (answerFrom P s)
+  answer-whole : T .count ≤ i + b → sliceAnswer (cutAt pairs P s i) b ≡ some (answerFrom P s)
   unfolding sliceAnswer
   answer-whole h = let z : min (T .count) (i + b) ≡ T .count = omega arith in
       ap (told P) (spent ∙ ap (ended pairs P s) z)
       ∙ told-ended P _ (T .count) _ (T .ends .ended) ∙ ap some (sym (T .words))
 
-  pub answer-short : i + b < T .count → sliceAnswer (cutAt pairs P s i) b ≡ none
+  answer-short : i + b < T .count → sliceAnswer (cutAt pairs P s i) b ≡ none
   unfolding sliceAnswer
   answer-short h = let z : min (T .count) (i + b) ≡ i + b = omega arith in ap (told P) (spent ∙ ap (ended pairs P s) z)
       ∙ told-moves P _ (i + b) _ (T .ends .runs (i + b) h)
@@ -202,7 +203,7 @@ module _ (S : Slice (ℤ × ℤ)) (W : OnWay S) where
   pub on-way-below : S .count < bound P
   on-way-below = let a = W .reached in let b = W .run .below in omega arith
 
-  pub continued-is : (b : ℕ) → continued pairs S b ≡ way (min (W .run .count) (S .count + b))
+  continued-is : (b : ℕ) → continued pairs S b ≡ way (min (W .run .count) (S .count + b))
   continued-is b = ap (λ A. continued pairs A b) slice-is ∙ W .run .moves b (S .count) (W .reached)
 
   pub on-way-more : (b : ℕ) → OnWay (continued pairs S b)

@@ -1,4 +1,5 @@
--- A step keeps what is known of a state, so every state of a run from a sound one is sound, and no arrangement comes twice in it.
+-- A step keeps what is known of a state, so every state of a run from a sound one is sound, and no arrangement comes
+-- twice in it.
 --   kept-along     what each step that moves keeps, every state of the run has
 --   sound-moved, sound-goes, sound-after, rowed-goes, rowed-after
 --   twice-never    demand 3, first half, from any sound state
@@ -37,7 +38,7 @@ module _ {X : Type 0} (𝓥 : Values X) where
     limit-high {x} (too-low e h) u k = apart q x u (L .variable) e k
     limit-high {x} (too-high e h) u k = let z : u ≡ x = cc in rw z (le-refl Law x)
 
-    pub sound-moved : Sound 𝓥 P (moved 𝓥 P s r w)
+    sound-moved : Sound 𝓥 P (moved 𝓥 P s r w)
     sound-moved = record {
       rowed = rowed-moved 𝓥 P s (S .rowed) r w L E;
       lowers = λ v x l h e k. lows v x l h k (was-some 𝓥 P s (S .rowed) r w L E v x e);
@@ -62,7 +63,7 @@ module _ {X : Type 0} (𝓥 : Values X) where
       rw (g .next-is) (rowed-moved 𝓥 P s S (g .out) (g .into) (left 𝓥 P s (g .out) (g .leaves))
       (entered 𝓥 P s (g .out) (g .into) (g .enters)))
 
-  pub sound-goes : Laws 𝓥 → (P : Problem X) (s t : State X) → Apart 𝓥 P → Sound 𝓥 P s → step 𝓥 P s ≡ goes t →
+  sound-goes : Laws 𝓥 → (P : Problem X) (s t : State X) → Apart 𝓥 P → Sound 𝓥 P s → step 𝓥 P s ≡ goes t →
       Sound 𝓥 P t
   sound-goes law P s t A S e =
       let g = step-goes 𝓥 P s t e in

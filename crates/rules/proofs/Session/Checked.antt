@@ -73,7 +73,8 @@ module _ (A : Session (ℤ × ℤ)) (F : Fair pairs A) where
 
   pub range-checked : (verdictOf (checkAnswer A) ≡ pos 3)
       ↔ ((conflict pairs (liveOf A) ≡ none)
-      × ((k : ℕ) × Runs pairs (liveOf A) (A .state) k × TooLarge pairs (liveOf A) (after pairs (liveOf A) (A .state) k)))
+      × ((k : ℕ) × Runs pairs (liveOf A) (A .state) k
+      × TooLarge pairs (liveOf A) (after pairs (liveOf A) (A .state) k)))
   unfolding checkAnswer
   range-checked = range-verdict P s ready
 

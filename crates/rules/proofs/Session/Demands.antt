@@ -7,24 +7,20 @@
 --   never-both-live          the two do not stand together
 --   nothing-idle-live, named-clash-live    each limit that a cannot names is needed, and they are enough
 -- The laws whose names end in -on say the same of any fair session whose problem is given with its marks.
-use mathlib.Core.Bool.{false, true}
 use mathlib.Core.List.{List, [], append-nil, _++_}
 use mathlib.Core.Logic.{inl, inr, _≢_}
 use mathlib.Core.Option.{some}
-use mathlib.Core.Path.{ap, refl, subst, sym, _∙_, _≡_}
+use mathlib.Core.Path.{ap, subst, sym, _∙_, _≡_}
 use Prim.Native.Nat.{ℕ, _<_, _≤_}
 use native.Mathlib.Omega.{arith}
-use lib.IntN.{negℤ, pos, ℤ}
+use lib.IntN.{pos, ℤ}
 use Rattle.whole.proofs.Values.Beside.{pairs-laws}
-use Rattle.whole.proofs.Tells.{tells-true}
 use Rattle.whole.specs.Numbers.{Within}
 use Rattle.whole.specs.Values.{pairs}
 use Rattle.rules.proofs.Evidence.Own.Accepted.{LimitSized, answer-judged, high-modest, low-modest}
-use Rattle.rules.proofs.Evidence.Own.Crossed.{mapped-some}
 use Rattle.rules.proofs.Evidence.Means.{one-two}
 use Rattle.rules.proofs.Evidence.Satisfied.{pairs-satisfied, satisfied, unmet-none}
 use Rattle.rules.proofs.Evidence.Separate.{unsatisfied-fractions}
-use Rattle.rules.proofs.Evidence.Shows.{shown-tells}
 use Rattle.rules.proofs.Evidence.Own.Words.{Judged}
 use Rattle.rules.proofs.Idle.Enough.{named-clash-shown}
 use Rattle.rules.proofs.Idle.Kept.{keeping-inner, kept-some}
@@ -36,14 +32,14 @@ use Rattle.rules.proofs.Session.Handed.{handed-given, values-handed}
 use Rattle.rules.proofs.Session.Live.{live-checked}
 use Rattle.rules.specs.Answer.{answerFrom}
 use Rattle.rules.specs.Facts.Answer.{Decided}
-use Rattle.rules.specs.Evidence.{Satisfiable, Unmet, Unsatisfied, accepted, checked, denominatorOf, lowerPart}
+use Rattle.rules.specs.Evidence.{Satisfiable, Unmet, Unsatisfied, checked, denominatorOf, lowerPart}
 use Rattle.rules.specs.Evidence.{Meets, pairPart, upperPart, verdictOf}
 use Rattle.rules.specs.Facts.Fractions.{Fraction, FractionsMeet}
 use Rattle.rules.specs.Keeping.Idle.{NoBlank, multiplier, named, without}
 use Rattle.rules.specs.Keeping.Limits.{keeping, limitOf}
-use Rattle.rules.specs.Limit.{Limit, inset, lowerPair, upperPair}
+use Rattle.rules.specs.Limit.{Limit}
 use Rattle.rules.specs.Keeping.Words.{liveWords}
-use Rattle.rules.specs.Problem.{Problem, inner, problem, vars, varsOf}
+use Rattle.rules.specs.Problem.{Problem, inner, problem, vars}
 use Rattle.rules.specs.Refusal.{Accepted}
 use Rattle.rules.specs.Session.{Handed, Session, checkAnswer, isOn, liveOf}
 use Rattle.rules.specs.Facts.Session.{Fair, LimitsAre, liveProblem}
@@ -69,15 +65,15 @@ module _ (P : Problem Limit) (A : Session (ℤ × ℤ)) (F : Fair pairs A) (give
   ready : Ready pairs (inner Q) (A .state)
   ready = subst (λ R. Ready pairs R (A .state)) live-is (fair-ready pairs A F)
 
-  pub cannot-satisfied-on : verdictOf (checkAnswer A) ≡ pos 2 → Unsatisfied Q
+  cannot-satisfied-on : verdictOf (checkAnswer A) ≡ pos 2 → Unsatisfied Q
   cannot-satisfied-on e = unmet-none Q (subst (Unmet pairs) live-is (cannot-checked A F e))
 
-  pub satisfiable-on : verdictOf (checkAnswer A) ≡ pos 1 → Satisfiable Q
+  satisfiable-on : verdictOf (checkAnswer A) ≡ pos 1 → Satisfiable Q
   satisfiable-on e = pairs-satisfied Q (denominatorOf (checkAnswer A)) (pairPart (vars (A .given)) (checkAnswer A))
       (subst (λ R. Meets pairs R (denominatorOf (checkAnswer A)) (pairPart (vars (A .given)) (checkAnswer A))) live-is
       (can-checked A F e))
 
-  pub nothing-idle-on : NoBlank P → verdictOf (checkAnswer A) ≡ pos 2 → (σ : Side) (w : ℕ) → w < vars P →
+  nothing-idle-on : NoBlank P → verdictOf (checkAnswer A) ≡ pos 2 → (σ : Side) (w : ℕ) → w < vars P →
       multiplier (vars P) (checkAnswer A) σ w ≢ pos 0 → Satisfiable (without σ w (named (checkAnswer A) Q))
   nothing-idle-on B = subst (λ a. verdictOf a ≡ pos 2 → (σ : Side) (w : ℕ) → w < vars P →
       multiplier (vars P) a σ w ≢ pos 0 → Satisfiable (without σ w (named a Q))) (sym answer-is)
@@ -87,7 +83,7 @@ module _ (P : Problem Limit) (A : Session (ℤ × ℤ)) (F : Fair pairs A) (give
   module _ (few : P .n ≤ mostColumns)
       (within : (σ : Side) (v : ℕ) (l : Limit) → v < vars P → limitOf P σ v ≡ some l → Within (l .plain) largestLimit)
       (values : (v : ℕ) (x : ℤ × ℤ) → seat (A .state) v ≡ some x → LimitSized x) where
-    pub judged-on : (rest : List ℤ) → Decided (checkAnswer A) → Judged Q (checkAnswer A ++ rest)
+    judged-on : (rest : List ℤ) → Decided (checkAnswer A) → Judged Q (checkAnswer A ++ rest)
     judged-on rest = subst (λ a. Decided a → Judged Q (a ++ rest)) (sym answer-is)
         (answer-judged Q (A .state) rest few
         (λ v l h e. within below v l h (kept-some (isOn A below v) (P .lower v) l e .1))
@@ -97,7 +93,7 @@ module _ (P : Problem Limit) (A : Session (ℤ × ℤ)) (F : Fair pairs A) (give
     shown-on : Decided (checkAnswer A) → Shown Q (checkAnswer A)
     shown-on d = subst (Shown Q) (append-nil (checkAnswer A)) (judged-on [] d .judged)
 
-    pub can-satisfied-on : verdictOf (checkAnswer A) ≡ pos 1 → MetSmall Q (checkAnswer A)
+    can-satisfied-on : verdictOf (checkAnswer A) ≡ pos 1 → MetSmall Q (checkAnswer A)
     can-satisfied-on e = go (shown-on (inl e))
       where
         go : Shown Q (checkAnswer A) → MetSmall Q (checkAnswer A)
@@ -105,7 +101,7 @@ module _ (P : Problem Limit) (A : Session (ℤ × ℤ)) (F : Fair pairs A) (give
             (upperPart (vars P) (checkAnswer A)) S
         go (inr (v, S)) = one-two e v
 
-    pub named-clash-on : verdictOf (checkAnswer A) ≡ pos 2 → Unsatisfied (named (checkAnswer A) Q)
+    named-clash-on : verdictOf (checkAnswer A) ≡ pos 2 → Unsatisfied (named (checkAnswer A) Q)
     named-clash-on e = go (shown-on (inr e))
       where
         go : Shown Q (checkAnswer A) → Unsatisfied (named (checkAnswer A) Q)
@@ -131,7 +127,7 @@ module _ (ws : List ℤ) (W : Accepted mostRows ws) (A : Session (ℤ × ℤ)) (
   limits-modest below v l h e = low-modest (problem ws) (lower-within W) v l h e
   limits-modest above v u h e = high-modest (problem ws) (upper-within W) v u h e
 
-  pub values-modest : (v : ℕ) (x : ℤ × ℤ) → seat (A .state) v ≡ some x → LimitSized x
+  values-modest : (v : ℕ) (x : ℤ × ℤ) → seat (A .state) v ≡ some x → LimitSized x
   values-modest = values-handed pairs LimitSized pairs-laws (inner (problem ws)) coefficients
       (record { within = omega arith }, record { within = omega arith }) limits-modest A H
 

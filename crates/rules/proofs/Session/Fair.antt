@@ -28,8 +28,10 @@ use Rattle.rules.proofs.Run.Start.{no-conflict}
 use Rattle.rules.specs.Keeping.Limits.{keeping, kept}
 use Rattle.rules.specs.Problem.{Problem, vars}
 use Rattle.rules.specs.Run.{Ends, after, conflict}
-use Rattle.rules.specs.Session.{Handed, Session, withState, flagged, from-check, from-opening, from-switch, inside}
-use Rattle.rules.specs.Session.{insideSeat, isOn, liveOf, noneOn, opened, rested, allInside, switchRefusal, switched}
+use Rattle.rules.specs.Session.{Handed, Session, withState, flagged, from-check, from-opening, from-switch}
+use Rattle.rules.specs.Session.{inside}
+use Rattle.rules.specs.Session.{insideSeat, isOn, liveOf, noneOn, opened, rested, allInside, switchRefusal}
+use Rattle.rules.specs.Session.{switched}
 use Rattle.rules.specs.Facts.Session.{Fair}
 use Rattle.rules.specs.Sizes.{largestCoefficient}
 use Rattle.rules.specs.Facts.State.{Housed, Kept, Ready, Rowed, howManySeated}
@@ -39,7 +41,7 @@ module _ {X : Type 0} (𝓥 : Values X) where
   -- ---- another choice of limits
 
   module _ (P : Problem X) (on also : Side → ℕ → Bool) (s : State X) where
-    pub rows-kept : Rowed 𝓥 (keeping on P) s → Rowed 𝓥 (keeping also P) s
+    rows-kept : Rowed 𝓥 (keeping on P) s → Rowed 𝓥 (keeping also P) s
     rows-kept R = record {
       seats-many = R .seats-many;
       positive = R .positive;
@@ -50,12 +52,12 @@ module _ {X : Type 0} (𝓥 : Values X) where
       own-zero = R .own-zero;
     }
 
-    pub numbers-kept : Kept 𝓥 (keeping on P) s → Kept 𝓥 (keeping also P) s
+    numbers-kept : Kept 𝓥 (keeping on P) s → Kept 𝓥 (keeping also P) s
     numbers-kept K = record { lowest-form = K .lowest-form; in-range = K .in-range; seated-many = K .seated-many }
 
   -- ---- the same tableau, the same variables basic
 
-  pub data SameKind : Option X → Option X → Type 0 where
+  data SameKind : Option X → Option X → Type 0 where
     both-basic : SameKind none none
     both-seated : (x y : X) → SameKind (some x) (some y)
 
@@ -67,14 +69,14 @@ module _ {X : Type 0} (𝓥 : Values X) where
   kind-some {x = x} both-basic e = absurd (Option·none-ne-some x e)
   kind-some (both-seated x y) e = (x, refl)
 
-  pub record Alike (N : ℕ) (s t : State X) : Type 0 where
+  record Alike (N : ℕ) (s t : State X) : Type 0 where
     pub tableau-is : t .tableau ≡ s .tableau
     pub seats-many : length (t .seats) ≡ N
     pub kinds : (v : ℕ) → v < N → SameKind (seat s v) (seat t v)
     pub as-many : howManySeated (t .seats) ≡ howManySeated (s .seats)
 
   module _ (P : Problem X) (s t : State X) (A : Alike (vars P) s t) where
-    pub rowed-alike : Rowed 𝓥 P s → Rowed 𝓥 P t
+    rowed-alike : Rowed 𝓥 P s → Rowed 𝓥 P t
     rowed-alike R = record {
       seats-many = A .seats-many;
       positive = rw (A .tableau-is) (R .positive);
@@ -86,7 +88,7 @@ module _ {X : Type 0} (𝓥 : Values X) where
           rw (A .tableau-is) (R .own-zero v w (y .0) h k (y .1) d);
     }
 
-    pub kept-alike : Kept 𝓥 P s → Kept 𝓥 P t
+    kept-alike : Kept 𝓥 P s → Kept 𝓥 P t
     kept-alike K = record {
       lowest-form = rw (A .tableau-is) (K .lowest-form);
       in-range = rw (A .tableau-is) (K .in-range);
@@ -134,7 +136,8 @@ module _ {X : Type 0} (𝓥 : Values X) where
     unfolding allInside
     seat-settled v h = table-at (vars (A .given)) insideOf none v h
 
-    alike-settled : length (A .state .seats) ≡ vars (A .given) → Alike (vars (A .given)) (A .state) (allInside 𝓥 A .state)
+    alike-settled : length (A .state .seats) ≡ vars (A .given) →
+        Alike (vars (A .given)) (A .state) (allInside 𝓥 A .state)
     unfolding allInside
     alike-settled e = record {
       tableau-is = refl;
@@ -148,7 +151,8 @@ module _ {X : Type 0} (𝓥 : Values X) where
     -- a value after a switch came from one before it
     pub came-from : (v : ℕ) (y : X) → v < vars (A .given) → seat (allInside 𝓥 A .state) v ≡ some y →
         (x : X) × (seat (A .state) v ≡ some x) × (y ≡ inside 𝓥 (liveOf A .lower v) (liveOf A .upper v) x)
-    came-from v y h e = seated-inside (liveOf A .lower v) (liveOf A .upper v) (seat (A .state) v) y (sym (seat-settled v h) ∙ e)
+    came-from v y h e = seated-inside (liveOf A .lower v) (liveOf A .upper v)
+        (seat (A .state) v) y (sym (seat-settled v h) ∙ e)
 
     housed-settled : Laws 𝓥 → Housed 𝓥 (liveOf A) (allInside 𝓥 A .state)
     housed-settled law = record {

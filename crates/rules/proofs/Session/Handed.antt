@@ -46,11 +46,11 @@ module _ {X : Type 0} (𝓥 : Values X) where
 
   -- ---- its problem
 
-  pub given-switched : (A : Session X) (v : ℕ) (σ : Side) (on : Bool) → switched 𝓥 A v σ on .given ≡ A .given
+  given-switched : (A : Session X) (v : ℕ) (σ : Side) (on : Bool) → switched 𝓥 A v σ on .given ≡ A .given
   unfolding allInside
   given-switched A v σ on = by-refusal (λ C. C .given ≡ A .given) A v σ on refl (λ e. given-flagged A v on σ)
 
-  pub given-rested : (A : Session X) → rested 𝓥 A .given ≡ A .given
+  given-rested : (A : Session X) → rested 𝓥 A .given ≡ A .given
   unfolding rested
   given-rested A = refl
 
@@ -62,7 +62,7 @@ module _ {X : Type 0} (𝓥 : Values X) where
 
   -- ---- its flags
 
-  pub sworn-opened : (P : Problem X) → Sworn 𝓥 (opened 𝓥 P)
+  sworn-opened : (P : Problem X) → Sworn 𝓥 (opened 𝓥 P)
   unfolding opened
   sworn-opened P = record {
     lowers-many = length-replicate (vars P) false;
@@ -80,7 +80,7 @@ module _ {X : Type 0} (𝓥 : Values X) where
   same-place above below w v = inr (λ e. let z : _≡_ {A = ℕ} 0 1 = cc in zero-one z)
   same-place above above w v = by-number above w v (ℕ-discrete w v)
 
-  pub sworn-switched : (A : Session X) (v : ℕ) (σ : Side) (on : Bool) → Sworn 𝓥 A → Sworn 𝓥 (switched 𝓥 A v σ on)
+  sworn-switched : (A : Session X) (v : ℕ) (σ : Side) (on : Bool) → Sworn 𝓥 A → Sworn 𝓥 (switched 𝓥 A v σ on)
   unfolding allInside
   sworn-switched A v σ on S = by-refusal (Sworn 𝓥) A v σ on S (λ e. record {
     lowers-many = lowers σ;
@@ -101,7 +101,7 @@ module _ {X : Type 0} (𝓥 : Values X) where
       is τ w (l, t) q (inl (s, z)) = rw (given-flagged A v on σ, s, z) (l, t)
       is τ w t q (inr n) = rw (given-flagged A v on σ) (S .there τ w (sym (flag-elsewhere A v on σ τ w n) ∙ q))
 
-  pub sworn-rested : (A : Session X) → Sworn 𝓥 A → Sworn 𝓥 (rested 𝓥 A)
+  sworn-rested : (A : Session X) → Sworn 𝓥 A → Sworn 𝓥 (rested 𝓥 A)
   unfolding rested
   sworn-rested A S = record { lowers-many = S .lowers-many; uppers-many = S .uppers-many; there = S .there }
 
@@ -122,7 +122,7 @@ module _ {X : Type 0} (𝓥 : Values X) where
         keeping on P .upper v ≡ some u → Q u
     upper-are P on L v u h e = L above v u h (kept-some (on above v) (P .upper v) u e .1)
 
-    pub values-opened : (P : Problem X) → Q (𝓥 .nil) → LimitsAre 𝓥 Q P → ValuesAre 𝓥 Q (opened 𝓥 P)
+    values-opened : (P : Problem X) → Q (𝓥 .nil) → LimitsAre 𝓥 Q P → ValuesAre 𝓥 Q (opened 𝓥 P)
     unfolding opened
     values-opened P z L = values-start 𝓥 (keeping noneOn P) Q (lower-are P noneOn L) (upper-are P noneOn L) z
 
@@ -144,12 +144,12 @@ module _ {X : Type 0} (𝓥 : Values X) where
             absurd (Option·none-ne-some y
             (sym (List·getD-eq-default (allInside 𝓥 A .state .seats) none {n = v} (omega arith)) ∙ e))
 
-    pub values-switched : (A : Session X) (v : ℕ) (σ : Side) (on : Bool) → LimitsAre 𝓥 Q (A .given) → ValuesAre 𝓥 Q A →
+    values-switched : (A : Session X) (v : ℕ) (σ : Side) (on : Bool) → LimitsAre 𝓥 Q (A .given) → ValuesAre 𝓥 Q A →
         ValuesAre 𝓥 Q (switched 𝓥 A v σ on)
     values-switched A v σ on L S = by-refusal (ValuesAre 𝓥 Q) A v σ on S (λ e.
         values-settled (flagged A v σ on) (rw (given-flagged A v on σ) L) (rw (state-flagged A v on σ) S))
 
-    pub values-rested : Laws 𝓥 → (A : Session X) → Fair 𝓥 A → LimitsAre 𝓥 Q (A .given) → ValuesAre 𝓥 Q A →
+    values-rested : Laws 𝓥 → (A : Session X) → Fair 𝓥 A → LimitsAre 𝓥 Q (A .given) → ValuesAre 𝓥 Q A →
         ValuesAre 𝓥 Q (rested 𝓥 A)
     values-rested law A F L S = let (k, e) = rested-after 𝓥 law A F in
         rw e (values-after 𝓥 (liveOf A) Q (lower-are (A .given) (isOn A) L) (upper-are (A .given) (isOn A) L)

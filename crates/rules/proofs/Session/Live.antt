@@ -39,7 +39,7 @@ abbrev Bits : (a b c d : Bool) → Type 0
 Bits a b c d = (bit 0 (kindOf a b c d) ≡ a) × (bit 1 (kindOf a b c d) ≡ b) × (bit 2 (kindOf a b c d) ≡ c)
     × (bit 3 (kindOf a b c d) ≡ d)
 
-pub bits-of : (a b c d : Bool) → Bits a b c d
+bits-of : (a b c d : Bool) → Bits a b c d
 unfolding bit kindOf
 bits-of false false false false = (refl, refl, refl, refl)
 bits-of false false false true = (refl, refl, refl, refl)
@@ -64,7 +64,7 @@ module _ (on : Side → ℕ → Bool) (ws : List ℤ) (exact : length ws ≡ 2 +
   abbrev L : List ℤ
   L = liveWords on ws
 
-  pub live-length : length L ≡ length ws
+  live-length : length L ≡ length ws
   unfolding liveWords
   live-length = table-length (length ws) (liveWord on ws)
 
@@ -72,7 +72,7 @@ module _ (on : Side → ℕ → Bool) (ws : List ℤ) (exact : length ws ≡ 2 +
   unfolding liveWords
   live-at i h = table-at (length ws) (liveWord on ws) (pos 0) i h
 
-  pub live-front : (i : ℕ) → i < 2 + mOf ws * nOf ws → word L i ≡ word ws i
+  live-front : (i : ℕ) → i < 2 + mOf ws * nOf ws → word L i ≡ word ws i
   unfolding liveWord
   live-front i h = live-at i (omega arith) ∙ rw (lt-true {a = i} {b = kindPlace ws 0} (omega arith)) refl
 
@@ -86,10 +86,10 @@ module _ (on : Side → ℕ → Bool) (ws : List ℤ) (exact : length ws ≡ 2 +
       i : ℕ
       i = kindPlace ws v + r - kindPlace ws 0
 
-  pub n-live : nOf L ≡ nOf ws
+  n-live : nOf L ≡ nOf ws
   n-live = ap natAbs (live-front 0 (omega arith))
 
-  pub m-live : mOf L ≡ mOf ws
+  m-live : mOf L ≡ mOf ws
   m-live = ap natAbs (live-front 1 (omega arith))
 
   place-live : (v : ℕ) → kindPlace L v ≡ kindPlace ws v
@@ -100,37 +100,37 @@ module _ (on : Side → ℕ → Bool) (ws : List ℤ) (exact : length ws ≡ 2 +
   limit-word v r h k = ap (λ p. word L (p + r)) (place-live v) ∙ live-limit v r h k
 
   module _ (v : ℕ) (h : v < varsOf ws) where
-    pub kind-live : kind L v ≡ liveKind (on below v) (on above v) (kind ws v)
+    kind-live : kind L v ≡ liveKind (on below v) (on above v) (kind ws v)
     unfolding liveLimit
     kind-live = ap (word L) (let z : kindPlace L v ≡ kindPlace L v + 0 = omega arith in z)
         ∙ limit-word v 0 h (omega arith)
 
-    pub lower-word-live : lowerWord L v ≡ cond (on below v) (lowerWord ws v) (pos 0)
+    lower-word-live : lowerWord L v ≡ cond (on below v) (lowerWord ws v) (pos 0)
     unfolding liveLimit
     lower-word-live = limit-word v 1 h (omega arith)
 
-    pub upper-word-live : upperWord L v ≡ cond (on above v) (upperWord ws v) (pos 0)
+    upper-word-live : upperWord L v ≡ cond (on above v) (upperWord ws v) (pos 0)
     unfolding liveLimit
     upper-word-live = limit-word v 2 h (omega arith)
 
     -- its bits: those of the limits that are kept
-    pub has-lower-live : hasLower (kind L v) ≡ (on below v && hasLower (kind ws v))
+    has-lower-live : hasLower (kind L v) ≡ (on below v && hasLower (kind ws v))
     unfolding liveKind
     has-lower-live = ap hasLower kind-live ∙ bits-of _ _ _ _ .0
 
-    pub has-upper-live : hasUpper (kind L v) ≡ (on above v && hasUpper (kind ws v))
+    has-upper-live : hasUpper (kind L v) ≡ (on above v && hasUpper (kind ws v))
     unfolding liveKind
     has-upper-live = ap hasUpper kind-live ∙ bits-of _ _ _ _ .1
 
-    pub strict-lower-live : strictLower (kind L v) ≡ (on below v && strictLower (kind ws v))
+    strict-lower-live : strictLower (kind L v) ≡ (on below v && strictLower (kind ws v))
     unfolding liveKind
     strict-lower-live = ap strictLower kind-live ∙ bits-of _ _ _ _ .2
 
-    pub strict-upper-live : strictUpper (kind L v) ≡ (on above v && strictUpper (kind ws v))
+    strict-upper-live : strictUpper (kind L v) ≡ (on above v && strictUpper (kind ws v))
     unfolding liveKind
     strict-upper-live = ap strictUpper kind-live ∙ bits-of _ _ _ _ .3
 
-  pub coefficient-live : (i j : ℕ) → i < mOf ws → j < nOf ws → coefficientWord L i j ≡ coefficientWord ws i j
+  coefficient-live : (i j : ℕ) → i < mOf ws → j < nOf ws → coefficientWord L i j ≡ coefficientWord ws i j
   coefficient-live i j h k = ap (λ n. word L (2 + (i * n + j))) n-live
       ∙ live-front (2 + (i * nOf ws + j)) (let z = digits-lt h k in omega arith)
 
@@ -220,7 +220,7 @@ module _ {rows : ℕ} (on : Side → ℕ → Bool) (ws : List ℤ) (A : Accepted
   R = problem (liveWords on ws)
 
   -- in the rows, and of every variable
-  pub live-agree : Agree (Q .n) (Q .m) (Q .coefficient) (R .coefficient) (Q .lower) (Q .upper) (R .lower) (R .upper)
+  live-agree : Agree (Q .n) (Q .m) (Q .coefficient) (R .coefficient) (Q .lower) (Q .upper) (R .lower) (R .upper)
   unfolding problem
   live-agree = record {
     coefficients = coefficient-live on ws (A .exact);
@@ -238,7 +238,7 @@ module _ {rows : ℕ} (on : Side → ℕ → Bool) (ws : List ℤ) (A : Accepted
         (one-limit (on above v) (hasUpper (kind ws v)) (strictUpper (kind ws v)) (upperWord ws v));
   }
 
-  pub live-shown : (a : List ℤ) → Shown Q a → Shown R a
+  live-shown : (a : List ℤ) → Shown Q a → Shown R a
   unfolding problem
   live-shown a S =
       subst (λ (P : Problem Limit). Shown P a)

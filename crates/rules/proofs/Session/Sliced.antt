@@ -26,7 +26,7 @@ use Rattle.rules.specs.Slices.{continued, continuedBy, sliceAnswer}
 use Rattle.rules.specs.Facts.State.{Ready}
 use Rattle.rules.specs.Step.{State}
 
-pub spending-enough : {X : Type 0} (𝓥 : Values X) → Laws 𝓥 → (P : Problem X) (s : State X) → Ready 𝓥 P s → (b : ℕ) →
+spending-enough : {X : Type 0} (𝓥 : Values X) → Laws 𝓥 → (P : Problem X) (s : State X) → Ready 𝓥 P s → (b : ℕ) →
     bound P ≤ b → spending 𝓥 b P s 0 ≡ ending 𝓥 P s
 spending-enough 𝓥 law P s R b h = go (conflict 𝓥 P) refl
   where

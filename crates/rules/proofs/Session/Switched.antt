@@ -7,23 +7,19 @@
 --   switched-so                    all that a switch does that is not refused: `Switches`
 -- The table and `Switches` are in specs/Facts/Session.
 use mathlib.Core.Bool.{Bool, false, true}
-use mathlib.Core.List.{List}
 use mathlib.Core.Logic.{_↔_, _≢_}
 use mathlib.Core.Option.{Option, Option·none-ne-some, Option·some-ne-none, none, some}
 use mathlib.Core.Path.{ap, ap₂, refl, subst, sym, _∙_, _≡_}
 use Prim.Native.Nat.{suc, ℕ, _<_}
-use native.Mathlib.Decide.{ℕ-discrete}
 use native.Mathlib.Omega.{arith}
-use lib.ListN.{getD, length, length-set, set}
+use lib.ListN.{length}
 use lib.Seq.{getD-set-other, getD-set-same}
 use Rattle.whole.proofs.Bools.{true-false}
-use Rattle.whole.proofs.Lists.Tables.{table-all, table-same}
 use Rattle.whole.proofs.Tells.{tells-and, tells-lt, tells-not}
-use Rattle.whole.specs.Tables.{table}
 use Rattle.whole.specs.Tells.{Tells}
 use Rattle.whole.specs.Values.{Laws, Values}
 use Rattle.rules.proofs.Refusal.First.{Tested, first-exactly, first-fine, no-test, tested}
-use Rattle.rules.proofs.Session.Fair.{seat-settled, insideOf}
+use Rattle.rules.proofs.Session.Fair.{seat-settled}
 use Rattle.rules.proofs.Session.Inside.{inside-exactly, inside-still, same-some}
 use Rattle.rules.specs.Keeping.Limits.{kept, limitOf}
 use Rattle.rules.specs.Facts.Refusal.{AllFine, First}
@@ -35,7 +31,7 @@ use Rattle.rules.specs.Step.{Side, above, below, seat}
 
 -- ---- the numbers
 
-pub tells-absent : {X : Type 0} (o : Option X) → Tells (isMissing o) (o ≡ none) ((l : X) × (o ≡ some l))
+tells-absent : {X : Type 0} (o : Option X) → Tells (isMissing o) (o ≡ none) ((l : X) × (o ≡ some l))
 tells-absent none = record {
   if-true = λ e. refl;
   if-false = λ e. true-false refl e;
@@ -47,7 +43,7 @@ tells-absent (some l) = record {
   not-both = λ y n. Option·some-ne-none l y;
 }
 
-pub tells-itself : (b : Bool) → Tells b (b ≡ true) (b ≡ false)
+tells-itself : (b : Bool) → Tells b (b ≡ true) (b ≡ false)
 tells-itself b = record { if-true = λ e. e; if-false = λ e. e; not-both = λ y n. true-false y n }
 
 module _ {X : Type 0} (A : Session X) (v : ℕ) (σ : Side) (on : Bool) where
@@ -158,7 +154,8 @@ module _ {X : Type 0} (𝓥 : Values X) (A : Session X) (v : ℕ) (σ : Side) (o
           insideSeat 𝓥 (liveOf B .lower w) (liveOf B .upper w) o ≡ some y →
           (x : X) × (seat (A .state) w ≡ some x) × Lands 𝓥 (liveOf B .lower w) (liveOf B .upper w) x y
       there w y none q e = absurd (Option·none-ne-some y e)
-      there w y (some x) q e = (x, q, inside-exactly 𝓥 law (liveOf B .lower w) (liveOf B .upper w) x y .0 (same-some 𝓥 e))
+      there w y (some x) q e =
+          (x, q, inside-exactly 𝓥 law (liveOf B .lower w) (liveOf B .upper w) x y .0 (same-some 𝓥 e))
 
   pub switched-so : Laws 𝓥 → switchRefusal A v σ on ≡ 0 → Switches 𝓥 A v σ on (switched 𝓥 A v σ on)
   switched-so law e = subst (Switches 𝓥 A v σ on) (sym (switched-done e)) (settled-so law)

@@ -21,7 +21,8 @@ use Rattle.rules.proofs.Tableau.Relation.{relation-off, relation-own}
 use Rattle.rules.specs.Facts.Blame.{Blame, Blamed}
 use Rattle.rules.specs.Problem.{Problem, vars, word}
 use Rattle.rules.specs.Facts.State.{Rowed}
-use Rattle.rules.specs.Step.{Leaving, Side, State, above, below, cannot, entering, evidence, leaving, positive, pull, step}
+use Rattle.rules.specs.Step.{Leaving, Side, State, above, below, cannot, entering, evidence, leaving, positive}
+use Rattle.rules.specs.Step.{pull, step}
 use Rattle.rules.specs.Tableau.{Tableau, entry, relation}
 
 -- ---- one number
@@ -82,7 +83,7 @@ module _ (N : ℕ) (σ : Side) (r : ℕ) (t : Tableau) (r-var : r < N) (D-pos : 
   D-size : pos (natAbs (t .common)) ≡ t .common
   D-size = sym (own-size 0 (t .common) (<ℤ→≤ℤ D-pos))
 
-  pub blame : Blame N σ r t lowers uppers
+  blame : Blame N σ r t lowers uppers
   blame = record {
     many-lowers = table-length N (λ v. positive (negℤ (y v)));
     many-uppers = table-length N (λ v. positive (y v));

@@ -6,13 +6,14 @@ use mathlib.Core.Bool.{Bool, false, true}
 use mathlib.Core.List.{List}
 use mathlib.Core.Logic.{_↔_}
 use mathlib.Core.Option.{Option, none, some}
-use mathlib.Core.Path.{ap, refl, sym, _∙_, _≡_}
+use mathlib.Core.Path.{refl, sym, _∙_, _≡_}
 use Prim.Native.Nat.{ℕ}
 use lib.IntN.{ℤ}
 use Rattle.whole.proofs.Bools.{zero-one}
 use Rattle.whole.specs.Values.{Values}
 use Rattle.rules.specs.Problem.{Problem, vars}
-use Rattle.rules.specs.Step.{Leaving, State, admit, can, cannot, entering, evidence, goes, leaving, moved, range, step}
+use Rattle.rules.specs.Step.{Leaving, State, admit, can, cannot, entering, evidence, goes, leaving, moved, range}
+use Rattle.rules.specs.Step.{step}
 use Rattle.rules.specs.Tableau.{relation, small}
 
 module _ {X : Type 0} (𝓥 : Values X) where

@@ -1,4 +1,5 @@
--- What the search for the entering variable says: it is nonbasic and may move the right way, and no lower one may; and what a move swaps.
+-- What the search for the entering variable says: it is nonbasic and may move the right way, and no lower one may; and
+-- what a move swaps.
 --   entered        of the variable that enters: `Entered` of specs/Facts/Rule
 --   none-enters    every nonbasic variable is stuck: `Stuck` of specs/Facts/Rule
 --   swap           the two seats that change, and that no other does: `Swap` of specs/Facts/Rule

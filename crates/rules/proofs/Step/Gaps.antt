@@ -11,7 +11,7 @@ use Rattle.rules.specs.Step.{gap}
 module _ {X : Type 0} (𝓥 : Values X) (law : Laws 𝓥) where
   open Values 𝓥 using (nil, plus, scale, less)
 
-  pub gap-self : (x : X) → gap 𝓥 x x ≡ nil
+  gap-self : (x : X) → gap 𝓥 x x ≡ nil
   gap-self x =
       ap (λ z. plus z (scale (negsuc 0) x)) (sym (law .one-scale x)) ∙ sym (law .plus-scale (pos 1) (negsuc 0) x)
       ∙ law .zero-scale x

@@ -1,4 +1,5 @@
--- What the search for the leaving variable says: it is basic and outside on its side, and no lower basic variable is outside.
+-- What the search for the leaving variable says: it is basic and outside on its side, and no lower basic variable is
+-- outside.
 --   left           of the variable that leaves: `Left` of specs/Facts/Rule
 --   none-leaves    no basic variable is outside: `Inside` of specs/Facts/Rule
 use mathlib.Core.Bool.{Bool, false, true}
@@ -71,14 +72,16 @@ module _ {X : Type 0} (𝓥 : Values X) where
     where
       go : (a : Bool) → under 𝓥 (common s) (scaled 𝓥 P s v) (P .lower v) ≡ a → (b : Bool) →
           over 𝓥 (common s) (scaled 𝓥 P s v) (P .upper v) ≡ b → Blames P s v none r
-      go true p b q = let z : _≡_ {A = Leaving X} (leaves v below (shortfallOf 𝓥 P s v below)) r = cc (rw (p, broken) at e) in
+      go true p b q = let z : _≡_ {A = Leaving X} (leaves v below (shortfallOf 𝓥 P s v below)) r =
+          cc (rw (p, broken) at e) in
           subst (Blames P s v none) z (
             refl,
             refl,
             refl,
             low-limit P s v (under-tells (common s) (scaled 𝓥 P s v) (P .lower v) .if-true p),
           )
-      go false p true q = let z : _≡_ {A = Leaving X} (leaves v above (shortfallOf 𝓥 P s v above)) r = cc (rw q at (rw (p, broken) at e)) in
+      go false p true q = let z : _≡_ {A = Leaving X} (leaves v above (shortfallOf 𝓥 P s v above)) r =
+          cc (rw q at (rw (p, broken) at e)) in
           subst (Blames P s v none) z (
             refl,
             refl,

@@ -17,7 +17,8 @@ use Rattle.rules.specs.Evidence.{AtLeast, AtMost, Meets, Unmet}
 use Rattle.rules.specs.Problem.{Problem, vars}
 use Rattle.rules.specs.Facts.Rule.{Left}
 use Rattle.rules.specs.Facts.State.{Sound}
-use Rattle.rules.specs.Step.{Leaving, Side, State, common, entering, leaves, leaving, limitAt, positive, scaled, seat, seated}
+use Rattle.rules.specs.Step.{Leaving, Side, State, common, entering, leaves, leaving, limitAt, positive, scaled}
+use Rattle.rules.specs.Step.{seat, seated}
 use Rattle.rules.specs.Tableau.{entry}
 
 module _ {X : Type 0} (𝓥 : Values X) where
@@ -29,10 +30,10 @@ module _ {X : Type 0} (𝓥 : Values X) where
   upper-met none d x f = tt
   upper-met (some u) d x f = f u refl
 
-  pub lower-met-back : (o : Option X) (d : ℤ) (x : X) → AtLeast 𝓥 o d x → (l : X) → o ≡ some l → Le 𝓥 (𝓥 .scale d l) x
+  lower-met-back : (o : Option X) (d : ℤ) (x : X) → AtLeast 𝓥 o d x → (l : X) → o ≡ some l → Le 𝓥 (𝓥 .scale d l) x
   lower-met-back o d x h l e = rw e at h
 
-  pub upper-met-back : (o : Option X) (d : ℤ) (x : X) → AtMost 𝓥 o d x → (u : X) → o ≡ some u → Le 𝓥 x (𝓥 .scale d u)
+  upper-met-back : (o : Option X) (d : ℤ) (x : X) → AtMost 𝓥 o d x → (u : X) → o ≡ some u → Le 𝓥 x (𝓥 .scale d u)
   upper-met-back o d x h u e = rw e at h
 
   module _ (law : Laws 𝓥) (P : Problem X) (s : State X) (S : Sound 𝓥 P s) where
@@ -57,7 +58,8 @@ module _ {X : Type 0} (𝓥 : Values X) where
             (up law (S .rowed .positive) (S .uppers v x u h q k))
 
     module _ (d : ℤ) (x : ℕ → X) (M : Meets 𝓥 P d x) where
-      bar : (σ : Side) (p : ℕ) (f : X) → Left 𝓥 P s (leaves p σ f) → entering 𝓥 P s (leaves p σ f) ≡ none → Barred (sided σ 𝓥)
+      bar : (σ : Side) (p : ℕ) (f : X) → Left 𝓥 P s (leaves p σ f) →
+          entering 𝓥 P s (leaves p σ f) ≡ none → Barred (sided σ 𝓥)
       unfolding scaled seated
       bar σ p f L e = record {
         N = vars P;

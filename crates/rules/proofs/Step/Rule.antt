@@ -1,10 +1,12 @@
--- The searches follow the rule in plain words (specs/Facts/Rule: `Left`, `Entered`, `Stuck`): who leaves, and who enters.
+-- The searches follow the rule in plain words (specs/Facts/Rule: `Left`, `Entered`, `Stuck`): who leaves, and who
+-- enters.
 --   leaving-of             whoever is so leaves; a variable above its upper limit must not be below its lower one too
 --   leaving-exactly        `leaving` gives r exactly then, where no limits cross
 --   none-leaving-exactly   it gives none exactly where every basic variable is inside
 --   entering-exactly, none-entering-exactly    likewise for `entering`
 --   limit-exactly          the value that the leaving variable takes is the violated limit
--- What moves is `swap` (Step/Entering.antt): the leaving variable has that value, the entering one is basic, nothing else moves.
+-- What moves is `swap` (Step/Entering.antt): the leaving variable has that value, the entering one is basic, nothing
+-- else moves.
 use mathlib.Core.Bool.{false}
 use mathlib.Core.Logic.{_↔_}
 use mathlib.Core.Option.{Option, none, some}
@@ -32,7 +34,7 @@ module _ {X : Type 0} (𝓥 : Values X) where
   -- ---- who leaves
 
   -- not below its lower limit
-  abbrev pub NotUnder : Problem X → State X → ℕ → Type 0
+  abbrev NotUnder : Problem X → State X → ℕ → Type 0
   NotUnder P s v = (l : X) → P .lower v ≡ some l → Le 𝓥 (𝓥 .scale (common s) l) (scaled 𝓥 P s v)
 
   module _ (P : Problem X) (s : State X) where
@@ -66,7 +68,7 @@ module _ {X : Type 0} (𝓥 : Values X) where
         let q = tells-true (over-tells 𝓥 (common s) (scaled 𝓥 P s v) (P .upper v)) (x, e, h) in
         rw (p, broken) (rw q refl)
 
-    pub leaving-of : (r : Leaving X) → Left 𝓥 P s r → (r .side ≡ above → NotUnder P s (r .variable)) →
+    leaving-of : (r : Leaving X) → Left 𝓥 P s r → (r .side ≡ above → NotUnder P s (r .variable)) →
         leaving 𝓥 P s ≡ some r
     unfolding leaving
     leaving-of r L n = lowest-is (vars P) (r .variable) _ r (L .variable)

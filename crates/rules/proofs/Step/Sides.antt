@@ -1,5 +1,6 @@
 -- A variable that must fall is one that must rise in the order turned round: one view for both sides.
---   sided σ 𝓥      the values with the order that side σ asks for; only the order depends on the side, so the rest computes
+--   sided σ 𝓥      the values with the order that side σ asks for; only the order depends on the side, so the rest
+--                  computes
 --   near, far      the limit that a variable on that side violates, and the other
 --   .. -by         what is known of a variable, seen from a side
 use mathlib.Core.Bool.{Bool}
@@ -17,7 +18,7 @@ use Rattle.rules.specs.Problem.{Problem}
 use Rattle.rules.specs.Facts.Rule.{Outside, Stuck, Suits, may-go-down, may-go-up, too-high, too-low}
 use Rattle.rules.specs.Step.{Side, State, above, below, common, pull, scaled}
 
-abbrev pub lessBy : {X : Type 0} → Side → (X → X → Bool) → X → X → Bool
+abbrev lessBy : {X : Type 0} → Side → (X → X → Bool) → X → X → Bool
 lessBy below less x y = less x y
 lessBy above less x y = less y x
 

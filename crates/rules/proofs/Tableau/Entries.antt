@@ -1,5 +1,5 @@
--- The tableau by variable has no other numbers than the rules' own: D, the entries of basic rows at nonbasic variables, and 0. So its common
--- divisor and its range test are those of D and these m times n entries.
+-- The tableau by variable has no other numbers than the rules' own: D, the entries of basic rows at nonbasic variables,
+-- and 0. So its common divisor and its range test are those of D and these m times n entries.
 --   cells-all          what holds of 0, of D and of those entries holds of every number
 --   divisor-of-cells   d divides the divisor exactly where it divides D and those entries
 --   small-of-cells     the range test passes exactly where D and those entries are within the largest number
@@ -26,10 +26,10 @@ use Rattle.rules.specs.Tableau.{divisorSize, entry, small}
 
 module _ {X : Type 0} (𝓥 : Values X) (P : Problem X) (s : State X) (S : Rowed 𝓥 P s) where
   -- of every number of the tableau by variable
-  abbrev pub Every : (ℤ → Type 0) → Type 0
+  abbrev Every : (ℤ → Type 0) → Type 0
   Every Q = Q (common s) × ((v : ℕ) → v < vars P → (u : ℕ) → u < vars P → Q (entry (s .tableau) v u))
 
-  pub cells-all : (Q : ℤ → Type 0) → Q (pos 0) → Every Q ↔ EveryCell P s Q
+  cells-all : (Q : ℤ → Type 0) → Q (pos 0) → Every Q ↔ EveryCell P s Q
   cells-all Q zero-fine = (
     λ A. (A .0, λ v w x h k e f. A .1 v h w k),
     λ C. (C .0, λ v h u k. go C v u h k (seat s u) refl (seat s v) refl (ℕ-discrete u v)),

@@ -1,4 +1,5 @@
--- Lowest common form: the divisor divides every number and is greatest, and a tableau is its lowest form times one number.
+-- Lowest common form: the divisor divides every number and is greatest, and a tableau is its lowest form times one
+-- number.
 --   divisor-divides, divisor-greatest, divisor-times, divisor-pos
 --   factored    `Factored`: each number is the reduced one times `by`, which has the sign of D
 --   reduced-one the divisor of the lowest form is 1
@@ -7,7 +8,8 @@ use mathlib.Core.Logic.{_≢_}
 use mathlib.Core.Path.{ap, refl, subst, sym, _∙_, _≡_}
 use Prim.Native.Nat.{suc, zero, ℕ, _*_, _<_, _∣_}
 use native.Mathlib.Decide.{ℕ-discrete}
-use native.Mathlib.Nat.{dvd-of-mul-dvd-mul-right, dvd-one, dvd-refl, dvd-trans, mul-comm, mul-dvd-mul-right, one-mul, pos-of-dvd-of-pos}
+use native.Mathlib.Nat.{dvd-of-mul-dvd-mul-right, dvd-one, dvd-refl, dvd-trans, mul-comm, mul-dvd-mul-right, one-mul}
+use native.Mathlib.Nat.{pos-of-dvd-of-pos}
 use native.Mathlib.Omega.{arith}
 use lib.Dec.{lt→ltb}
 use lib.IntN.{natAbs, negsuc, negℤ, pos, ℤ, _*ℤ_}
@@ -65,12 +67,13 @@ module _ (N : ℕ) (t : Tableau) where
   divisor-greatest d p q = by-one-back d (divisorSize N t)
       (divisor-times d 1 (by-one d (natAbs (t .common)) p) (λ v u h k. by-one d (natAbs (entry t v u)) (q v u h k)))
 
-  pub divisor-pos : t .common ≢ pos 0 → 0 < divisorSize N t
+  divisor-pos : t .common ≢ pos 0 → 0 < divisorSize N t
   divisor-pos n = pos-of-dvd-of-pos (divisor-divides .0) (size-pos (t .common) n)
 
 -- ---- lowest common form
 
--- a tableau with D other than 0 is its lowest form, each number times one number, whose sign is D's and whose size is the divisor
+-- a tableau with D other than 0 is its lowest form, each number times one number, whose sign is D's and whose size is
+-- the divisor
 pub record Factored (N : ℕ) (t : Tableau) : Type 0 where
   pub by : ℤ
   pub by-size : natAbs by ≡ divisorSize N t
@@ -92,7 +95,7 @@ module _ (N : ℕ) (t : Tableau) where
   unfolding reduced
   reduced-entry v u h k = matrix-at N (λ v u. quotZ (entry t v u) (divisor N t)) v u h k
 
-  pub reduced-common : reduced N t .common ≡ quotZ (t .common) (divisor N t)
+  reduced-common : reduced N t .common ≡ quotZ (t .common) (divisor N t)
   unfolding reduced
   reduced-common = refl
 

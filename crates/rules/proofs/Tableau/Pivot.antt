@@ -1,5 +1,6 @@
 -- A pivot keeps the rows: afterwards D is above 0, rows and columns hold, and seats and zeros agree.
--- N variables; q leaves, w enters, p is the pivot; t1 is the tableau before reduction, t2 the one in lowest common form.
+-- N variables; q leaves, w enters, p is the pivot; t1 is the tableau before reduction, t2 the one in lowest common
+-- form.
 --   pivot-nonzero          the pivot is not 0
 --   was-some, was-none     what is seated, and what is basic, afterwards
 --   rowed-moved            `Rowed` of the next state

@@ -27,7 +27,8 @@ module _ {X : Type 0} (𝓥 : Values X) (n m : ℕ) (a b : ℕ → ℕ → ℤ) 
   Q = record { n = n; m = m; coefficient = b; lower = l′; upper = u′ }
 
   -- the same entries, in two states or in one
-  module _ (s t : State X) (same-entries : (v w : ℕ) → v < n + m → w < n + m → entry (s .tableau) v w ≡ entry (t .tableau) v w)
+  module _ (s t : State X) (same-entries : (v w : ℕ) → v < n + m → w < n + m →
+      entry (s .tableau) v w ≡ entry (t .tableau) v w)
       (R : Rowed 𝓥 P s) (S : Rowed 𝓥 Q t) (i j : ℕ) (h : i < m) (k : j < n) where
     N : ℕ
     N = n + m

@@ -28,14 +28,14 @@ use Rattle.rules.specs.Tableau.{Tableau, divisorSize, entry}
 use Rattle.rules.specs.Facts.Tableau.{Next, Obeyed, SameBasis, SameNumbers}
 
 module _ {X : Type 0} (𝓥 : Values X) (P : Problem X) where
-  pub obeyed-of : (s : State X) → Rowed 𝓥 P s → Obeyed 𝓥 P s
+  obeyed-of : (s : State X) → Rowed 𝓥 P s → Obeyed 𝓥 P s
   obeyed-of s S = record { positive = S .positive; holds = S .holds; basic-zero = S .basic-zero }
 
   -- D of the one times an entry of the other
   abbrev Proportional : Tableau → Tableau → Type 0
   Proportional t u = (v w : ℕ) → v < vars P → w < vars P → t .common *ℤ entry u v w ≡ entry t v w *ℤ u .common
 
-  pub crosswise : (s t : State X) → Obeyed 𝓥 P s → Rowed 𝓥 P t → SameBasis 𝓥 P s t →
+  crosswise : (s t : State X) → Obeyed 𝓥 P s → Rowed 𝓥 P t → SameBasis 𝓥 P s t →
       Proportional (s .tableau) (t .tableau)
   crosswise s t S T same v w h k = go (seat t w) refl
     where

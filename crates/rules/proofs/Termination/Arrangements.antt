@@ -1,4 +1,5 @@
--- How many arrangements there are: n seated of N variables, each with one of three values. Distinct ones cannot be more.
+-- How many arrangements there are: n seated of N variables, each with one of three values. Distinct ones cannot be
+-- more.
 --   listed      an arrangement that fits is in the list of all
 --   how-many    the list's length is 3^j times the ways to choose j
 --   at-most     a run of different arrangements that fit is no longer
@@ -21,10 +22,10 @@ pub record Three (X : Type 0) : Type 0 where
   pub three : X
 
 module _ {X : Type 0} where
-  abbrev pub withSeat : Option X → List (List (Option X)) → List (List (Option X))
+  abbrev withSeat : Option X → List (List (Option X)) → List (List (Option X))
   withSeat o ls = map (λ a. o ∷ a) ls
 
-  unfoldable pub arrangements : List (Three X) → ℕ → List (List (Option X))
+  unfoldable arrangements : List (Three X) → ℕ → List (List (Option X))
   arrangements [] zero = [] ∷ []
   arrangements [] (suc j) = []
   arrangements (c ∷ cs) zero = withSeat none (arrangements cs zero)
@@ -61,7 +62,7 @@ module _ {X : Type 0} where
       Memᴰ·append-right ns (Memᴰ·append-right (withSeat (some (c .one)) ls)
       (Memᴰ·append-right (withSeat (some (c .two)) ls) (put x (c .three) a ls e m)))
 
-  pub listed : (a : List (Option X)) (cs : List (Three X)) (j : ℕ) → Fits a cs j → List·Memᴰ a (arrangements cs j)
+  listed : (a : List (Option X)) (cs : List (Three X)) (j : ℕ) → Fits a cs j → List·Memᴰ a (arrangements cs j)
   unfolding arrangements
   listed [] [] zero h = List·Memᴰ·head refl
   listed [] [] (suc j) h = absurd h
@@ -74,7 +75,7 @@ module _ {X : Type 0} where
       seat-listed x a c (withSeat none (arrangements cs (suc j))) (arrangements cs j) (h .0) (listed a cs j (h .1))
 
   -- the count that the rules name
-  pub how-many : (cs : List (Three X)) (j : ℕ) → length (arrangements cs j) ≡ 3 ^ j * choose (length cs) j
+  how-many : (cs : List (Three X)) (j : ℕ) → length (arrangements cs j) ≡ 3 ^ j * choose (length cs) j
   unfolding arrangements choose
   how-many [] zero = refl
   how-many [] (suc j) = omega arith

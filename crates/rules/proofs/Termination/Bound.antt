@@ -1,5 +1,6 @@
--- The count of pivots from a sound state with n seated is below 3^n times the ways to choose n: each arrangement of the run seats as many
--- variables, each at one of three values (its first, its lower limit, its upper limit), and none comes twice.
+-- The count of pivots from a sound state with n seated is below 3^n times the ways to choose n: each arrangement of the
+-- run seats as many variables, each at one of three values (its first, its lower limit, its upper limit), and none
+-- comes twice.
 --   seated-moved   a move seats as many variables
 --   below-bound    demand 3, second half, from any sound state
 --   bound-some     the bound is above 0: there is a way to choose n of m + n
@@ -26,7 +27,8 @@ use Rattle.rules.specs.Problem.{Problem, vars}
 use Rattle.rules.specs.Facts.Rule.{Entered, Left, Outside, Swap, too-high, too-low}
 use Rattle.rules.specs.Run.{Runs, after, bound, choose, next}
 use Rattle.rules.specs.Facts.State.{Apart, Rowed, Sound, howManySeated}
-use Rattle.rules.specs.Step.{Leaving, Outcome, Side, State, can, cannot, goes, limitAt, moved, range, seat, seated, step}
+use Rattle.rules.specs.Step.{Leaving, Outcome, Side, State, can, cannot, goes, limitAt, moved, range, seat}
+use Rattle.rules.specs.Step.{seated, step}
 
 module _ {X : Type 0} where
   fits : (l : List (Option X)) (cs : List (Three X)) (d : Three X) → length l ≡ length cs →
@@ -85,7 +87,8 @@ module _ {X : Type 0} (𝓥 : Values X) where
       q-not-w : r .variable ≢ w
       q-not-w e = Option·none-ne-some (E .value) (sym (L .was-basic) ∙ (rw (← e) at (E .was-seated)))
 
-  module _ (P : Problem X) (s t : State X) (S : Sound 𝓥 P t) (A : Among P s t) (r : Leaving X) (w : ℕ) (L : Left 𝓥 P t r)
+  module _ (P : Problem X) (s t : State X) (S : Sound 𝓥 P t) (A : Among P s t)
+      (r : Leaving X) (w : ℕ) (L : Left 𝓥 P t r)
       (E : Entered 𝓥 P t r w) where
     W : Swap (seat t) (seat (moved 𝓥 P t r w)) (r .variable) w (limitAt 𝓥 P r)
     W = swap 𝓥 P t r w (S .rowed .seats-many) L E

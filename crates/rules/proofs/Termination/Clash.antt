@@ -1,7 +1,8 @@
--- The part of the proof of termination that is about numbers: two steps do not clash. Stated over any ordered values on which whole
--- numbers act, so that it serves either side (a variable that must fall is one that must rise in the order turned round).
--- The row of p, which leaves at T, is compared with the values at S, term by term: unmoved variables agree, a variable below r did not
--- suit at T and is within its limits at S, and r itself is on the wrong side at S. So p is further outside at S than at T; but p is below r.
+-- The part of the proof of termination that is about numbers: two steps do not clash. Stated over any ordered values on
+-- which whole numbers act, so that it serves either side (a variable that must fall is one that must rise in the order
+-- turned round). The row of p, which leaves at T, is compared with the values at S, term by term: unmoved variables
+-- agree, a variable below r did not suit at T and is within its limits at S, and r itself is on the wrong side at S. So
+-- p is further outside at S than at T; but p is below r.
 --   no-clash    of `Facts`, what steps S and T know of each other
 --   barred      of `Barred`: a violated row that nothing can move bars every x that would meet the limits
 use mathlib.Core.Logic.{inl, inr, _⊎_}

@@ -21,7 +21,8 @@ use Rattle.rules.specs.Problem.{Problem, vars}
 use Rattle.rules.specs.Facts.Rule.{Entered, Left, Swap}
 use Rattle.rules.specs.Run.{Moves, Runs, after}
 use Rattle.rules.specs.Facts.State.{Sound}
-use Rattle.rules.specs.Step.{Leaving, Side, State, above, below, common, entering, leaves, leaving, limitAt, scaled, seat, seated, step}
+use Rattle.rules.specs.Step.{Leaving, Side, State, above, below, common, entering, leaves, leaving, limitAt}
+use Rattle.rules.specs.Step.{scaled, seat, seated, step}
 use Rattle.rules.specs.Tableau.{entry}
 
 module _ {X : Type 0} (𝓥 : Values X) where
@@ -92,7 +93,8 @@ module _ {X : Type 0} (𝓥 : Values X) where
 
       -- the steps at A and at B do not clash
       pub apart : (q : Leaving X) → q .variable < r .variable → Left 𝓥 P B q → Entered 𝓥 P B q (r .variable) → ⊥
-      apart q h LB EB = no-clash (sided (q .side) 𝓥) (sided-laws (q .side) L) (facts (q .side) (q .variable) (q .shortfall) h LB EB)
+      apart q h LB EB = no-clash (sided (q .side) 𝓥) (sided-laws (q .side) L)
+          (facts (q .side) (q .variable) (q .shortfall) h LB EB)
 
   -- ---- no arrangement comes twice
 

@@ -1,7 +1,8 @@
--- The part of the proof of termination that is about arrangements alone: where an arrangement comes twice, two steps S and T clash.
--- X is the type of values, of which nothing is asked; `seat k v` is variable v's seat before step k.
--- Let r be the largest variable that leaves in between, at S. After S it sits at the limit that it took until it enters at some T, or it
--- sits there at the end, so at the start, and enters at some T before S. Either way its value at T is the limit set at S.
+-- The part of the proof of termination that is about arrangements alone: where an arrangement comes twice, two steps S
+-- and T clash. X is the type of values, of which nothing is asked; `seat k v` is variable v's seat before step k. Let r
+-- be the largest variable that leaves in between, at S. After S it sits at the limit that it took until it enters at
+-- some T, or it sits there at the end, so at the start, and enters at some T before S. Either way its value at T is the
+-- limit set at S.
 use mathlib.Core.Logic.{inl, inr, _≢_, _⊎_}
 use mathlib.Core.Option.{Option, Option·none-ne-some, none, some}
 use mathlib.Core.Path.{refl, sym, _∙_, _≡_}
@@ -22,20 +23,21 @@ split : (a b : ℕ) → a ≤ b → (d : ℕ) × (a + d ≡ b)
 split a b h = (b - a, omega arith)
 
 module _ {X : Type 0} (seat : ℕ → ℕ → Option X) (leave enter : ℕ → ℕ) (lim : ℕ → X) where
-  pub record Enters (lo hi r : ℕ) (x : X) : Type 0 where
+  record Enters (lo hi r : ℕ) (x : X) : Type 0 where
     pub at : ℕ
     pub from : lo ≤ at
     pub upto : at < hi
     pub enters : enter at ≡ r
     pub value : seat at r ≡ some x
 
-  pub record Leaves (lo hi v : ℕ) : Type 0 where
+  record Leaves (lo hi v : ℕ) : Type 0 where
     pub at : ℕ
     pub from : lo ≤ at
     pub upto : at < hi
     pub leaves : leave at ≡ v
 
-  -- r leaves at S, and enters at T with the value that it got at S; what leaves at T is below r; what is above r and seated at T is so at S
+  -- r leaves at S, and enters at T with the value that it got at S; what leaves at T is below r; what is above r and
+  -- seated at T is so at S
   pub record ClashingSteps (i j : ℕ) : Type 0 where
     pub S : ℕ
     pub T : ℕ
@@ -46,7 +48,7 @@ module _ {X : Type 0} (seat : ℕ → ℕ → Option X) (leave enter : ℕ → �
     pub lower : leave T < leave S
     pub above : (w : ℕ) (x : X) → leave S < w → seat T w ≡ some x → seat S w ≡ some x
 
-  pub record Highest (lo hi : ℕ) : Type 0 where
+  record Highest (lo hi : ℕ) : Type 0 where
     pub at : ℕ
     pub from : lo ≤ at
     pub upto : at < hi

@@ -1,11 +1,11 @@
--- The passes decide: after as many as there are vertices the distances are settled, or there is a bad cycle (unsettled-cycle). So each input has one
--- of the two answers, and never both.
+-- The passes decide: after as many as there are vertices the distances are settled, or there is a bad cycle
+-- (unsettled-cycle). So each input has one of the two answers, and never both.
 --   settled-shortest, settled-open     settled distances are the shortest ones, and no walk closes below 0
 --   distances-low                      no distance is above 0
 --   still-can, still-distance          any walks' lengths that no row betters are those distances
 --   bad-cannot                         a bad cycle leaves them unsettled
 --   cycle-short                        a cycle has at most as many rows as there are vertices
-use mathlib.Core.Path.{_≡_, refl, sym, _∙_, ap, subst}
+use mathlib.Core.Path.{_≡_, refl, sym, _∙_, subst}
 use mathlib.Core.Bool.{Bool, true, false, cond}
 use mathlib.Core.List.{List}
 use mathlib.Core.Logic.{_⊎_, inl, inr}
@@ -15,10 +15,10 @@ use native.Mathlib.Nat.{mul-suc, mul-zero}
 use native.Mathlib.Decide.{decLt}
 use borrow.Author.Tests.{ltb-true, ltb-false}
 use lib.Dec.{ltb}
-use lib.ListN.{length, getD, set, replicate, length-set, length-replicate, getD-replicate, List·getD-eq-default}
+use lib.ListN.{length, getD, set, replicate, length-set, length-replicate}
 use lib.Seq.{getD-set-same, getD-set-other, slice}
 use Rattle.whole.specs.Below.{foldBelow, someBelow}
-use Rattle.whole.specs.Values.{Values, Lt, Le, Laws}
+use Rattle.whole.specs.Values.{Values, Le, Laws}
 use Rattle.whole.proofs.Bools.{either, true-false}
 use Rattle.whole.proofs.Lists.Below.{some-none, some-at}
 use Rattle.whole.proofs.Lists.Pigeons.{pigeons}
@@ -38,10 +38,12 @@ use Rattle.rules.proofs.Times.Passes.Closed.{trail-cycle}
 
 pub cycle-short : {X : Type 0} (E : Edges X) (rows : List ℕ) → EndsIn E → Cycle E rows → length rows ≤ E .vertices
 cycle-short E rows ends c =
-    pigeons (length rows) (E .vertices) (λ k. E .tail (rowTold rows k)) (λ k h. ends .tail-in (rowTold rows k) (c .listed k h)) (c .apart)
+    pigeons (length rows) (E .vertices) (λ k. E .tail (rowTold rows k))
+    (λ k h. ends .tail-in (rowTold rows k) (c .listed k h)) (c .apart)
 
 -- a list written at one place, as a function
-pub set-put : {A : Type 0} (l : List A) (y : ℕ) (a d : A) → y < length l → ButAt (λ v. getD l v d) (λ v. getD (set l y a) v d) y a
+pub set-put : {A : Type 0} (l : List A) (y : ℕ) (a d : A) → y < length l →
+    ButAt (λ v. getD l v d) (λ v. getD (set l y a) v d) y a
 set-put l y a d h = record { here = getD-set-same l y a d h; there = λ v n. getD-set-other l y v a d n }
 
 module _ {X : Type 0} {𝓥 : Values X} (L : Laws 𝓥) (E : Edges X) (ends : EndsIn E) where
@@ -67,11 +69,19 @@ module _ {X : Type 0} {𝓥 : Values X} (L : Laws 𝓥) (E : Edges X) (ends : En
       go true e = record {
         time = put (s .time) y (suc (b + i));
         last = put (s .last) y i;
-        traced = traced-taken L E b (s .time) (distance 𝓥 E ds) (s .last) i (s .traced) h e (distance 𝓥 E (set ds y d)) (put (s .last) y i)
+        traced = traced-taken L E b (s .time) (distance 𝓥 E ds) (s .last) i (s .traced) h e
+            (distance 𝓥 E (set ds y d)) (put (s .last) y i)
             (set-put ds y d (𝓥 .nil) (omega (arith, ends .head-in i h, s .long))) (put-put (s .last) y i);
         long = length-set ds y d ∙ s .long;
       }
-      go false e = record { time = s .time; last = s .last; traced = traced-kept L E b (s .time) (distance 𝓥 E ds) (s .last) i (s .traced) h e; long = s .long }
+      go false e =
+          record {
+            time = s .time;
+            last = s .last;
+            traced =
+                traced-kept L E b (s .time) (distance 𝓥 E ds) (s .last) i (s .traced) h e;
+            long = s .long;
+          }
 
   held-looks : (b : ℕ) (ds : List X) → Held b 0 ds → (i : ℕ) → i ≤ E .count → Held b i (looks 𝓥 E i ds)
   unfolding foldBelow
@@ -84,7 +94,8 @@ module _ {X : Type 0} {𝓥 : Values X} (L : Laws 𝓥) (E : Edges X) (ends : En
   held zero = record {
     time = λ v. 0;
     last = λ v. 0;
-    traced = subst (λ b. Traced 𝓥 E b 0 (λ v. 0) (distance 𝓥 E (replicate (E .vertices) (𝓥 .nil))) (λ v. 0)) (sym (mul-zero (E .count)))
+    traced = subst (λ b. Traced 𝓥 E b 0 (λ v. 0) (distance 𝓥 E (replicate (E .vertices) (𝓥 .nil))) (λ v. 0))
+        (sym (mul-zero (E .count)))
         (traced-start L E _ _ (λ v. replicate-at (E .vertices) (𝓥 .nil) v));
     long = length-replicate (E .vertices) (𝓥 .nil);
   }
@@ -92,7 +103,8 @@ module _ {X : Type 0} {𝓥 : Values X} (L : Laws 𝓥) (E : Edges X) (ends : En
       record {
         time = s .time;
         last = s .last;
-        traced = subst (λ b. Traced 𝓥 E b 0 (s .time) (distance 𝓥 E (passes 𝓥 E (suc k))) (s .last)) (sym (mul-suc (E .count) k)) (traced-pass L E _ _ _ _ (s .traced));
+        traced = subst (λ b. Traced 𝓥 E b 0 (s .time) (distance 𝓥 E (passes 𝓥 E (suc k))) (s .last))
+            (sym (mul-suc (E .count) k)) (traced-pass L E _ _ _ _ (s .traced));
         long = s .long;
       }
 
@@ -102,7 +114,8 @@ module _ {X : Type 0} {𝓥 : Values X} (L : Laws 𝓥) (E : Edges X) (ends : En
 
   -- ---- settled distances
 
-  pub settled-shortest : (k : ℕ) → settled 𝓥 E (passes 𝓥 E k) ≡ true → (v : ℕ) → Shortest 𝓥 E v (distance 𝓥 E (passes 𝓥 E k) v)
+  settled-shortest : (k : ℕ) → settled 𝓥 E (passes 𝓥 E k) ≡ true → (v : ℕ) →
+      Shortest 𝓥 E v (distance 𝓥 E (passes 𝓥 E k) v)
   settled-shortest k e v =
       let t = held k .traced in
       still-shortest L E (distance 𝓥 E (passes 𝓥 E k)) (settled-still 𝓥 E (passes 𝓥 E k) e) (t .low) v (t .walk v)
@@ -147,7 +160,8 @@ module _ {X : Type 0} {𝓥 : Values X} (L : Laws 𝓥) (E : Edges X) (ends : En
     late-cycle : (v : ℕ) → v < E .vertices → E .count * k < s .time v → (rows : List ℕ) × BadCycle 𝓥 E rows
     unfolding Back
     late-cycle v h l =
-        back (suc k) (replicate (suc k) 0) (replicate (E .vertices) 0) v (length-replicate {A = ℕ} (suc k) 0) (length-replicate {A = ℕ} (E .vertices) 0)
+        back (suc k) (replicate (suc k) 0) (replicate (E .vertices) 0) v (length-replicate {A = ℕ} (suc k) 0)
+        (length-replicate {A = ℕ} (E .vertices) 0)
         (trail-start E ends _ _ (s .time) D (s .last) (s .traced) (suc k) 0 (replicate (suc k) 0) v (E .vertices) h
         (λ q e. let z : k ≡ q = omega arith in subst (λ x. E .count * x < s .time v) z l))
 
@@ -156,7 +170,8 @@ module _ {X : Type 0} {𝓥 : Values X} (L : Laws 𝓥) (E : Edges X) (ends : En
 
     early-still : someBelow (E .vertices) late ≡ false → Still 𝓥 E D
     unfolding late
-    early-still e = traced-still L E (E .count * k) (s .time) D (s .last) (s .traced) (λ v. go v (decLt v (E .vertices)) (decLt 0 (s .time v)))
+    early-still e = traced-still L E (E .count * k) (s .time) D (s .last) (s .traced)
+        (λ v. go v (decLt v (E .vertices)) (decLt 0 (s .time v)))
       where
         go : (v : ℕ) → Dec (v < E .vertices) → Dec (0 < s .time v) → s .time v ≤ E .count * k
         go v (yes h) p = ltb-false (E .count * k) (s .time v) (some-none (E .vertices) late e v h)
@@ -166,12 +181,14 @@ module _ {X : Type 0} {𝓥 : Values X} (L : Laws 𝓥) (E : Edges X) (ends : En
             absurd (n (subst (λ u. u < E .vertices) (o .leads) h))
         go v (no n) (no p) = omega arith
 
-    pub unsettled-cycle : settled 𝓥 E (passes 𝓥 E (suc k)) ≡ false → (rows : List ℕ) × BadCycle 𝓥 E rows
+    unsettled-cycle : settled 𝓥 E (passes 𝓥 E (suc k)) ≡ false → (rows : List ℕ) × BadCycle 𝓥 E rows
     unfolding passes late
     unsettled-cycle e = go (either (someBelow (E .vertices) late))
       where
-        go : (someBelow (E .vertices) late ≡ true) ⊎ (someBelow (E .vertices) late ≡ false) → (rows : List ℕ) × BadCycle 𝓥 E rows
-        go (inl f) = let w = some-at (E .vertices) late f in late-cycle (w .0) (w .1) (ltb-true (E .count * k) (s .time (w .0)) (w .2))
+        go : (someBelow (E .vertices) late ≡ true) ⊎ (someBelow (E .vertices) late ≡ false) →
+            (rows : List ℕ) × BadCycle 𝓥 E rows
+        go (inl f) = let w = some-at (E .vertices) late f in
+            late-cycle (w .0) (w .1) (ltb-true (E .count * k) (s .time (w .0)) (w .2))
         go (inr f) = true-false (still-settled 𝓥 E _ (early-still f)) e
 
   -- ---- the two answers
@@ -181,7 +198,10 @@ module _ {X : Type 0} {𝓥 : Values X} (L : Laws 𝓥) (E : Edges X) (ends : En
   cannot-cycle e = go (E .vertices) refl e
     where
       go : (n : ℕ) → E .vertices ≡ n → settled 𝓥 E (passes 𝓥 E n) ≡ false → (rows : List ℕ) × BadCycle 𝓥 E rows
-      go zero f e = true-false (still-settled 𝓥 E _ (λ i h. let k : E .tail i < E .vertices = ends .tail-in i h in let z : ⊥ = omega arith in absurd z)) e
+      go zero f e =
+          true-false
+          (still-settled 𝓥 E _
+          (λ i h. let k : E .tail i < E .vertices = ends .tail-in i h in let z : ⊥ = omega arith in absurd z)) e
       go (suc k) f e = unsettled-cycle k (omega arith) e
 
   pub can-still : canMeet 𝓥 E ≡ true → Still 𝓥 E (distance 𝓥 E (distances 𝓥 E))
@@ -203,7 +223,7 @@ module _ {X : Type 0} {𝓥 : Values X} (L : Laws 𝓥) (E : Edges X) (ends : En
       go (inl e) = absurd (bad-no-still L E rows b (distance 𝓥 E (distances 𝓥 E)) (can-still e))
       go (inr e) = e
 
-  pub open-can : (ClosesBelow 𝓥 E → ⊥) → canMeet 𝓥 E ≡ true
+  open-can : (ClosesBelow 𝓥 E → ⊥) → canMeet 𝓥 E ≡ true
   open-can n = go (either (canMeet 𝓥 E))
     where
       go : (canMeet 𝓥 E ≡ true) ⊎ (canMeet 𝓥 E ≡ false) → canMeet 𝓥 E ≡ true
@@ -216,4 +236,5 @@ module _ {X : Type 0} {𝓥 : Values X} (L : Laws 𝓥) (E : Edges X) (ends : En
     still-can = open-can (still-open L E D s)
 
     pub still-distance : (v : ℕ) → D v ≡ distance 𝓥 E (distances 𝓥 E) v
-    still-distance v = shortest-only L E v _ _ (still-shortest L E D s (t .low) v (t .walk v)) (can-shortest still-can v)
+    still-distance v =
+        shortest-only L E v _ _ (still-shortest L E D s (t .low) v (t .walk v)) (can-shortest still-can v)

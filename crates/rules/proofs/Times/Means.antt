@@ -11,7 +11,7 @@ use mathlib.Core.Path.{_≡_, refl, sym, _∙_, ap, ap₂, subst}
 use mathlib.Core.Bool.{Bool, true, false}
 use mathlib.Core.List.{List, [], _∷_}
 use mathlib.Core.Logic.{_⊎_, inl, inr}
-use Prim.Native.Nat.{ℕ, zero, suc, _≤_, _<_}
+use Prim.Native.Nat.{ℕ, zero, suc, _<_}
 use native.Mathlib.Omega.{arith}
 use lib.Dec.{le→leb}
 use lib.IntN.{ℤ, pos, negℤ, negℤ-negℤ, _+ℤ_, _-ℤ_, _*ℤ_}
@@ -209,7 +209,8 @@ module _ {ws : List ℤ} {room : ℕ} (A : AcceptedTimes ws room) where
       bad : BadCycle whole (over d) rows
       bad = record {
         cycle = record { listed = c .listed; linked = c .linked; closed = c .closed; apart = c .apart };
-        below = subst (λ z. Lt whole z (pos 0)) (sym (mixed-total (pos 1) d (length rows) (λ k. E .size (rowTold rows k))))
+        below = subst (λ z. Lt whole z (pos 0))
+            (sym (mixed-total (pos 1) d (length rows) (λ k. E .size (rowTold rows k))))
             (lt→true (below-over d (around pairs E rows) h sum-low (b .below)));
       }
 

@@ -1,6 +1,7 @@
 -- docs/RULES.md, "Time rows", the table of refusals, line by line: each test is true exactly where its line applies
 -- (`timesTable` of specs/Times/Words), and the refusal is the first that applies.
---   times-refusal-exactly         the refusal is k exactly where no earlier line's meaning holds and line k's does, and 0 where none does
+--   times-refusal-exactly         the refusal is k exactly where no earlier line's meaning holds and line k's does, and
+--                                 0 where none does
 --   times-accepted-exactly        it is 0 exactly for accepted words with room enough
 --   accepted-ends, vertices-few, ..      what accepted words hold, as facts about their sizes and their edges
 use mathlib.Core.Path.{_≡_}
@@ -26,30 +27,33 @@ use Rattle.rules.proofs.Refusal.Exactly.{few-tells}
 use Rattle.rules.specs.Facts.Refusal.{AllFine, First, InRange, OutOfRange}
 
 module _ (ws : List ℤ) where
-  pub times-size-tells : Tells (badTimeSize ws) (OutOfRange 1 mostVertices (word ws 0) ⊎ OutOfRange 0 mostTimeRows (word ws 1))
+  pub times-size-tells : Tells (badTimeSize ws)
+      (OutOfRange 1 mostVertices (word ws 0) ⊎ OutOfRange 0 mostTimeRows (word ws 1))
       (InRange 1 mostVertices (word ws 0) × InRange 0 mostTimeRows (word ws 1))
   unfolding badTimeSize
   times-size-tells = tells-or (tells-outside 1 mostVertices (word ws 0)) (tells-outside 0 mostTimeRows (word ws 1))
 
-  pub count-tells : Tells (badWordCount ws) (length ws ≢ 2 + 4 * mOf ws) (length ws ≡ 2 + 4 * mOf ws)
+  count-tells : Tells (badWordCount ws) (length ws ≢ 2 + 4 * mOf ws) (length ws ≡ 2 + 4 * mOf ws)
   unfolding badWordCount
   count-tells = tells-not (tells-eq (length ws) (2 + 4 * mOf ws))
 
   -- of one row
-  pub end-tells : (i : ℕ) → Tells (badEnd ws i) (OutOfRange 0 (nOf ws - 1) (fromWord ws i) ⊎ OutOfRange 0 (nOf ws - 1) (toWord ws i))
+  end-tells : (i : ℕ) →
+      Tells (badEnd ws i) (OutOfRange 0 (nOf ws - 1) (fromWord ws i) ⊎ OutOfRange 0 (nOf ws - 1) (toWord ws i))
       (InRange 0 (nOf ws - 1) (fromWord ws i) × InRange 0 (nOf ws - 1) (toWord ws i))
   unfolding badEnd
   end-tells i = tells-or (tells-outside 0 (nOf ws - 1) (fromWord ws i)) (tells-outside 0 (nOf ws - 1) (toWord ws i))
 
-  pub strict-tells : (i : ℕ) → Tells (badStrict ws i) (OutOfRange 0 1 (strictWord ws i)) (InRange 0 1 (strictWord ws i))
+  strict-tells : (i : ℕ) → Tells (badStrict ws i) (OutOfRange 0 1 (strictWord ws i)) (InRange 0 1 (strictWord ws i))
   unfolding badStrict
   strict-tells i = tells-outside 0 1 (strictWord ws i)
 
-  pub span-tells : (i : ℕ) → Tells (badRowLength ws i) (¬ Within (lengthWord ws i) largestLength) (Within (lengthWord ws i) largestLength)
+  span-tells : (i : ℕ) →
+      Tells (badRowLength ws i) (¬ Within (lengthWord ws i) largestLength) (Within (lengthWord ws i) largestLength)
   unfolding badRowLength
   span-tells i = tells-not (tells-within largestLength (lengthWord ws i))
 
-  pub times-room-tells : (room : ℕ) → Tells (noRoom ws room) (room < timesLength ws) (timesLength ws ≤ room)
+  times-room-tells : (room : ℕ) → Tells (noRoom ws room) (room < timesLength ws) (timesLength ws ≤ room)
   unfolding noRoom
   times-room-tells room = tells-lt room (timesLength ws)
 
@@ -129,8 +133,10 @@ module _ {ws : List ℤ} {room : ℕ} (A : AcceptedTimes ws room) where
 
   pub accepted-ends : EndsIn (timeEdges ws)
   accepted-ends = record {
-    tail-in = λ i h. let k : natAbs (fromWord ws i) ≤ nOf ws - 1 = under-size (nOf ws - 1) 0 _ (A .from-least i h) (A .from-most i h) in omega (arith, vertices-some);
-    head-in = λ i h. let k : natAbs (toWord ws i) ≤ nOf ws - 1 = under-size (nOf ws - 1) 0 _ (A .to-least i h) (A .to-most i h) in omega (arith, vertices-some);
+    tail-in = λ i h. let k : natAbs (fromWord ws i) ≤ nOf ws - 1 =
+        under-size (nOf ws - 1) 0 _ (A .from-least i h) (A .from-most i h) in omega (arith, vertices-some);
+    head-in = λ i h. let k : natAbs (toWord ws i) ≤ nOf ws - 1 =
+        under-size (nOf ws - 1) 0 _ (A .to-least i h) (A .to-most i h) in omega (arith, vertices-some);
   }
 
   pub strict-within : (i : ℕ) → i < mOf ws → Within (strictWord ws i) 1

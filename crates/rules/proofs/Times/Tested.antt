@@ -1,4 +1,5 @@
--- The test for a bad cycle passes exactly on bad cycles (bad-cycle-exactly): so what the worked cases compute is the whole statement.
+-- The test for a bad cycle passes exactly on bad cycles (bad-cycle-exactly): so what the worked cases compute is the
+-- whole statement.
 use mathlib.Core.Path.{_≡_, ap}
 use mathlib.Core.Bool.{Bool, true, not, _&&_}
 use mathlib.Core.List.{List}
@@ -47,9 +48,12 @@ module _ {X : Type 0} (𝓥 : Values X) (E : Edges X) (rows : List ℕ) where
   made : isBadCycle 𝓥 E rows ≡ true → BadCycle 𝓥 E rows
   unfolding isBadCycle
   made e =
-      let p : ((all-listed && all-linked && closed && all-apart) ≡ true) × (below ≡ true) = and-true (all-listed && all-linked && closed && all-apart) below e in
-      let q : ((all-listed && all-linked && closed) ≡ true) × (all-apart ≡ true) = and-true (all-listed && all-linked && closed) all-apart (p .0) in
-      let r : ((all-listed && all-linked) ≡ true) × (closed ≡ true) = and-true (all-listed && all-linked) closed (q .0) in
+      let p : ((all-listed && all-linked && closed && all-apart) ≡ true) × (below ≡ true) =
+      and-true (all-listed && all-linked && closed && all-apart) below e in
+      let q : ((all-listed && all-linked && closed) ≡ true) × (all-apart ≡ true) =
+      and-true (all-listed && all-linked && closed) all-apart (p .0) in
+      let r : ((all-listed && all-linked) ≡ true) × (closed ≡ true) =
+      and-true (all-listed && all-linked) closed (q .0) in
       let s : (all-listed ≡ true) × (all-linked ≡ true) = and-true all-listed all-linked (r .0) in
       record {
         cycle = record {
@@ -68,10 +72,12 @@ module _ {X : Type 0} (𝓥 : Values X) (E : Edges X) (rows : List ℕ) where
   passed c = and-of (and-of (and-of (and-of
       (all-of (length rows) listed (λ k h. tells-true (tells-lt (rowTold rows k) (E .count)) (c .cycle .listed k h)))
       (all-of (length rows - 1) linked (λ k h.
-      tells-true (tells-eq (E .head (rowTold rows k)) (E .tail (rowTold rows (suc k)))) (c .cycle .linked k (omega arith)))))
+      tells-true (tells-eq (E .head (rowTold rows k)) (E .tail (rowTold rows (suc k))))
+      (c .cycle .linked k (omega arith)))))
       (tells-true (tells-eq (E .head (rowTold rows (length rows - 1))) (E .tail (rowTold rows 0))) (c .cycle .closed)))
       (all-of (length rows) apart (λ k h. all-of k (λ j. not (met k j)) (λ j l.
-      ap not (tells-false (tells-eq (E .tail (rowTold rows j)) (E .tail (rowTold rows k))) (c .cycle .apart j k l h))))))
+      ap not (tells-false (tells-eq (E .tail (rowTold rows j)) (E .tail (rowTold rows k)))
+      (c .cycle .apart j k l h))))))
       (c .below)
 
   pub bad-cycle-exactly : (isBadCycle 𝓥 E rows ≡ true) ↔ BadCycle 𝓥 E rows

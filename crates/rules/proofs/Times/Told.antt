@@ -87,7 +87,7 @@ module _ (ws before after : List ℤ) (x : Timed ws before 0 after) where
         (time-at _ (accepted-ends A .tail-in i h)) (time-at _ (accepted-ends A .head-in i h))
         (times-meet A e d k p m i h)
 
-    pub told-times : TimesTold ws after
+    told-times : TimesTold ws after
     told-times = record {
       long = long;
       verdict = ap (λ l. word l 0) met;
@@ -137,7 +137,7 @@ module _ (ws before after : List ℤ) (x : Timed ws before 0 after) where
         place : k ≡ length (map pos (x .rows)) + (k - length (x .rows))
         place = omega (arith, length-map (x .rows) pos)
 
-    pub told-cycle : CycleTold ws after
+    told-cycle : CycleTold ws after
     told-cycle = record {
       long = long;
       rows = x .rows;

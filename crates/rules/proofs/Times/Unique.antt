@@ -8,7 +8,7 @@ use mathlib.Core.Path.{_≡_, refl, sym, _∙_, ap}
 use mathlib.Core.Bool.{true, false, cond}
 use mathlib.Core.List.{List, _∷_, _++_, map}
 use mathlib.Core.Logic.{_⊎_, inl, inr}
-use Prim.Native.Nat.{ℕ, zero, suc, _+_, _*_}
+use Prim.Native.Nat.{ℕ, zero, suc, _*_}
 use native.Mathlib.Omega.{arith}
 use lib.IntN.{ℤ, pos}
 use lib.ListN.{length, drop, length-append, length-drop, length-map, length-replicate}
@@ -38,14 +38,16 @@ unfolding timesAnswer
 answer-cannot ws rows e =
     ap (λ b. cond b (pos 1 ∷ pos (nOf ws) ∷ timesOf ws) (pos 2 ∷ pos (length rows) ∷ cycleWords (2 * nOf ws) rows)) e
 
-kept-same : (k : ℕ) (ws : List ℤ) (rows other : List ℕ) (before : List ℤ) → timesWritten (suc k) ws rows before ≡ timesWritten (suc k) ws other before
+kept-same : (k : ℕ) (ws : List ℤ) (rows other : List ℕ) (before : List ℤ) →
+    timesWritten (suc k) ws rows before ≡ timesWritten (suc k) ws other before
 unfolding timesWritten
 kept-same k ws rows other before = refl
 
 met-same : (ws : List ℤ) (rows other : List ℕ) (before : List ℤ) → canMeet pairs (timeEdges ws) ≡ true →
     timesWritten 0 ws rows before ≡ timesWritten 0 ws other before
 unfolding timesWritten
-met-same ws rows other before e = ap (λ l. l ++ drop (timesLength ws) before) (answer-can ws rows e ∙ sym (answer-can ws other e))
+met-same ws rows other before e =
+    ap (λ l. l ++ drop (timesLength ws) before) (answer-can ws rows e ∙ sym (answer-can ws other e))
 
 pub times-only : (ws before : List ℤ) (r q : ℕ) (a c : List ℤ) (x : Timed ws before r a) (y : Timed ws before q c) →
     (r ≡ q) × ((a ≡ c) ⊎ Free ws r (x .rows) (y .rows))
@@ -59,13 +61,15 @@ times-only ws before r q a c x y = (same, go r refl (either (canMeet pairs (time
 
     -- where the rows are not written
     written : (k : ℕ) → r ≡ k → timesWritten k ws (x .rows) before ≡ timesWritten k ws (y .rows) before → a ≡ c
-    written k e f = x .written ∙ ap (λ j. timesWritten j ws (x .rows) before) e ∙ f ∙ ap (λ j. timesWritten j ws (y .rows) before) (sym e) ∙ sym as-r
+    written k e f = x .written ∙ ap (λ j. timesWritten j ws (x .rows) before) e ∙ f
+        ∙ ap (λ j. timesWritten j ws (y .rows) before) (sym e) ∙ sym as-r
 
     go : (k : ℕ) → r ≡ k → (canMeet pairs (timeEdges ws) ≡ true) ⊎ (canMeet pairs (timeEdges ws) ≡ false) →
         (a ≡ c) ⊎ Free ws r (x .rows) (y .rows)
     go (suc k) e t = inl (written (suc k) e (kept-same k ws (x .rows) (y .rows) before))
     go zero e (inl t) = inl (written 0 e (met-same ws (x .rows) (y .rows) before t))
-    go zero e (inr t) = inr (record { answered = e; cannot = t; bad = x .named e t; other-bad = y .named (sym same ∙ e) t })
+    go zero e (inr t) =
+        inr (record { answered = e; cannot = t; bad = x .named e t; other-bad = y .named (sym same ∙ e) t })
 
 -- ---- the output's length, and what is past the answer
 
@@ -88,7 +92,7 @@ cycle-long {ws} A rows b =
     simp (length-append, length-map, length-replicate)
     (omega (arith, cycle-short (timeEdges ws) rows (accepted-ends A) (b .cycle)))
 
-pub answer-long : {ws : List ℤ} {room : ℕ} → AcceptedTimes ws room → (rows : List ℕ) →
+answer-long : {ws : List ℤ} {room : ℕ} → AcceptedTimes ws room → (rows : List ℕ) →
     (canMeet pairs (timeEdges ws) ≡ false → BadCycle pairs (timeEdges ws) rows) →
     length (timesAnswer ws rows) ≡ timesLength ws
 answer-long {ws} A rows b = go (either (canMeet pairs (timeEdges ws)))
@@ -111,14 +115,16 @@ times-length ws before r after x = go r refl
         ∙ length-append (timesAnswer ws (x .rows)) (drop (timesLength ws) before)
         ∙ omega (arith, answer-long A (x .rows) (x .named e), length-drop (timesLength ws) before, A .roomy)
 
-pub times-past : (ws before : List ℤ) (r : ℕ) (after : List ℤ) → Timed ws before r after → drop (timesLength ws) after ≡ drop (timesLength ws) before
+pub times-past : (ws before : List ℤ) (r : ℕ) (after : List ℤ) → Timed ws before r after →
+    drop (timesLength ws) after ≡ drop (timesLength ws) before
 unfolding timesWritten
 times-past ws before r after x = go r refl
   where
     go : (k : ℕ) → r ≡ k → drop (timesLength ws) after ≡ drop (timesLength ws) before
     go (suc k) e = ap (drop (timesLength ws)) (x .written ∙ ap (λ j. timesWritten j ws (x .rows) before) e)
     go zero e =
-        let A : AcceptedTimes ws (length before) = times-accepted-exactly ws (length before) .0 (sym (x .refused) ∙ e) in
+        let A : AcceptedTimes ws (length before) =
+        times-accepted-exactly ws (length before) .0 (sym (x .refused) ∙ e) in
         let l : length (timesAnswer ws (x .rows)) ≡ timesLength ws = answer-long A (x .rows) (x .named e) in
         ap (drop (timesLength ws)) (x .written ∙ ap (λ j. timesWritten j ws (x .rows) before) e)
         ∙ ap (λ n. drop n (timesAnswer ws (x .rows) ++ drop (timesLength ws) before)) (sym l)

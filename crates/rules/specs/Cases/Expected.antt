@@ -1,4 +1,5 @@
--- What is expected of words, and what comes out of them by the rules: the form of the worked cases (Cases/Limits.antt, Cases/Times.antt).
+-- What is expected of words, and what comes out of them by the rules: the form of the worked cases (Cases/Limits.antt,
+-- Cases/Times.antt).
 use mathlib.Core.Path.{_≡_}
 use mathlib.Core.Bool.{cond}
 use mathlib.Core.List.{List, [], _∷_, map}
@@ -27,8 +28,8 @@ pub record Case : Type 0 where
   pub words : List ℤ
   pub expected : Expected
 
--- What comes out of words, with just room enough: the refusal's number; the checker's number of an answer; what the lengths of a cycle's rows
--- sum to, and 1 where they are a bad cycle; and the answer's words
+-- What comes out of words, with just room enough: the refusal's number; the checker's number of an answer; what the
+-- lengths of a cycle's rows sum to, and 1 where they are a bad cycle; and the answer's words
 unfoldable pub comesOut : List ℤ → Expected → List ℤ
 comesOut ws (refused k) = pos (refusal ws (answerLength ws)) ∷ []
 comesOut ws (answers a) = pos (refusal ws (length a)) ∷ pos (checked ws a) ∷ answer ws

@@ -67,13 +67,15 @@ caseC = gives
 abbrev caseD : Case
 caseD = gives
     (two (pos 2) (pos 2) ++ two (pos 1) (pos 2) ++ two (pos 2) (pos 1)
-    ++ between (minus 1) (pos 0) ++ between (minus 4) (pos 0) ++ between (minus 5) (minus 4) ++ between (minus 7) (pos 1))
+    ++ between (minus 1) (pos 0) ++ between (minus 4) (pos 0) ++ between (minus 5)
+    (minus 4) ++ between (minus 7) (pos 1))
     (pos 1 ∷ pos 2 ∷ pos 2 ∷ minus 2 ∷ minus 3 ∷ minus 8 ∷ minus 7 ∷ zeros 4)
 
 -- -x+y<=1, y<=4, -x-y<=-6, 3x-y<=7, all as rows: can, 2, over 4: 13 11 -2 11 -24 28
 abbrev caseE : Case
 caseE = gives
-    (two (pos 2) (pos 4) ++ two (minus 1) (pos 1) ++ two (pos 0) (pos 1) ++ two (minus 1) (minus 1) ++ two (pos 3) (minus 1)
+    (two (pos 2) (pos 4) ++ two (minus 1) (pos 1) ++ two (pos 0) (pos 1)
+    ++ two (minus 1) (minus 1) ++ two (pos 3) (minus 1)
     ++ free ++ free ++ upperOnly (pos 1) ++ upperOnly (pos 4) ++ upperOnly (minus 6) ++ upperOnly (pos 7))
     (pos 1 ∷ pos 2 ∷ pos 4 ∷ pos 13 ∷ pos 11 ∷ minus 2 ∷ pos 11 ∷ minus 24 ∷ pos 28 ∷ zeros 6)
 

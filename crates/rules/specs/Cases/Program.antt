@@ -11,11 +11,11 @@ use Rattle.rules.specs.Cases.Expected.{minus}
 use Rattle.rules.specs.Cases.Limits.{limitCases}
 
 -- the limits of a variable that is 0 or more, and then others
-abbrev pub zeroOrMore : List ℤ → List ℤ
+abbrev zeroOrMore : List ℤ → List ℤ
 zeroOrMore ws = pos 1 ∷ pos 0 ∷ pos 0 ∷ ws
 
 -- four rows 999 w - 1000 v >= 0 along five variables, the first at least 1: the third pivot would leave 999 ^ 4
-abbrev pub outOfRange : List ℤ
+abbrev outOfRange : List ℤ
 outOfRange =
     pos 5 ∷ pos 4
     ∷ minus 1000 ∷ pos 999 ∷ pos 0 ∷ pos 0 ∷ pos 0

@@ -1,6 +1,6 @@
--- docs/RULES.md, "Switching limits": the words of a problem with some of its limits taken out, which the evidence checker
--- is handed with the answer of a session's check. A limit that is taken out is missing: its bit and its mark are gone,
--- and its word is 0.
+-- docs/RULES.md, "Switching limits": the words of a problem with some of its limits taken out, which the evidence
+-- checker is handed with the answer of a session's check. A limit that is taken out is missing: its bit and its mark
+-- are gone, and its word is 0.
 use mathlib.Core.Bool.{Bool, cond, _&&_}
 use mathlib.Core.List.{List}
 use Prim.Native.Nat.{ℕ, _+_, _-_, _/_, _%_, _^_}

@@ -66,7 +66,7 @@ RowSays true z c = z <ℤ c
 RowSays false z c = z ≤ℤ c
 
 -- .. of the times t v / d, fractions of a minute
-abbrev pub MeetsRow : List ℤ → ℤ → (ℕ → ℤ) → ℕ → Type 0
+abbrev MeetsRow : List ℤ → ℤ → (ℕ → ℤ) → ℕ → Type 0
 MeetsRow ws d t i =
     RowSays (eqZ (strictWord ws i) (pos 1)) (t (timeEdges ws .tail i) -ℤ t (timeEdges ws .head i))
     (d *ℤ lengthWord ws i)

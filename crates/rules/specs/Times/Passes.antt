@@ -1,5 +1,6 @@
--- docs/RULES.md, "Time rows", last paragraph: the distances, computed. In a pass each row is looked at once, in order; a row that leads to a shorter
--- walk betters the distance of its head. After as many passes as there are vertices the distances are the shortest ones, if no row betters them.
+-- docs/RULES.md, "Time rows", last paragraph: the distances, computed. In a pass each row is looked at once, in order;
+-- a row that leads to a shorter walk betters the distance of its head. After as many passes as there are vertices the
+-- distances are the shortest ones, if no row betters them.
 use mathlib.Core.Bool.{Bool, cond, not}
 use mathlib.Core.List.{List}
 use Prim.Native.Nat.{ℕ, zero, suc}

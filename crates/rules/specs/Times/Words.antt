@@ -1,6 +1,7 @@
--- docs/RULES.md, "Time rows", first two paragraphs: the words n, m, then m rows x, y, strict, c; their refusals in order; and the edges that they are.
+-- docs/RULES.md, "Time rows", first two paragraphs: the words n, m, then m rows x, y, strict, c; their refusals in
+-- order; and the edges that they are.
 use mathlib.Core.Bool.{Bool, _||_, not}
-use mathlib.Core.List.{List, [], _∷_, _++_}
+use mathlib.Core.List.{List, [], _∷_}
 use mathlib.Core.Logic.{_≢_, _⊎_}
 use Prim.Native.Nat.{ℕ, _+_, _*_, _-_, _≤_, _<_}
 use mathlib.Core.Path.{_≡_}
@@ -56,7 +57,8 @@ noRoom ws room = ltb room (timesLength ws)
 
 -- the rows below k, then what comes after them
 abbrev pub rowTests : List ℤ → ℕ → List (Bool × ℕ) → List (Bool × ℕ)
-rowTests ws k after = (someBelow k (badEnd ws), 14) ∷ (someBelow k (badStrict ws), 15) ∷ (someBelow k (badRowLength ws), 16) ∷ after
+rowTests ws k after = (someBelow k (badEnd ws), 14) ∷ (someBelow k (badStrict ws), 15) ∷
+    (someBelow k (badRowLength ws), 16) ∷ after
 
 unfoldable pub timeTests : List ℤ → ℕ → List (Bool × ℕ)
 timeTests ws room =

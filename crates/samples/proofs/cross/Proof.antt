@@ -1,5 +1,5 @@
--- `samples::cross` meets its contract: each product is within the square of the largest number, and the difference within twice that.
--- Assumes nothing.
+-- `samples::cross` meets its contract: each product is within the square of the largest number, and the difference
+-- within twice that. Assumes nothing.
 use borrow.Author.Needs.{needs}
 use lib.IntN.{ℤ, _*ℤ_, _-ℤ_}
 use mir.Syntax.{w64}

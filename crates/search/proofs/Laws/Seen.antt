@@ -13,7 +13,7 @@ use Rattle.search.specs.Search.{Searchable, brokenLaid, leavingAt, leavi
 use Rattle.search.specs.Search.{enteringLaid, moveBy, nextBy, nextByLaid, nextAt, nextLaid}
 
 -- a tableau with other variables at its places
-abbrev pub seatedAs : Tableau → List Variable → List Variable → Tableau
+abbrev seatedAs : Tableau → List Variable → List Variable → Tableau
 seatedAs t basic nonbasic = record {
   rows = t .rows;
   columns = t .columns;

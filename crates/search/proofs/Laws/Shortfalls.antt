@@ -36,7 +36,8 @@ use Rattle.search.proofs.Laws.Stands.{leaving-is}
 use Rattle.search.proofs.Laws.Sums.{row-within}
 
 -- a limit that is missing counts as 0
-seated-near : (f : Limit → ℤ × ℤ) (g : Given) → NearLimit (f (stated g)) → NearLimit (seated pairs (mapped f (limitIn g)))
+seated-near : (f : Limit → ℤ × ℤ) (g : Given) → NearLimit (f (stated g)) →
+    NearLimit (seated pairs (mapped f (limitIn g)))
 unfolding seated present mapped
 seated-near f g h = go (g .on)
   where

@@ -12,25 +12,8 @@ use Rattle.whole.specs.Below.{lowest}
 use Rattle.whole.specs.Values.{pairs}
 use Rattle.whole.proofs.Lists.Turns.{lowest-same}
 use Rattle.rules.specs.Problem.{Problem, vars}
-use Rattle.rules.specs.Step.{
-  Leaving,
-  Side,
-  State,
-  above,
-  below,
-  broken,
-  common,
-  entering,
-  leaves,
-  leaving,
-  over,
-  pull,
-  scaled,
-  seat,
-  shortfallOf,
-  suits,
-  under,
-}
+use Rattle.rules.specs.Step.{Leaving, Side, State, above, below, broken, common, entering, leaves, leaving, over, pull}
+use Rattle.rules.specs.Step.{scaled, seat, shortfallOf, suits, under}
 use Rattle.rules.specs.Tableau.{entry}
 use Rattle.rules.specs.Facts.Rule.{Left}
 use Rattle.rules.proofs.Step.Leaving.{left}
@@ -135,7 +118,7 @@ module _ (P : Problem (ℤ × ℤ)) (t : Tableau) (s : State (ℤ × ℤ)) (St :
         go (some x) e = ap₂ (λ b g. cond b none (cond g (some w) none)) (St .placed .has-column w x h e .flag)
             (fitting-is w x h e)
 
-    pub entering-is : enteringAt t (rowOf t (r .variable)) (r .side) ≡ entering pairs P s r
+    entering-is : enteringAt t (rowOf t (r .variable)) (r .side) ≡ entering pairs P s r
     unfolding enteringLaid entering
     entering-is = ap (λ k. lowest k (enteringOf t (rowOf t (r .variable)) (r .side))) all-vars
         ∙ lowest-same (enteringOf t (rowOf t (r .variable)) (r .side)) (λ w. cond (test w (seat s w)) (some w) none)

@@ -135,7 +135,8 @@ first-alone false = refl
 -- the sign of the entry says which of the two tests counts
 module _ (x : ℤ × ℤ) (p : LimitPair) where
   abbrev pub suitsJoined : Bool → Bool → Bool
-  suitsJoined idle falls = not idle && ((falls && mayFall pairs x (lowerIn p)) || (not falls && mayRise pairs x (upperIn p)))
+  suitsJoined idle falls =
+      not idle && ((falls && mayFall pairs x (lowerIn p)) || (not falls && mayRise pairs x (upperIn p)))
 
   abbrev pub falls : Bool → ℤ → Bool
   falls rises e = Bool·beq (ltZ e (pos 0)) rises

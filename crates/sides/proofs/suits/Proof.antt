@@ -39,7 +39,8 @@ zero-fits = record { sfits = lit< tt }
 returns : tie.Need-returns
 returns c = let s = start c in let a = s .args in
     simp (toZ-ofZ (s .fits .entry), fall-is c, rise-is c)
-    (ap (λ z. suitsJoined (pairIn (a .value)) (a .limits) z (falls (pairIn (a .value)) (a .limits) (a .rises) (a .entry)))
+    (ap (λ z. suitsJoined (pairIn (a .value)) (a .limits) z
+    (falls (pairIn (a .value)) (a .limits) (a .rises) (a .entry)))
     (bits-eq w32 (s .fits .entry) zero-fits)
     ∙ suits-joined (pairIn (a .value)) (a .limits) (a .rises) (a .entry))
 

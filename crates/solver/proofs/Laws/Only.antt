@@ -13,4 +13,5 @@ spend-only κs x a b e f h k = (h .0 ∙ sym (k .0), h .1 ∙ sym (k .1))
 
 pub solve-only : (κs : _) (x : _) (a b : _) (e f : _) → solve.Post κs x a e → solve.Post κs x b f →
     (a ≡ b) × (e .1 .0 .now ≡ f .1 .0 .now)
-solve-only κs x a b e f h k = let n : a ≡ b = h .0 ∙ sym (k .0) in (n, h .1 ∙ ap (λ j. written j (x .0 .now) (x .1 .0 .now)) n ∙ sym (k .1))
+solve-only κs x a b e f h k = let n : a ≡ b = h .0 ∙ sym (k .0) in
+    (n, h .1 ∙ ap (λ j. written j (x .0 .now) (x .1 .0 .now)) n ∙ sym (k .1))

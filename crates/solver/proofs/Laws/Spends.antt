@@ -31,23 +31,28 @@ ran-along zero c t g = ap (ranAt t) (let z : 0 + c ≡ c = omega arith in z)
 ran-along (suc k) c t g =
     ap (ranAt t) (let z : suc k + c ≡ suc (k + c) = omega arith in z)
     ∙ ap (λ x. spentBy x t (ranAt (steppedAt t .tableau) (k + c))) (g 0 (omega arith))
-    ∙ ap counted (ran-along k c (steppedAt t .tableau) (λ i h. ap (λ u. steppedAt u .course) (after-front t i) ∙ g (suc i) (omega arith)))
+    ∙ ap counted
+    (ran-along k c (steppedAt t .tableau)
+    (λ i h. ap (λ u. steppedAt u .course) (after-front t i) ∙ g (suc i) (omega arith)))
     ∙ ap (λ u. counted (further k (ranAt u c))) (after-front t k)
     ∙ same-count (ranAt (afterAt t (suc k)) c)
-    (let z : suc (k + ranAt (afterAt t (suc k)) c .count) ≡ suc k + ranAt (afterAt t (suc k)) c .count = omega arith in z)
+    (let z : suc (k + ranAt (afterAt t (suc k)) c .count) ≡ suc k + ranAt (afterAt t (suc k)) c .count =
+    omega arith in z)
 
 module _ (t : Tableau) (k most : ℕ) (g : GoesOn t k) where
   pub ran-over : (e : End) → k ≤ most → steppedAt (afterAt t k) .course ≡ over e →
       ranAt t most ≡ record { tableau = afterAt t k; course = over e; count = k }
   unfolding ranAt
-  ran-over e h q = ap (ranAt t) (let z : most ≡ k + (most - k) = omega arith in z) ∙ ran-along k (most - k) t g ∙ go (most - k)
+  ran-over e h q = ap (ranAt t) (let z : most ≡ k + (most - k) = omega arith in z)
+      ∙ ran-along k (most - k) t g ∙ go (most - k)
     where
       go : (c : ℕ) → further k (ranAt (afterAt t k) c) ≡ record { tableau = afterAt t k; course = over e; count = k }
       go zero = ap₂ (λ x j. record { tableau = afterAt t k; course = x; count = j }) q (add-zero k)
       go (suc c) = ap (λ x. further k (spentBy x (afterAt t k) (ranAt (steppedAt (afterAt t k) .tableau) c))) q
           ∙ ap (λ j. record { tableau = afterAt t k; course = over e; count = j }) (add-zero k)
 
-  pub ran-spent : k ≡ most → ranAt t most ≡ record { tableau = afterAt t k; course = steppedAt (afterAt t k) .course; count = k }
+  pub ran-spent : k ≡ most →
+      ranAt t most ≡ record { tableau = afterAt t k; course = steppedAt (afterAt t k) .course; count = k }
   unfolding ranAt
   ran-spent h = ap (ranAt t) (let z : most ≡ k + 0 = omega arith in z) ∙ ran-along k 0 t g
       ∙ ap (λ j. record { tableau = afterAt t k; course = steppedAt (afterAt t k) .course; count = j }) (add-zero k)

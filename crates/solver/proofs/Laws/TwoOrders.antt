@@ -212,7 +212,7 @@ module _ (o : Order) (ws : List ℤ) (f : problemRefusal ws ≡ 0) where
   abbrev begun : Begun first
   begun = begun-start ws first refl f
 
-  pub same-steps : (k : ℕ) → GoesOn first k → SameAfter inUse o first (startLaid o (problem ws)) k
+  same-steps : (k : ℕ) → GoesOn first k → SameAfter inUse o first (startLaid o (problem ws)) k
   same-steps = same-run begun (same-start inUse o (problem ws))
 
   pub same-words : conflict pairs (inner (problem ws)) ≡ none →

@@ -13,16 +13,8 @@ use Rattle.rules.specs.Refusal.{Accepted, problemRefusal}
 use Rattle.rules.specs.Sizes.{mostColumns, mostRows}
 use Rattle.rules.proofs.Refusal.Accepted.{m-few, n-few}
 use Rattle.answers.specs.Answer.{isShort}
-use Rattle.solver.proofs.Laws.Refusals.{
-  accepted-of,
-  answered-is,
-  holds-start,
-  refusal-none,
-  refusal-problem,
-  refusal-short,
-  start-many,
-  written-refused,
-}
+use Rattle.solver.proofs.Laws.Refusals.{accepted-of, answered-is, holds-start, refusal-none, refusal-problem}
+use Rattle.solver.proofs.Laws.Refusals.{refusal-short, start-many, written-refused}
 use Rattle.solver.proofs.solve.Statement.{statement}
 use Rattle.solver.proofs.solve.Tie as tie
 

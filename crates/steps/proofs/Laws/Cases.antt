@@ -107,7 +107,8 @@ module _ (t : Tableau) where
       pub column-is : choice .column ≡ column
       pub in-range : fitsBy t choice ≡ true
       pub value-is : valueAfter t choice ≡ pairIn value
-      pub common-is : commonAfter (t .rows) (t .columns) (t .entries) (t .common) (choice .row .0) (choice .column .0) ≡ common
+      pub common-is : commonAfter (t .rows) (t .columns) (t .entries) (t .common)
+          (choice .row .0) (choice .column .0) ≡ common
       pub step-is : stepBy t n
           ≡ record {
             course = on;
@@ -120,14 +121,16 @@ module _ (t : Tableau) where
     goes-by (nexts.Stuck b) q = let z : _≡_ {A = ℕ} 0 1 = cc in zero-one z
     goes-by (nexts.Pivot c) q = go (fitsBy t c) refl q
       where
-        go : (b : Bool) → fitsBy t c ≡ b → answerBy b (readOf t) c ≡ outcomes.Goes row column value common → Chosen (nexts.Pivot c)
+        go : (b : Bool) → fitsBy t c ≡ b → answerBy b (readOf t) c ≡ outcomes.Goes row column value common →
+            Chosen (nexts.Pivot c)
         go false f q = let z : _≡_ {A = ℕ} 0 1 = cc in zero-one z
         go true f q =
             let a : c .row ≡ row = cc in
             let b : c .column ≡ column = cc in
             let x : valueOf (valueAfter t c) ≡ value = cc in
             let v : valueAfter t c ≡ pairIn value = ap pairIn x in
-            let d : commonAfter (t .rows) (t .columns) (t .entries) (t .common) (c .row .0) (c .column .0) ≡ common = cc in
+            let d : commonAfter (t .rows) (t .columns) (t .entries) (t .common) (c .row .0) (c .column .0) ≡ common =
+            cc in
             record {
               choice = c;
               next-is = refl;
@@ -143,12 +146,14 @@ module _ (t : Tableau) where
                 commonAfter (t .rows) (t .columns) (t .entries) (t .common) (c .row .0) (c .column .0) ≡ common →
                 stepBy t (nexts.Pivot c) ≡ record {
                   course = on;
-                  tableau = swappedAt (withNumbers t common (entriesLeft (readOf t) (nexts.Pivot c))) (row .0) (column .0)
+                  tableau =
+                      swappedAt (withNumbers t common (entriesLeft (readOf t) (nexts.Pivot c))) (row .0) (column .0)
                       (pairIn value);
                 }
             made f a b v d = ap (λ x. admitAt x t (movedAt t c)) f
                 ∙ ap (λ u. record { course = on; tableau = u }) (moved-parts c ∙ same-exchange t a b v d
-                (sym (ap (λ x. entriesBy x (t .entries) (entriesAfter (t .rows) (t .columns) (t .entries) (t .common) (c .row .0) (c .column .0))) f)))
+                (sym (ap (λ x. entriesBy x (t .entries)
+                (entriesAfter (t .rows) (t .columns) (t .entries) (t .common) (c .row .0) (c .column .0))) f)))
 
     pub outcome-goes : outcomeAt (readOf t) ≡ outcomes.Goes row column value common → Chosen (nextAt t)
     outcome-goes q = goes-by (nextAt t) (ap (outcomeBy (readOf t)) (sym (next-read t)) ∙ q)
@@ -161,7 +166,8 @@ module _ (t : Tableau) where
     pub exchanged : Chosen (nextAt t) → {l : List ℤ} {in-row in-column : Seat} → l ≡ leftAt (readOf t) →
         in-row ≡ record { basic = true; row = row; column = column } →
         in-column ≡ record { basic = false; row = row; column = column } →
-        let leaves = getD (t .basic) (row .0) (variable 0) in let enters = getD (t .nonbasic) (column .0) (variable 0) in
+        let leaves = getD (t .basic) (row .0) (variable 0) in let enters =
+        getD (t .nonbasic) (column .0) (variable 0) in
         record {
           rows = t .rows;
           columns = t .columns;

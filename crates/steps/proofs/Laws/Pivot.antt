@@ -27,7 +27,8 @@ use Rattle.sides.specs.Sides.{rising}
 use Rattle.search.specs.Search.{choiceAt}
 use Rattle.steps.specs.Step.{Movable, fitsBy, violatedPair, movedAt, movedLaid}
 
-limit-by : (σ : Side) (l : Limits) (v : ℕ) → violatedPair (rising σ) (lowerGiven l v) (upperGiven l v) ≡ limitNumber σ l v
+limit-by : (σ : Side) (l : Limits) (v : ℕ) →
+    violatedPair (rising σ) (lowerGiven l v) (upperGiven l v) ≡ limitNumber σ l v
 limit-by below l v = refl
 limit-by above l v = refl
 

@@ -37,7 +37,8 @@ use Rattle.search.proofs.Laws.Rows.{searchable}
 use Rattle.search.proofs.Laws.Seen.{searchable-as}
 use Rattle.search.proofs.Laws.Stands.{next-blocked, next-chosen, next-none}
 use Rattle.steps.specs.declared.End.the-variants as ends
-use Rattle.steps.specs.Step.{Held, Movable, Steppable, admitAt, endedAs, fitsBy, violatedPair, movedAt, on, steppedAt}
+use Rattle.steps.specs.Step.{Held, Movable, Steppable, admitAt, endedAs, fitsBy, violatedPair, movedAt, on}
+use Rattle.steps.specs.Step.{steppedAt}
 use Rattle.steps.proofs.Laws.Pivot.{exchangeable, fitting-is, movable, ranged-moved, stands-moved}
 use Rattle.steps.proofs.Laws.Cases.{Chosen, next-read, readOf, stepped-none, stepped-pivot, stepped-stuck}
 

@@ -117,7 +117,8 @@ module _ (c : tie.After-pivot) where
   t = old (start chosen)
 
   abbrev common : ℤ
-  common = commonAfter (t .rows) (t .columns) (t .entries) (t .common) (choice chosen .row .0) (choice chosen .column .0)
+  common = commonAfter (t .rows) (t .columns) (t .entries) (t .common)
+      (choice chosen .row .0) (choice chosen .column .0)
 
   turned-is : (c .pivot .result ≡ pivotedBy (fitsBy t (choice chosen)) common)
       × (c .pivot .last .0 ≡ entriesBy (fitsBy t (choice chosen)) (t .entries)
@@ -166,7 +167,8 @@ returns-3 c =
 returns-4 : tie.Need-returns-4
 returns-4 c =
     let d = c .before .before in
-    let f = beyond-told (fitsBy (t d) (choice (chosen d))) (common d) (sym (turned-is d .0) ∙ c .enum-told2 .given .1) in
+    let f = beyond-told (fitsBy (t d) (choice (chosen d))) (common d)
+    (sym (turned-is d .0) ∙ c .enum-told2 .given .1) in
     (answer-is d false f, left-is d)
 
 pub step-spec : {M : Type 1} → statement M

@@ -1,11 +1,11 @@
 -- The numbers that rows are refused with, the least of them winning.
 --   rows-start, rows-more      no row; a row more: the lesser of its number and that of the rows before it
 --   rows-refuse, rows-pass     what the number says of the tests
-use mathlib.Core.Path.{_≡_, refl, sym, _∙_, ap}
+use mathlib.Core.Path.{_≡_, refl}
 use mathlib.Core.Logic.{_≢_}
 use mathlib.Core.Bool.{Bool, true, false, _||_}
 use mathlib.Core.List.{List, [], _∷_}
-use Prim.Native.Nat.{ℕ, zero, suc, _≤_, min}
+use Prim.Native.Nat.{ℕ, suc, _≤_, min}
 use native.Mathlib.Omega.{arith}
 use lib.IntN.{ℤ}
 use Rattle.whole.specs.Below.{someBelow}
@@ -32,7 +32,8 @@ unfolding testNumber first
 ends-least true b c = omega arith
 ends-least false b c = let h = strict-least b c in omega arith
 
-either-least : (a a′ b b′ c c′ : Bool) → testNumber (a || a′) (b || b′) (c || c′) ≡ min (testNumber a b c) (testNumber a′ b′ c′)
+either-least : (a a′ b b′ c c′ : Bool) → testNumber (a || a′) (b || b′) (c || c′)
+    ≡ min (testNumber a b c) (testNumber a′ b′ c′)
 unfolding testNumber first
 either-least true a′ b b′ c c′ = omega (arith, ends-least a′ b′ c′)
 either-least false true b b′ c c′ = omega (arith, ends-least false b c)
@@ -49,25 +50,29 @@ module _ (ws : List ℤ) where
 
   pub rows-more : (i : ℕ) → rowsNumber ws (suc i) ≡ min (rowsNumber ws i) (rowNumber ws i)
   unfolding rowsNumber rowNumber
-  rows-more i = rw (some-more i (badEnd ws), some-more i (badStrict ws), some-more i (badRowLength ws)) (either-least _ _ _ _ _ _)
+  rows-more i =
+      rw (some-more i (badEnd ws), some-more i (badStrict ws), some-more i (badRowLength ws)) (either-least _ _ _ _ _ _)
 
   -- ---- the tests of all rows
 
-  tests-refuse : (a b c : Bool) (after : List (Bool × ℕ)) → testNumber a b c ≢ 17 → first ((a, 14) ∷ (b, 15) ∷ (c, 16) ∷ after) ≡ testNumber a b c
+  tests-refuse : (a b c : Bool) (after : List (Bool × ℕ)) → testNumber a b c ≢ 17 →
+      first ((a, 14) ∷ (b, 15) ∷ (c, 16) ∷ after) ≡ testNumber a b c
   unfolding testNumber first
   tests-refuse true b c after n = refl
   tests-refuse false true c after n = refl
   tests-refuse false false true after n = refl
   tests-refuse false false false after n = absurd (n refl)
 
-  tests-pass : (a b c : Bool) (after : List (Bool × ℕ)) → testNumber a b c ≡ 17 → first ((a, 14) ∷ (b, 15) ∷ (c, 16) ∷ after) ≡ first after
+  tests-pass : (a b c : Bool) (after : List (Bool × ℕ)) → testNumber a b c ≡ 17 →
+      first ((a, 14) ∷ (b, 15) ∷ (c, 16) ∷ after) ≡ first after
   unfolding testNumber first
   tests-pass true b c after e = absurd (omega arith)
   tests-pass false true c after e = absurd (omega arith)
   tests-pass false false true after e = absurd (omega arith)
   tests-pass false false false after e = refl
 
-  pub rows-refuse : (k : ℕ) (after : List (Bool × ℕ)) → rowsNumber ws k ≢ 17 → first (rowTests ws k after) ≡ rowsNumber ws k
+  pub rows-refuse : (k : ℕ) (after : List (Bool × ℕ)) → rowsNumber ws k ≢ 17 →
+      first (rowTests ws k after) ≡ rowsNumber ws k
   unfolding rowsNumber
   rows-refuse k after n = tests-refuse _ _ _ after n
 

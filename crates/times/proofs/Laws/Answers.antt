@@ -6,7 +6,7 @@
 use mathlib.Core.Path.{_≡_, refl, sym, _∙_, ap, ap₂}
 use mathlib.Core.Bool.{false}
 use mathlib.Core.List.{List, [], _∷_, _++_, map}
-use Prim.Native.Nat.{ℕ, zero, suc, _+_, _*_, _-_, _≤_}
+use Prim.Native.Nat.{ℕ, zero, suc, _*_, _-_, _≤_}
 use native.Mathlib.Omega.{arith}
 use lib.IntN.{ℤ, pos}
 use lib.ListN.{length, take, drop, replicate}
@@ -34,7 +34,8 @@ use Rattle.times.specs.Steps.{Settled, Closed}
 use Rattle.times.proofs.Laws.Parts.{plain-times-are, small-times-are}
 
 -- a refusal keeps the output
-pub timed-refused : (ws before : List ℤ) (r : ℕ) → r ≡ timeRefusal ws (length before) → (r ≡ 0 → ⊥) → Timed ws before r before
+pub timed-refused : (ws before : List ℤ) (r : ℕ) → r ≡ timeRefusal ws (length before) →
+    (r ≡ 0 → ⊥) → Timed ws before r before
 unfolding timesWritten
 timed-refused ws before zero e n = absurd (n refl)
 timed-refused ws before (suc r) e n = record { refused = e; rows = []; written = refl; named = λ z. absurd (n z) }
@@ -90,7 +91,8 @@ module _ (ws before : List ℤ) (A : AcceptedTimes ws (length before)) where
     closed-gathering = record {
       in-order = c .in-order;
       in-path = c .in-path;
-      listed = λ k h. rw (sym (slice-at (w .from) (w .to) k (w .path) h)) (omega (arith, c .bad .cycle .listed k (omega (arith, rows-long)), time-rows-few A));
+      listed = λ k h. rw (sym (slice-at (w .from) (w .to) k (w .path) h))
+          (omega (arith, c .bad .cycle .listed k (omega (arith, rows-long)), time-rows-few A));
     }
 
     pub timed-unmet : (after : List ℤ) (n : ℕ) → n ≡ nOf ws →

@@ -79,7 +79,8 @@ module _ {ws : List ℤ} {k i : ℕ} {best : List Length} {last : List ℕ} (l :
 
   -- what a row offers, as a number and as a pair
   looked-offer : (j : ℕ) →
-      keyAt best (timeEdges ws .tail j) +ℤ keyOf (timeEdges ws .size j) ≡ keyOf (through pairs (timeEdges ws) (l .far) j)
+      keyAt best (timeEdges ws .tail j) +ℤ keyOf (timeEdges ws .size j)
+      ≡ keyOf (through pairs (timeEdges ws) (l .far) j)
   looked-offer j =
       ap (λ z. z +ℤ keyOf (timeEdges ws .size j)) (l .are (timeEdges ws .tail j))
       ∙ sym (key-plus (l .far (timeEdges ws .tail j)) (timeEdges ws .size j))
@@ -193,7 +194,8 @@ module _ {ws : List ℤ} {k : ℕ} {best : List Length} {last : List ℕ} {i row
         far = far′;
         are = λ v. are v (ℕ-discrete v y);
         near = λ v. near v (ℕ-discrete v y);
-        traced = traced-taken pairs-laws E (mOf ws * k) (l .time) (l .far) (lastRow last) i (l .traced) listed (less-is h)
+        traced = traced-taken pairs-laws E (mOf ws * k) (l .time) (l .far)
+            (lastRow last) i (l .traced) listed (less-is h)
             _ _ farther put-last;
         stands = λ v f. stands v f (ℕ-discrete v y);
         best-long = length-set best y better ∙ l .best-long;

@@ -119,7 +119,8 @@ module _ {ws : List ℤ} {last : List ℕ} {passes v : ℕ} (c : Closing ws last
       trail = trail-more (timeEdges ws) ends _ _ (l .time) (l .far) (lastRow last) (l .traced) (nOf ws) spare
           path seen here q (t .trail) z
           (l .stands here (tracing-here seen path here (suc q) t) n)
-          (omega (arith, t .path-long, tracing-high seen path here (suc q) t)) (omega (arith, t .seen-long, tracing-here seen path here (suc q) t));
+          (omega (arith, t .path-long, tracing-high seen path here (suc q) t))
+          (omega (arith, t .seen-long, tracing-here seen path here (suc q) t));
       path-long = length-set path q (lastRow last here) ∙ t .path-long;
       seen-long = length-set seen here (suc q) ∙ t .seen-long;
     }

@@ -1,4 +1,5 @@
--- `times::solve` meets its contract: settled passes give the times, and else the way back gives a bad cycle. Assumes nothing.
+-- `times::solve` meets its contract: settled passes give the times, and else the way back gives a bad cycle. Assumes
+-- nothing.
 use mathlib.Core.Path.{_≡_, _∙_, ap₂, subst}
 use mathlib.Core.List.{List}
 use Prim.Native.Nat.{ℕ, _+_, _*_, _-_, _≤_}
@@ -26,7 +27,13 @@ count-at-requires-2 : tie.Need-count-at-requires-2
 count-at-requires-2 c κs = search needs
 
 settle-requires : tie.Need-settle-requires
-settle-requires c κs = record { fine = fine-of (c .before .before .pre); n-is = c .before .count-at .ensures; m-is = c .count-at2 .ensures }
+settle-requires c κs =
+    record {
+      fine = fine-of (c .before .before .pre);
+      n-is =
+          c .before .count-at .ensures;
+      m-is = c .count-at2 .ensures;
+    }
 
 -- the words, n, and what the passes came to
 module _ (c : tie.After-settle) where
@@ -107,7 +114,8 @@ sub-write : tie.Need-sub-write
 sub-write c = closed c .in-order
 
 gathered-requires : tie.Need-gathered-requires
-gathered-requires c κs = closed-gathering (ws (from c)) (before (from c)) (accepted (from c)) (way c) (path-long c) (closed c)
+gathered-requires c κs = closed-gathering (ws (from c)) (before (from c))
+    (accepted (from c)) (way c) (path-long c) (closed c)
 
 write-requires-2 : tie.Need-write-requires-2
 write-requires-2 c κs = let k = c .before .before in (n-low (from k), omega (arith, closed k .in-path), roomy (from k))

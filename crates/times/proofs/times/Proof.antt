@@ -1,10 +1,8 @@
--- `times::times` meets its contract: a refusal keeps the output, and where there is none `solve` writes the answer. Assumes nothing.
-use mathlib.Core.Path.{_≡_, refl, sym, _∙_}
+-- `times::times` meets its contract: a refusal keeps the output, and where there is none `solve` writes the answer.
+-- Assumes nothing.
+use mathlib.Core.Path.{sym, _∙_}
 use mathlib.Core.List.{[]}
-use Prim.Native.Nat.{ℕ, zero, suc}
 use borrow.Author.Needs.{needs}
-use lib.ListN.{length}
-use Rattle.rules.specs.Times.Answer.{timesWritten}
 use Rattle.rules.proofs.Times.Refused.{times-accepted-exactly}
 use Rattle.times.proofs.Laws.Answers.{timed-refused}
 use Rattle.times.proofs.times.Statement.{statement}

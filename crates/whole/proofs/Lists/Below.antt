@@ -56,7 +56,8 @@ unfolding lowest
 lowest-empty zero f h = refl
 lowest-empty (suc k) f h = let e = lowest-empty k f (λ v p. h v (omega arith)) in rw (e, lowest) (h k (omega arith))
 
-pub lowest-is : {A : Type 0} (k v : ℕ) (f : ℕ → Option A) (a : A) → v < k → f v ≡ some a → ((u : ℕ) → u < v → f u ≡ none) → lowest k f ≡ some a
+pub lowest-is : {A : Type 0} (k v : ℕ) (f : ℕ → Option A) (a : A) → v < k → f v ≡ some a →
+    ((u : ℕ) → u < v → f u ≡ none) → lowest k f ≡ some a
 unfolding lowest
 lowest-is zero v f a h e first = let z : ⊥ = omega arith in absurd z
 lowest-is {A} (suc k) v f a h e first = go (ℕ-discrete v k) (λ q. lowest-is k v f a q e first)
@@ -82,10 +83,14 @@ lowest-passes k f w = (there, λ (h, e, first). lowest-is k w _ w h (rw e refl) 
     there : lowest k (λ v. cond (f v) (some v) none) ≡ some w → (w < k) × (f w ≡ true) × ((u : ℕ) → u < w → f u ≡ false)
     there e =
         let g = lowest-some k (λ v. cond (f v) (some v) none) w e in
-        let z : g .at ≡ w = chosen (f (g .at)) (g .at) w (g .is) .1 in
-        (omega arith, rw (← z) (chosen (f (g .at)) (g .at) w (g .is) .0), λ u l. passed-over (f u) u (g .first u (omega arith)))
+        let z : g .at ≡ w = chosen (f (g .at)) (g .at) w (g .is) .1 in (
+          omega arith,
+          rw (← z) (chosen (f (g .at)) (g .at) w (g .is) .0),
+          λ u l. passed-over (f u) u (g .first u (omega arith)),
+        )
 
-pub none-passes : (k : ℕ) (f : ℕ → Bool) → (lowest k (λ v. cond (f v) (some v) none) ≡ none) ↔ ((v : ℕ) → v < k → f v ≡ false)
+pub none-passes : (k : ℕ) (f : ℕ → Bool) →
+    (lowest k (λ v. cond (f v) (some v) none) ≡ none) ↔ ((v : ℕ) → v < k → f v ≡ false)
 none-passes k f = (λ e v h. passed-over (f v) v (lowest-none k _ e v h), λ h. lowest-empty k _ (λ v l. rw (h v l) refl))
 
 -- ---- a test at each number
@@ -133,7 +138,8 @@ unfolding allBelow
 all-fails zero f e = true-false refl e
 all-fails (suc k) f e = go (allBelow k f) refl (all-fails k f)
   where
-    go : (b : Bool) → allBelow k f ≡ b → (allBelow k f ≡ false → (v : ℕ) × (v < k) × (f v ≡ false)) → (v : ℕ) × (v < suc k) × (f v ≡ false)
+    go : (b : Bool) → allBelow k f ≡ b → (allBelow k f ≡ false → (v : ℕ) × (v < k) × (f v ≡ false)) →
+        (v : ℕ) × (v < suc k) × (f v ≡ false)
     go true q rest = (k, omega arith, rw (q, allBelow) at e)
     go false q rest = let w = rest q in (w .0, omega arith, w .2)
 
@@ -153,7 +159,8 @@ unfolding someBelow
 some-at zero f e = true-false e refl
 some-at (suc k) f e = go (someBelow k f) refl (some-at k f)
   where
-    go : (b : Bool) → someBelow k f ≡ b → (someBelow k f ≡ true → (v : ℕ) × (v < k) × (f v ≡ true)) → (v : ℕ) × (v < suc k) × (f v ≡ true)
+    go : (b : Bool) → someBelow k f ≡ b → (someBelow k f ≡ true → (v : ℕ) × (v < k) × (f v ≡ true)) →
+        (v : ℕ) × (v < suc k) × (f v ≡ true)
     go true q rest = let w = rest q in (w .0, omega arith, w .2)
     go false q rest = (k, omega arith, rw (q, someBelow) at e)
 

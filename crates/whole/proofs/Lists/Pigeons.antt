@@ -1,4 +1,5 @@
--- Different things among few: k different numbers below n are at most n, and k different elements of a list are no more than its length.
+-- Different things among few: k different numbers below n are at most n, and k different elements of a list are no more
+-- than its length.
 --   pigeons, distinct-fit, Mem-map
 use mathlib.Core.List.{List, List·Memᴰ, List·Memᴰ·head, List·Memᴰ·tail, map, _∷_}
 use mathlib.Core.Logic.{_≢_}
@@ -23,7 +24,8 @@ shifted-below n c x p q h (yes e) = below (ℕ-discrete c n)
     below (no f) = omega arith
 shifted-below n c x p q h (no f) = omega arith
 
-shifted-apart : (n c x y : ℕ) → c ≢ x → c ≢ y → x ≢ y → (d : Dec (x ≡ n)) (e : Dec (y ≡ n)) → shifted n c x d ≢ shifted n c y e
+shifted-apart : (n c x y : ℕ) → c ≢ x → c ≢ y → x ≢ y → (d : Dec (x ≡ n)) (e : Dec (y ≡ n)) →
+    shifted n c x d ≢ shifted n c y e
 unfolding shifted
 shifted-apart n c x y p q h (yes d) (yes e) z = h (d ∙ sym e)
 shifted-apart n c x y p q h (yes d) (no e) z = q z
@@ -35,8 +37,10 @@ pigeons zero n g b d = omega arith
 pigeons (suc k) zero g b d = let z : g 0 < 0 = b 0 (omega arith) in let y : ⊥ = omega arith in absurd y
 pigeons (suc k) (suc n) g b d =
     let r : k ≤ n = pigeons k n (λ i. shifted n (g k) (g i) (ℕ-discrete (g i) n))
-    (λ i h. shifted-below n (g k) (g i) (b k (omega arith)) (b i (omega arith)) (λ e. d i k h (omega arith) (sym e)) (ℕ-discrete (g i) n))
-    (λ i j h l. shifted-apart n (g k) (g i) (g j) (λ e. d i k (omega arith) (omega arith) (sym e)) (λ e. d j k l (omega arith) (sym e)) (d i j h (omega arith)) _ _) in
+    (λ i h. shifted-below n (g k) (g i) (b k (omega arith)) (b i (omega arith))
+    (λ e. d i k h (omega arith) (sym e)) (ℕ-discrete (g i) n))
+    (λ i j h l. shifted-apart n (g k) (g i) (g j) (λ e. d i k (omega arith) (omega arith) (sym e))
+    (λ e. d j k l (omega arith) (sym e)) (d i j h (omega arith)) _ _) in
     omega arith
 
 -- ---- lists: where an element stands
@@ -61,7 +65,8 @@ module _ {A : Type 0} where
   -- k different elements of l: l is as long
   pub distinct-fit : (l : List A) (k : ℕ) (f : ℕ → A) → ((i : ℕ) → List·Memᴰ (f i) l) →
       ((i j : ℕ) → i < j → j < k → f i ≢ f j) → k ≤ length l
-  distinct-fit l k f m d = pigeons k (length l) (λ i. place (m i)) (λ i h. place-below (m i)) (λ i j h q e. d i j h q (same-place l (m i) (m j) e))
+  distinct-fit l k f m d = pigeons k (length l) (λ i. place (m i)) (λ i h. place-below (m i))
+      (λ i j h q e. d i j h q (same-place l (m i) (m j) e))
 
   pub Mem-map : {B : Type 0} (g : A → B) {a : A} {l : List A} → List·Memᴰ a l → List·Memᴰ (g a) (map g l)
   Mem-map g (List·Memᴰ·head e) = List·Memᴰ·head (ap g e)

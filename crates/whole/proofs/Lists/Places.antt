@@ -1,4 +1,5 @@
--- A sum over all numbers below N is the sum over the places that hold them, where a number that no place holds counts 0.
+-- A sum over all numbers below N is the sum over the places that hold them, where a number that no place holds counts
+-- 0.
 --   sum-places
 use mathlib.Core.Path.{_≡_, refl, sym, ap, _∙_}
 use mathlib.Core.Logic.{_≢_, _⊎_, inl, inr}
@@ -37,11 +38,13 @@ module _ (N n : ℕ) (f : ℕ → ℤ) (c : ℕ → ℕ) (inside : (j : ℕ) →
   over-places u h = go (placed u h)
     where
       go : ((j : ℕ) × (j < n) × (c j ≡ u)) ⊎ (f u ≡ pos 0) → f u ≡ sum n (held u)
-      go (inl (j, k, e)) = sym (sum-one n j (held u) k (λ i l m. held-other u i (λ z. m (alone i j l k (z ∙ sym e)))) ∙ held-here u j e)
+      go (inl (j, k, e)) =
+          sym (sum-one n j (held u) k (λ i l m. held-other u i (λ z. m (alone i j l k (z ∙ sym e)))) ∙ held-here u j e)
       go (inr e) = e ∙ sym (sum-zero n (held u) (λ j k. held-zero u j e))
 
   over-variables : (j : ℕ) → j < n → sum N (λ u. held u j) ≡ f (c j)
-  over-variables j h = sum-one N (c j) (λ u. held u j) (inside j h) (λ u k m. held-other u j (λ e. m (sym e))) ∙ held-here (c j) j refl
+  over-variables j h = sum-one N (c j) (λ u. held u j) (inside j h) (λ u k m. held-other u j (λ e. m (sym e)))
+      ∙ held-here (c j) j refl
 
   pub sum-places : sum N f ≡ sum n (λ j. f (c j))
   sum-places = sum-same N f (λ u. sum n (held u)) over-places ∙ sum-swap N n held

@@ -4,30 +4,33 @@
 --   table-next, set-table                      `table k f ++ drop k l`: a list filled by a function
 --   filled-start, filled-more, filled-all      an array filled by a function: nothing, one element more, all of it
 --   filled-same, filled-rest                   .. by functions that are equal there; what is past the filled part
-use Prim.Native.Nat.{ℕ, zero, suc, _+_, _≤_, _<_, min, suc-le-suc}
+use Prim.Native.Nat.{ℕ, zero, suc, _+_, _≤_, _<_}
 use native.Mathlib.Nat.{le-of-suc-le-suc}
 use native.Mathlib.Numerals.{add-one}
 use native.Mathlib.Omega.{arith}
 use mathlib.Core.Path.{_≡_, refl, ap, ap₂, sym, _∙_}
 use mathlib.Core.List.{List, [], _∷_, _++_, map}
 use mathlib.Core.List.{append-assoc, append-nil}
-use lib.ListN.{length, take, drop, set, getD, replicate, length-append, length-take, length-drop, length-replicate}
+use lib.ListN.{length, take, drop, set, getD, replicate, length-replicate}
 use lib.Seq.{drop-at, drop-cons, getD-append-add, getD-drop, set-at}
 use Rattle.whole.specs.Tables.{table, tableFrom, filled}
 use Rattle.whole.proofs.Lists.Tables.{table-length, table-last, table-same}
 
 module _ {A : Type 0} where
-  prefix-suc : (s t : List A) (i : ℕ) (d : A) → i < length s → length s ≤ length t → set (take i s ++ drop i t) i (getD s i d) ≡ take (suc i) s ++ drop (suc i) t
+  prefix-suc : (s t : List A) (i : ℕ) (d : A) → i < length s → length s ≤ length t →
+      set (take i s ++ drop i t) i (getD s i d) ≡ take (suc i) s ++ drop (suc i) t
   prefix-suc [] t i d h k = absurd (omega arith)
   prefix-suc (a ∷ s) [] i d h k = absurd (omega arith)
   prefix-suc (a ∷ s) (b ∷ t) zero d h k = refl
-  prefix-suc (a ∷ s) (b ∷ t) (suc i) d h k = ap (λ (l : List A). a ∷ l) (prefix-suc s t i d (le-of-suc-le-suc h) (le-of-suc-le-suc k))
+  prefix-suc (a ∷ s) (b ∷ t) (suc i) d h k =
+      ap (λ (l : List A). a ∷ l) (prefix-suc s t i d (le-of-suc-le-suc h) (le-of-suc-le-suc k))
 
   -- one word more
-  pub set-prefix : (s t : List A) (i : ℕ) (d : A) → i < length s → length s ≤ length t → set (take i s ++ drop i t) i (getD s i d) ≡ take (i + 1) s ++ drop (i + 1) t
+  pub set-prefix : (s t : List A) (i : ℕ) (d : A) → i < length s → length s ≤ length t →
+      set (take i s ++ drop i t) i (getD s i d) ≡ take (i + 1) s ++ drop (i + 1) t
   set-prefix s t i d h k = rw add-one (prefix-suc s t i d h k)
 
-  pub take-all : (s : List A) → take (length s) s ≡ s
+  take-all : (s : List A) → take (length s) s ≡ s
   take-all [] = refl
   take-all (a ∷ s) = ap (λ (l : List A). a ∷ l) (take-all s)
 
@@ -40,10 +43,10 @@ module _ {A : Type 0} where
 
 -- A list that a loop maps in place, from the front.
 module _ {A : Type 0} (f : A → A) where
-  abbrev pub front : ℕ → List A → List A
+  abbrev front : ℕ → List A → List A
   front k l = map f (take k l) ++ drop k l
 
-  pub front-next : (l : List A) (k : ℕ) (d : A) → getD (front k l) k d ≡ getD l k d
+  front-next : (l : List A) (k : ℕ) (d : A) → getD (front k l) k d ≡ getD l k d
   front-next [] zero d = refl
   front-next [] (suc k) d = refl
   front-next (a ∷ l) zero d = refl
@@ -54,7 +57,7 @@ module _ {A : Type 0} (f : A → A) where
   front-suc (a ∷ l) zero d h = refl
   front-suc (a ∷ l) (suc k) d h = ap (λ (m : List A). f a ∷ m) (front-suc l k d (le-of-suc-le-suc h))
 
-  pub front-all : (l : List A) (k : ℕ) → length l ≤ k → front k l ≡ map f l
+  front-all : (l : List A) (k : ℕ) → length l ≤ k → front k l ≡ map f l
   front-all [] zero h = refl
   front-all [] (suc k) h = refl
   front-all (a ∷ l) zero h = absurd (omega arith)
@@ -64,7 +67,8 @@ module _ {A : Type 0} (f : A → A) where
 module _ {A : Type 0} (f : ℕ → A) (d : A) (l : List A) where
   pub table-next : (k : ℕ) → getD (table k f ++ drop k l) k d ≡ getD l k d
   table-next k = ap (λ i. getD (table k f ++ drop k l) i d) (let z : k ≡ k + 0 = omega arith in rw (table-length k f) z)
-      ∙ getD-append-add (table k f) (drop k l) 0 d ∙ getD-drop k l 0 d ∙ ap (λ i. getD l i d) (let z : k + 0 ≡ k = omega arith in z)
+      ∙ getD-append-add (table k f) (drop k l) 0 d ∙ getD-drop k l 0 d
+      ∙ ap (λ i. getD l i d) (let z : k + 0 ≡ k = omega arith in z)
 
   pub set-table : (k : ℕ) → k < length l → set (table k f ++ drop k l) k (f k) ≡ table (k + 1) f ++ drop (k + 1) l
   set-table k h = rw (add-one, drop-cons l k d h)

@@ -4,16 +4,15 @@
 --   abs-quot, within-quot   a quotient is no larger
 --   bits-nonzero            a divisor other than 0 is not 0 as bits
 --   size-quot               the size of a quotient is the quotient of sizes
-use mathlib.Core.Path.{_≡_, refl, sym, _∙_, ap, subst}
+use mathlib.Core.Path.{_≡_, refl, sym, _∙_, ap}
 use mathlib.Core.Logic.{_≢_}
-use Prim.Native.Nat.{ℕ, zero, suc, _+_, _*_, _/_, _%_, _≤_, _<_, _∣_}
+use Prim.Native.Nat.{ℕ, zero, suc, _*_, _/_, _%_, _≤_, _<_, _∣_}
 use native.Mathlib.Omega.{arith}
-use native.Mathlib.Nat.{mul-div-cancel, mod-eq-zero-of-dvd, div-add-mod, div-le-self, le-trans, lt-of-le-of-lt, zero-div}
+use native.Mathlib.Nat.{mul-div-cancel, mod-eq-zero-of-dvd, div-add-mod, div-le-self, le-trans, zero-div}
 use lib.IntN.{ℤ, pos, negsuc, negℤ, natAbs, _*ℤ_, negℤ-negℤ}
-use lib.Dec.{lit<}
 use lib.Signed.{quotZ, _<ℤ_}
 use mir.Facts.{toZ-ofZ}
-use mir.Syntax.{Width, w64}
+use mir.Syntax.{Width}
 use mir.Val.{SFits, ofZ, toZ}
 use Rattle.whole.proofs.Ring.Laws.{*ℤ-neg}
 use Rattle.whole.specs.Numbers.{Within}
@@ -45,7 +44,7 @@ size-quot (pos a) (negsuc g) = abs-neg (pos (a / suc g))
 size-quot (negsuc a) (pos g) = abs-neg (pos (suc a / g))
 size-quot (negsuc a) (negsuc g) = refl
 
-pub abs-quot : (z g : ℤ) → natAbs (quotZ z g) ≤ natAbs z
+abs-quot : (z g : ℤ) → natAbs (quotZ z g) ≤ natAbs z
 abs-quot z g = rw (size-quot z g) (div-le-self (natAbs z) (natAbs g))
 
 pub within-quot : {z : ℤ} {n : ℕ} (g : ℤ) → Within z n → Within (quotZ z g) n

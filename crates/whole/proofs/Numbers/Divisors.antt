@@ -6,17 +6,17 @@
 --   fold-pos, fold-most                             above 0, and no more than the start
 --   gcdList-dvd, -greatest, -only, -lowest          the same over a list
 use mathlib.Core.Path.{_≡_, refl, sym, _∙_, ap, subst}
-use mathlib.Core.List.{List, [], _∷_, map}
-use Prim.Native.Nat.{ℕ, zero, suc, _+_, _*_, _/_, _%_, _≤_, _<_, _∣_}
+use mathlib.Core.List.{List, [], _∷_}
+use Prim.Native.Nat.{ℕ, zero, suc, _*_, _/_, _%_, _≤_, _<_, _∣_}
 use native.Mathlib.Omega.{arith}
 use native.Mathlib.Decide.{ℕ-discrete}
-use native.Mathlib.Nat.{dvd-refl, dvd-zero, dvd-trans, dvd-mod-iff, dvd-add-iff-right, dvd-antisymm, dvd-mul-left-of-dvd, dvd-of-mul-dvd-mul-right, dvd-one, dvd-mul-left, mod-lt, mod-one, mod-eq-zero-of-dvd, mul-assoc, div-add-mod', le-of-dvd, mul-add, mul-left-comm, pos-of-dvd-of-pos, zero-lt-suc, zero-div, one-mul}
+use native.Mathlib.Nat.{dvd-refl, dvd-zero, dvd-trans, dvd-mod-iff, dvd-add-iff-right, dvd-antisymm}
+use native.Mathlib.Nat.{dvd-mul-left-of-dvd, mod-lt, div-add-mod', le-of-dvd, mul-add, mul-left-comm, pos-of-dvd-of-pos}
+use native.Mathlib.Nat.{zero-lt-suc, one-mul}
 use lib.IntN.{ℤ, pos, natAbs}
-use lib.ListN.{length, getD, length-map, List·getD-map}
-use lib.Signed.{quotZ}
+use lib.ListN.{length, getD}
 use Rattle.whole.specs.Below.{foldBelow}
 use Rattle.whole.specs.Divisors.{gcd, gcdTurns, gcdList}
-use Rattle.whole.proofs.Numbers.Division.{size-quot}
 
 -- one times a number
 pub by-one : (d a : ℕ) → d ∣ a → d ∣ 1 * a
@@ -52,7 +52,7 @@ pub gcd-dvd-l : (a b : ℕ) → gcd a b ∣ a
 unfolding gcd
 gcd-dvd-l a b = turns-dvd (suc b) a b (omega arith) .0
 
-pub gcd-dvd-r : (a b : ℕ) → gcd a b ∣ b
+gcd-dvd-r : (a b : ℕ) → gcd a b ∣ b
 unfolding gcd
 gcd-dvd-r a b = turns-dvd (suc b) a b (omega arith) .1
 
@@ -61,7 +61,7 @@ pub gcd-times : (a b d f : ℕ) → d ∣ f * a → d ∣ f * b → d ∣ f * gc
 unfolding gcd
 gcd-times a b d f p q = turns-times (suc b) a b d f p q
 
-pub gcd-greatest : (a b d : ℕ) → d ∣ a → d ∣ b → d ∣ gcd a b
+gcd-greatest : (a b d : ℕ) → d ∣ a → d ∣ b → d ∣ gcd a b
 gcd-greatest a b d p q = by-one-back d (gcd a b) (gcd-times a b d 1 (by-one d a p) (by-one d b q))
 
 pub gcd-only : (a b g : ℕ) → g ∣ a → g ∣ b → ((d : ℕ) → d ∣ a → d ∣ b → d ∣ g) → g ≡ gcd a b
@@ -95,20 +95,23 @@ unfolding foldBelow
 fold-dvd zero x a = (dvd-refl a, λ u h. let z : ⊥ = omega arith in absurd z)
 fold-dvd (suc k) x a = both (foldBelow k (λ u h. gcd (x u) h) a) (fold-dvd k x a)
   where
-    both : (F : ℕ) → (F ∣ a) × ((u : ℕ) → u < k → F ∣ x u) → (gcd (x k) F ∣ a) × ((u : ℕ) → u < suc k → gcd (x k) F ∣ x u)
+    both : (F : ℕ) → (F ∣ a) × ((u : ℕ) → u < k → F ∣ x u) →
+        (gcd (x k) F ∣ a) × ((u : ℕ) → u < suc k → gcd (x k) F ∣ x u)
     both F r = (dvd-trans (gcd (x k) F) (gcd-dvd-r (x k) F) (r .0), λ u h. at u h (ℕ-discrete u k))
       where
         at : (u : ℕ) → u < suc k → Dec (u ≡ k) → gcd (x k) F ∣ x u
         at u h (yes e) = rw e (gcd-dvd-l (x k) F)
         at u h (no n) = dvd-trans (gcd (x k) F) (gcd-dvd-r (x k) F) (r .1 u (omega arith))
 
-pub fold-times : (k : ℕ) (x : ℕ → ℕ) (a d f : ℕ) → d ∣ f * a → ((u : ℕ) → u < k → d ∣ f * x u) → d ∣ f * foldBelow k (λ u h. gcd (x u) h) a
+pub fold-times : (k : ℕ) (x : ℕ → ℕ) (a d f : ℕ) → d ∣ f * a → ((u : ℕ) → u < k → d ∣ f * x u) →
+    d ∣ f * foldBelow k (λ u h. gcd (x u) h) a
 unfolding foldBelow
 fold-times zero x a d f p q = p
 fold-times (suc k) x a d f p q =
     gcd-times (x k) _ d f (q k (omega arith)) (fold-times k x a d f p (λ u h. q u (omega arith)))
 
-pub fold-greatest : (k : ℕ) (x : ℕ → ℕ) (a d : ℕ) → d ∣ a → ((u : ℕ) → u < k → d ∣ x u) → d ∣ foldBelow k (λ u h. gcd (x u) h) a
+pub fold-greatest : (k : ℕ) (x : ℕ → ℕ) (a d : ℕ) → d ∣ a → ((u : ℕ) → u < k → d ∣ x u) →
+    d ∣ foldBelow k (λ u h. gcd (x u) h) a
 fold-greatest k x a d p q = by-one-back d _ (fold-times k x a d 1 (by-one d a p) (λ u h. by-one d (x u) (q u h)))
 
 pub fold-pos : (k : ℕ) (x : ℕ → ℕ) (a : ℕ) → 0 < a → 0 < foldBelow k (λ u h. gcd (x u) h) a
@@ -119,23 +122,28 @@ fold-most k x a h = le-of-dvd h (fold-dvd k x a .0)
 
 -- ---- a list
 
-pub gcdList-start : (d : ℕ) (l : List ℤ) → gcdList d l ∣ d
+gcdList-start : (d : ℕ) (l : List ℤ) → gcdList d l ∣ d
 unfolding gcdList
 gcdList-start d [] = dvd-refl d
-gcdList-start d (z ∷ l) = dvd-trans (gcdList (gcd (natAbs z) d) l) (gcdList-start (gcd (natAbs z) d) l) (gcd-dvd-r (natAbs z) d)
+gcdList-start d (z ∷ l) =
+    dvd-trans (gcdList (gcd (natAbs z) d) l) (gcdList-start (gcd (natAbs z) d) l) (gcd-dvd-r (natAbs z) d)
 
-pub gcdList-dvd : (d : ℕ) (l : List ℤ) (k : ℕ) → k < length l → gcdList d l ∣ natAbs (getD l k (pos 0))
+gcdList-dvd : (d : ℕ) (l : List ℤ) (k : ℕ) → k < length l → gcdList d l ∣ natAbs (getD l k (pos 0))
 unfolding gcdList
 gcdList-dvd d [] k h = let z : ⊥ = omega arith in absurd z
-gcdList-dvd d (z ∷ l) zero h = dvd-trans (gcdList (gcd (natAbs z) d) l) (gcdList-start (gcd (natAbs z) d) l) (gcd-dvd-l (natAbs z) d)
+gcdList-dvd d (z ∷ l) zero h =
+    dvd-trans (gcdList (gcd (natAbs z) d) l) (gcdList-start (gcd (natAbs z) d) l) (gcd-dvd-l (natAbs z) d)
 gcdList-dvd d (z ∷ l) (suc k) h = gcdList-dvd (gcd (natAbs z) d) l k (omega arith)
 
-pub gcdList-greatest : (d : ℕ) (l : List ℤ) (e : ℕ) → e ∣ d → ((k : ℕ) → k < length l → e ∣ natAbs (getD l k (pos 0))) → e ∣ gcdList d l
+gcdList-greatest : (d : ℕ) (l : List ℤ) (e : ℕ) → e ∣ d →
+    ((k : ℕ) → k < length l → e ∣ natAbs (getD l k (pos 0))) → e ∣ gcdList d l
 unfolding gcdList
 gcdList-greatest d [] e p q = p
 gcdList-greatest d (z ∷ l) e p q =
-    gcdList-greatest (gcd (natAbs z) d) l e (gcd-greatest (natAbs z) d e (q 0 (omega arith)) p) (λ k h. q (suc k) (omega arith))
+    gcdList-greatest (gcd (natAbs z) d) l e (gcd-greatest (natAbs z) d e (q 0 (omega arith)) p)
+    (λ k h. q (suc k) (omega arith))
 
 pub gcdList-only : (d : ℕ) (l : List ℤ) (g : ℕ) → g ∣ d → ((k : ℕ) → k < length l → g ∣ natAbs (getD l k (pos 0))) →
     ((e : ℕ) → e ∣ d → ((k : ℕ) → k < length l → e ∣ natAbs (getD l k (pos 0))) → e ∣ g) → g ≡ gcdList d l
-gcdList-only d l g p q h = dvd-antisymm (gcdList-greatest d l g p q) (h (gcdList d l) (gcdList-start d l) (gcdList-dvd d l))
+gcdList-only d l g p q h =
+    dvd-antisymm (gcdList-greatest d l g p q) (h (gcdList d l) (gcdList-start d l) (gcdList-dvd d l))

@@ -5,19 +5,19 @@
 --   times-up, times-down, -strict, *ℤ-pos-pos, ..            products by sign
 --   *ℤ-cancel, cancel                                        a factor taken off
 --   true→lt, false→le, lt→true, le→false, leZ-no             between a test and a fact
-use mathlib.Core.Path.{_≡_, refl, sym, _∙_, ap, subst}
+use mathlib.Core.Path.{_≡_, refl, sym, _∙_, ap}
 use mathlib.Core.Logic.{_≢_, _⊎_, inl, inr}
 use mathlib.Core.Bool.{Bool, true, false, not}
-use mathlib.Core.List.{List, [], _∷_}
-use Prim.Native.Nat.{ℕ, zero, suc, _≤_, _<_}
+use mathlib.Core.List.{[], _∷_}
+use Prim.Native.Nat.{zero, suc, _≤_, _<_}
 use native.Mathlib.Omega.{arith}
 use lib.Dec.{T, leb→le, ltb→lt, lt→ltb, nleb→lt}
 use lib.Signed.{leZ, ltZ, _≤ℤ_, _<ℤ_, ltZ-yes, ltZ-no, <ℤ-irrefl, <ℤ-≤ℤ-trans}
-use lib.IntN.{ℤ, pos, negsuc, negℤ, _+ℤ_, _-ℤ_, _*ℤ_, *ℤ-zero, *ℤ-comm}
+use lib.IntN.{ℤ, pos, negsuc, negℤ, _+ℤ_, _*ℤ_, *ℤ-zero, *ℤ-comm}
 use Rattle.whole.proofs.Bools.{T→true}
 use Rattle.whole.proofs.Ring.Reify.{reify}
-use Rattle.whole.proofs.Ring.Nonneg.{of-le, of-lt, of-eq, of-eq′, to-le, _⊞_, _⊠_, slk, blw, contra}
-use Rattle.whole.proofs.Ring.Tools.{ring-at, le-at, lt-at}
+use Rattle.whole.proofs.Ring.Nonneg.{of-le, of-lt, _⊞_, _⊠_, slk}
+use Rattle.whole.proofs.Ring.Tools.{le-at, lt-at}
 
 -- ---- chains
 
@@ -65,7 +65,7 @@ false→le e = ltZ-no (rw e tt)
 pub lt→true : {a b : ℤ} → a <ℤ b → ltZ a b ≡ true
 lt→true {a} {b} h = T→true (ltZ a b) (h .lt)
 
-pub le→true : {a b : ℤ} → a ≤ℤ b → leZ a b ≡ true
+le→true : {a b : ℤ} → a ≤ℤ b → leZ a b ≡ true
 le→true {a} {b} h = T→true (leZ a b) (h .le)
 
 pub le→false : {a b : ℤ} → a ≤ℤ b → ltZ b a ≡ false
@@ -77,12 +77,12 @@ le→false {a} {b} h = go (ltZ b a) refl
 
 -- ---- three cases
 
-pub data Cmp (a b : ℤ) : Type 0 where
+data Cmp (a b : ℤ) : Type 0 where
   low : a <ℤ b → Cmp a b
   same : a ≡ b → Cmp a b
   high : b <ℤ a → Cmp a b
 
-pub cmp : (a b : ℤ) → Cmp a b
+cmp : (a b : ℤ) → Cmp a b
 cmp a b = go (ltZ a b) (ltZ b a) refl refl
   where
     go : (c d : Bool) → ltZ a b ≡ c → ltZ b a ≡ d → Cmp a b
@@ -123,13 +123,15 @@ pub times-up : {a x y : ℤ} → pos 0 <ℤ a → x ≤ℤ y → (a *ℤ x) ≤�
 times-up {a} {x} {y} h k = le-at (a ∷ x ∷ y ∷ []) (of-lt h ⊠ of-le k ⊞ of-le k) (search reify depth 30) slk
 
 pub times-up-strict : {a x y : ℤ} → pos 0 <ℤ a → x <ℤ y → (a *ℤ x) <ℤ (a *ℤ y)
-times-up-strict {a} {x} {y} h k = lt-at (a ∷ x ∷ y ∷ []) (of-lt h ⊠ of-lt k ⊞ of-lt h ⊞ of-lt k) (search reify depth 30) slk
+times-up-strict {a} {x} {y} h k =
+    lt-at (a ∷ x ∷ y ∷ []) (of-lt h ⊠ of-lt k ⊞ of-lt h ⊞ of-lt k) (search reify depth 30) slk
 
 pub times-down : {a x y : ℤ} → a <ℤ pos 0 → x ≤ℤ y → (a *ℤ y) ≤ℤ (a *ℤ x)
 times-down {a} {x} {y} h k = le-at (a ∷ x ∷ y ∷ []) (of-lt h ⊠ of-le k ⊞ of-le k) (search reify depth 30) slk
 
 pub times-down-strict : {a x y : ℤ} → a <ℤ pos 0 → x <ℤ y → (a *ℤ y) <ℤ (a *ℤ x)
-times-down-strict {a} {x} {y} h k = lt-at (a ∷ x ∷ y ∷ []) (of-lt h ⊠ of-lt k ⊞ of-lt h ⊞ of-lt k) (search reify depth 30) slk
+times-down-strict {a} {x} {y} h k =
+    lt-at (a ∷ x ∷ y ∷ []) (of-lt h ⊠ of-lt k ⊞ of-lt h ⊞ of-lt k) (search reify depth 30) slk
 
 pub *ℤ-pos-pos : {a b : ℤ} → pos 0 <ℤ a → pos 0 <ℤ b → pos 0 <ℤ (a *ℤ b)
 *ℤ-pos-pos {a} {b} h k = lt-at (a ∷ b ∷ []) (of-lt h ⊠ of-lt k ⊞ of-lt h ⊞ of-lt k) (search reify depth 30) slk
@@ -164,7 +166,8 @@ product-sign a d h (inl p) = inl (rw (*ℤ-zero a) at (times-up-strict p h))
 product-sign a d h (inr p) = inr (rw (*ℤ-zero a) at (times-down-strict p h))
 
 -- where b and b x have one sign, x is above 0
-pub quotient-up : (b x : ℤ) → Nonzero (b *ℤ x) → (pos 0 <ℤ (b *ℤ x) → pos 0 <ℤ b) → ((b *ℤ x) <ℤ pos 0 → b <ℤ pos 0) → pos 0 <ℤ x
+pub quotient-up : (b x : ℤ) → Nonzero (b *ℤ x) → (pos 0 <ℤ (b *ℤ x) → pos 0 <ℤ b) →
+    ((b *ℤ x) <ℤ pos 0 → b <ℤ pos 0) → pos 0 <ℤ x
 quotient-up b x n f g = go n (sign x)
   where
     go : Nonzero (b *ℤ x) → Sign x → pos 0 <ℤ x

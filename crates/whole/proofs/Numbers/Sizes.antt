@@ -6,20 +6,20 @@
 --   abs-neg, abs-*, abs-+          the size of a negation, a product, a sum
 --   product-nonzero                a product of numbers other than 0 is not 0
 --   all-within-filled              every number of a filled array, where what fills it is
-use mathlib.Core.Path.{_≡_, refl, sym, _∙_, ap, ap₂, subst}
+use mathlib.Core.Path.{_≡_, refl, sym, _∙_, ap}
 use mathlib.Core.Logic.{_≢_}
 use mathlib.Core.Bool.{Bool, true, false, not, cond}
 use Prim.Native.Nat.{ℕ, zero, suc, _+_, _*_, _-_, _^_, _/_, _≤_, _<_}
 use native.Mathlib.Omega.{arith}
-use native.Mathlib.Nat.{mul-pos, mul-le-mul, lt-of-le-of-lt, le-of-eq, div-le-self, le-refl}
+use native.Mathlib.Nat.{mul-pos, mul-le-mul, lt-of-le-of-lt, div-le-self, le-refl}
 use lib.Dec.{T, ltb, ltb→lt, nltb→le, lit<, leb→le, le→leb}
 use lib.Signed.{mag, quotZ, leZ, _<ℤ_, _≤ℤ_}
 use lib.IntN.{ℤ, pos, negsuc, negℤ, natAbs, subℕ, _+ℤ_, _-ℤ_, _*ℤ_}
 use Rattle.whole.specs.Numbers.{Within, AllWithin}
 use Rattle.whole.specs.Tables.{filled}
 use Rattle.whole.proofs.Lists.Tables.{filled-each}
-use mir.Syntax.{Width, w8, w16, w32, w64, w128}
-use mir.Val.{SFits, hbits, bits, ofZ}
+use mir.Syntax.{Width}
+use mir.Val.{SFits, hbits, ofZ}
 
 pub abs-neg : (a : ℤ) → natAbs (negℤ a) ≡ natAbs a
 abs-neg (pos zero) = refl
@@ -43,7 +43,8 @@ cond-le true x y n f g = f tt
 cond-le false x y n f g = g tt
 
 abs-sub : (a b n : ℕ) → a + b ≤ n → natAbs (subℕ a b) ≤ n
-abs-sub a b n h = cond-le (ltb a b) (negsuc (b - suc a)) (pos (a - b)) n (λ t. lo (ltb→lt a b t)) (λ t. hi (nltb→le a b t))
+abs-sub a b n h = cond-le (ltb a b) (negsuc (b - suc a)) (pos (a - b)) n
+    (λ t. lo (ltb→lt a b t)) (λ t. hi (nltb→le a b t))
   where
     lo : a < b → suc (b - suc a) ≤ n
     lo k = omega arith
@@ -137,7 +138,8 @@ product-nonzero {a} {b} m n e =
     let h : 0 < natAbs a * natAbs b = mul-pos (size-pos a m) (size-pos b n) in
     let y : ⊥ = omega arith in absurd y
 
-pub all-within-filled : {n : ℕ} (size k : ℕ) (f : ℕ → ℤ) → ((i : ℕ) → i < k → Within (f i) n) → AllWithin (filled size (pos 0) k f) n
+pub all-within-filled : {n : ℕ} (size k : ℕ) (f : ℕ → ℤ) → ((i : ℕ) → i < k → Within (f i) n) →
+    AllWithin (filled size (pos 0) k f) n
 all-within-filled {n} size k f h = record {
   each = filled-each size (pos 0) k f (λ z. Within z n) (record { within = omega arith }) h;
 }

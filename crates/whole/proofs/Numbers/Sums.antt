@@ -15,22 +15,22 @@ use mathlib.Core.List.{List, [], _∷_}
 use Prim.Native.Nat.{ℕ, zero, suc, _+_, _*_, _≤_, _<_}
 use native.Mathlib.Numerals.{add-one}
 use native.Mathlib.Omega.{arith}
-use native.Mathlib.Nat.{le-refl, mul-le-mul, suc-inj, add-zero, add-suc}
+use native.Mathlib.Nat.{le-refl, suc-inj, add-zero, add-suc}
 use lib.Dec.{T, eqb, eqb→eq, eqb-refl}
 use lib.ListN.{length, getD}
 use lib.Signed.{_≤ℤ_, _<ℤ_, ≤ℤ-refl}
-use lib.IntN.{ℤ, pos, _+ℤ_, _-ℤ_, _*ℤ_, +ℤ-idr, +ℤ-assoc, *ℤ-comm}
+use lib.IntN.{ℤ, pos, _+ℤ_, _*ℤ_, +ℤ-idr, +ℤ-assoc}
 use Rattle.whole.specs.Numbers.{Within}
 use Rattle.whole.specs.Sums.{sum, sumBy, dot}
 use Rattle.whole.proofs.Ring.Reify.{reify}
-use Rattle.whole.proofs.Ring.Nonneg.{NN, _⊞_, nn-nat, slk}
-use Rattle.whole.proofs.Ring.Tools.{ring-at, le-at, eq-by, of-≡, _⊠₀_}
-use Rattle.whole.proofs.Numbers.Order.{≤ℤ-antisym, ≤ℤ-+, *ℤ-cancel}
+use Rattle.whole.proofs.Ring.Nonneg.{NN, _⊞_, nn-nat}
+use Rattle.whole.proofs.Ring.Tools.{ring-at}
+use Rattle.whole.proofs.Numbers.Order.{≤ℤ-+}
 use Rattle.whole.proofs.Numbers.Sizes.{within-+, within-le}
 use Rattle.whole.proofs.Values.Laws.{total-same, total-plus, scale-total, total-swap, total-zero, total-one}
 use Rattle.whole.proofs.Values.Instances.{whole-laws}
 
-pub sum-more : (n : ℕ) (f : ℕ → ℤ) → sum (suc n) f ≡ sum n f +ℤ f n
+sum-more : (n : ℕ) (f : ℕ → ℤ) → sum (suc n) f ≡ sum n f +ℤ f n
 unfolding sumBy
 sum-more n f = refl
 
@@ -69,24 +69,25 @@ pub sum-parts : (n m : ℕ) (f : ℕ → ℤ) → sum (n + m) f ≡ sum n f +ℤ
 unfolding sumBy
 sum-parts n zero f = ap (λ k. sum k f) (add-zero n) ∙ sym (+ℤ-idr (sum n f))
 sum-parts n (suc m) f =
-    ap (λ k. sum k f) (add-suc n m) ∙ ap (λ z. z +ℤ f (n + m)) (sum-parts n m f) ∙ +ℤ-assoc (sum n f) (sum m (λ i. f (n + i))) (f (n + m))
+    ap (λ k. sum k f) (add-suc n m) ∙ ap (λ z. z +ℤ f (n + m)) (sum-parts n m f)
+    ∙ +ℤ-assoc (sum n f) (sum m (λ i. f (n + i))) (f (n + m))
 
 -- the terms but the one at j
-abbrev pub drop-if : Bool → ℤ → ℤ
+abbrev drop-if : Bool → ℤ → ℤ
 drop-if true z = pos 0
 drop-if false z = z
 
-abbrev pub but : ℕ → (ℕ → ℤ) → ℕ → ℤ
+abbrev but : ℕ → (ℕ → ℤ) → ℕ → ℤ
 but j f k = drop-if (eqb k j) (f k)
 
-pub but-at : (j : ℕ) (f : ℕ → ℤ) → but j f j ≡ pos 0
+but-at : (j : ℕ) (f : ℕ → ℤ) → but j f j ≡ pos 0
 but-at j f = go (eqb j j) (eqb-refl j)
   where
     go : (b : Bool) → T b → drop-if b (f j) ≡ pos 0
     go true t = refl
     go false t = absurd t
 
-pub but-off : (j : ℕ) (f : ℕ → ℤ) (k : ℕ) → (k ≡ j → ⊥) → but j f k ≡ f k
+but-off : (j : ℕ) (f : ℕ → ℤ) (k : ℕ) → (k ≡ j → ⊥) → but j f k ≡ f k
 but-off j f k n = go (eqb k j) (λ t. n (eqb→eq k j t))
   where
     go : (b : Bool) → (T b → ⊥) → drop-if b (f k) ≡ f k
@@ -119,7 +120,7 @@ last? j n h = go (eqb j n) (eqb→eq j n) (λ e. subst (λ k. T (eqb j k)) e (eq
         lt′ : (j ≡ n → ⊥) → j < n
         lt′ ne = omega arith
 
-pub sum-split : (n j : ℕ) (f : ℕ → ℤ) → j < n → sum n f ≡ f j +ℤ sum n (but j f)
+sum-split : (n j : ℕ) (f : ℕ → ℤ) → j < n → sum n f ≡ f j +ℤ sum n (but j f)
 unfolding sumBy
 sum-split zero j f h = absurd (no′ h)
   where
@@ -127,9 +128,12 @@ sum-split zero j f h = absurd (no′ h)
     no′ h = omega arith
 sum-split (suc n) j f h = step n j f (last? j n h) (sum-split n j f)
   where
-    step : (n j : ℕ) (f : ℕ → ℤ) → Last j n → (j < n → sum n f ≡ f j +ℤ sum n (but j f)) → sum n f +ℤ f n ≡ f j +ℤ (sum n (but j f) +ℤ but j f n)
-    step n j f (is-last e) ih = subst (λ k. sum n f +ℤ f n ≡ f k +ℤ (sum n (but k f) +ℤ but k f n)) (sym e) (last-first (sum n f) (f n) ∙ ap₂ (λ x y. f n +ℤ (x +ℤ y)) (sym (sum-off n n f (le-refl n))) (sym (but-at n f)))
-    step n j f (below l ne) ih = ap (λ x. x +ℤ f n) (ih l) ∙ regroup-right (f j) (sum n (but j f)) (f n) ∙ ap (λ x. f j +ℤ (sum n (but j f) +ℤ x)) (sym (but-off j f n ne))
+    step : (n j : ℕ) (f : ℕ → ℤ) → Last j n → (j < n → sum n f ≡ f j +ℤ sum n (but j f)) →
+        sum n f +ℤ f n ≡ f j +ℤ (sum n (but j f) +ℤ but j f n)
+    step n j f (is-last e) ih = subst (λ k. sum n f +ℤ f n ≡ f k +ℤ (sum n (but k f) +ℤ but k f n)) (sym e)
+        (last-first (sum n f) (f n) ∙ ap₂ (λ x y. f n +ℤ (x +ℤ y)) (sym (sum-off n n f (le-refl n))) (sym (but-at n f)))
+    step n j f (below l ne) ih = ap (λ x. x +ℤ f n) (ih l) ∙ regroup-right (f j) (sum n (but j f)) (f n)
+        ∙ ap (λ x. f j +ℤ (sum n (but j f) +ℤ x)) (sym (but-off j f n ne))
 
 -- the first term taken off
 to-back : (a : ℤ) → pos 0 +ℤ a ≡ a +ℤ pos 0
@@ -138,11 +142,12 @@ to-back a = ring-at (a ∷ []) (search reify depth 30) refl
 pub sum-head : (n : ℕ) (f : ℕ → ℤ) → sum (suc n) f ≡ f zero +ℤ sum n (λ k. f (suc k))
 unfolding sumBy
 sum-head zero f = to-back (f zero)
-sum-head (suc n) f = ap (λ x. x +ℤ f (suc n)) (sum-head n f) ∙ regroup-right (f zero) (sum n (λ k. f (suc k))) (f (suc n))
+sum-head (suc n) f = ap (λ x. x +ℤ f (suc n)) (sum-head n f)
+    ∙ regroup-right (f zero) (sum n (λ k. f (suc k))) (f (suc n))
 
 -- ---- terms not below 0, and terms in order
 
-pub sum-nonneg : (n : ℕ) {f : ℕ → ℤ} → ((k : ℕ) → k < n → NN (f k)) → NN (sum n f)
+sum-nonneg : (n : ℕ) {f : ℕ → ℤ} → ((k : ℕ) → k < n → NN (f k)) → NN (sum n f)
 unfolding sumBy
 sum-nonneg zero h = nn-nat 0
 sum-nonneg (suc n) h = sum-nonneg n (λ k l. h k (omega arith)) ⊞ h n (le-refl (suc n))
@@ -162,7 +167,8 @@ sum-within (suc k) {f} {b} h =
 
 -- ---- lists
 
-pub dot-sum : (n : ℕ) (x y : List ℤ) → length x ≡ n → length y ≡ n → dot x y ≡ sum n (λ k. getD x k (pos 0) *ℤ getD y k (pos 0))
+dot-sum : (n : ℕ) (x y : List ℤ) → length x ≡ n → length y ≡ n →
+    dot x y ≡ sum n (λ k. getD x k (pos 0) *ℤ getD y k (pos 0))
 unfolding dot sumBy
 dot-sum zero [] y p q = refl
 dot-sum zero (a ∷ x) y p q = absurd (no′ (length x) p)
@@ -177,4 +183,5 @@ dot-sum (suc n) (a ∷ x) [] p q = absurd (no′ n q)
   where
     no′ : (n : ℕ) → zero ≡ suc n → ⊥
     no′ n e = omega arith
-dot-sum (suc n) (a ∷ x) (b ∷ y) p q = ap (λ z. a *ℤ b +ℤ z) (dot-sum n x y (suc-inj p) (suc-inj q)) ∙ sym (sum-head n (λ k. getD (a ∷ x) k (pos 0) *ℤ getD (b ∷ y) k (pos 0)))
+dot-sum (suc n) (a ∷ x) (b ∷ y) p q = ap (λ z. a *ℤ b +ℤ z) (dot-sum n x y (suc-inj p) (suc-inj q))
+    ∙ sym (sum-head n (λ k. getD (a ∷ x) k (pos 0) *ℤ getD (b ∷ y) k (pos 0)))

@@ -1,10 +1,11 @@
--- What a test of two signed locals says. The flag of a branch is `ltZ (toZ w (ofZ w a)) (toZ w (ofZ w b))`, since a signed local holds bits.
+-- What a test of two signed locals says. The flag of a branch is `ltZ (toZ w (ofZ w a)) (toZ w (ofZ w b))`, since a
+-- signed local holds bits.
 --   test-lt, test-nlt, test-eq                      the branch, as an order of the two numbers, at any width
 --   leZ-true, leZ-false                             the same of a plain test
 --   above, own-size, under-size, not-neg                 what an order says of a number's size, which omega reads
 use mathlib.Core.Path.{_≡_, refl, sym, _∙_, ap, ap₂}
-use mathlib.Core.Bool.{Bool, true, false, not}
-use Prim.Native.Nat.{ℕ, zero, suc, _≤_, _<_, suc-le-suc}
+use mathlib.Core.Bool.{true, false}
+use Prim.Native.Nat.{ℕ, _≤_, _<_}
 use native.Mathlib.Omega.{arith}
 use lib.Dec.{T, leb→le, ltb→lt}
 use lib.Signed.{ltZ, leZ, nonNeg, _<ℤ_, _≤ℤ_, leZ-yes}

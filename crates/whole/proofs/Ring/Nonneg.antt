@@ -1,21 +1,21 @@
--- Certificates of order: `NN z` says 0 ≤ z; sums and products of such facts are such facts, and a goal follows from a certificate
--- where what is left over is a constant that is not below 0.
---   of-le, of-lt, of-eq, of-eq′   an order or an equation as a fact NN (the difference)
+-- Certificates of order: `NN z` says 0 ≤ z; sums and products of such facts are such facts, and a goal follows from a
+-- certificate where what is left over is a constant that is not below 0.
+--   of-le, of-lt, of-eq   an order or an equation as a fact NN (the difference)
 --   to-le, to-lt                  and back
 --   _⊞_ _⊠_ _⊡_                   sum, product, multiple of facts
 --   slk, blw                      what is left over is not below 0; is below 0
 --   contra                        a certificate of a number below 0 is a contradiction
-use mathlib.Core.Path.{_≡_, refl, sym, _∙_, ap, ap₂, subst}
+use mathlib.Core.Path.{_≡_, refl, sym, _∙_, ap, subst}
 use mathlib.Core.Bool.{Bool, true, false, not, cond}
 use mathlib.Core.List.{List, [], _∷_}
-use Prim.Native.Nat.{ℕ, zero, suc, _+_, _*_, _-_, _≤_, _<_}
+use Prim.Native.Nat.{ℕ, zero, suc, _+_, _-_, _≤_, _<_}
 use native.Mathlib.Omega.{arith}
-use lib.Dec.{T, leb, ltb, leb→le, le→leb, ltb→lt, lt→ltb, nltb→le, nleb→lt}
+use lib.Dec.{T, leb, ltb, leb→le, le→leb, ltb→lt, lt→ltb, nltb→le}
 use lib.Signed.{leZ, ltZ, nonNeg, _≤ℤ_, _<ℤ_, ltZ-no, ≤ℤ-refl}
-use lib.IntN.{ℤ, pos, negsuc, negℤ, subℕ, _+ℤ_, _-ℤ_, _*ℤ_, +ℤ-idl, +ℤ-idr, +ℤ-assoc, +ℤ-comm, +ℤ-invr, +ℤ-invl}
-use Rattle.whole.proofs.Ring.Normal.{Expr, var, con, _⊕_, _⊖_, _⊗_, ⊝, atomAt, eval, norm, norm-sound, Hor, kon}
-use Rattle.whole.proofs.Ring.Normal.{hor, evalH}
-use Rattle.whole.proofs.Ring.Reify.{Q, reify, reify·atoms, ring! }
+use lib.IntN.{ℤ, pos, negsuc, subℕ, _+ℤ_, _-ℤ_, _*ℤ_}
+use Rattle.whole.proofs.Ring.Normal.{norm, norm-sound, Hor, kon}
+use Rattle.whole.proofs.Ring.Normal.{evalH}
+use Rattle.whole.proofs.Ring.Reify.{Q, reify, ring! }
 
 cond-ind : (c : Bool) (x y : ℤ) (P : ℤ → Type 0) → (T c → P x) → (T (not c) → P y) → P (cond c x y)
 cond-ind true x y P f g = f tt
@@ -31,7 +31,7 @@ sub-ge a b n h = cond-ind (ltb a b) (negsuc (b - suc a)) (pos (a - b)) (λ z. z 
     eq′ : b ≤ a → a - b ≡ n
     eq′ k = omega arith
 
-pub sub-lt : (a b n : ℕ) → b ≡ suc (a + n) → subℕ a b ≡ negsuc n
+sub-lt : (a b n : ℕ) → b ≡ suc (a + n) → subℕ a b ≡ negsuc n
 sub-lt a b n h = cond-ind (ltb a b) (negsuc (b - suc a)) (pos (a - b)) (λ z. z ≡ negsuc n)
     (λ t. ap negsuc (eq′ (ltb→lt a b t))) (λ t. absurd (no′ (nltb→le a b t)))
   where
@@ -95,11 +95,14 @@ lt→le′ (pos a) (pos b) t = le→leb (a + 1) b (e (ltb→lt a b t))
     e h = omega arith
 lt→le′ (pos a) (negsuc b) t = t
 lt→le′ (negsuc zero) (pos b) t = le→leb zero b (omega arith)
-lt→le′ (negsuc (suc a)) (pos b) t = cond-ind (ltb 1 (suc (suc a))) (negsuc (suc (suc a) - 2)) (pos (1 - suc (suc a))) (λ z. T (leZ z (pos b))) (λ u. tt) (λ u. absurd (e (nltb→le 1 (suc (suc a)) u)))
+lt→le′ (negsuc (suc a)) (pos b) t = cond-ind (ltb 1 (suc (suc a))) (negsuc (suc (suc a) - 2)) (pos (1 - suc (suc a)))
+    (λ z. T (leZ z (pos b))) (λ u. tt) (λ u. absurd (e (nltb→le 1 (suc (suc a)) u)))
   where
     e : suc (suc a) ≤ 1 → ⊥
     e h = omega arith
-lt→le′ (negsuc a) (negsuc b) t = cond-ind (ltb 1 (suc a)) (negsuc (suc a - 2)) (pos (1 - suc a)) (λ z. T (leZ z (negsuc b))) (λ u. le→leb b (suc a - 2) (e (ltb→lt b a t))) (λ u. absurd (f (nltb→le 1 (suc a) u) (ltb→lt b a t)))
+lt→le′ (negsuc a) (negsuc b) t = cond-ind (ltb 1 (suc a)) (negsuc (suc a - 2)) (pos (1 - suc a))
+    (λ z. T (leZ z (negsuc b))) (λ u. le→leb b (suc a - 2) (e (ltb→lt b a t)))
+    (λ u. absurd (f (nltb→le 1 (suc a) u) (ltb→lt b a t)))
   where
     e : b < a → b ≤ suc a - 2
     e h = omega arith
@@ -127,13 +130,14 @@ _⊠_ {a} {b} h k = record { nn = go a b (h .nn) (k .nn) }
     go (negsuc a) b s t = absurd s
 
 -- a constant factor
-pub _⊡_ : (n : ℕ) {a : ℤ} → NN a → NN (pos n *ℤ a)
+_⊡_ : (n : ℕ) {a : ℤ} → NN a → NN (pos n *ℤ a)
 n ⊡ h = _⊠_ {a = pos n} (record { nn = tt }) h
 
 pub nn-nat : (n : ℕ) → NN (pos n)
 nn-nat n = record { nn = tt }
 
--- what is left of a goal when its certificate is taken off: a constant that is not below zero. A hole in place of `slk` shows the rest
+-- what is left of a goal when its certificate is taken off: a constant that is not below zero. A hole in place of `slk`
+-- shows the rest
 pub data Slack : Hor → Type 0 where
   slk : {n : ℕ} → Slack (kon (pos n))
 
@@ -159,11 +163,10 @@ to-lt {a} {b} h = record { lt = go (ltZ a b) refl }
   where
     go : (c : Bool) → ltZ a b ≡ c → T (ltZ a b)
     go true e = subst T (sym e) tt
-    go false e = absurd (contra (a ∷ b ∷ []) (h ⊞ of-le (ltZ-no {a = a} {b = b} (subst (λ c. T (not c)) (sym e) tt))) (search reify depth 30) blw)
+    go false e =
+        absurd (contra (a ∷ b ∷ []) (h ⊞ of-le (ltZ-no {a = a} {b = b} (subst (λ c. T (not c)) (sym e) tt)))
+        (search reify depth 30) blw)
 
 -- an equation, as two certificates
 pub of-eq : {a b : ℤ} → a ≡ b → NN (b -ℤ a)
 of-eq {a} {b} e = of-le (subst (λ z. a ≤ℤ z) e (≤ℤ-refl a))
-
-pub of-eq′ : {a b : ℤ} → a ≡ b → NN (a -ℤ b)
-of-eq′ e = of-eq (sym e)

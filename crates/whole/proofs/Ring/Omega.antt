@@ -1,17 +1,15 @@
 -- ℤ goals through `omega`: each atom z is pos (pp z) - pos (nn z); an expression is a difference of two naturals.
 use mathlib.Core.Path.{_≡_, refl, sym, _∙_, ap, ap₂, subst}
 use mathlib.Core.List.{List, [], _∷_}
-use Prim.Native.Nat.{ℕ, zero, suc, _+_, _*_, _≤_, _<_}
+use Prim.Native.Nat.{ℕ, suc, _+_, _*_, _≤_, _<_}
 use native.Mathlib.Omega.{arith}
-use lib.Dec.{T}
-use lib.Signed.{_≤ℤ_, _<ℤ_, leZ-yes}
+use lib.Signed.{_≤ℤ_, _<ℤ_}
 use lib.Dec.{le→leb, leb→le}
 use lib.IntN.{ℤ, pos, negsuc, negℤ, _+ℤ_, _-ℤ_, _*ℤ_}
 use Rattle.whole.proofs.Ring.Normal.{Expr, var, con, _⊕_, _⊖_, _⊗_, ⊝, atomAt, eval}
-use Rattle.whole.proofs.Ring.Reify.{Q, reify, reify·atoms, ring! }
-use Rattle.whole.proofs.Ring.Nonneg.{NN, of-le, to-le, of-lt, to-lt, of-eq}
-use Rattle.whole.proofs.Numbers.Order.{≤ℤ-antisym}
-use Rattle.whole.proofs.Ring.Tools.{ring-at, le-at, lt-at}
+use Rattle.whole.proofs.Ring.Reify.{Q, reify, reify·atoms}
+use Rattle.whole.proofs.Ring.Nonneg.{NN, of-le, to-le}
+use Rattle.whole.proofs.Ring.Tools.{ring-at}
 
 -- the two parts of an atom: shut, so that omega takes them for unknowns
 pub pp : ℤ → ℕ
@@ -31,7 +29,8 @@ parts (pos n) = search-add n
 parts (negsuc n) = zs n
   where
     zs : (n : ℕ) → negsuc n ≡ pos 0 -ℤ pos (suc n)
-    zs n = ring-at (pos (suc n) ∷ []) {x = negℤ (pos (suc n))} {y = pos 0 -ℤ pos (suc n)} (search reify·atoms depth 30) refl
+    zs n = ring-at (pos (suc n) ∷ []) {x = negℤ (pos (suc n))} {y = pos 0 -ℤ pos (suc n)}
+        (search reify·atoms depth 30) refl
 
 abbrev mutual
   pub P : List ℤ → Expr → ℕ
@@ -70,7 +69,7 @@ n0 n = ap pos (omega arith)
 n1 : (n : ℕ) → negsuc n ≡ pos 0 -ℤ pos (suc n)
 n1 n = ring-at (pos (suc n) ∷ []) {x = negℤ (pos (suc n))} {y = pos 0 -ℤ pos (suc n)} (search reify·atoms depth 30) refl
 
-pub PM : (ρ : List ℤ) (e : Expr) → eval ρ e ≡ pos (P ρ e) -ℤ pos (M ρ e)
+PM : (ρ : List ℤ) (e : Expr) → eval ρ e ≡ pos (P ρ e) -ℤ pos (M ρ e)
 PM ρ (var i) = parts (atomAt ρ i)
 PM ρ (con (pos n)) = n0 n
 PM ρ (con (negsuc n)) = n1 n
@@ -89,7 +88,7 @@ nat-le {m} {n} h = of-le {a = pos m} {b = pos n} (record { le = le→leb m n h }
 pub out : (ρ : List ℤ) {z : ℤ} → NN z → (q : Q ρ z) → M ρ (q .ex) ≤ P ρ (q .ex)
 out ρ h q = le-nat (subst NN (sym (q .ex-ok) ∙ PM ρ (q .ex)) h)
 
-pub into : (ρ : List ℤ) {z : ℤ} (q : Q ρ z) → M ρ (q .ex) ≤ P ρ (q .ex) → NN z
+into : (ρ : List ℤ) {z : ℤ} (q : Q ρ z) → M ρ (q .ex) ≤ P ρ (q .ex) → NN z
 into ρ q h = subst NN (sym (sym (q .ex-ok) ∙ PM ρ (q .ex))) (nat-le h)
 
 pub le-ω : (ρ : List ℤ) {a b : ℤ} (q : Q ρ (b -ℤ a)) → M ρ (q .ex) ≤ P ρ (q .ex) → a ≤ℤ b

@@ -1,21 +1,21 @@
--- The tools, one search each. ρ lists the atoms, which may be any terms; a hole in place of the last argument shows what is left over.
+-- The tools, one search each. ρ lists the atoms, which may be any terms; a hole in place of the last argument shows
+-- what is left over.
 --   ring-at ρ (search reify depth 30) refl            an identity of a commutative ring
 --   eq-by ρ (k ⊠₀ of-≡ h ⊞₀ ..) (search ..) refl      an equation from a combination of equations
 --   le-at, lt-at ρ (of-le h ⊠ of-le k ⊞ ..) (..) slk  an order from a nonnegative combination of orders
 -- From about ten atoms on the search wants `fits 20000`.
 use mathlib.Core.Path.{_≡_, refl, sym, _∙_, ap, ap₂, subst}
-use mathlib.Core.Bool.{Bool, true, false, not}
 use mathlib.Core.List.{List, [], _∷_}
-use Prim.Native.Nat.{ℕ, zero, suc, _+_, _*_, _-_, _≤_, _<_}
-use lib.Dec.{T}
-use lib.Signed.{nonNeg, _≤ℤ_, _<ℤ_}
-use lib.IntN.{ℤ, pos, negsuc, negℤ, _+ℤ_, _-ℤ_, _*ℤ_, +ℤ-idl, +ℤ-idr, +ℤ-invr, zero-*ℤ, *ℤ-zero}
-use Rattle.whole.proofs.Ring.Normal.{Expr, norm, norm-sound, Hor, kon, hor, evalH}
-use Rattle.whole.proofs.Ring.Reify.{Q, reify, reify·atoms, ring! }
-use Rattle.whole.proofs.Ring.Nonneg.{NN, of-le, to-le, of-lt, to-lt, _⊞_, _⊠_, _⊡_, Slack, slk, slack-ok}
+use Prim.Native.Nat.{_<_}
+use lib.Signed.{_≤ℤ_, _<ℤ_}
+use lib.IntN.{ℤ, pos, _+ℤ_, _-ℤ_, _*ℤ_, +ℤ-idl, +ℤ-invr, *ℤ-zero}
+use Rattle.whole.proofs.Ring.Normal.{norm, norm-sound, kon, evalH}
+use Rattle.whole.proofs.Ring.Reify.{Q, reify, ring! }
+use Rattle.whole.proofs.Ring.Nonneg.{NN, to-le, to-lt, _⊞_, Slack, slack-ok}
 
-pub diff-zero : (x y : ℤ) → x -ℤ y ≡ pos 0 → x ≡ y
-diff-zero x y e = ring! (x ∷ y ∷ []) {x = x} {y = (x -ℤ y) +ℤ y} (search reify depth 30) (search reify depth 30) refl ∙ ap (λ z. z +ℤ y) e ∙ +ℤ-idl y
+diff-zero : (x y : ℤ) → x -ℤ y ≡ pos 0 → x ≡ y
+diff-zero x y e = ring! (x ∷ y ∷ []) {x = x} {y = (x -ℤ y) +ℤ y} (search reify depth 30) (search reify depth 30) refl
+    ∙ ap (λ z. z +ℤ y) e ∙ +ℤ-idl y
 
 zero-of : (ρ : List ℤ) {z : ℤ} (q : Q ρ z) → norm (q .ex) ≡ kon (pos 0) → z ≡ pos 0
 zero-of ρ q t = sym (norm-sound ρ (q .ex) ∙ q .ex-ok) ∙ ap (evalH ρ) t
@@ -47,7 +47,8 @@ split-off : (x y : ℤ) → (x -ℤ y) +ℤ y ≡ x
 split-off x y = ring! (x ∷ y ∷ []) (search reify depth 30) (search reify depth 30) refl
 
 sl : (ρ : List ℤ) {g c : ℤ} → NN c → (q : Q ρ (g -ℤ c)) → Slack (norm (q .ex)) → NN g
-sl ρ {g} {c} h q t = subst NN (ap (λ x. x +ℤ c) (norm-sound ρ (q .ex) ∙ q .ex-ok) ∙ split-off g c) (slack-ok ρ (norm (q .ex)) t ⊞ h)
+sl ρ {g} {c} h q t =
+    subst NN (ap (λ x. x +ℤ c) (norm-sound ρ (q .ex) ∙ q .ex-ok) ∙ split-off g c) (slack-ok ρ (norm (q .ex)) t ⊞ h)
 
 pub le-at : (ρ : List ℤ) {x y c : ℤ} → NN c → (q : Q ρ ((y -ℤ x) -ℤ c)) → Slack (norm (q .ex)) → x ≤ℤ y
 le-at ρ h q t = to-le (sl ρ h q t)

@@ -64,7 +64,7 @@ module _ {A B : Type 0} {𝓐 : Values A} {𝓑 : Values B} (L : Laws 𝓐) (M :
       ap₂ (λ a b. (a, b)) (L .le-antisym (x .0) (y .0) (a .first) (b .first))
       (M .le-antisym (x .1) (y .1) (a .second (b .first)) (b .second (a .first)))
 
-  pub beside-laws : Laws (beside 𝓐 𝓑)
+  beside-laws : Laws (beside 𝓐 𝓑)
   beside-laws = record {
     plus-assoc = λ x y z.
         ap₂ (λ a b. (a, b)) (L .plus-assoc (x .0) (y .0) (z .0)) (M .plus-assoc (x .1) (y .1) (z .1));

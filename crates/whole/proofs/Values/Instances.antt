@@ -1,8 +1,8 @@
 -- Whole numbers are values, and any values are so again with the order turned round.
 use mathlib.Core.Path.{_≡_, refl}
 use mathlib.Core.Bool.{Bool, true, false}
-use mathlib.Core.List.{List, [], _∷_}
-use lib.IntN.{ℤ, pos, _+ℤ_, _-ℤ_, _*ℤ_, +ℤ-assoc, +ℤ-comm, +ℤ-idr, zero-*ℤ}
+use mathlib.Core.List.{[], _∷_}
+use lib.IntN.{ℤ, pos, _+ℤ_, _*ℤ_, +ℤ-assoc, +ℤ-comm, +ℤ-idr, zero-*ℤ}
 use lib.Signed.{ltZ, _<ℤ_}
 use Rattle.whole.specs.Values.{Values, whole, turned, Laws}
 use Rattle.whole.proofs.Ring.Laws.{*ℤ-idl, *ℤ-distribl, *ℤ-distribr, *ℤ-assoc}
@@ -42,7 +42,8 @@ same-test a b x y f g = go (ltZ x y) refl
 shift : (x y z : ℤ) → ltZ (x +ℤ z) (y +ℤ z) ≡ ltZ x y
 shift x y z = same-test (x +ℤ z) (y +ℤ z) x y
     (λ h. lt-at (x ∷ y ∷ z ∷ []) (of-lt h) (search reify depth 30) slk)
-    (λ e. le→false {a = y +ℤ z} {b = x +ℤ z} (le-at (x ∷ y ∷ z ∷ []) (of-le (false→le {a = y} {b = x} e)) (search reify depth 30) slk))
+    (λ e. le→false {a = y +ℤ z} {b =
+    x +ℤ z} (le-at (x ∷ y ∷ z ∷ []) (of-le (false→le {a = y} {b = x} e)) (search reify depth 30) slk))
 
 scale-up : (a x y : ℤ) → pos 0 <ℤ a → ltZ (a *ℤ x) (a *ℤ y) ≡ ltZ x y
 scale-up a x y p = same-test (a *ℤ x) (a *ℤ y) x y (times-up-strict p)

@@ -144,7 +144,8 @@ module _ {P : Problem (ℤ × ℤ)} {t : Tableau} {s : State (ℤ × ℤ)} (St :
         ≡ table (vars P) (λ v. positive (negℤ (pull (r .side) (relation (s .tableau) own v))))
     unfolding multipliersLaid
     lowers-are = table-same (vars P) _ _
-        (λ v h. filled-in mostVariables (pos 0) (t .rows + t .columns) (λ v. positive (negℤ (pullAt t (blockedAt t r) v))) v
+        (λ v h. filled-in mostVariables (pos 0) (t .rows + t .columns)
+        (λ v. positive (negℤ (pullAt t (blockedAt t r) v))) v
         (in-places v h)
         ∙ ap (λ y. positive (negℤ y)) (pull-is v h))
 

@@ -1,12 +1,10 @@
 -- `answers::multipliers::turned` meets its contract. Assumes nothing.
-use mathlib.Core.Path.{ap, sym, _∙_}
 use lib.IntN.{negℤ, +ℤ-idl}
 use mir.Facts.{toZ-ofZ}
 use mir.Syntax.{w64}
 use mir.Val.{SFits}
 use Rattle.whole.proofs.Numbers.Sizes.{within-neg, fits-by}
 use Rattle.rules.specs.Step as step
-use Rattle.sides.specs.Sides.{sideBy}
 use Rattle.answers.proofs.multipliers.turned.Statement.{statement}
 use Rattle.answers.proofs.multipliers.turned.Tie as tie
 

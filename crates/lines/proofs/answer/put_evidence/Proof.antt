@@ -33,7 +33,8 @@ loop-holds c =
 put-multipliers-requires : tie.Need-put-multipliers-requires Inv-loop μ-loop
 put-multipliers-requires c κs =
     let at = c .before .before in
-    let room = lines-room _ mostMultiplierLines (at .loop .v) (at .loop .inv .1) (omega arith) (omega arith) (omega arith) in
+    let room = lines-room _ mostMultiplierLines (at .loop .v) (at .loop .inv .1)
+    (omega arith) (omega arith) (omega arith) in
     (omega arith, omega arith, room)
 
 add-v : tie.Need-add-v Inv-loop μ-loop
@@ -45,8 +46,11 @@ loop-less c = omega arith
 loop-again : tie.Need-loop-again Inv-loop μ-loop
 loop-again c =
     let line = c .before .before .put-multipliers .ensures in
-    let at = c .before .before .before .before .before in
-    (omega arith, text-lines-more (entry (at .before .before)) mostMultiplierLines (at .loop .v) (at .loop .inv .1) line)
+    let at = c .before .before .before .before .before in (
+      omega arith,
+      text-lines-more (entry (at .before .before)) mostMultiplierLines
+          (at .loop .v) (at .loop .inv .1) line,
+    )
 
 same-length : tie.Need-same-length Inv-loop μ-loop
 same-length c = put-length (c .before .loop .inv .1 .put)

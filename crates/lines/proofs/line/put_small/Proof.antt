@@ -1,4 +1,5 @@
--- `lines::line::put_small` meets its contract: a newline for 0, else a space, the number and a newline. Assumes nothing.
+-- `lines::line::put_small` meets its contract: a newline for 0, else a space, the number and a newline. Assumes
+-- nothing.
 use mathlib.Core.Path.{_≡_, ap}
 use borrow.Author.Needs.{needs}
 use mir.Facts.{toZ-ofZ, sfits-lit}
@@ -7,7 +8,6 @@ use mir.Val.{ofZ}
 use Rattle.whole.proofs.Numbers.Tests.{test-eq}
 use Rattle.rules.specs.Program.Text.{ascii, line, smallEnd}
 use Rattle.rules.proofs.Program.Verdicts.{end-none, end-some}
-use Rattle.put.proofs.Texts.{put-length}
 use Rattle.lines.proofs.line.put_small.Statement.{statement}
 use Rattle.lines.proofs.line.put_small.Tie as tie
 

@@ -1,4 +1,5 @@
--- `lines::respond::reply` meets its contract: the solver's number and output give the text that the rules ask for. Assumes nothing.
+-- `lines::respond::reply` meets its contract: the solver's number and output give the text that the rules ask for.
+-- Assumes nothing.
 use mathlib.Core.List.{List}
 use mathlib.Core.Path.{_≡_, ap, ap₂, _∙_}
 use Prim.Native.Nat.{ℕ, _*_, _+_, _≤_}
@@ -13,7 +14,8 @@ use Rattle.rules.specs.Refusal.{Accepted, problemRefusal, refusal}
 use Rattle.rules.specs.Sizes.{mostRows, mostVariables}
 use Rattle.rules.specs.Program.Text.{answerText}
 use Rattle.solver.proofs.Laws.Refusals.{accepted-of}
-use Rattle.lines.proofs.Replies.{fine-words, printed-same, replied-answered, replied-refused, vars-few, written-long}
+use Rattle.lines.proofs.Replies.{fine-words, printed-same, replied-answered, replied-refused, vars-few}
+use Rattle.lines.proofs.Replies.{written-long}
 use Rattle.lines.proofs.respond.reply.Statement.{statement}
 use Rattle.lines.proofs.respond.reply.Tie as tie
 
@@ -42,7 +44,8 @@ returns c =
     (c .before .before .write-refusal .ensures)
 
 fine : (c : tie.Else1) → problemRefusal (words (c .before .before .before .before .before)) ≡ 0
-fine c = let s = c .before .before in fine-words (words (s .before .before .before)) (s .solve .result) (number-is s) (c .if1 .left)
+fine c = let s = c .before .before in
+    fine-words (words (s .before .before .before)) (s .solve .result) (number-is s) (c .if1 .left)
 
 accepted : (c : tie.Else1) → Accepted mostRows (words (c .before .before .before .before .before))
 accepted c = accepted-of (words (c .before .before .before .before .before)) (fine c)
@@ -72,7 +75,8 @@ write-answer-requires c κs = let k = c .before .before in (few k, long k)
     long : (k : tie.After-count-at2) → let s = k .before .before .before .before in
         3 + 2 * (k .before .count-at .result + k .count-at2 .result) ≤ length (s .solve .last .1 .0)
     long k = let s = k .before .before .before .before in
-        rw (many k, s .solve .ensures .1, k .before .before .if1 .left) (written-long (words (s .before .before .before)) (replicate 51 (pos 0)))
+        rw (many k, s .solve .ensures .1, k .before .before .if1 .left)
+        (written-long (words (s .before .before .before)) (replicate 51 (pos 0)))
 
 same-length-2 : tie.Need-same-length-2
 same-length-2 c = search needs
@@ -81,7 +85,9 @@ returns-2 : tie.Need-returns-2
 returns-2 c =
     let a = c .before .before in let k = a .before .before .before in let s = k .before .before .before .before in
     printed-same
-    (ap₂ answerText (s .solve .ensures .1 ∙ ap (λ (j : ℕ). written j (words (s .before .before .before)) (replicate 51 (pos 0))) (k .before .before .if1 .left)) (many k)
+    (ap₂ answerText
+    (s .solve .ensures .1 ∙ ap (λ (j : ℕ). written j (words (s .before .before .before)) (replicate 51 (pos 0)))
+    (k .before .before .if1 .left)) (many k)
     ∙ replied-answered (words (s .before .before .before)) (replicate 51 (pos 0)) (fine (k .before .before)))
     (a .write-answer .ensures)
 

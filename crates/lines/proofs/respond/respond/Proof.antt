@@ -1,11 +1,12 @@
--- `lines::respond::respond` meets its contract: the byte count is judged, then the words are replied to. Assumes nothing.
-use mathlib.Core.List.{List, _++_}
+-- `lines::respond::respond` meets its contract: the byte count is judged, then the words are replied to. Assumes
+-- nothing.
+use mathlib.Core.List.{List}
 use mathlib.Core.Path.{_≡_, ap, sym, _∙_}
-use Prim.Native.Nat.{ℕ, _/_, _≤_}
+use Prim.Native.Nat.{ℕ}
 use native.Mathlib.Omega.{arith}
 use borrow.Author.Needs.{needs}
 use lib.IntN.{ℤ, pos}
-use lib.ListN.{drop, length, replicate, take, length-take, length-append, length-drop, length-replicate}
+use lib.ListN.{drop, length, replicate, take, length-take}
 use Rattle.rules.specs.Program.Bytes.{countRefusal, wordsFrom}
 use Rattle.rules.specs.Program.Reply.{replyTo}
 use Rattle.rules.specs.Refusal.{problemRefusal}
@@ -29,7 +30,9 @@ same-length c = search needs
 returns : tie.Need-returns
 returns c =
     let t = c .before .before .before .before in let k = t .before in
-    printed-same (program-refused (bytes (k .before .before .before)) (k .count-refusal .result) (k .count-refusal .ensures) (t .if1 .taken))
+    printed-same
+    (program-refused (bytes (k .before .before .before)) (k .count-refusal .result)
+    (k .count-refusal .ensures) (t .if1 .taken))
     (c .before .before .write-refusal .ensures)
 
 slice-aggregate-words-of : tie.Need-slice-aggregate-words-of
@@ -47,7 +50,8 @@ module _ (c : tie.After-words-of) where
 
   front : take (c .words-of .result) (c .words-of .last .1 .0) ≡ wordsFrom (bytes start)
   front = ap (take (c .words-of .result)) (c .words-of .ensures .1)
-      ∙ words-front (bytes start) (drop (c .words-of .result) (replicate 202 (pos 0))) (c .words-of .result) (c .words-of .ensures .0)
+      ∙ words-front (bytes start) (drop (c .words-of .result) (replicate 202 (pos 0)))
+      (c .words-of .result) (c .words-of .ensures .0)
 
   taken : c .words-of .result ≡ length (take (c .words-of .result) (c .words-of .last .1 .0))
   taken = c .words-of .ensures .0 ∙ sym (ap length front ∙ words-length (bytes start))

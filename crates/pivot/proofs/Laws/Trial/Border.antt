@@ -39,7 +39,7 @@ in-row p c x = ring-at (p ∷ c ∷ x ∷ []) (search reify depth 30) refl
 in-column : (p c y : ℤ) → p *ℤ y -ℤ y *ℤ (p +ℤ negℤ c) ≡ y *ℤ c
 in-column p c y = ring-at (p ∷ c ∷ y ∷ []) (search reify depth 30) refl
 
-pub kinds : (A : ℕ → ℕ → ℤ) (c : ℤ) (p q i j : ℕ) →
+kinds : (A : ℕ → ℕ → ℤ) (c : ℤ) (p q i j : ℕ) →
     crossedOf (A p q) (A i j) (raisedBy (eqb i p) (A i q) c) (raisedBy (eqb j q) (A p j) (negℤ c))
     ≡ mixedOf (eqb i p) (eqb j q) c (A p q) (A i j) (A i q) (A p j)
 kinds A c p q i j = go (ℕ-discrete i p) (ℕ-discrete j q)

@@ -184,7 +184,7 @@ module _ {m n : ℕ} {l : List ℤ} {c : ℤ} {p q : ℕ} (h : Pivotable m n l c
         (F .greatest T (subst (λ k. T ∣ k) (sym (size-signed new from)) multiple)
         (λ k b. subst (λ x. T ∣ natAbs x) (sym (cell k b)) (T-mix k b)))
 
-    pub found-by : z ≡ by m n l c p q
+    found-by : z ≡ by m n l c p q
     found-by = F .sign-is ∙ signed-again new from (natAbs z) some ∙ ap (signedBy new) size-is
 
     nonzero : z ≢ pos 0
@@ -204,11 +204,11 @@ module _ {m n : ℕ} {l : List ℤ} {c : ℤ} {p q : ℕ} (h : Pivotable m n l c
         go (no b) = F .apart .kept k (inr (omega arith)) ∙ replicate-at mostEntries (pos 0) k
             ∙ sym (filled-out mostEntries (pos 0) (live m n) (quotients mixes (by m n l c p q)) k (omega arith))
 
-    pub found-entries : out ≡ entriesAfter m n l c p q
+    found-entries : out ≡ entriesAfter m n l c p q
     found-entries = ext-getD (pos 0) out (entriesAfter m n l c p q) as-long (λ k b. each k)
 
     -- .. and no larger than what was tried first
-    pub found-most : natAbs z ≤ from
+    found-most : natAbs z ≤ from
     found-most = le-of-dvd some (subst (λ k. natAbs z ∣ k) (size-signed new from) (F .divides))
 
   -- ---- a cell beyond the range
@@ -220,7 +220,7 @@ module _ {m n : ℕ} {l : List ℤ} {c : ℤ} {p q : ℕ} (h : Pivotable m n l c
       exact : T * (x / T) ≡ x
       exact = let z : x % T ≡ 0 = mod-eq-zero-of-dvd T e in omega (arith, div-add-mod x T)
 
-  pub exceeds-beyond : (from : ℕ) → T ∣ from → Exceeds l (borderAt m n l c p q) (signedBy new from) →
+  exceeds-beyond : (from : ℕ) → T ∣ from → Exceeds l (borderAt m n l c p q) (signedBy new from) →
       fitsAfter m n l c p q ≡ false
   exceeds-beyond from multiple X =
       small-cell (live m n) (entriesAfter m n l c p q) (commonAfter m n l c p q) (X .place) (X .in-live)
@@ -245,7 +245,7 @@ module _ {m n : ℕ} {l : List ℤ} {c : ℤ} {p q : ℕ} (h : Pivotable m n l c
 
   -- ---- the new common number
 
-  pub after-up : pos 0 ≤ℤ commonAfter m n l c p q
+  after-up : pos 0 ≤ℤ commonAfter m n l c p q
   after-up = signed-quotient-up new T T-pos
 
   pub within-up : commonAfter m n l c p q ≤ℤ pos largestNumber → inRange (commonAfter m n l c p q) ≡ true

@@ -68,7 +68,8 @@ module _ (l : List ℤ) (b : Border) (from : ℤ) where
       divides = subst (λ k. k ∣ natAbs from) (sym (size-signed z less)) (dvd-trans less parts (t .divides));
       greatest = λ d p q. subst (λ k. d ∣ k) (sym (size-signed z less))
           (column-greatest l (b .besides) (borderColumn b j) (b .rows) (natAbs z) d (t .greatest d p q)
-          (λ i h. subst (λ y. d ∣ natAbs y) (cell-here l b j in-columns i h) (q _ (column-inside l b j in-columns i h))));
+          (λ i h. subst (λ y. d ∣ natAbs y) (cell-here l b j in-columns i h)
+          (q _ (column-inside l b j in-columns i h))));
     }
 
     pub less-falls : signedBy z less ≢ z → natAbs (signedBy z less) < natAbs z
@@ -79,7 +80,8 @@ module _ (l : List ℤ) (b : Border) (from : ℤ) where
         go (no e) = let h = less-most in omega arith
 
     -- a quotient of the column that is beyond the range
-    pub exceeds : someAbove l (b .besides) (borderColumn b j) (b .rows) (natAbs z * largestNumber) ≡ true → Exceeds l b from
+    pub exceeds : someAbove l (b .besides) (borderColumn b j) (b .rows) (natAbs z * largestNumber) ≡ true →
+        Exceeds l b from
     exceeds e = let w = above-at l (b .besides) (borderColumn b j) (natAbs z * largestNumber) (b .rows) e in record {
       size = natAbs z;
       place = lineAt (b .rows) (b .columns) j + w .0;

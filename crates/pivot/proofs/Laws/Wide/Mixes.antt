@@ -16,7 +16,7 @@ use Rattle.rules.specs.Sizes.{largestNumber}
 use Rattle.layout.specs.Layout.{flat}
 use Rattle.pivot.specs.Pivot.{mixedOf, mixedCell, mixedLaid, Mixable, signedBy}
 
-pub mixed-of-within : (a b : Bool) (common pivot own beside above : ℤ) → Mixable common pivot own beside above →
+mixed-of-within : (a b : Bool) (common pivot own beside above : ℤ) → Mixable common pivot own beside above →
     Within (mixedOf a b common pivot own beside above) largestSize
 mixed-of-within true true common pivot own beside above m =
     within-le (within-* (m .common-within) (m .common-within)) (lit≤ tt)

@@ -47,7 +47,7 @@ module _ {m n : ℕ} {l : List ℤ} {c : ℤ} {p q : ℕ} (h : Pivotable m n l c
   pub end-in : live m n ≤ mostEntries
   end-in = live-most m n (h .few-rows) (h .few-columns)
 
-  pub within-product : (k : ℕ) → Within (getD l k (pos 0) *ℤ c) (largestNumber * largestNumber)
+  within-product : (k : ℕ) → Within (getD l k (pos 0) *ℤ c) (largestNumber * largestNumber)
   within-product k = within-* (h .all-within .each k) (h .common-within)
 
   pub within-size : Within new largestSize

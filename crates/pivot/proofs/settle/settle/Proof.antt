@@ -106,7 +106,8 @@ module _ (c : tie.After-lessened Inv-loop μ-loop) where
   t = a (c .before)
 
   abbrev left : ℤ
-  left = signedBy (z t) (columnDivisor (l t) (border t .besides) (borderColumn (border t) (j (c .before))) (border t .rows)
+  left = signedBy (z t)
+      (columnDivisor (l t) (border t .besides) (borderColumn (border t) (j (c .before))) (border t .rows)
       (natAbs (z t)))
 
   fit : SFits w32 (c .lessened .result)

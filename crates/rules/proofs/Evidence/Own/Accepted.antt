@@ -78,7 +78,7 @@ module _ (P : Problem Limit) (s : State (ℤ × ℤ)) (rest : List ℤ) (S : Sou
   Right k o = let a : List ℤ = wordsOf (inner P) (record { how = o; pivots = k; last = s }) in
       Decided a → Judged P (a ++ rest)
 
-  pub step-judged : (k : ℕ) → Right k (step pairs (inner P) s)
+  step-judged : (k : ℕ) → Right k (step pairs (inner P) s)
   unfolding wordsOf evidence laid
   step-judged k = go (stepped pairs (inner P) s)
     where
@@ -113,7 +113,8 @@ module _ (P : Problem Limit) (s : State (ℤ × ℤ)) (rest : List ℤ) (few : P
         go none e = let T = answer-run (inner P) s e R in
             rw (T .words) (step-judged P (after pairs (inner P) s (T .count)) rest (T .sound)
             (kept-after pairs (inner P) s (R .rowed) K (T .count)) few
-            (values-after pairs (inner P) LimitSized (low-modest P low) (high-modest P high) s (R .rowed) values (T .count))
+            (values-after pairs (inner P) LimitSized (low-modest P low)
+            (high-modest P high) s (R .rowed) values (T .count))
             (T .count))
         go (some v) e = let c = crosses-exactly pairs (inner P) v .0 e in
             rw (answer-crossed (inner P) s v e) (λ d. cannot-words P (pos 0) rest (same v) (same v)
@@ -138,7 +139,7 @@ module _ (ws rest : List ℤ) (A : Accepted mostRows ws) where
           (ready-start pairs pairs-laws (inner P)) (kept-begin A) d
 
   -- .. that is, with any verdict but out of range
-  pub answer-not-range : verdictOf (answer ws) ≢ pos 3 → checked ws (answer ws ++ rest) ≡ 8
+  answer-not-range : verdictOf (answer ws) ≢ pos 3 → checked ws (answer ws ++ rest) ≡ 8
   answer-not-range n = go (answer-shaped ws .shape)
     where
       go : Shape (varsOf ws) (answer ws) → checked ws (answer ws ++ rest) ≡ 8

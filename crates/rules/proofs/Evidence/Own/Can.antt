@@ -65,11 +65,11 @@ module _ (P : Problem Limit) (s : State (ℤ × ℤ)) (S : Sound pairs (inner P)
   unfolding scaled
   part-is v = total-parts (vars P) (λ w. pairs .scale (entry (s .tableau) v w) (seated pairs (seat s w)))
 
-  pub numerator-within : (v : ℕ) → v < vars P → Within (scaled pairs (inner P) s v .0) largestNumerator
+  numerator-within : (v : ℕ) → v < vars P → Within (scaled pairs (inner P) s v .0) largestNumerator
   numerator-within v h = rw (part-is v)
       (within-le (part-within (λ x. x .0) largestLimit refl (λ w x e. values w x e .0) v h) (omega arith))
 
-  pub small-within : (v : ℕ) → v < vars P → Within (scaled pairs (inner P) s v .1) largestSmall
+  small-within : (v : ℕ) → v < vars P → Within (scaled pairs (inner P) s v .1) largestSmall
   small-within v h = rw (part-is v)
       (within-le (part-within (λ x. x .1) 1 refl (λ w x e. values w x e .1) v h) (omega arith))
 

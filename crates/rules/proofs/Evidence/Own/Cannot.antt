@@ -1,5 +1,5 @@
--- Where a variable leaves and none can enter, the multipliers of the violated row are evidence. They are in range as the
--- tableau is; a limit that has one is there; the columns cancel as the row holds of the n unit solutions.
+-- Where a variable leaves and none can enter, the multipliers of the violated row are evidence. They are in range as
+-- the tableau is; a limit that has one is there; the columns cancel as the row holds of the n unit solutions.
 --   column-at      a column is the sum at a unit solution
 --   cannot-shown
 use mathlib.Core.List.{[], _∷_}
@@ -35,7 +35,7 @@ use Rattle.rules.specs.Sizes.{largestNumber}
 use Rattle.rules.specs.Step.{Leaving, Side, State, above, below, entering, positive, pull, startEntry}
 use Rattle.rules.specs.Tableau.{Tableau, relation}
 
-pub column-at : {X : Type 0} (P : Problem X) (y : ℕ → ℤ) (j : ℕ) → j < P .n →
+column-at : {X : Type 0} (P : Problem X) (y : ℕ → ℤ) (j : ℕ) → j < P .n →
     sum (vars P) (λ v. y v *ℤ startEntry P v j) ≡ column P y j
 column-at P y j h =
     rows-balance P (λ v. startEntry P v j) y (unit-solves P j h)

@@ -36,7 +36,7 @@ use Rattle.rules.specs.Facts.Blame.{gives}
 no-more : (a b : ℤ) → pos 0 <ℤ (a +ℤ b) → b ≤ℤ pos 0 → pos 0 <ℤ a
 no-more a b h k = lt-at (a ∷ b ∷ []) (of-lt h ⊞ of-le k) (search reify depth 30) slk
 
-pub some-above : (n : ℕ) (f : ℕ → ℤ) → pos 0 <ℤ sum n f → (v : ℕ) × (v < n) × (pos 0 <ℤ f v)
+some-above : (n : ℕ) (f : ℕ → ℤ) → pos 0 <ℤ sum n f → (v : ℕ) × (v < n) × (pos 0 <ℤ f v)
 unfolding sumBy
 some-above zero f h = absurd (<ℤ-irrefl h)
 some-above (suc n) f h = go (ltZ (pos 0) (f n)) refl (some-above n f)
@@ -132,7 +132,7 @@ module _ (P : Problem Limit) (lo up : ℕ → ℤ) where
       by v (inl x) = inl (tiny-strict (P .lower v) (lo v) x)
       by v (inr x) = inr (tiny-strict (P .upper v) (up v) x)
 
-  pub strict-gain : Lt pairs (pos 0, pos 0) (total pairs (vars P) f) → Contradiction P lo up
+  strict-gain : Lt pairs (pos 0, pos 0) (total pairs (vars P) f) → Contradiction P lo up
   strict-gain h = go (ltZ (pos 0) T) refl (ltZ T (pos 0)) refl (subst (λ w. Lt pairs (pos 0, pos 0) w) whole-sum h)
     where
       T : ℤ

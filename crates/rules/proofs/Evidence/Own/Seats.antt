@@ -74,7 +74,7 @@ module _ {X : Type 0} (𝓥 : Values X) (P : Problem X) (Q : X → Type 0)
   limit-value s v {x = x} h (too-low e k) = low v x h e
   limit-value s v {x = x} h (too-high e k) = high v x h e
 
-  pub values-moved : (s : State X) (r : Leaving X) (w : ℕ) → Rowed 𝓥 P s → Left 𝓥 P s r → Entered 𝓥 P s r w →
+  values-moved : (s : State X) (r : Leaving X) (w : ℕ) → Rowed 𝓥 P s → Left 𝓥 P s r → Entered 𝓥 P s r w →
       Values-are s → Values-are (moved 𝓥 P s r w)
   values-moved s r w R L E A v x e = go (was-some 𝓥 P s R r w L E v x e)
     where

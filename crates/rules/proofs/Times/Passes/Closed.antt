@@ -1,4 +1,5 @@
--- A way back that has met a vertex again has closed a bad cycle: the rows from where it stands up to the one that leads there (trail-cycle).
+-- A way back that has met a vertex again has closed a bad cycle: the rows from where it stands up to the one that leads
+-- there (trail-cycle).
 use mathlib.Core.Path.{_≡_, refl, sym, _∙_, ap, subst}
 use mathlib.Core.List.{List}
 use mathlib.Core.Logic.{_≢_, _⊎_, inl, inr}
@@ -41,19 +42,28 @@ module _ {X : Type 0} {𝓥 : Values X} (L : Laws 𝓥) (E : Edges X) (time : �
   -- the k-th row is one that the way took
   taken : (k : ℕ) → k < length rows → Bettered 𝓥 E time D (E .head (rowTold rows k)) (rowTold rows k)
   taken k h =
-      subst (λ i. Bettered 𝓥 E time D (E .head i) i) (sym (at-k k h)) (r .brings (j + k) (omega arith) (omega (arith, rows-length, to)))
+      subst (λ i. Bettered 𝓥 E time D (E .head i) i) (sym (at-k k h))
+      (r .brings (j + k) (omega arith) (omega (arith, rows-length, to)))
 
   -- the k-th row starts where the one before it ends, or at the vertex met again
-  start-at : (k : ℕ) → k < length rows → (k ≡ 0) ⊎ ((s : ℕ) × (k ≡ suc s) × (E .tail (rowTold rows k) ≡ E .head (rowTold path (j + s))))
+  start-at : (k : ℕ) → k < length rows →
+      (k ≡ 0) ⊎ ((s : ℕ) × (k ≡ suc s) × (E .tail (rowTold rows k) ≡ E .head (rowTold path (j + s))))
   start-at zero h = inl refl
   start-at (suc k) h =
-      inr (k, refl, ap (E .tail) (at-k (suc k) h ∙ ap (rowTold path) (add-suc j k)) ∙ sym (r .linked (j + k) (omega arith) (omega (arith, rows-length, to))))
+      inr (
+        k,
+        refl,
+        ap (E .tail) (at-k (suc k) h ∙ ap (rowTold path) (add-suc j k))
+            ∙ sym (r .linked (j + k) (omega arith) (omega (arith, rows-length, to))),
+      )
 
   first-start : E .tail (rowTold rows 0) ≡ here
-  first-start = ap (E .tail) (at-k 0 (omega (arith, rows-length, from)) ∙ ap (rowTold path) (add-zero j)) ∙ r .starts (omega (arith, from, to))
+  first-start = ap (E .tail) (at-k 0 (omega (arith, rows-length, from)) ∙ ap (rowTold path) (add-zero j))
+      ∙ r .starts (omega (arith, from, to))
 
   one-head : (a b : ℕ) → j ≤ a → a < top → j ≤ b → b < top → E .head (rowTold path a) ≡ E .head (rowTold path b) → a ≡ b
-  one-head a b h k l m f = let y : suc a ≡ suc b = sym (r .marked a h k) ∙ ap (rowTold seen) f ∙ r .marked b l m in omega arith
+  one-head a b h k l m f = let y : suc a ≡ suc b = sym (r .marked a h k)
+      ∙ ap (rowTold seen) f ∙ r .marked b l m in omega arith
 
   apart : (a b : ℕ) → a < b → b < length rows → E .tail (rowTold rows a) ≢ E .tail (rowTold rows b)
   apart a b l m f = go (start-at a (omega arith)) (start-at b m)
@@ -80,10 +90,16 @@ module _ {X : Type 0} {𝓥 : Values X} (L : Laws 𝓥) (E : Edges X) (time : �
   shut : E .head (rowTold rows (length rows - 1)) ≡ E .tail (rowTold rows 0)
   shut =
       let q : j + (length rows - 1) ≡ p = omega (arith, rows-length, from) in
-      ap (E .head) (at-k (length rows - 1) (omega (arith, rows-length, from)) ∙ ap (rowTold path) q) ∙ back-to ∙ sym first-start
+      ap (E .head) (at-k (length rows - 1) (omega (arith, rows-length, from)) ∙ ap (rowTold path) q)
+      ∙ back-to ∙ sym first-start
 
   goes-round : Cycle E rows
   goes-round = record { listed = λ k h. taken k h .listed; linked = link; closed = shut; apart = apart }
 
   pub trail-cycle : BadCycle 𝓥 E (slice j (suc p) path)
-  trail-cycle = record { cycle = goes-round; below = falling-below L E rows goes-round time D taken (omega (arith, rows-length, from)) }
+  trail-cycle =
+      record {
+        cycle = goes-round;
+        below =
+            falling-below L E rows goes-round time D taken (omega (arith, rows-length, from));
+      }

@@ -1,5 +1,6 @@
--- A cycle of rows each of which bettered its head last is bad. Going round, what the rows offer is at most what they gave; and as the looks that
--- bettered the vertices cannot have risen all the way round, some row offers less than it gave.
+-- A cycle of rows each of which bettered its head last is bad. Going round, what the rows offer is at most what they
+-- gave; and as the looks that bettered the vertices cannot have risen all the way round, some row offers less than it
+-- gave.
 use mathlib.Core.Path.{_≡_, refl, sym, _∙_, ap, subst}
 use mathlib.Core.List.{List}
 use mathlib.Core.Logic.{_⊎_, inl, inr}
@@ -15,7 +16,8 @@ use Rattle.rules.specs.Times.Passes.{through}
 use Rattle.rules.specs.Times.Cycle.{rowTold, Cycle, around}
 use Rattle.rules.specs.Times.Traces.{Bettered}
 
-module _ {X : Type 0} {𝓥 : Values X} (L : Laws 𝓥) (E : Edges X) (rows : List ℕ) (c : Cycle E rows) (time : ℕ → ℕ) (D : ℕ → X)
+module _ {X : Type 0} {𝓥 : Values X} (L : Laws 𝓥) (E : Edges X) (rows : List ℕ)
+    (c : Cycle E rows) (time : ℕ → ℕ) (D : ℕ → X)
     (each : (k : ℕ) → k < length rows → Bettered 𝓥 E time D (E .head (rowTold rows k)) (rowTold rows k)) where
   open Values 𝓥 using (nil, plus)
 
@@ -39,7 +41,8 @@ module _ {X : Type 0} {𝓥 : Values X} (L : Laws 𝓥) (E : Edges X) (rows : Li
 
   sum-more : (k : ℕ) → suc k < length rows → sum (suc k) ≡ plus (sum k) (E .size (rowTold rows (suc k)))
   unfolding sum sumBy
-  sum-more k h = sym (L .plus-assoc (D start) (total 𝓥 (suc k) (λ j. E .size (rowTold rows j))) (E .size (rowTold rows (suc k))))
+  sum-more k h =
+      sym (L .plus-assoc (D start) (total 𝓥 (suc k) (λ j. E .size (rowTold rows j))) (E .size (rowTold rows (suc k))))
 
   falls-start : 0 < length rows → Falls 0
   unfolding Falls
@@ -70,7 +73,8 @@ module _ {X : Type 0} {𝓥 : Values X} (L : Laws 𝓥) (E : Edges X) (rows : Li
 
       go : Falls k → Dec (time (end (suc k)) ≤ time (end k)) → Falls (suc k)
       go (inl p) t = inl (lt-le-trans L (less p) (o .most))
-      go (inr p) (yes t) = inl (le-lt-trans L (most (p .0)) (o .since (subst (λ v. time (end (suc k)) ≤ time v) (c .linked k h) t)))
+      go (inr p) (yes t) =
+          inl (le-lt-trans L (most (p .0)) (o .since (subst (λ v. time (end (suc k)) ≤ time v) (c .linked k h) t)))
       go (inr p) (no n) = inr (le-le L (most (p .0)) (o .most), omega (arith, p .1))
 
   falls : (k : ℕ) → k < length rows → Falls k
@@ -83,7 +87,8 @@ module _ {X : Type 0} {𝓥 : Values X} (L : Laws 𝓥) (E : Edges X) (rows : Li
     where
       go : (n : ℕ) → length rows ≡ n → Lt 𝓥 (around 𝓥 E rows) nil
       go zero e = absurd (omega arith)
-      go (suc k) e = subst (λ n. Lt 𝓥 (total 𝓥 n (λ j. E .size (rowTold rows j))) nil) (sym e) (by (falls k (omega arith)))
+      go (suc k) e =
+          subst (λ n. Lt 𝓥 (total 𝓥 n (λ j. E .size (rowTold rows j))) nil) (sym e) (by (falls k (omega arith)))
         where
           closes : end k ≡ start
           closes = ap end (let z : k ≡ length rows - 1 = omega arith in z) ∙ c .closed

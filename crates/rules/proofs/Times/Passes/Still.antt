@@ -6,9 +6,9 @@
 --   still-open, bad-closes          they exclude a walk that closes below 0; a bad cycle is such a walk
 --   bad-no-still                    and so they exclude a bad cycle
 use mathlib.Core.Path.{_≡_, refl, sym, _∙_, ap, subst}
-use mathlib.Core.Bool.{Bool, true, false, not}
-use mathlib.Core.List.{List, [], _∷_}
-use Prim.Native.Nat.{ℕ, zero, suc, _-_, _≤_, _<_}
+use mathlib.Core.Bool.{true, not}
+use mathlib.Core.List.{List, []}
+use Prim.Native.Nat.{ℕ, zero, suc, _-_, _<_}
 use native.Mathlib.Omega.{arith}
 use lib.ListN.{length}
 use Rattle.whole.specs.Sums.{sumBy}
@@ -34,15 +34,19 @@ module _ {X : Type 0} {𝓥 : Values X} (L : Laws 𝓥) (E : Edges X) where
   open Values 𝓥 using (nil, plus)
 
   module _ (D : ℕ → X) (s : Still 𝓥 E D) where
-    pub still-walk : (u k v : ℕ) (d : X) → Walk 𝓥 E u k v d → Le 𝓥 (D v) (plus (D u) d)
+    still-walk : (u k v : ℕ) (d : X) → Walk 𝓥 E u k v d → Le 𝓥 (D v) (plus (D u) d)
     still-walk u _ _ _ stay = same-le L (sym (L .plus-nil (D u)))
     still-walk u _ _ _ (on {k = k} {d = d} i h w) =
-        le-le L (s i h) (le-le L (plus-le L (E .size i) (still-walk u k (E .tail i) d w)) (same-le L (L .plus-assoc (D u) d (E .size i))))
+        le-le L (s i h)
+        (le-le L (plus-le L (E .size i) (still-walk u k (E .tail i) d w))
+        (same-le L (L .plus-assoc (D u) d (E .size i))))
 
-    pub still-least : ((v : ℕ) → Le 𝓥 (D v) nil) → (u k v : ℕ) (d : X) → Walk 𝓥 E u k v d → Le 𝓥 (D v) d
-    still-least low u k v d w = le-le L (still-walk u k v d w) (le-le L (plus-le L d (low u)) (same-le L (nil-plus L d)))
+    still-least : ((v : ℕ) → Le 𝓥 (D v) nil) → (u k v : ℕ) (d : X) → Walk 𝓥 E u k v d → Le 𝓥 (D v) d
+    still-least low u k v d w =
+        le-le L (still-walk u k v d w) (le-le L (plus-le L d (low u)) (same-le L (nil-plus L d)))
 
-    pub still-shortest : ((v : ℕ) → Le 𝓥 (D v) nil) → (v : ℕ) → (u : ℕ) × (k : ℕ) × Walk 𝓥 E u k v (D v) → Shortest 𝓥 E v (D v)
+    pub still-shortest : ((v : ℕ) → Le 𝓥 (D v) nil) → (v : ℕ) →
+        (u : ℕ) × (k : ℕ) × Walk 𝓥 E u k v (D v) → Shortest 𝓥 E v (D v)
     still-shortest low v w = record { walk = w; least = λ u k e x. still-least low u k v e x }
 
     -- what a shortest walk has before its last row is the shortest distance there
@@ -53,7 +57,9 @@ module _ {X : Type 0} {𝓥 : Values X} (L : Laws 𝓥) (E : Edges X) where
         (sym (L .less-plus (D (E .tail i)) d (E .size i)) ∙ ap (λ x. 𝓥 .less (through 𝓥 E D i) x) (sym e) ∙ s i h)
 
     pub still-open : ClosesBelow 𝓥 E → ⊥
-    still-open c = true-false (c .below) (gain-le L (D (c .start)) (c .sum) (still-walk (c .start) (c .rows) (c .start) (c .sum) (c .walk)))
+    still-open c =
+        true-false (c .below)
+        (gain-le L (D (c .start)) (c .sum) (still-walk (c .start) (c .rows) (c .start) (c .sum) (c .walk)))
 
   pub shortest-only : (v : ℕ) (d e : X) → Shortest 𝓥 E v d → Shortest 𝓥 E v e → d ≡ e
   shortest-only v d e x y =
@@ -65,25 +71,30 @@ module _ {X : Type 0} {𝓥 : Values X} (L : Laws 𝓥) (E : Edges X) where
 
   module _ (rows : List ℕ) (c : Cycle E rows) where
     cycle-walk : (k : ℕ) → k < length rows →
-        Walk 𝓥 E (E .tail (rowTold rows 0)) (suc k) (E .head (rowTold rows k)) (total 𝓥 (suc k) (λ j. E .size (rowTold rows j)))
+        Walk 𝓥 E (E .tail (rowTold rows 0)) (suc k) (E .head (rowTold rows k))
+        (total 𝓥 (suc k) (λ j. E .size (rowTold rows j)))
     unfolding sumBy
     cycle-walk zero h = on (rowTold rows 0) (c .listed 0 h) stay
     cycle-walk (suc k) h =
         on (rowTold rows (suc k)) (c .listed (suc k) h)
-        (subst (λ v. Walk 𝓥 E (E .tail (rowTold rows 0)) (suc k) v (total 𝓥 (suc k) (λ j. E .size (rowTold rows j)))) (c .linked k h)
+        (subst (λ v. Walk 𝓥 E (E .tail (rowTold rows 0)) (suc k) v (total 𝓥 (suc k) (λ j. E .size (rowTold rows j))))
+        (c .linked k h)
         (cycle-walk k (omega arith)))
 
-    pub whole-walk : (n : ℕ) → length rows ≡ n → 0 < n → Walk 𝓥 E (E .tail (rowTold rows 0)) n (E .tail (rowTold rows 0)) (around 𝓥 E rows)
+    whole-walk : (n : ℕ) → length rows ≡ n → 0 < n →
+        Walk 𝓥 E (E .tail (rowTold rows 0)) n (E .tail (rowTold rows 0)) (around 𝓥 E rows)
     whole-walk zero e h = absurd (omega arith)
     whole-walk (suc k) e h =
-        subst (λ m. Walk 𝓥 E (E .tail (rowTold rows 0)) (suc k) (E .tail (rowTold rows 0)) (total 𝓥 m (λ j. E .size (rowTold rows j)))) (sym e)
-        (subst (λ v. Walk 𝓥 E (E .tail (rowTold rows 0)) (suc k) v (total 𝓥 (suc k) (λ j. E .size (rowTold rows j)))) closes
+        subst (λ m. Walk 𝓥 E (E .tail (rowTold rows 0)) (suc k) (E .tail (rowTold rows 0))
+        (total 𝓥 m (λ j. E .size (rowTold rows j)))) (sym e)
+        (subst (λ v. Walk 𝓥 E (E .tail (rowTold rows 0)) (suc k) v
+        (total 𝓥 (suc k) (λ j. E .size (rowTold rows j)))) closes
         (cycle-walk k (omega arith)))
       where
         closes : E .head (rowTold rows k) ≡ E .tail (rowTold rows 0)
         closes = ap (λ j. E .head (rowTold rows j)) (let z : k ≡ length rows - 1 = omega arith in z) ∙ c .closed
 
-  pub bad-some : (rows : List ℕ) → BadCycle 𝓥 E rows → 0 < length rows
+  bad-some : (rows : List ℕ) → BadCycle 𝓥 E rows → 0 < length rows
   unfolding sumBy
   bad-some rows b = go (length rows) refl
     where

@@ -1,17 +1,19 @@
 -- What looking at rows keeps (`Traced` of specs/Times/Traces), in whatever arrays distances are held.
---   traced-start, traced-kept, traced-taken, traced-pass   no look; a row that betters nothing, or its head; the next pass begins
---   traced-still                                           a pass that bettered nothing leaves distances that no row betters
+--   traced-start, traced-kept, traced-taken, traced-pass   no look; a row that betters nothing, or its head; the next
+--                                                          pass begins
+--   traced-still                                           a pass that bettered nothing leaves distances that no row
+--                                                          betters
 use mathlib.Core.Path.{_≡_, refl, sym, _∙_, ap, subst, subst₂}
-use mathlib.Core.Bool.{Bool, true, false, cond}
+use mathlib.Core.Bool.{cond}
 use mathlib.Core.Logic.{_≢_}
-use Prim.Native.Nat.{ℕ, zero, suc, _+_, _≤_, _<_}
+use Prim.Native.Nat.{ℕ, suc, _+_, _≤_, _<_}
 use native.Mathlib.Omega.{arith}
 use native.Mathlib.Decide.{ℕ-discrete, decLe}
 use borrow.Author.Tests.{eq-eqb, ne-eqb}
 use lib.Dec.{eqb}
 use Rattle.whole.specs.Values.{Values, Lt, Le, Laws}
 use Rattle.whole.proofs.Bools.{true-false}
-use Rattle.whole.proofs.Values.Laws.{same-le, le-refl, le-le, lt-le-trans, le-lt-trans, weaken, plus-le, plus-lt}
+use Rattle.whole.proofs.Values.Laws.{same-le, le-le, lt-le-trans, le-lt-trans, weaken, plus-le, plus-lt}
 use Rattle.rules.specs.Times.Walks.{Edges, Walk, stay, on}
 use Rattle.rules.specs.Times.Passes.{through}
 use Rattle.rules.specs.Times.Traces.{Bettered, Still, Traced}
@@ -78,7 +80,8 @@ module _ {X : Type 0} {𝓥 : Values X} (L : Laws 𝓥) (E : Edges X) where
         unlooked = λ j l c k. t .unlooked j (omega arith) c k;
       }
         where
-          now : (j : ℕ) → j < suc i → j < E .count → time (E .tail j) ≤ b + j → Dec (j ≡ i) → Le 𝓥 (D (E .head j)) (through 𝓥 E D j)
+          now : (j : ℕ) → j < suc i → j < E .count → time (E .tail j) ≤ b + j →
+              Dec (j ≡ i) → Le 𝓥 (D (E .head j)) (through 𝓥 E D j)
           now j l c k (yes e) = subst (λ q. Le 𝓥 (D (E .head q)) (through 𝓥 E D q)) (sym e) h
           now j l c k (no n) = t .looked j (omega arith) c k
 
@@ -109,7 +112,8 @@ module _ {X : Type 0} {𝓥 : Values X} (L : Laws 𝓥) (E : Edges X) where
 
         -- a row from y offers less than it did
         offers-less : (j : ℕ) → E .tail j ≡ y → Lt 𝓥 (through 𝓥 E D′ j) (through 𝓥 E D j)
-        offers-less j e = plus-lt L (E .size j) (subst (λ u. Lt 𝓥 (D′ u) (D u)) (sym e) (le-lt-trans L (same-le L (p .here)) h))
+        offers-less j e =
+            plus-lt L (E .size j) (subst (λ u. Lt 𝓥 (D′ u) (D u)) (sym e) (le-lt-trans L (same-le L (p .here)) h))
 
         offers-same : (j : ℕ) → E .tail j ≢ y → through 𝓥 E D′ j ≡ through 𝓥 E D j
         offers-same j n = ap (λ z. plus z (E .size j)) (p .there (E .tail j) n)
@@ -155,27 +159,35 @@ module _ {X : Type 0} {𝓥 : Values X} (L : Laws 𝓥) (E : Edges X) where
               where
                 go : Dec (E .tail (last v) ≡ y) → Lt 𝓥 (through 𝓥 E D′ (last v)) (D v)
                 go (yes e) = lt-le-trans L (offers-less (last v) e) (o .most)
-                go (no m) = le-lt-trans L (offers (last v)) (o .since (omega (arith, now .there v n, now .there (E .tail (last v)) m)))
+                go (no m) =
+                    le-lt-trans L (offers (last v))
+                    (o .since (omega (arith, now .there v n, now .there (E .tail (last v)) m)))
 
         bettered′ : (v : ℕ) → 0 < time′ v → Dec (v ≡ y) → Bettered 𝓥 E time′ D′ v (last′ v)
-        bettered′ v l (yes e) = subst (λ u. Bettered 𝓥 E time′ D′ u (last′ u)) (sym e) (subst (Bettered 𝓥 E time′ D′ y) (sym (q .here)) at-y)
-        bettered′ v l (no n) = subst (Bettered 𝓥 E time′ D′ v) (sym (q .there v n)) (off-y v n (omega (arith, now .there v n)))
+        bettered′ v l (yes e) = subst (λ u. Bettered 𝓥 E time′ D′ u (last′ u)) (sym e)
+            (subst (Bettered 𝓥 E time′ D′ y) (sym (q .here)) at-y)
+        bettered′ v l (no n) =
+            subst (Bettered 𝓥 E time′ D′ v) (sym (q .there v n)) (off-y v n (omega (arith, now .there v n)))
 
         -- a row that bettered nothing still does not, unless it starts at y
-        quiet : (j : ℕ) → E .tail j ≢ y → Le 𝓥 (D (E .head j)) (through 𝓥 E D j) → Le 𝓥 (D′ (E .head j)) (through 𝓥 E D′ j)
+        quiet : (j : ℕ) → E .tail j ≢ y → Le 𝓥 (D (E .head j)) (through 𝓥 E D j) →
+            Le 𝓥 (D′ (E .head j)) (through 𝓥 E D′ j)
         quiet j n k = le-le L (falls (E .head j)) (le-le L k (same-le L (sym (offers-same j n))))
 
-        looked′ : (j : ℕ) → j < suc i → j < E .count → time′ (E .tail j) ≤ b + j → Le 𝓥 (D′ (E .head j)) (through 𝓥 E D′ j)
+        looked′ : (j : ℕ) → j < suc i → j < E .count → time′ (E .tail j) ≤ b + j →
+            Le 𝓥 (D′ (E .head j)) (through 𝓥 E D′ j)
         looked′ j l c k = go (ℕ-discrete j i)
           where
             off : E .tail j ≢ y
             off e = let z : time′ (E .tail j) ≡ suc (b + i) = ap time′ e ∙ now .here in let w : ⊥ = omega arith in w
 
             go : Dec (j ≡ i) → Le 𝓥 (D′ (E .head j)) (through 𝓥 E D′ j)
-            go (yes e) = same-le L (ap (λ q. D′ (E .head q)) e ∙ p .here ∙ sym (ap (through 𝓥 E D) e) ∙ sym (offers-same j off))
+            go (yes e) =
+                same-le L (ap (λ q. D′ (E .head q)) e ∙ p .here ∙ sym (ap (through 𝓥 E D) e) ∙ sym (offers-same j off))
             go (no n) = quiet j off (t .looked j (omega arith) c (omega (arith, now .there (E .tail j) off)))
 
-        unlooked′ : (j : ℕ) → suc i ≤ j → j < E .count → time′ (E .tail j) + E .count ≤ b + j → Le 𝓥 (D′ (E .head j)) (through 𝓥 E D′ j)
+        unlooked′ : (j : ℕ) → suc i ≤ j → j < E .count → time′ (E .tail j) + E .count ≤ b + j →
+            Le 𝓥 (D′ (E .head j)) (through 𝓥 E D′ j)
         unlooked′ j l c k = quiet j off (t .unlooked j (omega arith) c (omega (arith, now .there (E .tail j) off)))
           where
             off : E .tail j ≢ y
@@ -183,8 +195,11 @@ module _ {X : Type 0} {𝓥 : Values X} (L : Laws 𝓥) (E : Edges X) where
 
         walk′ : (v : ℕ) → Dec (v ≡ y) → (u : ℕ) × (k : ℕ) × Walk 𝓥 E u k v (D′ v)
         walk′ v (yes e) =
-            let w = t .walk x in
-            (w .0, suc (w .1), subst₂ (Walk 𝓥 E (w .0) (suc (w .1))) (sym e) (sym (ap D′ e ∙ p .here)) (on i listed (w .2)))
+            let w = t .walk x in (
+              w .0,
+              suc (w .1),
+              subst₂ (Walk 𝓥 E (w .0) (suc (w .1))) (sym e) (sym (ap D′ e ∙ p .here)) (on i listed (w .2)),
+            )
         walk′ v (no n) = let w = t .walk v in (w .0, w .1, subst (Walk 𝓥 E (w .0) (w .1) v) (sym (p .there v n)) (w .2))
 
         pub traced-taken : Traced 𝓥 E b (suc i) (put time y (suc (b + i))) D′ last′

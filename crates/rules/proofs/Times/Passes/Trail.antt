@@ -73,7 +73,8 @@ module _ {X : Type 0} {𝓥 : Values X} (E : Edges X) (ends : EndsIn E) (b i : �
       where
         below : (s : ℕ) → s < suc (top - j) → met s < E .vertices
         below zero l = r .vertex
-        below (suc s) l = let o = r .brings (j + s) (omega arith) (omega arith) in ends .head-in (rowTold path (j + s)) (o .listed)
+        below (suc s) l = let o = r .brings (j + s) (omega arith) (omega arith) in
+            ends .head-in (rowTold path (j + s)) (o .listed)
 
         distinct : (p q : ℕ) → p < q → q < suc (top - j) → met p ≢ met q
         distinct zero zero l m e = absurd (omega arith)
@@ -81,7 +82,8 @@ module _ {X : Type 0} {𝓥 : Values X} (E : Edges X) (ends : EndsIn E) (b i : �
         distinct (suc p) zero l m e = absurd (omega arith)
         distinct (suc p) (suc s) l m e =
             let y : suc (j + p) ≡ suc (j + s) =
-            sym (r .marked (j + p) (omega arith) (omega arith)) ∙ ap (rowTold seen) e ∙ r .marked (j + s) (omega arith) (omega arith) in
+            sym (r .marked (j + p) (omega arith) (omega arith)) ∙ ap (rowTold seen) e
+            ∙ r .marked (j + s) (omega arith) (omega arith) in
             omega arith
 
   module _ (path seen : List ℕ) (here j : ℕ) (r : At path seen here (suc j)) (z : rowTold seen here ≡ 0)
@@ -108,7 +110,8 @@ module _ {X : Type 0} {𝓥 : Values X} (E : Edges X) (ends : EndsIn E) (b i : �
     head-j = ap (E .head) at-j ∙ o .leads
 
     -- a fact of each row from j on: at j, and past it
-    each : (P : ℕ → ℕ → Type 0) → P j i′ → ((q : ℕ) → suc j ≤ q → q < top → P q (rowTold path q)) → (q : ℕ) → j ≤ q → q < top → P q (rowTold path′ q)
+    each : (P : ℕ → ℕ → Type 0) → P j i′ → ((q : ℕ) → suc j ≤ q → q < top → P q (rowTold path q)) →
+        (q : ℕ) → j ≤ q → q < top → P q (rowTold path′ q)
     each P p f q l m = go (ℕ-discrete j q)
       where
         go : Dec (j ≡ q) → P q (rowTold path′ q)
@@ -133,8 +136,10 @@ module _ {X : Type 0} {𝓥 : Values X} (E : Edges X) (ends : EndsIn E) (b i : �
         go : Dec (j ≡ q) → E .head (rowTold path′ q) ≡ E .tail (rowTold path′ (suc q))
         go (yes e) =
             ap (λ y. E .head (rowTold path′ y)) (sym e) ∙ head-j
-            ∙ sym (ap (E .tail) (past-j (suc q) (omega arith)) ∙ ap (λ y. E .tail (rowTold path (suc y))) (sym e) ∙ r .starts (omega arith))
-        go (no e) = ap (E .head) (past-j q (omega arith)) ∙ r .linked q (omega arith) m ∙ sym (ap (E .tail) (past-j (suc q) (omega arith)))
+            ∙ sym (ap (E .tail) (past-j (suc q) (omega arith))
+            ∙ ap (λ y. E .tail (rowTold path (suc y))) (sym e) ∙ r .starts (omega arith))
+        go (no e) = ap (E .head) (past-j q (omega arith)) ∙ r .linked q (omega arith) m
+            ∙ sym (ap (E .tail) (past-j (suc q) (omega arith)))
 
     marks : (u q : ℕ) → rowTold seen′ u ≡ suc q → (j ≤ q) × (q < top) × (E .head (rowTold path′ q) ≡ u)
     marks u q e = go (ℕ-discrete u here)

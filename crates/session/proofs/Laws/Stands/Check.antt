@@ -71,7 +71,7 @@ ran-limits (suc b) t = go (steppedAt t .course) (ran-limits b (steppedAt t .tabl
     go (over e) h = refl
     go on h = h
 
-pub spent-limits : (t : Tableau) (k b : ℕ) → spentAt t k b .tableau .limits ≡ t .limits
+spent-limits : (t : Tableau) (k b : ℕ) → spentAt t k b .tableau .limits ≡ t .limits
 unfolding spentAt
 spent-limits t k b = go (conflictAt (t .limits) (manyOf t))
   where
@@ -113,7 +113,7 @@ module _ (A : rules.Session (ℤ × ℤ)) (s : Session) (H : SessionHolds A s) w
   stands-rested = subst (Stands P (spentAt t 0 unlimited .tableau)) (check-sliced A (H .fair) unlimited enough .1)
       (holds-more slice-of unlimited .stands)
 
-  pub holds-rested : SessionHolds (rested pairs A) (record { tableau = spentAt t 0 unlimited .tableau })
+  holds-rested : SessionHolds (rested pairs A) (record { tableau = spentAt t 0 unlimited .tableau })
   unfolding rested
   holds-rested = let e = sym (spent-limits t 0 unlimited) in record {
     stands = stands-rested;
@@ -139,7 +139,8 @@ module _ (s : Session) (before : List ℤ) where
   check-short = by-room true
 
   pub check-long : short ≡ false →
-      (checkedWhere false s ≡ checkedAt s (length before)) × (outAt (s .tableau) 0 unlimited before ≡ checkOutputAt s before)
+      (checkedWhere false s ≡ checkedAt s (length before))
+      × (outAt (s .tableau) 0 unlimited before ≡ checkOutputAt s before)
   check-long = by-room false
 
   module _ (A : rules.Session (ℤ × ℤ)) (H : SessionHolds A s) where

@@ -191,7 +191,7 @@ module _ (P : Problem Limit) (F : Fitting P) where
     smalls-plain = λ e j. nought-at j;
   }
 
-  pub holds-quiet : SessionHolds A (record { tableau = t })
+  holds-quiet : SessionHolds A (record { tableau = t })
   unfolding quietAt startLaid opened
   holds-quiet = record {
     stands = stands-quiet;

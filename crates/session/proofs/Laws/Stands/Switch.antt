@@ -56,14 +56,14 @@ module _ (gs : List Given) (v : ℕ) (on : Bool) (long : v < length gs) where
   abbrev turned-there : List Given
   turned-there = set gs v (switchedTo (getD gs v absent) on)
 
-  pub set-there : getD turned-there v absent ≡ switchedTo (getD gs v absent) on
+  set-there : getD turned-there v absent ≡ switchedTo (getD gs v absent) on
   set-there = getD-set-same gs v (switchedTo (getD gs v absent) on) absent long
 
-  pub set-else : (w : ℕ) → w ≢ v → getD turned-there w absent ≡ getD gs w absent
+  set-else : (w : ℕ) → w ≢ v → getD turned-there w absent ≡ getD gs w absent
   set-else w n = getD-set-other gs v w (switchedTo (getD gs v absent) on) absent n
 
   -- every limit is what it was, on or off
-  pub set-same : (w : ℕ) → (b : Bool) × (getD turned-there w absent ≡ switchedTo (getD gs w absent) b)
+  set-same : (w : ℕ) → (b : Bool) × (getD turned-there w absent ≡ switchedTo (getD gs w absent) b)
   set-same w = go (ℕ-discrete w v)
     where
       go : Dec (w ≡ v) → (b : Bool) × (getD turned-there w absent ≡ switchedTo (getD gs w absent) b)
@@ -73,11 +73,11 @@ module _ (gs : List Given) (v : ℕ) (on : Bool) (long : v < length gs) where
       )
       go (no n) = (getD gs w absent .on, set-else w n)
 
-  pub set-handed : (w : ℕ) → handedIn (getD gs w absent) ≡ handedIn (getD turned-there w absent)
+  set-handed : (w : ℕ) → handedIn (getD gs w absent) ≡ handedIn (getD turned-there w absent)
   set-handed w = sym (ap handedIn (set-same w .1))
 
   -- one that is on was given
-  pub set-sworn : getD gs v absent .given ≡ true →
+  set-sworn : getD gs v absent .given ≡ true →
       ((w : ℕ) → getD gs w absent .on ≡ true → getD gs w absent .given ≡ true) →
       (w : ℕ) → getD turned-there w absent .on ≡ true → getD turned-there w absent .given ≡ true
   set-sworn there sworn w h = go (ℕ-discrete w v)
@@ -88,7 +88,7 @@ module _ (gs : List Given) (v : ℕ) (on : Bool) (long : v < length gs) where
           ∙ sworn w (ap (λ (g : Given). g .on) (sym (set-else w n)) ∙ h)
 
   -- the flags of the session follow
-  pub set-flags : (fs : List Bool) → v < length fs → (N : ℕ) →
+  set-flags : (fs : List Bool) → v < length fs → (N : ℕ) →
       ((w : ℕ) → w < N → getD fs w false ≡ getD gs w absent .on) →
       (w : ℕ) → w < N → getD (set fs v on) w false ≡ getD turned-there w absent .on
   set-flags fs k N are w h = go (ℕ-discrete w v)
@@ -160,7 +160,7 @@ module _ (s : Session) (v : ℕ) (upper on : Bool) where
     flag-is true h = H .flags .uppers-are v h
     flag-is false h = H .flags .lowers-are v h
 
-    pub refusal-is : refusalAt t v upper on ≡ switchRefusal A v (sideTold upper) on
+    refusal-is : refusalAt t v upper on ≡ switchRefusal A v (sideTold upper) on
     unfolding refusalAt switchRefusal switchTests limitTests
     refusal-is = go (decLt v N)
       where

@@ -107,4 +107,5 @@ choose-most (suc k) (suc j) = let a = choose-most k (suc j) in let b = choose-mo
 pub bound-small : (P : Problem (ℤ × ℤ)) → P .m ≤ mostRows → P .n ≤ mostColumns → bound P ≤ mostCount
 unfolding bound
 bound-small P h k = mul-le-mul (pow-le-pow-right {n = 3} (omega arith) k)
-    (le-trans (choose-most (P .n + P .m) (P .n)) (pow-le-pow-right {n = 2} (omega arith) {j = mostVariables} (omega arith)))
+    (le-trans (choose-most (P .n + P .m) (P .n))
+    (pow-le-pow-right {n = 2} (omega arith) {j = mostVariables} (omega arith)))

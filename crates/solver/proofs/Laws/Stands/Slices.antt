@@ -38,7 +38,8 @@ use Rattle.steps.specs.declared.End.{End}
 use Rattle.steps.specs.declared.End.the-variants as ends
 use Rattle.steps.specs.Step.{Course, Held, on, over}
 use Rattle.solver.specs.Run.{Tellable, endWords}
-use Rattle.solver.specs.Spend.{Holds, Ran, Uncrossed, isOver, manyOf, outAt, outBy, outWhere, ranAt, spentAt, spentWhere}
+use Rattle.solver.specs.Spend.{Holds, Ran, Uncrossed, isOver, manyOf, outAt, outBy, outWhere, ranAt, spentAt}
+use Rattle.solver.specs.Spend.{spentWhere}
 use Rattle.solver.specs.Came.{Came, CourseIs, over-can, over-cannot, over-range, still-on}
 use Rattle.solver.proofs.Laws.Stands.Came.{came}
 use Rattle.solver.proofs.Laws.Stands.Run.{bound-small}
@@ -60,7 +61,8 @@ module _ (t : Tableau) (k b : ℕ) where
 
 pub count-few : {S : Slice (ℤ × ℤ)} {t : Tableau} {k : ℕ} → Holds S t k → k < mostCount
 count-few {S} H = let a = on-way-below S (H .on-way) in
-    let b = bound-small (S .problem) (H .stands .sized .few-rows) (H .stands .sized .few-columns) in let c = H .count-is in omega arith
+    let b = bound-small (S .problem) (H .stands .sized .few-rows) (H .stands .sized .few-columns) in
+    let c = H .count-is in omega arith
 
 module _ {S : Slice (ℤ × ℤ)} {t : Tableau} {k : ℕ} (H : Holds S t k) where
   abbrev P : Problem (ℤ × ℤ)
@@ -76,7 +78,8 @@ module _ {S : Slice (ℤ × ℤ)} {t : Tableau} {k : ℕ} (H : Holds S t k) wher
   many-is = all-vars P t (S .state) (H .stands) rowed
 
   pub few-variables : manyOf t ≤ mostVariables
-  few-variables = let a = H .stands .sized .few-rows in let b = H .stands .sized .few-columns in let c = many-is in omega arith
+  few-variables = let a = H .stands .sized .few-rows in let b =
+      H .stands .sized .few-columns in let c = many-is in omega arith
 
   -- a continue of the rules, by what its run comes to
   continued-by : (b : ℕ) (e : Ending (ℤ × ℤ)) (u : Tableau) (j : ℕ) → spending pairs b P (S .state) (S .count) ≡ e →
@@ -147,7 +150,8 @@ module _ {S : Slice (ℤ × ℤ)} {t : Tableau} {k : ℕ} (H : Holds S t k) wher
         on-says : r .course ≡ on → Moves (e .how) → Says before
         on-says q h = let z = told-moves P (e .how) (e .pivots) (e .last) h in (
           ap isOver q ∙ sym (ap isAnswer z),
-          ap (λ c. outBy c (k + r .count) (r .tableau) before) q ∙ sym (ap (λ a. sliceOutput a (sliceLength S) before) z),
+          ap (λ c. outBy c (k + r .count) (r .tableau) before) q
+              ∙ sym (ap (λ a. sliceOutput a (sliceLength S) before) z),
         )
 
         go : (c : Course) (o : Outcome (ℤ × ℤ)) → CourseIs P (r .tableau) (e .last) c o → r .course ≡ c → e .how ≡ o →
@@ -164,7 +168,11 @@ module _ {S : Slice (ℤ × ℤ)} {t : Tableau} {k : ℕ} (H : Holds S t k) wher
     crosses = crossing-at (H .stands) rowed v at
 
     crossed-is : spending pairs b P (S .state) (S .count)
-        ≡ record { how = cannot (table (vars P) (same (v .0))) (table (vars P) (same (v .0))); pivots = S .count; last = S .state }
+        ≡ record {
+          how = cannot (table (vars P) (same (v .0))) (table (vars P) (same (v .0)));
+          pivots = S .count;
+          last = S .state;
+        }
     crossed-is = spending-crossed pairs P (v .0) crosses b (S .state) (S .count)
 
     pub crossing-seat : v .0 < mostVariables
@@ -175,7 +183,8 @@ module _ {S : Slice (ℤ × ℤ)} {t : Tableau} {k : ℕ} (H : Holds S t k) wher
 
     crossed-answer : sliceAnswer S b ≡ some (wordsOf P (spending pairs b P (S .state) (S .count)))
     unfolding sliceAnswer
-    crossed-answer = ap (told P) crossed-is ∙ told-ended P _ (S .count) (S .state) tt ∙ sym (ap (λ d. some (wordsOf P d)) crossed-is)
+    crossed-answer = ap (told P) crossed-is ∙ told-ended P _ (S .count) (S .state) tt
+        ∙ sym (ap (λ d. some (wordsOf P d)) crossed-is)
 
     crossed-says : (before : List ℤ) → (true ≡ isAnswer (sliceAnswer S b))
         × (laidOver (manyOf t) before (wordsAt verdicts.Cannot k (pos 0) (manyOf t) (unitAt (v .0)) (unitAt (v .0)))
@@ -203,9 +212,11 @@ module _ {S : Slice (ℤ × ℤ)} {t : Tableau} {k : ℕ} (H : Holds S t k) wher
       × (outAt t k b before ≡ sliceOutput (sliceAnswer S b) (sliceLength S) before)
   out-is b before = go (conflictAt (t .limits) (manyOf t)) refl
     where
-      go : (c : Crossed) → conflictAt (t .limits) (manyOf t) ≡ c → (spentAt t k b .answered ≡ isAnswer (sliceAnswer S b))
+      go : (c : Crossed) → conflictAt (t .limits) (manyOf t) ≡ c →
+          (spentAt t k b .answered ≡ isAnswer (sliceAnswer S b))
           × (outAt t k b before ≡ sliceOutput (sliceAnswer S b) (sliceLength S) before)
       go (crossings.At v) q =
-          rw (spent-where t k b (crossings.At v) q, out-where t k b (crossings.At v) q before) (crossed-says v q b before)
+          rw (spent-where t k b (crossings.At v) q, out-where t k b (crossings.At v) q before)
+          (crossed-says v q b before)
       go crossings.Nowhere q =
           rw (spent-where t k b crossings.Nowhere q, out-where t k b crossings.Nowhere q before) (ran-says q b before)

@@ -66,7 +66,8 @@ module _ {P : Problem (ℤ × ℤ)} {r : Ran} {x : Ending (ℤ × ℤ)} {k : ℕ
         go c o over-can q = let z : e ≡ ends.Can = cc in ap (λ w. endWords w total here (vars P)) z
             ∙ ap₂ (λ d l. pos 1 ∷ pos total ∷ d ∷ l) (C .stands .numbers .common-is)
             (ap₂ (λ y w. y ++ w) (numerators-are (C .stands) (C .rowed)) (smalls-are (C .stands) (C .rowed)))
-        go c o (over-cannot l y) q = let z : e ≡ ends.Cannot (blockedAt here l) = cc in ap (λ w. endWords w total here (vars P)) z
+        go c o (over-cannot l y) q = let z : e ≡ ends.Cannot (blockedAt here l) =
+            cc in ap (λ w. endWords w total here (vars P)) z
             ∙ ap₂ (λ a b. pos 2 ∷ pos total ∷ pos 0 ∷ a ++ b)
             (lowers-are (C .stands) (C .rowed) l (left pairs P at-end l y))
             (uppers-are (C .stands) (C .rowed) l (left pairs P at-end l y))
@@ -87,7 +88,8 @@ module _ {P : Problem (ℤ × ℤ)} {r : Ran} {x : Ending (ℤ × ℤ)} {k : ℕ
         go b g c o over-can q = let z : _≡_ {A = ℕ} 0 1 = cc in zero-one z
         go b g c o (over-cannot l y) q =
             let z : rowOf here (l .variable) ≡ b .row .0 = cc in let L = left pairs P at-end l y in
-            rw (← z, C .stands .sized .rows-is) (C .stands .placed .has-row (l .variable) (L .variable) (L .was-basic) .in-rows)
+            rw (← z, C .stands .sized .rows-is)
+            (C .stands .placed .has-row (l .variable) (L .variable) (L .was-basic) .in-rows)
         go b g c o over-range q = let z : _≡_ {A = ℕ} 0 1 = cc in zero-one z
         go b g c o (still-on s) q = let z : _≡_ {A = ℕ} 0 1 = cc in zero-one z
 
@@ -127,4 +129,5 @@ module _ {t : Tableau} (S : Startable t) {e : End} {k : ℕ} {u : Tableau} (F : 
 
   pub ended-tellable : Tellable e (0 + k) u
   ended-tellable = tellable-came came-there e refl
-      (let h = few in let b = bound-small Q (S .begun .stands .sized .few-rows) (S .begun .stands .sized .few-columns) in omega arith)
+      (let h = few in let b = bound-small Q (S .begun .stands .sized .few-rows)
+      (S .begun .stands .sized .few-columns) in omega arith)

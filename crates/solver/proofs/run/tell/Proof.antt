@@ -114,7 +114,8 @@ same-length-2 c = search needs
 
 returns-2 : tie.Need-returns-2
 unfolding wordsLaid
-returns-2 c = let o = c .before .before .before .before .before .before .before .before .before .before in let s = entry o in
+returns-2 c = let o = c .before .before .before .before .before .before .before .before .before .before in
+    let s = entry o in
     c .before .write2 .ensures
     ∙ ap (λ m. over s (wordsAt verdicts.Cannot (s .args .count) (pos 0) (many s) (m .lower) (m .upper)))
     (simp (toZ-ofZ (fit-common s)) at (c .before .before .before .before .before .before .multipliers-of .ensures))

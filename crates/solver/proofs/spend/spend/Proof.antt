@@ -66,7 +66,8 @@ returns c = let o = c .before .before .before .before .before .before .before in
     let s = o .before .before .before .before .before in let a = s .args in (
       sym (spent-where (a .t) (a .before) (a .most) (crossings.At (lowest-one o)) (crossed-is o)),
       c .before .write .ensures
-          ∙ ap (λ l. laidOver (manyOf (a .t)) (a .out .now) (wordsAt verdicts.Cannot (a .before) (pos 0) (manyOf (a .t)) l l))
+          ∙ ap (λ l. laidOver (manyOf (a .t)) (a .out .now)
+          (wordsAt verdicts.Cannot (a .before) (pos 0) (manyOf (a .t)) l l))
           (c .before .before .before .before .before .unit .ensures)
           ∙ sym (out-where (a .t) (a .before) (a .most) (crossings.At (lowest-one o)) (crossed-is o) (a .out .now)),
     )

@@ -1,4 +1,5 @@
--- Every entry of a state whose rows hold is 0, the common number, or a cell of the tableau by place: `Kind`, `entry-kind`.
+-- Every entry of a state whose rows hold is 0, the common number, or a cell of the tableau by place: `Kind`,
+-- `entry-kind`.
 use Prim.Native.Nat.{ℕ, _<_}
 use native.Mathlib.Decide.{ℕ-discrete}
 use mathlib.Core.Path.{_≡_, refl}

@@ -125,14 +125,16 @@ module _ {P : Problem (ℤ × ℤ)} {t : Tableau} {s : State (ℤ × ℤ)} {r : 
       before = unfold pivotedLaid in h
 
       go : Dec (j ≡ q M) → Q (valueAt (afterTurn M) j)
-      go (yes e) = subst Q (sym (ap (valueAt (afterTurn M)) e ∙ value-here (atTurn M) (p M) (q M) (x M) long small-long)) k
+      go (yes e) =
+          subst Q (sym (ap (valueAt (afterTurn M)) e ∙ value-here (atTurn M) (p M) (q M) (x M) long small-long)) k
       go (no n) = subst Q (sym (value-other (atTurn M) (p M) (q M) (x M) j n)) (before j)
 
   limits-next : afterTurn M .limits ≡ t .limits
   unfolding swappedAt pivotedLaid
   limits-next = refl
 
-  pub ranged-next : Ranged t → smallBelow (end (afterTurn M)) (afterTurn M .entries) (afterTurn M .common) ≡ true → Ranged (afterTurn M)
+  pub ranged-next : Ranged t → smallBelow (end (afterTurn M)) (afterTurn M .entries) (afterTurn M .common) ≡ true →
+      Ranged (afterTurn M)
   ranged-next g e = record {
     cells = cells-small (stands-next M) e;
     values-within = each-next (λ z. Within (z .0) largestLimit) (g .values-within) limit-within;

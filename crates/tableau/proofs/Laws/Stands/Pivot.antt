@@ -70,7 +70,7 @@ module _ {P : Problem (ℤ × ℤ)} {t : Tableau} {s : State (ℤ × ℤ)} {r : 
   abbrev g : ℕ
   g = divisorBelow (end t) mixes new
 
-  pub product-is : new ≡ T1 .common
+  product-is : new ≡ T1 .common
   unfolding solved
   product-is = ap₂ (λ a b. a *ℤ b) (pivot-is M) (M .stands .numbers .common-is)
 
@@ -80,15 +80,15 @@ module _ {P : Problem (ℤ × ℤ)} {t : Tableau} {s : State (ℤ × ℤ)} {r : 
   F : Factored N T1
   F = factored N T1 solved-nonzero
 
-  pub rowed-next : Rowed pairs P after
+  rowed-next : Rowed pairs P after
   rowed-next = rowed-moved pairs P s (M .rowed) r w (M .left) (M .entered)
 
   -- ---- the cells by place and by row and column
 
-  pub cell-mixed : (k : ℕ) → k < end t → getD mixes k (pos 0) ≡ mixed k
+  cell-mixed : (k : ℕ) → k < end t → getD mixes k (pos 0) ≡ mixed k
   cell-mixed k h = filled-in mostEntries (pos 0) (end t) mixed k h
 
-  pub mixed-flat : (i j : ℕ) → i < P .m → j < P .n →
+  mixed-flat : (i j : ℕ) → i < P .m → j < P .n →
       mixed (flat m n i j) ≡ entry T1 (basicAt (afterTurn M) i) (nonbasicAt (afterTurn M) j)
   mixed-flat i j h k =
       let b = place-back (M .stands .sized) i j h k in
@@ -122,12 +122,12 @@ module _ {P : Problem (ℤ × ℤ)} {t : Tableau} {s : State (ℤ × ℤ)} {r : 
       (divisor-divides N T1 .1 (basicAt (afterTurn M) (rowAt m n k)) (nonbasicAt (afterTurn M) (columnAt m n k))
       (placed-next M .in-row (rowAt m n k) a .variable-in) (placed-next M .in-column (columnAt m n k) b .variable-in))
 
-  pub divisor-is : g ≡ divisorSize N T1
+  divisor-is : g ≡ divisorSize N T1
   divisor-is = dvd-antisymm (divisor-greatest N T1 g g-common g-entry)
       (cells.cells-greatest mixes new (end t) (divisorSize N T1)
       (rw product-is (divisor-divides N T1 .0)) whole-cell)
 
-  pub by-is : part ≡ divisor N T1
+  by-is : part ≡ divisor N T1
   unfolding signedBy divisor
   by-is = ap₂ signedBy product-is divisor-is
 

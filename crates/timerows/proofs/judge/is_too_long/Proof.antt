@@ -1,5 +1,5 @@
 -- `timerows::judge::is_too_long` meets its contract. Assumes nothing.
-use mathlib.Core.Path.{_≡_, sym, _∙_, ap}
+use mathlib.Core.Path.{sym, _∙_, ap}
 use mathlib.Core.Bool.{_||_}
 use borrow.Author.Needs.{needs}
 use lib.IntN.{pos}

@@ -56,7 +56,8 @@ module _ (c : tie.After-is-bad-size) where
   unfolding badTimeSize
   bad-size-is = c .is-bad-size .ensures
 
-  enough : {k : ℕ} → first ((badTimeSize (ws start), 12) ∷ (badWordCount (ws start), 13) ∷ row-tests start) ≡ k → Is start k
+  enough : {k : ℕ} → first ((badTimeSize (ws start), 12) ∷ (badWordCount (ws start), 13) ∷ row-tests start) ≡ k →
+      Is start k
   unfolding timeRefusal timeTests tooFew
   enough e = first-skip 11 _ (le-ltb _ _ (c .before .if1 .left)) ∙ e
 
@@ -93,7 +94,8 @@ returns-3 : tie.Need-returns-3
 unfolding badWordCount
 returns-3 c =
     let t = c .before in
-    sym (sized (t .before) (first-hit 13 _ (ap not (ne-eqb _ _ (λ e. c .if3 .taken (e ∙ ap (λ m. 2 + 4 * m) (sym (m-is t))))))))
+    sym (sized (t .before)
+    (first-hit 13 _ (ap not (ne-eqb _ _ (λ e. c .if3 .taken (e ∙ ap (λ m. 2 + 4 * m) (sym (m-is t))))))))
 
 -- the words are as many as there should be
 module _ (c : tie.Else3) where
@@ -122,7 +124,8 @@ rows-number-requires : tie.Need-rows-number-requires
 rows-number-requires c κs = (framed c, m-is (c .before))
 
 -- the number of the rows
-number-is : (c : tie.After-rows-number) → c .rows-number .result ≡ rowsNumber (ws (s (c .before))) (mOf (ws (s (c .before))))
+number-is : (c : tie.After-rows-number) → c .rows-number .result
+    ≡ rowsNumber (ws (s (c .before))) (mOf (ws (s (c .before))))
 number-is c = c .rows-number .ensures ∙ ap (rowsNumber (ws (s (c .before)))) (m-is (c .before .before))
 
 returns-4 : tie.Need-returns-4
@@ -139,7 +142,8 @@ module _ (c : tie.Else4) where
   passed e = counted rows (rows-pass _ _ _ (sym (number-is (c .before)) ∙ c .if4 .left) ∙ e)
 
 count-at-requires-2 : tie.Need-count-at-requires-2
-count-at-requires-2 c κs = (omega (arith, framed (rows c) .exact), ≤ℤ-trans (record { le = tt }) (framed (rows c) .n-least))
+count-at-requires-2 c κs =
+    (omega (arith, framed (rows c) .exact), ≤ℤ-trans (record { le = tt }) (framed (rows c) .n-least))
 
 n-is : (c : tie.After-count-at2) → c .count-at2 .result ≡ nOf (ws (s (rows (c .before))))
 n-is c = c .count-at2 .ensures
@@ -154,13 +158,15 @@ returns-5 : tie.Need-returns-5
 unfolding noRoom
 returns-5 c =
     let t = s (rows (c .before .before)) in
-    sym (passed (c .before .before) (first-hit 17 [] (lt-ltb (room t) (timesLength (ws t)) (omega (arith, c .if5 .taken, n-is (c .before))))))
+    sym (passed (c .before .before)
+    (first-hit 17 [] (lt-ltb (room t) (timesLength (ws t)) (omega (arith, c .if5 .taken, n-is (c .before))))))
 
 returns-6 : tie.Need-returns-6
 unfolding noRoom first
 returns-6 c =
     let t = s (rows (c .before .before)) in
-    sym (passed (c .before .before) (first-skip 17 [] (le-ltb (room t) (timesLength (ws t)) (omega (arith, c .if5 .left, n-is (c .before))))))
+    sym (passed (c .before .before)
+    (first-skip 17 [] (le-ltb (room t) (timesLength (ws t)) (omega (arith, c .if5 .left, n-is (c .before))))))
 
 pub judge-spec : {M : Type 1} → statement M
 judge-spec =

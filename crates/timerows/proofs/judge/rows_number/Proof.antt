@@ -81,7 +81,9 @@ loop-again : tie.Need-loop-again Inv-loop μ-loop
 loop-again c =
     let top = c .before .before .before in (
       omega arith,
-      rw add-one (c .lesser .ensures ∙ ap₂ min (top .loop .inv .1) (c .before .number-at .ensures) ∙ sym (rows-more _ (top .loop .i))),
+      rw add-one
+          (c .lesser .ensures ∙ ap₂ min (top .loop .inv .1) (c .before .number-at .ensures)
+          ∙ sym (rows-more _ (top .loop .i))),
     )
 
 returns : tie.Need-returns Inv-loop μ-loop

@@ -1,7 +1,6 @@
 -- `timerows::rows::head` meets its contract. Assumes nothing.
 use native.Mathlib.Omega.{arith}
 use borrow.Author.Needs.{needs}
-use Rattle.rules.specs.Times.Words.{timeEdges}
 use Rattle.timerows.proofs.rows.head.Statement.{statement}
 use Rattle.timerows.proofs.rows.head.Tie as tie
 

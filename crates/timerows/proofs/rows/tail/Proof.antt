@@ -1,7 +1,6 @@
 -- `timerows::rows::tail` meets its contract. Assumes nothing.
 use native.Mathlib.Omega.{arith}
 use borrow.Author.Needs.{needs}
-use Rattle.rules.specs.Times.Words.{timeEdges}
 use Rattle.timerows.proofs.rows.tail.Statement.{statement}
 use Rattle.timerows.proofs.rows.tail.Tie as tie
 

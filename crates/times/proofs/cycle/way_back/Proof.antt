@@ -1,7 +1,7 @@
 -- `times::cycle::way_back` meets its contract. The invariant of its loop: the way so far is a trail, and its vertices
 -- are marked. The measure is the places left: n different vertices cannot be n + 1. Assumes nothing.
 use mathlib.Core.Path.{refl, sym, subst}
-use Prim.Native.Nat.{ℕ, _≤_, _<_, _-_}
+use Prim.Native.Nat.{ℕ, _≤_, _<_}
 use native.Mathlib.Omega.{arith}
 use Rattle.rules.specs.Problem.{mOf}
 use Rattle.rules.proofs.Times.Refused.{time-rows-few}

@@ -1,5 +1,5 @@
--- `vectors::cycle::words` is safe and ends. Nothing has to hold from turn to turn. The measure is the number of rows that
--- are left. Assumes nothing.
+-- `vectors::cycle::words` is safe and ends. Nothing has to hold from turn to turn. The measure is the number of rows
+-- that are left. Assumes nothing.
 use borrow.Author.Needs.{needs}
 use Prim.Native.Nat.{_-_}
 use native.Mathlib.Omega.{arith}

@@ -1,5 +1,5 @@
--- `vectors::print::words` is safe and ends. Nothing has to hold from turn to turn. The measure is the number of words that
--- are left. Assumes nothing.
+-- `vectors::print::words` is safe and ends. Nothing has to hold from turn to turn. The measure is the number of words
+-- that are left. Assumes nothing.
 use borrow.Author.Needs.{needs}
 use Prim.Native.Nat.{_-_}
 use native.Mathlib.Omega.{arith}
