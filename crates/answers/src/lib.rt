@@ -7,9 +7,11 @@ ghost use Rattle.tableau.specs.Parts.{nowhere};
 ghost use Rattle.answers.specs.Answer.{numberOf, Numerable, numeratorOf, numeratorsIn};
 ghost use Rattle.answers.specs.Answer.{copiedAt, isShort, mostCount, wordsAt, laidOver};
 use search::Size;
+use search::after;
 use sides::product;
 use tableau::Seat;
 use tableau::Tableau;
+use tableau::Variable;
 
 pub mod conflict;
 pub mod multipliers;
@@ -86,9 +88,12 @@ pub fn numerators_of<'a>(
 {
     let variables = size.rows + size.columns;
     let mut numerators = [0i64; Tableau::MOST_VARIABLES];
-    for v in 0..variables {
-        let seat = seats[v];
-        numerators[v] = numerator_of(entries, values, size, common, seat);
+    let mut v = Variable(0);
+    while (v.0 as usize) < variables {
+        let at = v.0 as usize;
+        let seat = seats[at];
+        numerators[at] = numerator_of(entries, values, size, common, seat);
+        v = after(v);
     }
     numerators
 }

@@ -12,6 +12,7 @@ ghost use Rattle.sides.specs.Sides.{sideBy};
 ghost use Rattle.answers.specs.Multipliers.{Blockable, unitAt, pullOf, multipliersIn};
 use search::Blocked;
 use search::Size;
+use search::after;
 use tableau::Seat;
 use tableau::Tableau;
 use tableau::Variable;
@@ -96,11 +97,14 @@ pub fn multipliers_of(
     let variables = size.rows + size.columns;
     let mut lower = [0i64; Tableau::MOST_VARIABLES];
     let mut upper = [0i64; Tableau::MOST_VARIABLES];
-    for v in 0..variables {
-        let seat = seats[v];
+    let mut v = Variable(0);
+    while (v.0 as usize) < variables {
+        let at = v.0 as usize;
+        let seat = seats[at];
         let y = pull_of(entries, size, common, blocked, seat);
-        lower[v] = positive(-y);
-        upper[v] = positive(y);
+        lower[at] = positive(-y);
+        upper[at] = positive(y);
+        v = after(v);
     }
     Multipliers { lower, upper }
 }

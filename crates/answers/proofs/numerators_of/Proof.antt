@@ -16,12 +16,12 @@ use Rattle.answers.proofs.numerators_of.Statement.{statement}
 use Rattle.answers.proofs.numerators_of.Tie as tie
 
 abbrev Inv-loop : tie.InvT-loop
-Inv-loop entries values common size seats variables numerators₀ v₀ numerators v = (v ≤ variables)
-    × (numerators ≡ filled mostVariables (pos 0) v
+Inv-loop entries values common size seats variables numerators₀ v₀ numerators v = (v .0 ≤ variables)
+    × (numerators ≡ filled mostVariables (pos 0) (v .0)
     (numeratorIn entries values seats (toZ w32 common) (size .rows) (size .columns)))
 
 abbrev μ-loop : tie.MeasureT-loop
-μ-loop entries values common size seats variables numerators₀ v₀ numerators v = variables - v
+μ-loop entries values common size seats variables numerators₀ v₀ numerators v = variables - v .0
 
 -- the numerator of a variable, the common number by its bits
 abbrev read : tie.Start Inv-loop μ-loop → ℕ → ℤ
@@ -35,16 +35,22 @@ add-variables c = omega arith
 loop-holds : tie.Need-loop-holds Inv-loop μ-loop
 loop-holds c = (omega arith, filled-start mostVariables (pos 0) (read (c .before)))
 
+cast-if1 : tie.Need-cast-if1 Inv-loop μ-loop
+cast-if1 c = search needs
+
+cast-at : tie.Need-cast-at Inv-loop μ-loop
+cast-at c = search needs
+
 -- at a variable
-module _ (c : tie.In-loop Inv-loop μ-loop) where
+module _ (c : tie.Then1 Inv-loop μ-loop) where
   abbrev head : tie.At-loop Inv-loop μ-loop
-  head = c .before
+  head = c .before .before
 
   abbrev start : tie.Start Inv-loop μ-loop
   start = head .before .before
 
   abbrev number : ℕ
-  number = head .loop .v
+  number = head .loop .v .0
 
   in-range : number < start .args .size .rows + start .args .size .columns
   in-range = omega arith
@@ -53,18 +59,18 @@ module _ (c : tie.In-loop Inv-loop μ-loop) where
   few = omega arith
 
 mul-seat : tie.Need-mul-seat Inv-loop μ-loop
-mul-seat c = omega arith
+mul-seat c = let z = few (c .before) in omega arith
 
 array-copy-out-seat : tie.Need-array-copy-out-seat Inv-loop μ-loop
-array-copy-out-seat c = few c
+array-copy-out-seat c = let z = few (c .before) in omega arith
 
 numerator-of-requires : tie.Need-numerator-of-requires Inv-loop μ-loop
-numerator-of-requires c κs = let o = c .before in let s = start o in
+numerator-of-requires c κs = let o = c .before .before in let s = start o in
     simp (toZ-ofZ (s .fits .common)) (s .pre .1 (number o) (in-range o))
 
 module _ (c : tie.After-numerator-of Inv-loop μ-loop) where
-  abbrev here : tie.In-loop Inv-loop μ-loop
-  here = c .before .before
+  abbrev here : tie.Then1 Inv-loop μ-loop
+  here = c .before .before .before
 
   fit-result : SFits w64 (c .numerator-of .result)
   fit-result = search needs
@@ -73,28 +79,28 @@ module _ (c : tie.After-numerator-of Inv-loop μ-loop) where
   numerator-is = c .numerator-of .ensures
 
 mul-numerators : tie.Need-mul-numerators Inv-loop μ-loop
-mul-numerators c = omega arith
+mul-numerators c = let z = few (here c) in omega arith
 
 array-set-from-numerators : tie.Need-array-set-from-numerators Inv-loop μ-loop
 array-set-from-numerators c = few (here c)
 
-add-v : tie.Need-add-v Inv-loop μ-loop
-add-v c = omega arith
+after-requires : tie.Need-after-requires Inv-loop μ-loop
+after-requires c κs = few (here c)
 
 loop-less : tie.Need-loop-less Inv-loop μ-loop
-loop-less c = omega arith
+loop-less c = let z = in-range (here (c .before)) in rw (c .after .ensures) (omega arith)
 
 loop-again : tie.Need-loop-again Inv-loop μ-loop
-loop-again c = let o = here c in (
+loop-again c = let d = c .before in let o = here d in let z = in-range o in rw (c .after .ensures) (
   omega arith,
   filled-more mostVariables (pos 0) (read (start o)) (number o) (few o) (head o .loop .inv .1)
-      (toZ-ofZ (fit-result c) ∙ numerator-is c),
+      (toZ-ofZ (fit-result d) ∙ numerator-is d),
 )
 
 returns : tie.Need-returns Inv-loop μ-loop
 unfolding numeratorsLaid
-returns c = let h = c .before in let s = h .before .before in let a = s .args in
-    let e : h .loop .v ≡ a .size .rows + a .size .columns = omega arith in
+returns c = let h = c .before .before in let s = h .before .before in let a = s .args in
+    let e : h .loop .v .0 ≡ a .size .rows + a .size .columns = omega arith in
     h .loop .inv .1 ∙ ap (λ k. filled mostVariables (pos 0) k (read s)) e
     ∙ ap (λ d. numeratorsIn (a .entries .now) (a .values .now) (a .t3) d (a .size .rows) (a .size .columns))
     (toZ-ofZ (s .fits .common))
@@ -107,12 +113,14 @@ numerators-of-spec =
     μ-loop
     add-variables
     loop-holds
+    cast-if1
+    cast-at
     mul-seat
     array-copy-out-seat
     numerator-of-requires
     mul-numerators
     array-set-from-numerators
-    add-v
+    after-requires
     loop-less
     loop-again
     returns)

@@ -22,14 +22,14 @@ use Rattle.answers.proofs.multipliers.multipliers_of.Statement.{stateme
 use Rattle.answers.proofs.multipliers.multipliers_of.Tie as tie
 
 abbrev Inv-loop : tie.InvT-loop
-Inv-loop entries common size blocked seats variables lower₀ upper₀ v₀ lower upper v = (v ≤ variables)
-    × (lower ≡ filled mostVariables (pos 0) v
+Inv-loop entries common size blocked seats variables lower₀ upper₀ v₀ lower upper v = (v .0 ≤ variables)
+    × (lower ≡ filled mostVariables (pos 0) (v .0)
     (λ v. positive (negℤ (pullIn entries seats (size .rows) (size .columns) (toZ w32 common) blocked v))))
-    × (upper ≡ filled mostVariables (pos 0) v
+    × (upper ≡ filled mostVariables (pos 0) (v .0)
     (λ v. positive (pullIn entries seats (size .rows) (size .columns) (toZ w32 common) blocked v)))
 
 abbrev μ-loop : tie.MeasureT-loop
-μ-loop entries common size blocked seats variables lower₀ upper₀ v₀ lower upper v = variables - v
+μ-loop entries common size blocked seats variables lower₀ upper₀ v₀ lower upper v = variables - v .0
 
 -- the pull at a variable, the common number by its bits
 abbrev read : tie.Start Inv-loop μ-loop → ℕ → ℤ
@@ -42,10 +42,16 @@ add-variables c = omega arith
 loop-holds : tie.Need-loop-holds Inv-loop μ-loop
 loop-holds c = (omega arith, filled-start mostVariables (pos 0) _, filled-start mostVariables (pos 0) _)
 
+cast-if1 : tie.Need-cast-if1 Inv-loop μ-loop
+cast-if1 c = search needs
+
+cast-at : tie.Need-cast-at Inv-loop μ-loop
+cast-at c = search needs
+
 -- at a variable
-module _ (c : tie.In-loop Inv-loop μ-loop) where
+module _ (c : tie.Then1 Inv-loop μ-loop) where
   abbrev head : tie.At-loop Inv-loop μ-loop
-  head = c .before
+  head = c .before .before
 
   abbrev start : tie.Start Inv-loop μ-loop
   start = head .before .before
@@ -54,7 +60,7 @@ module _ (c : tie.In-loop Inv-loop μ-loop) where
   pulls = read start
 
   abbrev number : ℕ
-  number = head .loop .v
+  number = head .loop .v .0
 
   in-range : number < start .args .size .rows + start .args .size .columns
   in-range = omega arith
@@ -68,18 +74,18 @@ module _ (c : tie.In-loop Inv-loop μ-loop) where
   blockable = simp (toZ-ofZ (start .fits .common)) (start .pre .1 number in-range)
 
 mul-seat : tie.Need-mul-seat Inv-loop μ-loop
-mul-seat c = omega arith
+mul-seat c = let z = few (c .before) in omega arith
 
 array-copy-out-seat : tie.Need-array-copy-out-seat Inv-loop μ-loop
-array-copy-out-seat c = few c
+array-copy-out-seat c = let z = few (c .before) in omega arith
 
 pull-of-requires : tie.Need-pull-of-requires Inv-loop μ-loop
-pull-of-requires c κs = blockable (c .before)
+pull-of-requires c κs = blockable (c .before .before)
 
 -- the pull of its entry
 module _ (c : tie.After-pull-of Inv-loop μ-loop) where
-  abbrev here : tie.In-loop Inv-loop μ-loop
-  here = c .before .before
+  abbrev here : tie.Then1 Inv-loop μ-loop
+  here = c .before .before .before
 
   fit-pull : SFits w64 (c .pull-of .result)
   fit-pull = search needs
@@ -101,7 +107,7 @@ positive-requires : tie.Need-positive-requires Inv-loop μ-loop
 positive-requires c κs = tt
 
 mul-lower : tie.Need-mul-lower Inv-loop μ-loop
-mul-lower c = omega arith
+mul-lower c = let z = few (here (c .before)) in omega arith
 
 array-set-from-lower : tie.Need-array-set-from-lower Inv-loop μ-loop
 array-set-from-lower c = few (here (c .before))
@@ -110,23 +116,23 @@ positive-requires-2 : tie.Need-positive-requires-2 Inv-loop μ-loop
 positive-requires-2 c κs = tt
 
 mul-upper : tie.Need-mul-upper Inv-loop μ-loop
-mul-upper c = omega arith
+mul-upper c = let z = few (here (c .before .before)) in omega arith
 
 array-set-from-upper : tie.Need-array-set-from-upper Inv-loop μ-loop
 array-set-from-upper c = few (here (c .before .before))
 
-add-v : tie.Need-add-v Inv-loop μ-loop
-add-v c = omega arith
+after-requires : tie.Need-after-requires Inv-loop μ-loop
+after-requires c κs = few (here (c .before .before))
 
 loop-less : tie.Need-loop-less Inv-loop μ-loop
-loop-less c = omega arith
+loop-less c = let z = in-range (here (c .before .before .before)) in rw (c .after .ensures) (omega arith)
 
 -- the two multipliers
 module _ (c : tie.After-positive2 Inv-loop μ-loop) where
   abbrev pulled : tie.After-pull-of Inv-loop μ-loop
   pulled = c .before .before
 
-  abbrev it : tie.In-loop Inv-loop μ-loop
+  abbrev it : tie.Then1 Inv-loop μ-loop
   it = here pulled
 
   fit-lower : SFits w64 (c .before .positive .result)
@@ -143,18 +149,18 @@ module _ (c : tie.After-positive2 Inv-loop μ-loop) where
   upper-is = (simp (toZ-ofZ (fit-pull pulled)) at (c .positive2 .ensures)) ∙ ap (λ y. positive y) (pull-is pulled)
 
 loop-again : tie.Need-loop-again Inv-loop μ-loop
-loop-again c = let o = it c in (
+loop-again c = let d = c .before in let o = it d in let z = in-range o in rw (c .after .ensures) (
   omega arith,
   filled-more mostVariables (pos 0) (λ v. positive (negℤ (pulls o v))) (number o) (few o) (head o .loop .inv .1)
-      (toZ-ofZ (fit-lower c) ∙ lower-is c),
+      (toZ-ofZ (fit-lower d) ∙ lower-is d),
   filled-more mostVariables (pos 0) (λ v. positive (pulls o v)) (number o) (few o) (head o .loop .inv .2)
-      (toZ-ofZ (fit-upper c) ∙ upper-is c),
+      (toZ-ofZ (fit-upper d) ∙ upper-is d),
 )
 
 returns : tie.Need-returns Inv-loop μ-loop
 unfolding multipliersLaid
-returns c = let h = c .before in let s = h .before .before in let a = s .args in
-    let e : h .loop .v ≡ a .size .rows + a .size .columns = omega arith in
+returns c = let h = c .before .before in let s = h .before .before in let a = s .args in
+    let e : h .loop .v .0 ≡ a .size .rows + a .size .columns = omega arith in
     ap₂ (λ l u. record { lower = l; upper = u })
     (h .loop .inv .1 ∙ ap (λ k. filled mostVariables (pos 0) k (λ v. positive (negℤ (read s v)))) e)
     (h .loop .inv .2 ∙ ap (λ k. filled mostVariables (pos 0) k (λ v. positive (read s v))) e)
@@ -169,6 +175,8 @@ multipliers-of-spec =
     μ-loop
     add-variables
     loop-holds
+    cast-if1
+    cast-at
     mul-seat
     array-copy-out-seat
     pull-of-requires
@@ -179,7 +187,7 @@ multipliers-of-spec =
     positive-requires-2
     mul-upper
     array-set-from-upper
-    add-v
+    after-requires
     loop-less
     loop-again
     returns)
