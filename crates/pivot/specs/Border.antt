@@ -60,12 +60,12 @@ borderDivisor b common = divisorBelow (b .rows) (b .besides)
     (pos (divisorBelow (b .columns) (b .aboves) (pos (gcd (natAbs (b .pivot)) (natAbs common)))))
 
 -- one cell before reduction
-abbrev pub crossedOf : ℤ → ℤ → ℤ → ℤ → ℤ
-crossedOf a b c d = a *ℤ b -ℤ c *ℤ d
+abbrev pub differenceOf : ℤ → ℤ → ℤ → ℤ → ℤ
+differenceOf a b c d = a *ℤ b -ℤ c *ℤ d
 
 -- .. at flat place k, and how many cells are in use
-abbrev pub crossedAt : List ℤ → Border → ℕ → ℤ
-crossedAt l b k = crossedOf (b .pivot) (getD l k (pos 0))
+abbrev pub differenceAt : List ℤ → Border → ℕ → ℤ
+differenceAt l b k = differenceOf (b .pivot) (getD l k (pos 0))
     (getD (b .besides) (rowAt (b .rows) (b .columns) k) (pos 0))
     (getD (b .aboves) (columnAt (b .rows) (b .columns) k) (pos 0))
 

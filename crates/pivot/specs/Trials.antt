@@ -20,7 +20,7 @@ use Rattle.pivot.specs.declared.settle.Settled.{Settled}
 use Rattle.pivot.specs.declared.settle.Settled.the-variants as ends
 use Rattle.pivot.specs.Asked.{entriesFor, fitsFor}
 use Rattle.layout.specs.Layout.{mostEntries, lineAt}
-use Rattle.pivot.specs.Border.{crossedOf, crossedAt, inBorder}
+use Rattle.pivot.specs.Border.{differenceOf, differenceAt, inBorder}
 use Rattle.pivot.specs.Pivot.{signedBy, by}
 
 -- q is the quotient of a number: multiplied back, it is that number
@@ -37,8 +37,8 @@ borderColumn b j = record {
 }
 
 -- the cell at row place i of a column, before reduction
-abbrev pub crossedIn : List ℤ → List ℤ → Column → ℕ → ℤ
-crossedIn l besides c i = crossedOf (c .pivot) (getD l (c .start + i) (pos 0)) (getD besides i (pos 0)) (c .above)
+abbrev pub differenceIn : List ℤ → List ℤ → Column → ℕ → ℤ
+differenceIn l besides c i = differenceOf (c .pivot) (getD l (c .start + i) (pos 0)) (getD besides i (pos 0)) (c .above)
 
 -- a column that lies in the array, with numbers that a tableau may hold
 pub record Columned (l besides : List ℤ) (c : Column) : Type 0 where
@@ -56,23 +56,23 @@ pub record Spared (start k : ℕ) (old new : List ℤ) : Type 0 where
 
 -- the divisor of a number and the first k cells of a column
 unfoldable pub columnDivisor : List ℤ → List ℤ → Column → ℕ → ℕ → ℕ
-columnDivisor l besides c k by = foldBelow k (λ i g. gcd (natAbs (crossedIn l besides c i)) g) by
+columnDivisor l besides c k by = foldBelow k (λ i g. gcd (natAbs (differenceIn l besides c i)) g) by
 
 -- whether the size of one of the first k cells of a column is above a limit
 unfoldable pub someAbove : List ℤ → List ℤ → Column → ℕ → ℕ → Bool
-someAbove l besides c k limit = someBelow k (λ i. ltb limit (natAbs (crossedIn l besides c i)))
+someAbove l besides c k limit = someBelow k (λ i. ltb limit (natAbs (differenceIn l besides c i)))
 
 -- what a trial of all columns tells: every quotient is right, or which column has one that is not
 abbrev pub TriedAs : List ℤ → Border → ℤ → Tried → List ℤ → Type 0
-TriedAs l b by tries.Exact out = (k : ℕ) → k < inBorder b → Quotient by (crossedAt l b k) (getD out k (pos 0))
+TriedAs l b by tries.Exact out = (k : ℕ) → k < inBorder b → Quotient by (differenceAt l b k) (getD out k (pos 0))
 TriedAs l b by (tries.Wrong j) out = j < b .columns
 
 -- the divisor z of a number and all cells is found, and the quotients by it are written over old ones
 pub record DivisorFound (l : List ℤ) (b : Border) (from : ℤ) (old : List ℤ) (z : ℤ) (out : List ℤ) : Type 0 where
   pub sign-is : z ≡ signedBy from (natAbs z)
   pub divides : natAbs z ∣ natAbs from
-  pub greatest : (d : ℕ) → d ∣ natAbs from → ((k : ℕ) → k < inBorder b → d ∣ natAbs (crossedAt l b k)) → d ∣ natAbs z
-  pub right : (k : ℕ) → k < inBorder b → Quotient z (crossedAt l b k) (getD out k (pos 0))
+  pub greatest : (d : ℕ) → d ∣ natAbs from → ((k : ℕ) → k < inBorder b → d ∣ natAbs (differenceAt l b k)) → d ∣ natAbs z
+  pub right : (k : ℕ) → k < inBorder b → Quotient z (differenceAt l b k) (getD out k (pos 0))
   pub apart : Spared 0 (inBorder b) old out
 
 -- a cell is above the largest number times a common multiple of all common divisors
@@ -81,8 +81,8 @@ pub record Exceeds (l : List ℤ) (b : Border) (from : ℤ) : Type 0 where
   pub place : ℕ
   pub some-size : 0 < size
   pub in-live : place < inBorder b
-  pub above : size * largestNumber < natAbs (crossedAt l b place)
-  pub greatest : (d : ℕ) → d ∣ natAbs from → ((k : ℕ) → k < inBorder b → d ∣ natAbs (crossedAt l b k)) → d ∣ size
+  pub above : size * largestNumber < natAbs (differenceAt l b place)
+  pub greatest : (d : ℕ) → d ∣ natAbs from → ((k : ℕ) → k < inBorder b → d ∣ natAbs (differenceAt l b k)) → d ∣ size
 
 abbrev pub SettledAs : List ℤ → Border → ℤ → List ℤ → Settled → List ℤ → Type 0
 SettledAs l b from old (ends.By z) out = DivisorFound l b from old z out

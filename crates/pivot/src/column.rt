@@ -4,7 +4,7 @@ ghost use Prim.Native.Nat.{ℕ, _+_, _≤_, _<_};
 ghost use lib.IntN.{natAbs, pos};
 ghost use lib.ListN.{getD, length};
 ghost use Rattle.layout.specs.Layout.{mostEntries};
-ghost use Rattle.pivot.specs.Trials.{Quotient, crossedIn, Columned, Spared, columnDivisor, someAbove};
+ghost use Rattle.pivot.specs.Trials.{Quotient, differenceIn, Columned, Spared, columnDivisor, someAbove};
 use crate::MOST_ENTRIES;
 use crate::guess;
 use crate::guess::Divider;
@@ -27,12 +27,12 @@ fn cell_at<'a>(
 ) -> i64
     requires { ⌜ Columned (now entries) (now besides) column ⌝ }
     requires { ⌜ i < column .rows ⌝ }
-    ensures { λ r. ⌜ r ≡ crossedIn (now (entries .entry)) (now (besides .entry)) column i ⌝ }
+    ensures { λ r. ⌜ r ≡ differenceIn (now (entries .entry)) (now (besides .entry)) column i ⌝ }
 {
     let k = column.start + i;
     let own = entries[k];
     let beside = besides[i];
-    numbers::crossed(column.pivot, own, beside, column.above)
+    numbers::difference(column.pivot, own, beside, column.above)
 }
 
 // .. and its size.
@@ -44,7 +44,7 @@ fn size_at<'a>(
 ) -> u64
     requires { ⌜ Columned (now entries) (now besides) column ⌝ }
     requires { ⌜ i < column .rows ⌝ }
-    ensures { λ r. ⌜ r ≡ natAbs (crossedIn (now (entries .entry)) (now (besides .entry)) column i) ⌝ }
+    ensures { λ r. ⌜ r ≡ natAbs (differenceIn (now (entries .entry)) (now (besides .entry)) column i) ⌝ }
 {
     divisor::size(cell_at(entries, besides, column, i))
 }
@@ -73,7 +73,7 @@ pub fn column_over<'a>(
     requires { ⌜ (divider .twos < 64) × (length (now out) ≡ mostEntries) ⌝ }
     ensures apart { λ r. ⌜ Spared (column .start) (column .rows) (now (out .entry)) (now (out .exit)) ⌝ }
     ensures right { λ r. ⌜ (r ≡ 0 → (i : ℕ) → i < column .rows
-        → Quotient (divider .by) (crossedIn (now (entries .entry)) (now (besides .entry)) column i)
+        → Quotient (divider .by) (differenceIn (now (entries .entry)) (now (besides .entry)) column i)
         (getD (now (out .exit)) (column .start + i) (pos 0))) ⌝ }
 {
     let start = column.start;

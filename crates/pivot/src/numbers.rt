@@ -5,13 +5,13 @@ ghost use Rattle.whole.specs.Numbers.{Within};
 ghost use Rattle.divisor.specs.Cells.{largestSize};
 ghost use Rattle.rules.specs.Sizes.{largestNumber};
 ghost use Rattle.pivot.specs.Pivot.{signedBy};
-ghost use Rattle.pivot.specs.Border.{crossedOf};
+ghost use Rattle.pivot.specs.Border.{differenceOf};
 
 // The difference of two products.
-pub fn crossed(a: i32, b: i32, c: i32, d: i32) -> i64
+pub fn difference(a: i32, b: i32, c: i32, d: i32) -> i64
     requires { ⌜ (Within a largestNumber) × (Within b largestNumber) ⌝ }
     requires { ⌜ (Within c largestNumber) × (Within d largestNumber) ⌝ }
-    ensures { λ r. ⌜ r ≡ crossedOf a b c d ⌝ }
+    ensures { λ r. ⌜ r ≡ differenceOf a b c d ⌝ }
 {
     a as i64 * b as i64 - c as i64 * d as i64
 }

@@ -33,14 +33,14 @@ fn mixed(in_row: bool, in_column: bool, common: i32, parts: Parts) -> i64
 {
     if in_column {
         if in_row {
-            return numbers::crossed(common, common, 0, 0);
+            return numbers::difference(common, common, 0, 0);
         }
-        return numbers::crossed(common, parts.beside, 0, 0);
+        return numbers::difference(common, parts.beside, 0, 0);
     }
     if in_row {
-        return numbers::crossed(0, 0, common, parts.above);
+        return numbers::difference(0, 0, common, parts.above);
     }
-    numbers::crossed(parts.pivot, parts.own, parts.beside, parts.above)
+    numbers::difference(parts.pivot, parts.own, parts.beside, parts.above)
 }
 
 // The cell of a spot before reduction.

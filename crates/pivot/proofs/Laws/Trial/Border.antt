@@ -3,7 +3,7 @@
 --   besides-bear, aboves-bear         its row and its column lie in the array, and bear the common number
 --   bordered                          its numbers are in range
 --   beside-is, above-is               what stands in it
---   crossed-is                        a cell by the border is the definition's
+--   difference-is                        a cell by the border is the definition's
 use Prim.Native.Nat.{ℕ, _+_, _≤_, _<_}
 use native.Mathlib.Nat.{le-trans}
 use native.Mathlib.Decide.{ℕ-discrete}
@@ -24,7 +24,8 @@ use Rattle.pivot.specs.declared.border.Border.{Border}
 use Rattle.layout.specs.declared.Strip.{Strip}
 use Rattle.layout.specs.Layout.{flat, rowAt, columnAt, live, along, rowStrip, columnStrip, entryIn}
 use Rattle.pivot.specs.Pivot.{mixedOf, mixedLaid, mixedAt, Pivotable}
-use Rattle.pivot.specs.Border.{raisedBy, raisedAt, raisedStrip, Bears, borderAt, Bordered, crossedOf, crossedAt}
+use Rattle.pivot.specs.Border.{raisedBy, raisedAt, raisedStrip, Bears, borderAt, Bordered, differenceOf}
+use Rattle.pivot.specs.Border.{differenceAt}
 use Rattle.layout.proofs.Laws.Layout.{flat-in, flat-back, row-live, column-live}
 use Rattle.layout.proofs.Laws.Layout.{row-strip, row-count, column-strip, column-count}
 
@@ -40,12 +41,12 @@ in-column : (p c y : ℤ) → p *ℤ y -ℤ y *ℤ (p +ℤ negℤ c) ≡ y *ℤ 
 in-column p c y = ring-at (p ∷ c ∷ y ∷ []) (search reify depth 30) refl
 
 kinds : (A : ℕ → ℕ → ℤ) (c : ℤ) (p q i j : ℕ) →
-    crossedOf (A p q) (A i j) (raisedBy (eqb i p) (A i q) c) (raisedBy (eqb j q) (A p j) (negℤ c))
+    differenceOf (A p q) (A i j) (raisedBy (eqb i p) (A i q) c) (raisedBy (eqb j q) (A p j) (negℤ c))
     ≡ mixedOf (eqb i p) (eqb j q) c (A p q) (A i j) (A i q) (A p j)
 kinds A c p q i j = go (ℕ-discrete i p) (ℕ-discrete j q)
   where
     go : Dec (i ≡ p) → Dec (j ≡ q) →
-        crossedOf (A p q) (A i j) (raisedBy (eqb i p) (A i q) c) (raisedBy (eqb j q) (A p j) (negℤ c))
+        differenceOf (A p q) (A i j) (raisedBy (eqb i p) (A i q) c) (raisedBy (eqb j q) (A p j) (negℤ c))
         ≡ mixedOf (eqb i p) (eqb j q) c (A p q) (A i j) (A i q) (A p j)
     go (yes e) (yes f) = rw (eq-eqb i p e, eq-eqb j q f, e, f) (at-pivot (A p q) c)
     go (yes e) (no n) = rw (eq-eqb i p e, ne-eqb j q n, e) (in-row (A p q) c (A p j))
@@ -111,13 +112,13 @@ module _ (m n : ℕ) (l : List ℤ) (c : ℤ) (p q : ℕ) where
       (rw (row-count m n p) b)
       ∙ ap (λ k. raisedBy (eqb j q) (getD l k (pos 0)) (negℤ c)) (row-strip m n p j)
 
-  pub crossed-is : (k : ℕ) → k < live m n → crossedAt l made k ≡ mixedAt m n c l p q k
+  pub difference-is : (k : ℕ) → k < live m n → differenceAt l made k ≡ mixedAt m n c l p q k
   unfolding mixedLaid
-  crossed-is k b =
+  difference-is k b =
       let i = rowAt m n k in
       let j = columnAt m n k in
-      ap₂ (λ x y. crossedOf (entryIn m n l p q) (getD l k (pos 0)) x y)
+      ap₂ (λ x y. differenceOf (entryIn m n l p q) (getD l k (pos 0)) x y)
       (beside-is i (row-live m n k b)) (above-is j (column-live m n k b))
-      ∙ ap (λ e. crossedOf (entryIn m n l p q) (getD l e (pos 0)) (raisedBy (eqb i p) (entryIn m n l i q) c)
+      ∙ ap (λ e. differenceOf (entryIn m n l p q) (getD l e (pos 0)) (raisedBy (eqb i p) (entryIn m n l i q) c)
       (raisedBy (eqb j q) (entryIn m n l p j) (negℤ c))) (sym (flat-back m n k))
       ∙ kinds (entryIn m n l) c p q i j

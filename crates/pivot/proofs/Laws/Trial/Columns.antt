@@ -3,7 +3,7 @@
 --                                                       larger part, twice
 --   each-more                                           what holds of each cell written, with one cell more
 --   column-none, -more, -divides, -greatest             the divisor of a column
---   crossed-within, above-none, -more, -here, -at       the sizes of its cells
+--   difference-within, above-none, -more, -here, -at       the sizes of its cells
 --   column-alike                                        a column of equal parts
 --   column-end, -live, -most, columned, cell-here       a column of a border
 --   quotients-then, columns-all                         right quotients before a column and in it; all columns
@@ -33,8 +33,8 @@ use Rattle.rules.specs.Sizes.{largestNumber}
 use Rattle.pivot.specs.declared.border.Border.{Border}
 use Rattle.pivot.specs.declared.column.Column.{Column}
 use Rattle.layout.specs.Layout.{lines, steps, lineAt, live}
-use Rattle.pivot.specs.Border.{Bordered, crossedOf, crossedAt}
-use Rattle.pivot.specs.Trials.{Spared, Quotient, Columned, borderColumn, crossedIn, columnDivisor, someAbove}
+use Rattle.pivot.specs.Border.{Bordered, differenceOf, differenceAt}
+use Rattle.pivot.specs.Trials.{Spared, Quotient, Columned, borderColumn, differenceIn, columnDivisor, someAbove}
 use Rattle.layout.proofs.Laws.Layout.{lines-are, steps-are, lines-live, line-next, step-live, live-most}
 use Rattle.layout.proofs.Laws.Layout.{row-along, column-along}
 
@@ -97,20 +97,20 @@ module _ (l besides : List ℤ) (c : Column) (by : ℕ) where
   column-none = refl
 
   pub column-more : (k : ℕ) →
-      columnDivisor l besides c (k + 1) by ≡ gcd (natAbs (crossedIn l besides c k)) (columnDivisor l besides c k by)
+      columnDivisor l besides c (k + 1) by ≡ gcd (natAbs (differenceIn l besides c k)) (columnDivisor l besides c k by)
   unfolding columnDivisor foldBelow
   column-more k = rw add-one refl
 
 pub column-divides : (l besides : List ℤ) (c : Column) (k by : ℕ) →
     (columnDivisor l besides c k by ∣ by)
-    × ((i : ℕ) → i < k → columnDivisor l besides c k by ∣ natAbs (crossedIn l besides c i))
+    × ((i : ℕ) → i < k → columnDivisor l besides c k by ∣ natAbs (differenceIn l besides c i))
 unfolding columnDivisor
-column-divides l besides c k by = fold-dvd k (λ i. natAbs (crossedIn l besides c i)) by
+column-divides l besides c k by = fold-dvd k (λ i. natAbs (differenceIn l besides c i)) by
 
 pub column-greatest : (l besides : List ℤ) (c : Column) (k by d : ℕ) → d ∣ by →
-    ((i : ℕ) → i < k → d ∣ natAbs (crossedIn l besides c i)) → d ∣ columnDivisor l besides c k by
+    ((i : ℕ) → i < k → d ∣ natAbs (differenceIn l besides c i)) → d ∣ columnDivisor l besides c k by
 unfolding columnDivisor
-column-greatest l besides c k by d p q = fold-greatest k (λ i. natAbs (crossedIn l besides c i)) by d p q
+column-greatest l besides c k by d p q = fold-greatest k (λ i. natAbs (differenceIn l besides c i)) by d p q
 
 -- ---- a column of a border, which is a line of the array
 
@@ -160,24 +160,24 @@ module _ (l : List ℤ) (b : Border) (j : ℕ) (in-columns : j < b .columns) whe
   }
 
   -- its cells are those of the array
-  pub cell-here : (i : ℕ) → i < m → crossedAt l b (from + i) ≡ crossedIn l (b .besides) (borderColumn b j) i
-  cell-here i h = ap₂ (λ r c. crossedOf (b .pivot) (getD l (from + i) (pos 0)) (getD (b .besides) r (pos 0))
+  pub cell-here : (i : ℕ) → i < m → differenceAt l b (from + i) ≡ differenceIn l (b .besides) (borderColumn b j) i
+  cell-here i h = ap₂ (λ r c. differenceOf (b .pivot) (getD l (from + i) (pos 0)) (getD (b .besides) r (pos 0))
       (getD (b .aboves) c (pos 0))) (row-along m n j i (in-steps h)) (column-along m n j i (in-steps h))
 
   -- right quotients before the column, and in it
   pub quotients-then : (by : ℤ) (old new : List ℤ) → Spared from m old new →
-      ((k : ℕ) → k < from → Quotient by (crossedAt l b k) (getD old k (pos 0))) →
-      ((i : ℕ) → i < m → Quotient by (crossedIn l (b .besides) (borderColumn b j) i) (getD new (from + i) (pos 0))) →
-      (k : ℕ) → k < from + m → Quotient by (crossedAt l b k) (getD new k (pos 0))
+      ((k : ℕ) → k < from → Quotient by (differenceAt l b k) (getD old k (pos 0))) →
+      ((i : ℕ) → i < m → Quotient by (differenceIn l (b .besides) (borderColumn b j) i) (getD new (from + i) (pos 0))) →
+      (k : ℕ) → k < from + m → Quotient by (differenceAt l b k) (getD new k (pos 0))
   quotients-then by old new A before here k h = go (decLt k from)
     where
-      go : Dec (k < from) → Quotient by (crossedAt l b k) (getD new k (pos 0))
+      go : Dec (k < from) → Quotient by (differenceAt l b k) (getD new k (pos 0))
       go (yes e) = rw (A .kept k (inl e)) (before k e)
       go (no e) =
           let i : ℕ = k - from in
           let f : from + i ≡ k = omega arith in
           let g : i < m = omega arith in
-          subst (λ k. Quotient by (crossedAt l b k) (getD new k (pos 0))) f
+          subst (λ k. Quotient by (differenceAt l b k) (getD new k (pos 0))) f
           (subst (λ z. Quotient by z (getD new (from + i) (pos 0))) (sym (cell-here i g)) (here i g))
 
 -- all columns are what is live
@@ -188,29 +188,30 @@ columns-all b e = let m = b .rows in let n = b .columns in
 -- ---- the sizes of a column's cells
 
 module _ {l besides : List ℤ} {c : Column} (h : Columned l besides c) where
-  pub crossed-within : (i : ℕ) → Within (crossedIn l besides c i) largestSize
-  crossed-within i = within-le (within-- (within-* (h .pivot-within) (h .entries-within .each (c .start + i)))
+  pub difference-within : (i : ℕ) → Within (differenceIn l besides c i) largestSize
+  difference-within i = within-le (within-- (within-* (h .pivot-within) (h .entries-within .each (c .start + i)))
       (within-* (h .besides-within .each i) (h .above-within))) (lit≤ tt)
 
 module _ (l besides : List ℤ) (c : Column) (limit : ℕ) where
   pub above-none : someAbove l besides c 0 limit ≡ false
   unfolding someAbove
-  above-none = some-start (λ i. ltb limit (natAbs (crossedIn l besides c i)))
+  above-none = some-start (λ i. ltb limit (natAbs (differenceIn l besides c i)))
 
-  pub above-more : (k : ℕ) → someAbove l besides c k limit ≡ false → natAbs (crossedIn l besides c k) ≤ limit →
+  pub above-more : (k : ℕ) → someAbove l besides c k limit ≡ false → natAbs (differenceIn l besides c k) ≤ limit →
       someAbove l besides c (k + 1) limit ≡ false
   unfolding someAbove
-  above-more k e h = rw add-one (some-more k (λ i. ltb limit (natAbs (crossedIn l besides c i)))
-      ∙ or-of e (tells-false (tells-lt limit (natAbs (crossedIn l besides c k))) h))
+  above-more k e h = rw add-one (some-more k (λ i. ltb limit (natAbs (differenceIn l besides c i)))
+      ∙ or-of e (tells-false (tells-lt limit (natAbs (differenceIn l besides c k))) h))
 
-  pub above-here : (k i : ℕ) → i < k → limit < natAbs (crossedIn l besides c i) → someAbove l besides c k limit ≡ true
+  pub above-here : (k i : ℕ) → i < k → limit < natAbs (differenceIn l besides c i) →
+      someAbove l besides c k limit ≡ true
   unfolding someAbove
-  above-here k i b h = some-of k i (λ i. ltb limit (natAbs (crossedIn l besides c i))) b
-      (tells-true (tells-lt limit (natAbs (crossedIn l besides c i))) h)
+  above-here k i b h = some-of k i (λ i. ltb limit (natAbs (differenceIn l besides c i))) b
+      (tells-true (tells-lt limit (natAbs (differenceIn l besides c i))) h)
 
   pub above-at : (k : ℕ) → someAbove l besides c k limit ≡ true →
-      (i : ℕ) × (i < k) × (limit < natAbs (crossedIn l besides c i))
+      (i : ℕ) × (i < k) × (limit < natAbs (differenceIn l besides c i))
   unfolding someAbove
   above-at k e =
-      let w = some-at k (λ i. ltb limit (natAbs (crossedIn l besides c i))) e in
-      (w .0, w .1, tells-lt limit (natAbs (crossedIn l besides c (w .0))) .if-true (w .2))
+      let w = some-at k (λ i. ltb limit (natAbs (differenceIn l besides c i))) e in
+      (w .0, w .1, tells-lt limit (natAbs (differenceIn l besides c (w .0))) .if-true (w .2))

@@ -41,9 +41,9 @@ use Rattle.pivot.specs.Asked.{Able}
 use Rattle.layout.specs.Layout.{mostEntries, flat, live, entryIn}
 use Rattle.pivot.specs.Pivot.{mixedLaid, mixedCell, mixedAt, product, mix, by, commonAfter, entriesAfter}
 use Rattle.pivot.specs.Pivot.{fitsAfter, Pivotable, signedBy, inRange}
-use Rattle.pivot.specs.Border.{raisedBy, borderAt, borderFor, borderDivisor, crossedAt}
+use Rattle.pivot.specs.Border.{raisedBy, borderAt, borderFor, borderDivisor, differenceAt}
 use Rattle.pivot.specs.Trials.{DivisorFound, Exceeds, SettledAs, EndsAs}
-use Rattle.pivot.proofs.Laws.Trial.Border.{beside-is, above-is, crossed-is}
+use Rattle.pivot.proofs.Laws.Trial.Border.{beside-is, above-is, difference-is}
 use Rattle.pivot.proofs.Laws.Numbers.Divides.{over-neg, over-sum, over-sizes, quotient-is, back-divides}
 use Rattle.layout.proofs.Laws.Layout.{flat-live, row-flat, column-flat}
 use Rattle.pivot.proofs.Laws.Ranges.{small-cell, small-common}
@@ -172,8 +172,8 @@ module _ {m n : ℕ} {l : List ℤ} {c : ℤ} {p q : ℕ} (h : Pivotable m n l c
 
   module _ (from : ℕ) (some : 0 < from) (divides : from ∣ natAbs new) (multiple : T ∣ from) {z : ℤ} {out : List ℤ}
       (F : DivisorFound l (borderAt m n l c p q) (signedBy new from) (replicate mostEntries (pos 0)) z out) where
-    cell : (k : ℕ) → k < live m n → crossedAt l (borderAt m n l c p q) k ≡ mixedAt m n c l p q k
-    cell k b = crossed-is m n l c p q k b
+    cell : (k : ℕ) → k < live m n → differenceAt l (borderAt m n l c p q) k ≡ mixedAt m n c l p q k
+    cell k b = difference-is m n l c p q k b
 
     size-is : natAbs z ≡ T
     size-is = dvd-antisymm
@@ -233,9 +233,10 @@ module _ {m n : ℕ} {l : List ℤ} {c : ℤ} {p q : ℕ} (h : Pivotable m n l c
       over : largestNumber < natAbs number / T
       over = wider (X .size) (natAbs number)
           (X .greatest T (subst (λ k. T ∣ k) (sym (size-signed new from)) multiple)
-          (λ k b. subst (λ x. T ∣ natAbs x) (sym (crossed-is m n l c p q k b)) (T-mix k b)))
+          (λ k b. subst (λ x. T ∣ natAbs x) (sym (difference-is m n l c p q k b)) (T-mix k b)))
           (X .some-size) (T-mix (X .place) (X .in-live))
-          (subst (λ x. X .size * largestNumber < natAbs x) (crossed-is m n l c p q (X .place) (X .in-live)) (X .above))
+          (subst (λ x. X .size * largestNumber < natAbs x)
+          (difference-is m n l c p q (X .place) (X .in-live)) (X .above))
 
       size-is : natAbs (getD (entriesAfter m n l c p q) (X .place) (pos 0)) ≡ natAbs number / T
       size-is = ap natAbs

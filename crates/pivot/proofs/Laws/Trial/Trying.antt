@@ -19,7 +19,7 @@ use Rattle.pivot.specs.Pivot.{signedBy}
 use Rattle.pivot.proofs.Laws.Wide.Mixes.{signed-nonzero}
 use Rattle.pivot.specs.declared.border.Border.{Border}
 use Rattle.layout.specs.Layout.{lineAt}
-use Rattle.pivot.specs.Border.{crossedAt, inBorder}
+use Rattle.pivot.specs.Border.{differenceAt, inBorder}
 use Rattle.pivot.specs.Trials.{borderColumn, columnDivisor, someAbove, Exceeds}
 use Rattle.pivot.proofs.Laws.Trial.Columns.{column-divides, column-greatest, column-inside, cell-here, above-at}
 use Rattle.pivot.proofs.Laws.Numbers.Signs.{size-signed, signed-again, signed-size}
@@ -29,7 +29,7 @@ pub record Trying (l : List ℤ) (b : Border) (from z : ℤ) : Type 0 where
   pub in-range : Within z largestNumber
   pub sign-is : z ≡ signedBy from (natAbs z)
   pub divides : natAbs z ∣ natAbs from
-  pub greatest : (d : ℕ) → d ∣ natAbs from → ((k : ℕ) → k < inBorder b → d ∣ natAbs (crossedAt l b k)) → d ∣ natAbs z
+  pub greatest : (d : ℕ) → d ∣ natAbs from → ((k : ℕ) → k < inBorder b → d ∣ natAbs (differenceAt l b k)) → d ∣ natAbs z
 
 module _ (l : List ℤ) (b : Border) (from : ℤ) where
   pub trying-start : from ≢ pos 0 → Within from largestNumber → Trying l b from from

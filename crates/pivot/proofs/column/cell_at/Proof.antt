@@ -40,19 +40,19 @@ module _ (c : tie.After-struct-told2) where
   fit-beside : SFits w32 (getD (start .args .besides .now) (start .args .i) (pos 0))
   fit-beside = search needs
 
-crossed-requires : tie.Need-crossed-requires
-crossed-requires c κs = let h = start c .pre .0 in
+difference-requires : tie.Need-difference-requires
+difference-requires c κs = let h = start c .pre .0 in
     simp (toZ-ofZ (fit-pivot c), toZ-ofZ (fit-above c), toZ-ofZ (fit-own c), toZ-ofZ (fit-beside c))
     ((h .pivot-within, h .entries-within .each _), (h .besides-within .each _, h .above-within))
 
-fit-result : (c : tie.After-crossed) → SFits w64 (c .crossed .result)
+fit-result : (c : tie.After-difference) → SFits w64 (c .difference .result)
 fit-result c = search needs
 
 returns : tie.Need-returns
 returns c = let a = c .before in
     simp (toZ-ofZ (fit-result c))
     (simp (toZ-ofZ (fit-pivot a), toZ-ofZ (fit-above a), toZ-ofZ (fit-own a), toZ-ofZ (fit-beside a))
-    at (c .crossed .ensures))
+    at (c .difference .ensures))
 
 pub cell-at-spec : {M : Type 1} → statement M
 cell-at-spec =
@@ -63,5 +63,5 @@ cell-at-spec =
     element-copy-out-own
     mul-beside
     element-copy-out-beside
-    crossed-requires
+    difference-requires
     returns)

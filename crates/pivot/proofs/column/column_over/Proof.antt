@@ -11,7 +11,7 @@ use mir.Facts.{toZ-ofZ}
 use mir.Syntax.{w32, w64}
 use mir.Val.{SFits}
 use Rattle.layout.specs.Layout.{mostEntries}
-use Rattle.pivot.specs.Trials.{Spared, Quotient, crossedIn}
+use Rattle.pivot.specs.Trials.{Spared, Quotient, differenceIn}
 use Rattle.pivot.proofs.Laws.Trial.Columns.{spared-start, spared-more, each-more}
 use Rattle.pivot.proofs.column.column_over.Statement.{statement}
 use Rattle.pivot.proofs.column.column_over.Tie as tie
@@ -20,7 +20,7 @@ abbrev Inv-loop : tie.InvT-loop
 Inv-loop entries besides column divider out₀ start rows wrong₀ i₀ out wrong i =
     (i ≤ rows) × (wrong ≤ i) × Spared (column .start) i out₀ out
     × (wrong ≡ 0 → (u : ℕ) → u < i →
-    Quotient (divider .by) (crossedIn entries besides column u) (getD out (column .start + u) (pos 0)))
+    Quotient (divider .by) (differenceIn entries besides column u) (getD out (column .start + u) (pos 0)))
 
 abbrev μ-loop : tie.MeasureT-loop
 μ-loop entries besides column divider out₀ start rows wrong₀ i₀ out wrong i = rows - i
@@ -88,7 +88,7 @@ module _ (c : tie.After-wrong-of Inv-loop μ-loop) where
 
   right : c .wrong-of .result ≡ 0 →
       Quotient (s .args .divider .by)
-      (crossedIn (s .args .entries .now) (s .args .besides .now) (s .args .column) (i a)) (a .guess .result)
+      (differenceIn (s .args .entries .now) (s .args .besides .now) (s .args .column) (i a)) (a .guess .result)
   right e = rw (← a .before .cell-at .ensures)
       (simp (toZ-ofZ fit-q, toZ-ofZ fit-by, toZ-ofZ fit-raw) at (c .wrong-of .ensures .1) e)
 
@@ -100,7 +100,7 @@ loop-again c = let l = a c .before .before .before .loop in let b = s c .args in
   omega arith,
   (let h = c .wrong-of .ensures .0 in omega arith),
   spared-more (b .column .start) (i (a c)) (b .out .now) (l .out) (a c .guess .result) (l .inv .2),
-  λ e. each-more (λ u z. Quotient (b .divider .by) (crossedIn (b .entries .now) (b .besides .now) (b .column) u) z)
+  λ e. each-more (λ u z. Quotient (b .divider .by) (differenceIn (b .entries .now) (b .besides .now) (b .column) u) z)
       (b .column .start) (i (a c)) (l .out) (a c .guess .result) (room c) (l .inv .3 (omega arith))
       (right c (omega arith)),
 )

@@ -5,7 +5,7 @@ use lib.IntN.{natAbs}
 use mir.Facts.{toZ-ofZ}
 use mir.Syntax.{w64}
 use mir.Val.{SFits}
-use Rattle.pivot.proofs.Laws.Trial.Columns.{crossed-within}
+use Rattle.pivot.proofs.Laws.Trial.Columns.{difference-within}
 use Rattle.pivot.proofs.column.size_at.Statement.{statement}
 use Rattle.pivot.proofs.column.size_at.Tie as tie
 
@@ -17,7 +17,7 @@ fit c = search needs
 
 size-requires : tie.Need-size-requires
 size-requires c κs = let s = c .before in
-    simp (toZ-ofZ (fit c)) (rw (c .cell-at .ensures) (crossed-within (s .pre .0) (s .args .i)))
+    simp (toZ-ofZ (fit c)) (rw (c .cell-at .ensures) (difference-within (s .pre .0) (s .args .i)))
 
 returns : tie.Need-returns
 returns c = c .size .ensures ∙ ap natAbs (toZ-ofZ (fit (c .before)) ∙ c .before .cell-at .ensures)

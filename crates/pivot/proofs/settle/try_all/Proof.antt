@@ -14,8 +14,8 @@ use Rattle.rules.specs.Sizes.{mostRows}
 use Rattle.pivot.specs.declared.border.Border.{Border}
 use Rattle.pivot.specs.declared.column.Column.{Column}
 use Rattle.layout.specs.Layout.{mostEntries, lineAt, live}
-use Rattle.pivot.specs.Border.{Bordered, crossedAt}
-use Rattle.pivot.specs.Trials.{Spared, Quotient, Columned, borderColumn, crossedIn}
+use Rattle.pivot.specs.Border.{Bordered, differenceAt}
+use Rattle.pivot.specs.Trials.{Spared, Quotient, Columned, borderColumn, differenceIn}
 use Rattle.pivot.proofs.Laws.Trial.Columns.{spared-start, spared-then, spared-wider, column-alike, column-end}
 use Rattle.pivot.proofs.Laws.Trial.Columns.{column-most, columned, columns-all, quotients-then}
 use Rattle.layout.proofs.Laws.Layout.{lines-are}
@@ -25,7 +25,7 @@ use Rattle.pivot.proofs.settle.try_all.Tie as tie
 abbrev Inv-loop : tie.InvT-loop
 Inv-loop entries by out₀ border divider rows columns j₀ out j =
     (j ≤ columns) × Spared 0 (lineAt rows columns j) out₀ out
-    × ((k : ℕ) → k < lineAt rows columns j → Quotient (toZ w32 by) (crossedAt entries border k) (getD out k (pos 0)))
+    × ((k : ℕ) → k < lineAt rows columns j → Quotient (toZ w32 by) (differenceAt entries border k) (getD out k (pos 0)))
 
 abbrev μ-loop : tie.MeasureT-loop
 μ-loop entries by out₀ border divider rows columns j₀ out j = columns - j
@@ -144,12 +144,13 @@ module _ (c : tie.After-column-over Inv-loop μ-loop) where
   by-is = t .before .before .divider-of .ensures .0 ∙ toZ-ofZ fit-by
 
   in-column : c .column-over .result ≡ 0 → (i : ℕ) → i < m t →
-      Quotient (s .args .by) (crossedIn (s .args .entries .now) (border t .besides) (borderColumn (border t) (j t)) i)
+      Quotient (s .args .by)
+      (differenceIn (s .args .entries .now) (border t .besides) (borderColumn (border t) (j t)) i)
       (getD new (from + i) (pos 0))
   in-column e i h =
-      subst (λ (k : Column). Quotient (s .args .by) (crossedIn (s .args .entries .now) (border t .besides) k i)
+      subst (λ (k : Column). Quotient (s .args .by) (differenceIn (s .args .entries .now) (border t .besides) k i)
       (getD new (k .start + i) (pos 0))) (column-is (c .before))
-      (subst (λ (z : ℤ). Quotient z (crossedIn (s .args .entries .now) (border t .besides) (given (c .before)) i)
+      (subst (λ (z : ℤ). Quotient z (differenceIn (s .args .entries .now) (border t .besides) (given (c .before)) i)
       (getD new (given (c .before) .start + i) (pos 0))) by-is (c .column-over .ensures .1 e i h))
 
 returns : tie.Need-returns Inv-loop μ-loop
@@ -188,7 +189,7 @@ returns-2 c =
     let f = columns-all b e in (
       subst (λ (k : ℕ). Spared 0 k (s .args .out .now) (l .out)) f (l .inv .1),
       subst (λ (n : ℕ). (k : ℕ) → k < n →
-          Quotient (s .args .by) (crossedAt (s .args .entries .now) b k) (getD (l .out) k (pos 0))) f
+          Quotient (s .args .by) (differenceAt (s .args .entries .now) b k) (getD (l .out) k (pos 0))) f
           (simp (toZ-ofZ (s .fits .by)) at (l .inv .2)),
     )
 

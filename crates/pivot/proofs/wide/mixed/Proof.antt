@@ -18,26 +18,26 @@ second-alone : (a b : ℤ) → pos 0 *ℤ pos 0 -ℤ a *ℤ b ≡ negℤ (a *ℤ
 second-alone a b = ring-at (a ∷ b ∷ []) (search reify depth 30) refl
 
 -- the cell of the pivot
-crossed-requires : tie.Need-crossed-requires
-crossed-requires c κs = search needs
+difference-requires : tie.Need-difference-requires
+difference-requires c κs = search needs
 
-fit : (c : tie.After-crossed) → SFits w64 (c .crossed .result)
+fit : (c : tie.After-difference) → SFits w64 (c .difference .result)
 fit c = search needs
 
 returns : tie.Need-returns
 returns c = let s = c .before .before .before in
     simp (toZ-ofZ (fit c), c .before .before .if1 .taken, c .before .if2 .taken)
-    ((simp (toZ-ofZ (s .fits .common)) at (c .crossed .ensures)) ∙ first-alone (s .args .common) (s .args .common))
+    ((simp (toZ-ofZ (s .fits .common)) at (c .difference .ensures)) ∙ first-alone (s .args .common) (s .args .common))
 
 -- another cell of its column
-crossed-requires-2 : tie.Need-crossed-requires-2
-crossed-requires-2 c κs = search needs
+difference-requires-2 : tie.Need-difference-requires-2
+difference-requires-2 c κs = search needs
 
-module _ (c : tie.After-crossed2) where
+module _ (c : tie.After-difference2) where
   abbrev beside : tie.Start
   beside = c .before .before .before .before
 
-  fit-column : SFits w64 (c .crossed2 .result)
+  fit-column : SFits w64 (c .difference2 .result)
   fit-column = search needs
 
   fit-beside : SFits w32 (beside .args .parts .beside)
@@ -46,18 +46,18 @@ module _ (c : tie.After-crossed2) where
 returns-2 : tie.Need-returns-2
 returns-2 c = let s = beside c in
     simp (toZ-ofZ (fit-column c), c .before .before .before .if1 .taken, c .before .before .if2 .left)
-    ((simp (toZ-ofZ (s .fits .common), toZ-ofZ (fit-beside c)) at (c .crossed2 .ensures))
+    ((simp (toZ-ofZ (s .fits .common), toZ-ofZ (fit-beside c)) at (c .difference2 .ensures))
     ∙ first-alone (s .args .common) (s .args .parts .beside))
 
 -- .. and of its row
-crossed-requires-3 : tie.Need-crossed-requires-3
-crossed-requires-3 c κs = search needs
+difference-requires-3 : tie.Need-difference-requires-3
+difference-requires-3 c κs = search needs
 
-module _ (c : tie.After-crossed3) where
+module _ (c : tie.After-difference3) where
   abbrev above : tie.Start
   above = c .before .before .before .before
 
-  fit-row : SFits w64 (c .crossed3 .result)
+  fit-row : SFits w64 (c .difference3 .result)
   fit-row = search needs
 
   fit-above : SFits w32 (above .args .parts .above)
@@ -66,21 +66,21 @@ module _ (c : tie.After-crossed3) where
 returns-3 : tie.Need-returns-3
 returns-3 c = let s = above c in
     simp (toZ-ofZ (fit-row c), c .before .before .before .if1 .left, c .before .before .if3 .taken)
-    ((simp (toZ-ofZ (s .fits .common), toZ-ofZ (fit-above c)) at (c .crossed3 .ensures))
+    ((simp (toZ-ofZ (s .fits .common), toZ-ofZ (fit-above c)) at (c .difference3 .ensures))
     ∙ second-alone (s .args .common) (s .args .parts .above))
 
 -- any other
-crossed-requires-4 : tie.Need-crossed-requires-4
-crossed-requires-4 c κs = search needs
+difference-requires-4 : tie.Need-difference-requires-4
+difference-requires-4 c κs = search needs
 
-module _ (c : tie.After-crossed4) where
+module _ (c : tie.After-difference4) where
   abbrev chosen : tie.Else3
   chosen = c .before .before .before .before .before
 
   abbrev other : tie.Start
   other = chosen .before .before
 
-  fit-other : SFits w64 (c .crossed4 .result)
+  fit-other : SFits w64 (c .difference4 .result)
   fit-other = search needs
 
   fit-pivot : SFits w32 (other .args .parts .pivot)
@@ -99,17 +99,17 @@ returns-4 : tie.Need-returns-4
 returns-4 c =
     simp (toZ-ofZ (fit-other c), chosen c .before .if1 .left, chosen c .if3 .left)
     (simp (toZ-ofZ (fit-pivot c), toZ-ofZ (fit-own c), toZ-ofZ (fit-far c), toZ-ofZ (fit-over c))
-    at (c .crossed4 .ensures))
+    at (c .difference4 .ensures))
 
 pub mixed-spec : {M : Type 1} → statement M
 mixed-spec =
     tie.close
     (tie.spec
-    crossed-requires
+    difference-requires
     returns
-    crossed-requires-2
+    difference-requires-2
     returns-2
-    crossed-requires-3
+    difference-requires-3
     returns-3
-    crossed-requires-4
+    difference-requires-4
     returns-4)

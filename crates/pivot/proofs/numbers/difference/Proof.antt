@@ -1,12 +1,12 @@
--- `pivot::numbers::crossed` meets its contract: the difference of two products fits 64 bits. Assumes nothing.
+-- `pivot::numbers::difference` meets its contract: the difference of two products fits 64 bits. Assumes nothing.
 use lib.IntN.{_*ℤ_, _-ℤ_}
 use mir.Facts.{toZ-ofZ}
 use mir.Syntax.{w64}
 use mir.Val.{SFits}
 use Rattle.whole.proofs.Numbers.Sizes.{within-*, within--, fits-by}
 use Rattle.pivot.proofs.Laws.Numbers.Halves.{wide, half-product, widened}
-use Rattle.pivot.proofs.numbers.crossed.Statement.{statement}
-use Rattle.pivot.proofs.numbers.crossed.Tie as tie
+use Rattle.pivot.proofs.numbers.difference.Statement.{statement}
+use Rattle.pivot.proofs.numbers.difference.Tie as tie
 
 module _ (s : tie.Start) where
   fit-first : SFits w64 (s .args .a *ℤ s .args .b)
@@ -46,8 +46,8 @@ returns c =
     rw (widened (c .fits .a), widened (c .fits .b), widened (c .fits .c), widened (c .fits .d))
     (simp (toZ-ofZ (fit-first c), toZ-ofZ (fit-second c), toZ-ofZ (fit-both c)))
 
-pub crossed-spec : {M : Type 1} → statement M
-crossed-spec =
+pub difference-spec : {M : Type 1} → statement M
+difference-spec =
     tie.close
     (tie.spec
     cast-result
