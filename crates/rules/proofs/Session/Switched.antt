@@ -26,7 +26,7 @@ use Rattle.rules.specs.Facts.Refusal.{AllFine, First}
 use Rattle.rules.specs.Problem.{vars}
 use Rattle.rules.specs.Session.{Session, bySide, flagged, inside, insideSeat, isMissing, isOn, liveOf, allInside}
 use Rattle.rules.specs.Session.{switchRefusal, switchTests, switched}
-use Rattle.rules.specs.Facts.Session.{Fair, Lands, Switches, switchTable}
+use Rattle.rules.specs.Facts.Session.{Fair, Lands, Switches, switchTable, Sworn}
 use Rattle.rules.specs.Step.{Side, above, below, seat}
 
 -- ---- the numbers
@@ -122,12 +122,17 @@ module _ {X : Type 0} (𝓥 : Values X) (A : Session X) (v : ℕ) (σ : Side) (o
       at-rest (some x) e = ap some (inside-still 𝓥 law (liveOf A .lower w) (liveOf A .upper w) x
           (λ c l k. F .housed .low w x l h c e k) (λ c u k. F .housed .high w x u h c e k))
 
+  -- a sworn session has a flag for each variable
+  flagged-there : (τ : Side) → Sworn 𝓥 A → v < vars (A .given) → v < length (bySide τ (A .lowersOn) (A .uppersOn))
+  flagged-there below S h = subst (λ k. v < k) (sym (S .lowers-many)) h
+  flagged-there above S h = subst (λ k. v < k) (sym (S .uppers-many)) h
+
   settled-so : Laws 𝓥 → Switches 𝓥 A v σ on (allInside 𝓥 B)
   unfolding allInside insideSeat
   settled-so law = record {
     given-stays = given-flagged A v on σ;
     tableau-stays = ap (λ s. s .tableau) (state-flagged A v on σ);
-    flag = λ h. flag-there A v on σ h;
+    flag = λ S h. flag-there A v on σ (flagged-there σ S h);
     flags-stay = λ τ w n. flag-elsewhere A v on σ τ w n;
     basic-exactly = λ w h. (
       λ e. basic-before (liveOf B .lower w) (liveOf B .upper w) (seat (A .state) w) (sym (now w h) ∙ e),

@@ -21,7 +21,7 @@ use Rattle.rules.specs.Limit.{Limit}
 use Rattle.rules.specs.Facts.Refusal.{Line, lineOf}
 use Rattle.rules.specs.Problem.{Problem, problem, vars}
 use Rattle.rules.specs.Run.{crossed}
-use Rattle.rules.specs.Session.{Session, bySide, checkLength, isOn, liveOf}
+use Rattle.rules.specs.Session.{Session, checkLength, isOn, liveOf}
 use Rattle.rules.specs.Facts.State.{Housed, Kept, Rowed}
 use Rattle.rules.specs.Step.{Side, common, seat, startEntry}
 use Rattle.rules.specs.Tableau.{entry}
@@ -86,7 +86,7 @@ module _ {X : Type 0} (𝓥 : Values X) (A : Session X) (v : ℕ) (σ : Side) (o
   pub record Switches (C : Session X) : Type 0 where
     pub given-stays : C .given ≡ A .given
     pub tableau-stays : C .state .tableau ≡ A .state .tableau
-    pub flag : v < length (bySide σ (A .lowersOn) (A .uppersOn)) → isOn C σ v ≡ on
+    pub flag : Sworn 𝓥 A → v < vars (A .given) → isOn C σ v ≡ on
     pub flags-stay : (τ : Side) (w : ℕ) → (τ ≡ σ → w ≢ v) → isOn C τ w ≡ isOn A τ w
     -- a basic variable stays basic, and a nonbasic one is where it was or goes to a limit, by those that are on now
     pub basic-exactly : (w : ℕ) → w < vars (A .given) → (seat (C .state) w ≡ none) ↔ (seat (A .state) w ≡ none)
