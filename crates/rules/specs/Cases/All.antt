@@ -1,5 +1,5 @@
 -- docs/RULES.md, "Runs worked by hand": all cases and edges as one list. One theorem says that all are right
--- (proofs/Cases/All.antt).
+-- (proofs/Worked/All.antt).
 use mathlib.Core.List.{List, _++_}
 use Rattle.rules.specs.Cases.Evidence.{evidenceCases}
 use Rattle.rules.specs.Cases.Expected.{Case}
