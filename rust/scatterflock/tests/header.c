@@ -1,8 +1,9 @@
 /*
  * Calls the archive through include/scatterflock.h and compares what it gives:
  * cases A, C and J of docs/RULES.md, case A in slices, the first session of
- * docs/formats/session.md, strict limits, answers that are right and wrong, and
- * refusals. It is C and C++ at once, and header.rs compiles it as both. Each
+ * docs/formats/session.md, strict limits, answers that are right and wrong,
+ * refusals, and on x86-64 how long the records are that come back. It is C and
+ * C++ at once, and header.rs compiles it as both. Each
  * difference is a line, and any makes the program fail.
  */
 #include "scatterflock.h"
@@ -165,6 +166,43 @@ static void in_a_session(void)
     switched(opened.session, 1, false, true, 41);
 }
 
+#ifdef __x86_64__
+/* A record that is handed back is written where a hidden first argument points,
+ * so a call that names this argument sees how far the archive itself writes. */
+typedef void *(*into)(void *, const int32_t *, size_t);
+
+#define BEYOND 512
+
+static void length(const char *call, into hand_back, size_t size)
+{
+    static unsigned char room[sizeof(struct scatterflock_begun) + BEYOND];
+    size_t end = 0;
+
+    for (int fill = 0; fill < 2; fill++) {
+        for (size_t place = 0; place < sizeof room; place++)
+            room[place] = fill == 0 ? 0x55 : 0xAA;
+        hand_back(room, A, COUNT(A));
+        for (size_t place = end; place < sizeof room; place++)
+            if (room[place] != (fill == 0 ? 0x55 : 0xAA))
+                end = place + 1;
+    }
+    /* The last word may have bytes that nobody writes. */
+    number(call, (uint32_t)(end + 7) / 8, (uint32_t)size / 8);
+}
+
+static void lengths(void)
+{
+    length("start A, in words,", (into)(void (*)(void))scatterflock_slice_start,
+           sizeof(struct scatterflock_begun));
+    length("open A, in words,", (into)(void (*)(void))scatterflock_session_open,
+           sizeof(struct scatterflock_opened));
+}
+#else
+static void lengths(void)
+{
+}
+#endif
+
 int main(void)
 {
     int64_t *out = fresh();
@@ -203,5 +241,6 @@ int main(void)
 
     in_slices();
     in_a_session();
+    lengths();
     return differences == 0 ? 0 : 1;
 }
