@@ -59,12 +59,13 @@ enum {
     SCATTERFLOCK_MOST_VARIABLES = 8,
     SCATTERFLOCK_MOST_ROWS = 16,
     SCATTERFLOCK_LARGEST_COEFFICIENT = 1000,
-    SCATTERFLOCK_LARGEST_LIMIT = 30000, /* and the largest c of a time row */
+    SCATTERFLOCK_LARGEST_LIMIT = 30000,
     SCATTERFLOCK_LARGEST_NUMBER = 2147483647,
     SCATTERFLOCK_MOST_WORDS = 202,  /* of a limit problem */
     SCATTERFLOCK_MOST_ANSWER = 51,  /* words of an answer to one */
     SCATTERFLOCK_MOST_VERTICES = 64,
     SCATTERFLOCK_MOST_TIME_ROWS = 256,
+    SCATTERFLOCK_LARGEST_LENGTH = 30000, /* the c of a time row */
     SCATTERFLOCK_MOST_TIME_WORDS = 1026,
     SCATTERFLOCK_MOST_TIMES = 130,  /* words of an answer to time rows */
     SCATTERFLOCK_SLICE_WORDS = 135, /* of 64 bits, beside the count, in the state of a run */

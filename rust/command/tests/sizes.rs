@@ -10,5 +10,5 @@ fn the_same_ranges() {
     assert_eq!(limits::LARGEST_LIMIT, sizes::LARGEST_LIMIT);
     assert_eq!(times::MOST_VERTICES, sizes::MOST_VERTICES);
     assert_eq!(times::MOST_ROWS, sizes::MOST_TIME_ROWS);
-    assert_eq!(times::LARGEST, sizes::LARGEST_LIMIT);
+    assert_eq!(times::LARGEST, sizes::LARGEST_LENGTH);
 }

@@ -24,7 +24,7 @@ pub enum BuildError {
     BlankRow,
     /// There is no variable of this number.
     NoVariable(usize),
-    /// A limit, or the number of a time row, is out of its range.
+    /// A limit is out of its range.
     Limit(i32),
     /// The variable has a limit on this side already.
     LimitTwice(usize),
@@ -34,6 +34,8 @@ pub enum BuildError {
     TimeRows,
     /// There is no point in time of this number.
     NoVertex(usize),
+    /// The length of a time row is out of its range.
+    Length(i32),
 }
 
 impl fmt::Display for BuildError {
@@ -56,6 +58,9 @@ impl fmt::Display for BuildError {
             BuildError::Vertices(n) => write!(to, "{n} points in time: there are 1 to 64"),
             BuildError::TimeRows => to.write_str("there are 256 time rows at most"),
             BuildError::NoVertex(number) => write!(to, "there is no point in time {number}"),
+            BuildError::Length(number) => {
+                write!(to, "{number}: the length of a time row is from -30,000 to 30,000")
+            }
         }
     }
 }

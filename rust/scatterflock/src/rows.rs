@@ -1,7 +1,7 @@
 //! Time rows that are built step by step, and checked at each.
 
 use crate::build_error::BuildError;
-use crate::sizes::{LARGEST_LIMIT, MOST_TIME_ROWS, MOST_VERTICES};
+use crate::sizes::{LARGEST_LENGTH, MOST_TIME_ROWS, MOST_VERTICES};
 use crate::times::{times, Schedule};
 
 /// Time rows over points in time, which are numbered from 0. What is wrong
@@ -62,8 +62,8 @@ impl TimeRows {
         if let Some(vertex) = [x, y].into_iter().find(|&vertex| vertex >= self.vertices) {
             return Err(BuildError::NoVertex(vertex));
         }
-        if !(-LARGEST_LIMIT..=LARGEST_LIMIT).contains(&c) {
-            return Err(BuildError::Limit(c));
+        if !(-LARGEST_LENGTH..=LARGEST_LENGTH).contains(&c) {
+            return Err(BuildError::Length(c));
         }
         self.rows.push([x as i32, y as i32, strict, c]);
         Ok(self)

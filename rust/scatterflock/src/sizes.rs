@@ -6,8 +6,7 @@ pub const MOST_VARIABLES: usize = 8;
 pub const MOST_ROWS: usize = 16;
 /// The largest coefficient; the least is its opposite.
 pub const LARGEST_COEFFICIENT: i32 = 1_000;
-/// The largest limit, and the largest number of a time row; the least is its
-/// opposite.
+/// The largest limit; the least is its opposite.
 pub const LARGEST_LIMIT: i32 = 30_000;
 /// The largest number of a tableau, the largest denominator and multiplier.
 pub const LARGEST_NUMBER: i64 = 2_147_483_647;
@@ -22,5 +21,7 @@ pub const MOST_ANSWER: usize = 3 + 2 * (MOST_VARIABLES + MOST_ROWS);
 pub const MOST_VERTICES: usize = 64;
 /// The most time rows.
 pub const MOST_TIME_ROWS: usize = 256;
+/// The largest length of a time row; the least is its opposite.
+pub const LARGEST_LENGTH: i32 = 30_000;
 /// The most words of an answer to time rows.
 pub const MOST_TIMES: usize = 2 + 2 * MOST_VERTICES;

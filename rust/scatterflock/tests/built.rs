@@ -158,7 +158,7 @@ fn what_cannot_be_built() {
     assert_eq!(TimeRows::new(65), Err(BuildError::Vertices(65)));
     assert_eq!(rows().at_most(2, 0, 1), Err(BuildError::NoVertex(2)));
     assert_eq!(rows().below(0, 2, 1), Err(BuildError::NoVertex(2)));
-    assert_eq!(rows().below(0, 1, 30_001), Err(BuildError::Limit(30_001)));
+    assert_eq!(rows().below(0, 1, 30_001), Err(BuildError::Length(30_001)));
     let full = (0..MOST_TIME_ROWS).fold(rows(), |full, _| full.at_most(0, 1, 30_000).unwrap());
     assert_eq!(full.clone().at_most(0, 1, 0), Err(BuildError::TimeRows));
     assert_eq!(full.solve(), Schedule::Times(vec![Time { minutes: 0, small: 0 }; 2]));
@@ -170,4 +170,6 @@ fn texts_of_what_cannot_be_built() {
     assert_eq!(text(BuildError::Variables(9)), "9 variables: there are 1 to 8");
     assert_eq!(text(BuildError::Limit(30_001)), "30001: a limit is from -30,000 to 30,000");
     assert_eq!(text(BuildError::LimitTwice(3)), "variable 3 has a limit on that side already");
+    let long = "30001: the length of a time row is from -30,000 to 30,000";
+    assert_eq!(text(BuildError::Length(30_001)), long);
 }

@@ -78,6 +78,7 @@ fn the_names_of_the_header_are_those_of_the_crate() {
         ("MOST_ANSWER", sizes::MOST_ANSWER),
         ("MOST_VERTICES", sizes::MOST_VERTICES),
         ("MOST_TIME_ROWS", sizes::MOST_TIME_ROWS),
+        ("LARGEST_LENGTH", sizes::LARGEST_LENGTH as usize),
         ("MOST_TIME_WORDS", 2 + 4 * sizes::MOST_TIME_ROWS),
         ("MOST_TIMES", sizes::MOST_TIMES),
         ("SLICE_WORDS", size_of::<raw::Slice>() / 8 - 1),
