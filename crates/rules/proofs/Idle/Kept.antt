@@ -1,5 +1,5 @@
 -- What is kept of a problem.
---   kept-some, kept-of              a limit that is kept is there; one that is there may be kept
+--   kept-some                       a limit that is kept is there
 --   keeping-twice, keeping-inner    kept twice is kept once; and it may be kept before it is read as pairs, or after
 --   Met                             some values meet a problem
 --   Within-side, meets-kept         values meet what is kept where they are within every limit that is

@@ -1,4 +1,4 @@
--- From sound states no arrangement comes twice: two steps of a run would clash (Swaps, Clash).
+-- From sound states no arrangement comes twice: two steps of a run would clash (Return, Clash).
 --   no-arrangement-twice
 use mathlib.Core.Logic.{_≢_}
 use mathlib.Core.Option.{Option, Option·getD, none, some}

@@ -1,10 +1,10 @@
 -- The passes decide: after as many as there are vertices the distances are settled, or there is a bad cycle
 -- (unsettled-cycle). So each input has one of the two answers, and never both.
---   settled-shortest, settled-open     settled distances are the shortest ones, and no walk closes below 0
---   distances-low                      no distance is above 0
---   still-can, still-distance          any walks' lengths that no row betters are those distances
---   bad-cannot                         a bad cycle leaves them unsettled
---   cycle-short                        a cycle has at most as many rows as there are vertices
+--   settled-shortest             settled distances are the shortest ones
+--   distances-low                no distance is above 0
+--   still-can, still-distance    any walks' lengths that no row betters are those distances
+--   bad-cannot                   a bad cycle leaves them unsettled
+--   cycle-short                  a cycle has at most as many rows as there are vertices
 use mathlib.Core.Path.{_≡_, refl, sym, _∙_, subst}
 use mathlib.Core.Bool.{Bool, true, false, cond}
 use mathlib.Core.List.{List}

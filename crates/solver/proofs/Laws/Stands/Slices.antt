@@ -3,7 +3,7 @@
 --   held-slice, count-few    what the code needs
 --   came-slice               where the run comes, if no limits cross
 --   holds-more               what is handed back stands for the state of the rules
---   out-is, answered-is      and the output is theirs
+--   out-is                   the output is theirs, and whether it is answered
 use mathlib.Core.Bool.{true}
 use mathlib.Core.List.{List}
 use mathlib.Core.Option.{some}

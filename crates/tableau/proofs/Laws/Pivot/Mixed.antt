@@ -1,6 +1,5 @@
 -- A mixed entry is the solved tableau's: by variable one formula covers what by place are four kinds of cell.
---   mixed-is        at a row and a column in use
---   mixed-unused    0 elsewhere
+--   mixed-is    at a row and a column in use
 use Prim.Native.Nat.{ℕ, _<_}
 use native.Mathlib.Decide.{ℕ-discrete}
 use mathlib.Core.Path.{_≡_, refl, ap, ap₂, sym, _∙_}
