@@ -1,2 +1,3 @@
 -- What the functions of this crate compute.
 pub mod Cells
+pub mod Signs

@@ -1,4 +1,5 @@
-// Greatest common divisors, of two numbers and of the live cells of an array, and exact division of those cells.
+// Sizes and signs; greatest common divisors, of two numbers and of the live cells of an array, and exact division of
+// those cells.
 ghost use mathlib.Core.Path.{_≡_};
 ghost use Prim.Native.Nat.{_≤_};
 ghost use lib.IntN.{natAbs};
@@ -6,6 +7,7 @@ ghost use lib.ListN.{length};
 ghost use Rattle.whole.specs.Divisors.{gcd};
 ghost use Rattle.whole.specs.Numbers.{Within, AllWithin};
 ghost use Rattle.divisor.specs.Cells.{mostCells, largestSize, Divides, divisorBelow, dividedCells};
+ghost use Rattle.divisor.specs.Signs.{signedBy};
 
 // How many cells an array has; the first of them are live, the others are not looked at.
 pub const MOST_CELLS: usize = 128;
@@ -16,6 +18,18 @@ pub fn size(a: i64) -> u64
     ensures { λ r. ⌜ r ≡ natAbs a ⌝ }
 {
     if a < 0 { (-a) as u64 } else { a as u64 }
+}
+
+// A size with the sign of a number. A divisor with the sign of the common number makes that one come out above 0.
+pub fn signed(sign: i64, size: u64) -> i64
+    requires { ⌜ size ≤ largestSize ⌝ }
+    ensures { λ r. ⌜ r ≡ signedBy sign size ⌝ }
+{
+    let by = size as i64;
+    if sign < 0 {
+        return -by;
+    }
+    by
 }
 
 // Euclid's steps: the second number falls at each turn.

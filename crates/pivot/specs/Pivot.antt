@@ -8,9 +8,10 @@ use lib.ListN.{getD}
 use lib.IntN.{ℤ, pos, negℤ, _*ℤ_, _-ℤ_}
 use lib.Signed.{quotZ}
 use Rattle.whole.specs.Below.{allBelow, foldBelow}
-use Rattle.whole.specs.Numbers.{Within, AllWithin, within, isNeg}
+use Rattle.whole.specs.Numbers.{Within, AllWithin, within}
 use Rattle.whole.specs.Tables.{filled}
 use Rattle.divisor.specs.Cells.{divisorBelow, quotients}
+use Rattle.divisor.specs.Signs.{signedBy}
 use Rattle.rules.specs.Sizes.{mostColumns, mostRows, largestNumber}
 use Rattle.pivot.specs.declared.Pivoted.{Pivoted}
 use Rattle.pivot.specs.declared.Pivoted.the-variants as pivots
@@ -55,12 +56,6 @@ mixedAt m n common l p q k = mixedCell m n common l p q (rowAt m n k) (columnAt 
 abbrev pub mixedUpTo : ℕ → ℕ → ℤ → List ℤ → ℕ → ℕ → ℕ → List ℤ
 mixedUpTo m n common l p q k = filled mostEntries (pos 0) k (mixedAt m n common l p q)
 
--- ---- reduction
-
--- a divisor with the sign of the common number
-unfoldable pub signedBy : ℤ → ℕ → ℤ
-signedBy common g = cond (isNeg common) (negℤ (pos g)) (pos g)
-
 -- ---- the range test
 
 abbrev pub inRange : ℤ → Bool
@@ -81,7 +76,7 @@ beyondBelow k l = foldBelow k (λ i many. many + beyondOf (getD l i (pos 0))) 0
 -- ---- the whole pivot, of m rows and n columns with these entries and this common number
 
 module _ (o : Order) (m n : ℕ) (l : List ℤ) (common : ℤ) (p q : ℕ) where
-  -- the common number before reduction, and what it and the entries are divided by
+  -- the common number before reduction, and what it and the entries are divided by: a divisor with its sign
   abbrev pub productLaid : ℤ
   productLaid = entryLaid o m n l p q *ℤ common
 

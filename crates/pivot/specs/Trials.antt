@@ -10,6 +10,7 @@ use lib.ListN.{length, getD}
 use Rattle.whole.specs.Below.{foldBelow, someBelow}
 use Rattle.whole.specs.Divisors.{gcd}
 use Rattle.whole.specs.Numbers.{Within, AllWithin}
+use Rattle.divisor.specs.Signs.{signedBy}
 use Rattle.rules.specs.Sizes.{mostRows, largestNumber}
 use Rattle.pivot.specs.declared.asked.Asked.{Asked}
 use Rattle.pivot.specs.declared.border.Border.{Border}
@@ -21,7 +22,7 @@ use Rattle.pivot.specs.declared.settle.Settled.the-variants as ends
 use Rattle.pivot.specs.Asked.{entriesFor, fitsFor}
 use Rattle.layout.specs.Layout.{mostEntries, lineAt}
 use Rattle.pivot.specs.Border.{differenceOf, differenceAt, inBorder}
-use Rattle.pivot.specs.Pivot.{signedBy, by}
+use Rattle.pivot.specs.Pivot.{by}
 
 -- q is the quotient of a number: multiplied back, it is that number
 abbrev pub Quotient : ℤ → ℤ → ℤ → Type 0

@@ -1,10 +1,7 @@
-// Products and signs.
+// Products.
 ghost use mathlib.Core.Path.{_≡_};
-ghost use Prim.Native.Nat.{_≤_};
 ghost use Rattle.whole.specs.Numbers.{Within};
-ghost use Rattle.divisor.specs.Cells.{largestSize};
 ghost use Rattle.rules.specs.Sizes.{largestNumber};
-ghost use Rattle.pivot.specs.Pivot.{signedBy};
 ghost use Rattle.pivot.specs.Border.{differenceOf};
 
 // The difference of two products.
@@ -14,16 +11,4 @@ pub fn difference(a: i32, b: i32, c: i32, d: i32) -> i64
     ensures { λ r. ⌜ r ≡ differenceOf a b c d ⌝ }
 {
     a as i64 * b as i64 - c as i64 * d as i64
-}
-
-// A size with the sign of a number. A divisor with the sign of the common number makes that one come out above 0.
-pub fn signed(sign: i64, size: u64) -> i64
-    requires { ⌜ size ≤ largestSize ⌝ }
-    ensures { λ r. ⌜ r ≡ signedBy sign size ⌝ }
-{
-    let by = size as i64;
-    if sign < 0 {
-        return -by;
-    }
-    by
 }

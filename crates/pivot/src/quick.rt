@@ -13,7 +13,6 @@ use crate::MOST_ENTRIES;
 use crate::asked;
 use crate::asked::Asked;
 use crate::border;
-use crate::numbers;
 use crate::settle;
 use crate::settle::Settled;
 
@@ -40,6 +39,6 @@ pub fn quick(entries: &[i32; MOST_ENTRIES], asked: Asked, out: &mut [i32; MOST_E
     if first > rules::LARGEST_NUMBER as u64 {
         return Settled::Open;
     }
-    let from = numbers::signed(asked::product_of(entries, asked), first) as i32;
+    let from = divisor::signed(asked::product_of(entries, asked), first) as i32;
     settle::settle(entries, border, from, out)
 }

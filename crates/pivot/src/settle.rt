@@ -6,9 +6,9 @@ ghost use Prim.Native.Nat.{_*_, _<_};
 ghost use lib.IntN.{pos, natAbs};
 ghost use lib.ListN.{length};
 ghost use Rattle.whole.specs.Numbers.{Within, AllWithin};
+ghost use Rattle.divisor.specs.Signs.{signedBy};
 ghost use Rattle.rules.specs.Sizes.{largestNumber};
 ghost use Rattle.layout.specs.Layout.{mostEntries};
-ghost use Rattle.pivot.specs.Pivot.{signedBy};
 ghost use Rattle.pivot.specs.Border.{Bordered, inBorder};
 ghost use Rattle.pivot.specs.Trials.{Spared, borderColumn, columnDivisor, someAbove, TriedAs, SettledAs};
 use crate::MOST_ENTRIES;
@@ -16,7 +16,6 @@ use crate::border::Border;
 use crate::column;
 use crate::column::Column;
 use crate::guess;
-use crate::numbers;
 
 // What a divisor that is tried comes to: all quotients are right, or one of a column is not.
 enum Tried {
@@ -83,7 +82,7 @@ fn lessened(entries: &[i32; MOST_ENTRIES], border: Border, j: usize, by: i32) ->
     let column = column_at(border, j);
     let size = divisor::size(by as i64);
     let less = column::column_divisor(entries, &border.besides, column, size);
-    numbers::signed(by as i64, less) as i32
+    divisor::signed(by as i64, less) as i32
 }
 
 // Whether some quotient of a column by a divisor that was tried is beyond the range.

@@ -130,7 +130,7 @@ pub fn pivot(entries: &mut [i32; MOST_ENTRIES], asked: Asked) -> Pivoted
     let end = layout::live(asked.rows, asked.columns);
     let product = asked::product_of(entries, asked);
     let mut cells = mixed_entries(entries, asked);
-    let by = numbers::signed(product, divisor::divisor_of(&cells, end, product));
+    let by = divisor::signed(product, divisor::divisor_of(&cells, end, product));
     divisor::divide(&mut cells, end, by);
     let after = product / by;
     if range::all_in_range(&cells, end, after) {

@@ -16,10 +16,11 @@ use Rattle.whole.proofs.Lists.Below.{all-each, all-of}
 use Rattle.whole.proofs.Bools.{same-tests}
 use Rattle.whole.proofs.Lists.Tables.{filled-in}
 use Rattle.divisor.specs.Cells.{divisorBelow, quotients}
+use Rattle.divisor.specs.Signs.{signedBy}
 use Rattle.divisor.proofs.Laws.Cells.{cells-divide, cells-greatest}
 use Rattle.layout.specs.Layout.{Order, mostEntries, flatLaid, rowLaid, columnLaid, live, entryLaid}
 use Rattle.pivot.specs.Pivot.{mixedLaid, mixLaid, productLaid, byLaid, commonLaid, entriesLaid}
-use Rattle.pivot.specs.Pivot.{signedBy, inRange, smallBelow}
+use Rattle.pivot.specs.Pivot.{inRange, smallBelow}
 use Rattle.pivot.specs.TwoOrders.{SameCells, SamePivot}
 use Rattle.layout.proofs.Laws.Layout.{row-laid, column-laid, flat-laid-back, flat-laid-live, row-laid-live}
 use Rattle.layout.proofs.Laws.Layout.{column-laid-live}

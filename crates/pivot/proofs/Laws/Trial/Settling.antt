@@ -31,7 +31,9 @@ use Rattle.whole.proofs.Tells.{tells-within, tells-true, tells-false}
 use Rattle.whole.proofs.Numbers.Tests.{under-size}
 use Rattle.whole.proofs.Ring.Tools.{ring-at}
 use Rattle.divisor.specs.Cells.{divisorBelow, quotients}
+use Rattle.divisor.specs.Signs.{signedBy}
 use Rattle.divisor.proofs.Laws.Cells.{cells-divide, cells-greatest, divisor-above-zero}
+use Rattle.divisor.proofs.Laws.Signs.{size-signed, signed-again, signed-quotient-up}
 use Rattle.rules.specs.Sizes.{largestNumber}
 use Rattle.pivot.specs.declared.asked.Asked.{Asked}
 use Rattle.pivot.specs.declared.border.Border.{Border}
@@ -40,7 +42,7 @@ use Rattle.pivot.specs.declared.settle.Settled.the-variants as ends
 use Rattle.pivot.specs.Asked.{Able}
 use Rattle.layout.specs.Layout.{mostEntries, flat, live, entryIn}
 use Rattle.pivot.specs.Pivot.{mixedLaid, mixedCell, mixedAt, product, mix, by, commonAfter, entriesAfter}
-use Rattle.pivot.specs.Pivot.{fitsAfter, Pivotable, signedBy, inRange}
+use Rattle.pivot.specs.Pivot.{fitsAfter, Pivotable, inRange}
 use Rattle.pivot.specs.Border.{raisedBy, borderAt, borderFor, borderDivisor, differenceAt}
 use Rattle.pivot.specs.Trials.{DivisorFound, Exceeds, SettledAs, EndsAs}
 use Rattle.pivot.proofs.Laws.Trial.Border.{beside-is, above-is, difference-is}
@@ -48,7 +50,6 @@ use Rattle.pivot.proofs.Laws.Numbers.Divides.{over-neg, over-sum, over-
 use Rattle.layout.proofs.Laws.Layout.{flat-live, row-flat, column-flat}
 use Rattle.pivot.proofs.Laws.Ranges.{small-cell, small-common}
 use Rattle.pivot.proofs.Laws.Wide.Reductions.{nonzero-product, nonzero-by, end-in}
-use Rattle.pivot.proofs.Laws.Numbers.Signs.{size-signed, signed-again, signed-quotient-up}
 
 -- what divides f times a number and f times the first of others divides f times their divisor
 divisor-times : (k : ℕ) (l : List ℤ) (z : ℤ) (d f : ℕ) → d ∣ f * natAbs z →

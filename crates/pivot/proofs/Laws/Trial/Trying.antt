@@ -14,15 +14,14 @@ use mathlib.Core.Logic.{_≢_}
 use lib.IntN.{ℤ, pos, natAbs}
 use Rattle.whole.specs.Numbers.{Within}
 use Rattle.whole.proofs.Numbers.Sizes.{size-pos}
+use Rattle.divisor.specs.Signs.{signedBy}
+use Rattle.divisor.proofs.Laws.Signs.{signed-nonzero, size-signed, signed-again, signed-size}
 use Rattle.rules.specs.Sizes.{largestNumber}
-use Rattle.pivot.specs.Pivot.{signedBy}
-use Rattle.pivot.proofs.Laws.Wide.Mixes.{signed-nonzero}
 use Rattle.pivot.specs.declared.border.Border.{Border}
 use Rattle.layout.specs.Layout.{lineAt}
 use Rattle.pivot.specs.Border.{differenceAt, inBorder}
 use Rattle.pivot.specs.Trials.{borderColumn, columnDivisor, someAbove, Exceeds}
 use Rattle.pivot.proofs.Laws.Trial.Columns.{column-divides, column-greatest, column-inside, cell-here, above-at}
-use Rattle.pivot.proofs.Laws.Numbers.Signs.{size-signed, signed-again, signed-size}
 
 pub record Trying (l : List ℤ) (b : Border) (from z : ℤ) : Type 0 where
   pub nonzero : z ≢ pos 0

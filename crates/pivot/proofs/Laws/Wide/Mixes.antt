@@ -1,20 +1,16 @@
 -- What a pivot needs of its numbers.
 --   mixed-of-within, mixed-within   the entries before reduction have sizes: one product, or the difference of two
---   signed-down, -up, -nonzero      the divisor with the sign of the common number, which is not 0
-use Prim.Native.Nat.{ℕ, zero, suc, _<_}
-use native.Mathlib.Omega.{arith}
-use mathlib.Core.Path.{_≡_, ap}
-use mathlib.Core.Logic.{_≢_}
-use mathlib.Core.Bool.{Bool, true, false, cond}
+use Prim.Native.Nat.{ℕ}
+use mathlib.Core.Bool.{Bool, true, false}
 use mathlib.Core.List.{List}
 use lib.Dec.{eqb, lit≤}
-use lib.IntN.{ℤ, pos, negsuc, natAbs, negℤ}
-use Rattle.whole.specs.Numbers.{Within, AllWithin, isNeg}
+use lib.IntN.{ℤ}
+use Rattle.whole.specs.Numbers.{Within, AllWithin}
 use Rattle.whole.proofs.Numbers.Sizes.{within-*, within--, within-neg, within-le}
 use Rattle.divisor.specs.Cells.{largestSize}
 use Rattle.rules.specs.Sizes.{largestNumber}
 use Rattle.layout.specs.Layout.{flat}
-use Rattle.pivot.specs.Pivot.{mixedOf, mixedCell, mixedLaid, Mixable, signedBy}
+use Rattle.pivot.specs.Pivot.{mixedOf, mixedCell, mixedLaid, Mixable}
 
 mixed-of-within : (a b : Bool) (common pivot own beside above : ℤ) → Mixable common pivot own beside above →
     Within (mixedOf a b common pivot own beside above) largestSize
@@ -39,20 +35,3 @@ module _ {common : ℤ} {l : List ℤ} (c : Within common largestNumber) (s : Al
     beside-within = s .each (flat m n i q);
     above-within = s .each (flat m n p j);
   })
-
-pub signed-down : (common : ℤ) (g : ℕ) → isNeg common ≡ true → signedBy common g ≡ negℤ (pos g)
-unfolding signedBy
-signed-down common g e = ap (λ b. cond b (negℤ (pos g)) (pos g)) e
-
-pub signed-up : (common : ℤ) (g : ℕ) → isNeg common ≡ false → signedBy common g ≡ pos g
-unfolding signedBy
-signed-up common g e = ap (λ b. cond b (negℤ (pos g)) (pos g)) e
-
-pub signed-nonzero : (common : ℤ) (g : ℕ) → 0 < g → signedBy common g ≢ pos 0
-unfolding signedBy
-signed-nonzero common zero h = omega arith
-signed-nonzero common (suc g) h = go (isNeg common)
-  where
-    go : (b : Bool) → cond b (negsuc g) (pos (suc g)) ≢ pos 0
-    go true e = let z : _≡_ {A = ℕ} (suc g) 0 = ap natAbs e in omega arith
-    go false e = let z : _≡_ {A = ℕ} (suc g) 0 = ap natAbs e in omega arith

@@ -27,12 +27,13 @@ use Rattle.whole.proofs.Tells.{tells-within}
 use Rattle.whole.proofs.Numbers.Sizes.{within-*, within-le, product-nonzero, all-within-filled}
 use Rattle.divisor.specs.Cells.{largestSize, dividedCells, divisorBelow, quotients}
 use Rattle.divisor.proofs.Laws.Cells.{divisor-above-zero, divisor-most, fits-size}
+use Rattle.divisor.proofs.Laws.Signs.{signed-nonzero}
 use Rattle.rules.specs.Sizes.{largestNumber}
 use Rattle.layout.specs.Layout.{mostEntries, flat, rowAt, columnAt, live}
 use Rattle.pivot.specs.Pivot.{mixedAt, product, mix, by, commonAfter, entriesAfter, fitsAfter, Pivotable}
 use Rattle.pivot.specs.Pivot.{inRange, smallBelow}
 use Rattle.layout.proofs.Laws.Layout.{flat-in, live-most}
-use Rattle.pivot.proofs.Laws.Wide.Mixes.{mixed-within, signed-nonzero}
+use Rattle.pivot.proofs.Laws.Wide.Mixes.{mixed-within}
 
 module _ {m n : ℕ} {l : List ℤ} {c : ℤ} {p q : ℕ} (h : Pivotable m n l c p q) where
   abbrev new : ℤ

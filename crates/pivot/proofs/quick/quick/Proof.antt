@@ -18,20 +18,20 @@ use Rattle.whole.proofs.Bools.{not-false, true→T}
 use Rattle.whole.proofs.Numbers.Sizes.{fits-by, size-pos, within-le}
 use Rattle.rules.specs.Sizes.{largestNumber}
 use Rattle.divisor.specs.Cells.{largestSize}
+use Rattle.divisor.specs.Signs.{signedBy}
+use Rattle.divisor.proofs.Laws.Signs.{signed-nonzero, size-signed}
 use Rattle.pivot.specs.declared.asked.Asked.{Asked}
 use Rattle.pivot.specs.declared.border.Border.{Border}
 use Rattle.pivot.specs.declared.settle.Settled.{Settled}
 use Rattle.pivot.specs.Asked.{Able, pivotFor}
 use Rattle.layout.specs.Layout.{mostEntries}
-use Rattle.pivot.specs.Pivot.{product, signedBy}
+use Rattle.pivot.specs.Pivot.{product}
 use Rattle.pivot.specs.Border.{borderFor, borderDivisor, Bordered}
 use Rattle.pivot.specs.Trials.{SettledAs}
 use Rattle.pivot.proofs.Laws.Trial.Border.{bordered}
 use Rattle.pivot.proofs.Laws.Numbers.Halves.{wide, widened}
-use Rattle.pivot.proofs.Laws.Wide.Mixes.{signed-nonzero}
 use Rattle.pivot.proofs.Laws.Wide.Reductions.{within-size, nonzero-product}
 use Rattle.pivot.proofs.Laws.Trial.Settling.{first-multiple, first-divides, first-above, settled-ends}
-use Rattle.pivot.proofs.Laws.Numbers.Signs.{size-signed}
 use Rattle.pivot.proofs.quick.quick.Statement.{statement}
 use Rattle.pivot.proofs.quick.quick.Tie as tie
 

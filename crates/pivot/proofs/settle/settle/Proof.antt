@@ -10,7 +10,7 @@ use lib.IntN.{ℤ, natAbs}
 use mir.Facts.{toZ-ofZ, ofZ-toZ, fits-ofZ}
 use mir.Syntax.{w32}
 use mir.Val.{SFits, Fits, toZ, ofZ}
-use Rattle.pivot.specs.Pivot.{signedBy}
+use Rattle.divisor.specs.Signs.{signedBy}
 use Rattle.pivot.specs.declared.border.Border.{Border}
 use Rattle.pivot.specs.declared.settle.Tried.{Tried}
 use Rattle.pivot.specs.declared.settle.Tried.the-variants as tries

@@ -16,13 +16,14 @@ use Rattle.whole.proofs.Numbers.Division.{bits-nonzero}
 use Rattle.whole.proofs.Numbers.Sizes.{fits-by}
 use Rattle.whole.proofs.Lists.Tables.{filled-length}
 use Rattle.divisor.specs.Cells.{dividedCells, divisorBelow}
+use Rattle.divisor.specs.Signs.{signedBy}
 use Rattle.rules.specs.Sizes.{largestNumber}
 use Rattle.pivot.specs.declared.asked.Asked.{Asked}
 use Rattle.pivot.specs.declared.Pivoted.{Pivoted}
 use Rattle.pivot.specs.declared.Pivoted.the-variants as pivots
 use Rattle.pivot.specs.Asked.{Able, commonFor, entriesFor, fitsFor}
 use Rattle.layout.specs.Layout.{live, mostEntries}
-use Rattle.pivot.specs.Pivot.{signedBy, smallBelow, entriesBy, product, mix, by, pivotedBy}
+use Rattle.pivot.specs.Pivot.{smallBelow, entriesBy, product, mix, by, pivotedBy}
 use Rattle.pivot.proofs.Laws.Wide.Reductions.{end-in, within-size, mix-within, size-most}
 use Rattle.pivot.proofs.Laws.Wide.Reductions.{nonzero-by, quotient-fits, divided-all, fits-common, fits-entries}
 use Rattle.pivot.proofs.wide.pivot.Statement.{statement}

@@ -16,6 +16,7 @@ use Rattle.whole.specs.Values.{pairs}
 use Rattle.whole.proofs.Numbers.Sizes.{product-nonzero}
 use Rattle.whole.proofs.Lists.Tables.{filled-in, filled-out}
 use Rattle.divisor.specs.Cells.{divisorBelow, quotients}
+use Rattle.divisor.specs.Signs.{signedBy}
 use Rattle.divisor.proofs.Laws.Cells as cells
 use Rattle.rules.specs.Problem.{Problem, vars}
 use Rattle.rules.specs.Step.{State, Leaving, moved, common}
@@ -25,7 +26,7 @@ use Rattle.rules.proofs.Tableau.Lowest.{Factored, factored, divisor-divides, di
 use Rattle.rules.proofs.Tableau.Pivot.{rowed-moved}
 use Rattle.rules.specs.Facts.State.{Rowed}
 use Rattle.layout.specs.Layout.{mostEntries, flat, rowAt, columnAt, live}
-use Rattle.pivot.specs.Pivot.{mixedCell, mixedAt, signedBy, product, mix, by}
+use Rattle.pivot.specs.Pivot.{mixedCell, mixedAt, product, mix, by}
 use Rattle.layout.proofs.Laws.Layout.{row-live, column-live}
 use Rattle.tableau.specs.declared.Tableau.{Tableau}
 use Rattle.tableau.specs.Parts.{cell, cellAt, basicAt, nonbasicAt}

@@ -1,4 +1,4 @@
--- `pivot::numbers::signed` meets its contract: the divisor and its opposite fit. Assumes nothing.
+-- `divisor::signed` meets its contract: the size and its opposite fit. Assumes nothing.
 use borrow.Author.Needs.{needs}
 use mathlib.Core.Path.{_≡_, sym, ap, _∙_}
 use Prim.Native.Nat.{ℕ, _≤_, _<_, _^_}
@@ -9,11 +9,11 @@ use mir.Facts.{toZ-ofZ, toZ-pos}
 use mir.Syntax.{w64}
 use mir.Val.{SFits, toZ, ofZ, hbits}
 use Rattle.whole.proofs.Numbers.Sizes.{within-neg}
 use Rattle.divisor.specs.Cells.{largestSize}
 use Rattle.divisor.proofs.Laws.Cells.{fits-size}
-use Rattle.pivot.proofs.Laws.Wide.Mixes.{signed-down, signed-up}
-use Rattle.pivot.proofs.numbers.signed.Statement.{statement}
-use Rattle.pivot.proofs.numbers.signed.Tie as tie
+use Rattle.divisor.proofs.Laws.Signs.{signed-down, signed-up}
+use Rattle.divisor.proofs.signed.Statement.{statement}
+use Rattle.divisor.proofs.signed.Tie as tie
 
 below : {n : ℕ} → n ≤ largestSize → n < 2 ^ hbits w64
 below h = lt-of-le-of-lt h (lit< tt)
@@ -21,7 +21,7 @@ below h = lt-of-le-of-lt h (lit< tt)
 fit : {n : ℕ} → n ≤ largestSize → SFits w64 (negℤ (pos n))
 fit {n} h = fits-size (within-neg {a = pos n} (record { within = h }))
 
--- minus the divisor is 0 less it in the code
+-- minus the size is 0 less it in the code
 negated : {n : ℕ} → n ≤ largestSize → toZ w64 (ofZ w64 (pos 0 -ℤ pos n)) ≡ negℤ (pos n)
 negated {n} h = ap (λ z. toZ w64 (ofZ w64 z)) (+ℤ-idl (negℤ (pos n))) ∙ toZ-ofZ (fit h)
 

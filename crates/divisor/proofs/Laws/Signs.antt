@@ -1,9 +1,11 @@
 -- A size with the sign of a number.
+--   signed-down, signed-up, signed-nonzero   of a number below 0, of another, and that it is not 0
 --   size-signed, signed-again, signed-size   its size, its sign, and a number's own size
---   signed-quotient-up                              a number over a divisor with its sign is not below 0
+--   signed-quotient-up                       a number over a divisor with its sign is not below 0
 use Prim.Native.Nat.{ℕ, zero, suc, _/_, _<_}
 use native.Mathlib.Omega.{arith}
 use mathlib.Core.Path.{_≡_, refl, ap, sym, subst}
+use mathlib.Core.Logic.{_≢_}
 use mathlib.Core.Bool.{Bool, true, false, cond}
 use lib.Dec.{ltb, le→leb}
 use lib.IntN.{ℤ, pos, negsuc, negℤ, natAbs}
@@ -12,8 +14,24 @@ use mir.Facts.{no-ltb}
 use Rattle.whole.specs.Numbers.{isNeg}
 use Rattle.whole.proofs.Bools.{T→false}
 use Rattle.whole.proofs.Numbers.Sizes.{abs-neg}
-use Rattle.pivot.specs.Pivot.{signedBy}
-use Rattle.pivot.proofs.Laws.Wide.Mixes.{signed-down, signed-up}
+use Rattle.divisor.specs.Signs.{signedBy}
+
+pub signed-down : (s : ℤ) (g : ℕ) → isNeg s ≡ true → signedBy s g ≡ negℤ (pos g)
+unfolding signedBy
+signed-down s g e = ap (λ b. cond b (negℤ (pos g)) (pos g)) e
+
+pub signed-up : (s : ℤ) (g : ℕ) → isNeg s ≡ false → signedBy s g ≡ pos g
+unfolding signedBy
+signed-up s g e = ap (λ b. cond b (negℤ (pos g)) (pos g)) e
+
+pub signed-nonzero : (s : ℤ) (g : ℕ) → 0 < g → signedBy s g ≢ pos 0
+unfolding signedBy
+signed-nonzero s zero h = omega arith
+signed-nonzero s (suc g) h = go (isNeg s)
+  where
+    go : (b : Bool) → cond b (negsuc g) (pos (suc g)) ≢ pos 0
+    go true e = let z : _≡_ {A = ℕ} (suc g) 0 = ap natAbs e in omega arith
+    go false e = let z : _≡_ {A = ℕ} (suc g) 0 = ap natAbs e in omega arith
 
 not-below : (a : ℕ) → isNeg (pos a) ≡ false
 not-below a = T→false (ltb a 0) (no-ltb {a = a} {b = 0} (omega arith))
