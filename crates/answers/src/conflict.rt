@@ -6,11 +6,10 @@ ghost use Rattle.rules.specs.Sizes.{mostVariables};
 ghost use Rattle.rules.specs.Run.{crossed};
 ghost use Rattle.sides.specs.Sides.{leastIn, mostIn};
 ghost use Rattle.answers.specs.Conflict.{conflictAt};
+use amounts::Given;
 use search::after;
-use tableau::Given;
 use tableau::Limits;
 use tableau::Variable;
-use tableau::amount;
 
 // The lowest variable whose limits cross, if there is one.
 pub enum Crossed {
@@ -22,9 +21,9 @@ pub enum Crossed {
 pub fn is_crossed(lower: Given, upper: Given) -> bool
     ensures { λ r. ⌜ r ≡ crossed pairs (leastIn lower) (mostIn upper) ⌝ }
 {
-    let least = amount::lower_value(lower);
-    let most = amount::upper_value(upper);
-    lower.on & upper.on & amount::is_below(most, least)
+    let least = amounts::lower_value(lower);
+    let most = amounts::upper_value(upper);
+    lower.on & upper.on & amounts::is_below(most, least)
 }
 
 // The search over the first variables.

@@ -11,12 +11,12 @@ ghost use Rattle.rules.specs.Sizes.{mostRows, mostColumns, mostVariables, large
 ghost use Rattle.rules.specs.Sizes.{largestNumber, largestNumerator, largestSmall};
 ghost use Rattle.rules.specs.Evidence as evidence;
 ghost use Rattle.rules.specs.Evidence.{lowerPart, atLeast, atMost, showsCan};
-ghost use Rattle.tableau.specs.Amounts.{limitIn};
+ghost use Rattle.amounts.specs.Amounts.{limitIn};
 ghost use Rattle.parts.specs.Reads.{problemOf, Readable, Limited, rowSumAt};
 ghost use Rattle.parts.specs.Reads.{numeratorsFit, rowsHold, halfHolds, isZero, limitsHold};
+use amounts::Given;
 use layout::ColumnPlace;
 use layout::RowPlace;
-use tableau::Given;
 use tableau::Limits;
 use tableau::Tableau;
 use words::is_outside;

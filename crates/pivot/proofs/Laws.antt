@@ -2,6 +2,6 @@
 pub mod Ranges
 pub mod TwoOrders
 pub mod Only
-pub mod Numbers
+pub mod Divides
 pub mod Trial
 pub mod Wide

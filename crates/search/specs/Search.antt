@@ -13,10 +13,10 @@ use Rattle.whole.specs.Sums.{sum}
 use Rattle.whole.specs.Values.{pairs}
 use Rattle.rules.specs.Sizes.{mostColumns, mostRows, largestLimit}
 use Rattle.rules.specs.Step.{Side, Leaving, leaves, shortfallBy, pull, suits}
+use Rattle.amounts.specs.Amounts.{amountOf}
 use Rattle.tableau.specs.declared.Limits.{Limits}
 use Rattle.tableau.specs.declared.Tableau.{Tableau}
 use Rattle.layout.specs.Layout.{Order, inUse, entryLaid}
-use Rattle.tableau.specs.Amounts.{amountOf}
 use Rattle.tableau.specs.Parts.{cellLaid, valueAt, seatAt, rowOf, columnOf, lowestOf, highestOf}
 use Rattle.tableau.specs.Parts.{plainAt, smallAt, lowerGiven, upperGiven}
 use Rattle.tableau.specs.Pivot.{Cells}

@@ -9,6 +9,8 @@ ghost use Rattle.whole.specs.Numbers.{Within};
 ghost use Rattle.rules.specs.Sizes.{mostColumns, mostRows, mostVariables, largestNumber, largestLimit};
 ghost use Rattle.layout.specs.Layout.{entryIn};
 ghost use Rattle.search.specs.Search.{rowSumIn, Searchable, seen, nextAt};
+use amounts::Amount;
+use amounts::Value;
 use layout::ColumnPlace;
 use layout::RowPlace;
 use sides::LimitPair;
@@ -16,8 +18,6 @@ use tableau::Limits;
 use tableau::Seat;
 use tableau::Tableau;
 use tableau::Variable;
-use tableau::amount::Amount;
-use tableau::amount::Value;
 
 // What a step reads of a tableau beside its entries and its limits. Which variable is in which column it does not ask.
 pub struct View {

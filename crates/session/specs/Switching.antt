@@ -15,10 +15,10 @@ use Rattle.rules.specs.Refusal.{first}
 use Rattle.rules.specs.Session.{inside}
 use Rattle.rules.specs.Sizes.{mostColumns, mostVariables}
 use Rattle.rules.specs.Step.{Side, above, below}
-use Rattle.tableau.specs.declared.Given.{Given}
+use Rattle.amounts.specs.declared.Given.{Given}
+use Rattle.amounts.specs.Amounts.{absent}
 use Rattle.tableau.specs.declared.Limits.{Limits}
 use Rattle.tableau.specs.declared.Tableau.{Tableau}
-use Rattle.tableau.specs.Amounts.{absent}
 use Rattle.tableau.specs.Parts.{columnOf, highestOf, lowerGiven, lowestOf, seatAt, upperGiven, valueAt}
 use Rattle.solver.specs.Spend.{manyOf}
 

@@ -6,16 +6,15 @@ ghost use Rattle.rules.specs.Limit.{lowerPair, upperPair};
 ghost use Rattle.rules.specs.Problem.{mapped};
 ghost use Rattle.rules.specs.Session.{inside};
 ghost use Rattle.rules.specs.Sizes.{mostVariables};
-ghost use Rattle.tableau.specs.Amounts.{limitIn, pairIn, valueOf};
+ghost use Rattle.amounts.specs.Amounts.{limitIn, pairIn, valueOf};
 ghost use Rattle.session.specs.Switching.{Settleable, allOff, flaggedAt, givenAt, limitRefusal, quietAt};
 ghost use Rattle.session.specs.Switching.{settledAt, switchedTo, turnedAt};
+use amounts::Given;
+use amounts::Value;
 use answers::conflict;
-use tableau::Given;
 use tableau::Limits;
 use tableau::Tableau;
 use tableau::Variable;
-use tableau::amount;
-use tableau::amount::Value;
 
 // The refusals of a limit that was not given, of one that is on already, and of one that is off already.
 const MISSING: u32 = 42;
@@ -127,7 +126,7 @@ fn moved(lower: Given, upper: Given, value: Value) -> Value
     if conflict::is_crossed(lower, upper) {
         return value;
     }
-    amount::put_inside(lower, upper, value)
+    amounts::put_inside(lower, upper, value)
 }
 
 // The tableau with the value of one variable by the limits that are on. A basic one has no value of its own.

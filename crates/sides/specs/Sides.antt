@@ -9,8 +9,8 @@ use Rattle.rules.specs.Limit.{lowerPair, upperPair}
 use Rattle.rules.specs.Problem.{mapped}
 use Rattle.rules.specs.Sizes.{largestNumerator, largestSmall}
 use Rattle.rules.specs.Step.{Side, below, above, under, over, shortfallBy, pull, suits}
-use Rattle.tableau.specs.declared.Given.{Given}
-use Rattle.tableau.specs.Amounts.{amountOf, limitIn}
+use Rattle.amounts.specs.declared.Given.{Given}
+use Rattle.amounts.specs.Amounts.{amountOf, limitIn}
 use Rattle.sides.specs.declared.Breach.{Breach}
 use Rattle.sides.specs.declared.LimitPair.{LimitPair}
 

@@ -7,12 +7,11 @@ ghost use Rattle.whole.specs.Values.{pairs};
 ghost use Rattle.rules.specs.Sizes.{largestNumber, largestLimit};
 ghost use Rattle.rules.specs.Step as step;
 ghost use Rattle.rules.specs.Step.{mayRise, mayFall};
-ghost use Rattle.tableau.specs.Amounts.{amountOf, pairIn, pairOf};
+ghost use Rattle.amounts.specs.Amounts.{amountOf, pairIn, pairOf};
 ghost use Rattle.sides.specs.Sides.{Modest, leastIn, mostIn, breachOf, suitsOf};
-use tableau::Given;
-use tableau::amount;
-use tableau::amount::Amount;
-use tableau::amount::Value;
+use amounts::Amount;
+use amounts::Given;
+use amounts::Value;
 
 // Whether a variable is outside its limits; whether it must rise to come inside, that is, whether it is below its lower
 // limit and not above its upper one; and how far D times its value is from D times that limit, which is above 0. A
@@ -40,13 +39,13 @@ pub fn product(a: i32, b: i32) -> i64
 fn under(common: i32, value: Amount, limit: Given) -> bool
     ensures { λ r. ⌜ r ≡ step.under pairs common (pairOf value) (leastIn limit) ⌝ }
 {
-    limit.on & amount::less(value, amount::times(common, amount::lower_value(limit)))
+    limit.on & amounts::less(value, amounts::times(common, amounts::lower_value(limit)))
 }
 
 fn over(common: i32, value: Amount, limit: Given) -> bool
     ensures { λ r. ⌜ r ≡ step.over pairs common (pairOf value) (mostIn limit) ⌝ }
 {
-    limit.on & amount::less(amount::times(common, amount::upper_value(limit)), value)
+    limit.on & amounts::less(amounts::times(common, amounts::upper_value(limit)), value)
 }
 
 // One amount less another, part by part.
@@ -77,14 +76,14 @@ pub fn breach_of(common: i32, value: Amount, limits: LimitPair) -> Breach
         };
     }
     if low {
-        let least = amount::times(common, amount::lower_value(limits.lower));
+        let least = amounts::times(common, amounts::lower_value(limits.lower));
         return Breach {
             violated: true,
             rises: true,
             shortfall: gap(least, value),
         };
     }
-    let most = amount::times(common, amount::upper_value(limits.upper));
+    let most = amounts::times(common, amounts::upper_value(limits.upper));
     Breach {
         violated: true,
         rises: false,
@@ -96,13 +95,13 @@ pub fn breach_of(common: i32, value: Amount, limits: LimitPair) -> Breach
 fn may_rise(value: Value, limit: Given) -> bool
     ensures { λ r. ⌜ r ≡ mayRise pairs (pairIn value) (mostIn limit) ⌝ }
 {
-    !limit.on | amount::is_below(value, amount::upper_value(limit))
+    !limit.on | amounts::is_below(value, amounts::upper_value(limit))
 }
 
 fn may_fall(value: Value, limit: Given) -> bool
     ensures { λ r. ⌜ r ≡ mayFall pairs (pairIn value) (leastIn limit) ⌝ }
 {
-    !limit.on | amount::is_below(amount::lower_value(limit), value)
+    !limit.on | amounts::is_below(amounts::lower_value(limit), value)
 }
 
 // Whether a nonbasic variable can move the right way, by its entry in the row of the variable that must rise or fall.

@@ -9,10 +9,10 @@ use Rattle.rules.specs.Problem.{Problem}
 use Rattle.rules.specs.Sizes.{mostRows, mostVariables}
 use Rattle.rules.specs.Step.{State}
 use Rattle.rules.specs.Facts.State.{Rowed}
-use Rattle.tableau.specs.declared.Given.{Given}
+use Rattle.amounts.specs.declared.Given.{Given}
+use Rattle.amounts.specs.Amounts.{givenLower, givenUpper, valueOf}
 use Rattle.tableau.specs.declared.Tableau.{Tableau}
 use Rattle.layout.specs.Layout.{Order, inUse}
-use Rattle.tableau.specs.Amounts.{givenLower, givenUpper, valueOf}
 use Rattle.tableau.specs.Parts.{basicAt, lowerGiven, upperGiven}
 use Rattle.pivot.specs.Pivot.{Pivotable, commonAfter, entriesAfter, entriesBy, fitsLaid}
 use Rattle.tableau.specs.Pivot.{pivotedLaid, swappedAt}

@@ -1,8 +1,10 @@
 // One step of the run: the search for the next pivot, the pivot, and the range test.
 ghost use mathlib.Core.Path.{_≡_};
-ghost use Rattle.tableau.specs.Amounts.{valueOf};
+ghost use Rattle.amounts.specs.Amounts.{valueOf};
 ghost use Rattle.search.specs.Search.{seen};
 ghost use Rattle.steps.specs.Step.{Steppable, leftAt, violatedPair, outcomeAt};
+use amounts::Given;
+use amounts::Value;
 use layout::ColumnPlace;
 use layout::RowPlace;
 use layout::Spot;
@@ -10,11 +12,8 @@ use pivot::Pivoted;
 use search::Blocked;
 use search::Next;
 use search::View;
-use tableau::Given;
 use tableau::Limits;
 use tableau::Tableau;
-use tableau::amount;
-use tableau::amount::Value;
 
 // How a run ends: every variable is within its limits, one is outside and stuck, or a number is too large.
 pub enum End {
@@ -35,9 +34,9 @@ fn violated_limit(rises: bool, lower: Given, upper: Given) -> Value
     ensures { λ r. ⌜ r ≡ valueOf (violatedPair rises lower upper) ⌝ }
 {
     if rises {
-        return amount::lower_value(lower);
+        return amounts::lower_value(lower);
     }
-    amount::upper_value(upper)
+    amounts::upper_value(upper)
 }
 
 // One step: where a pivot is chosen it is made on the entries, and where it leads out of range they stay.

@@ -1,5 +1,4 @@
 -- Laws that this crate's proofs, and those of its callers, cite.
-pub mod Parts
 pub mod Live
 pub mod Exchange
 pub mod Only

@@ -1,5 +1,4 @@
 -- What the code of this crate computes, by place, and what it stands for.
-pub mod Amounts
 pub mod Parts
 pub mod Pivot
 pub mod Start

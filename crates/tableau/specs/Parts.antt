@@ -7,12 +7,12 @@ use lib.ListN.{getD}
 use Rattle.rules.specs.Limit.{Limit, lowerPair, upperPair}
 use Rattle.rules.specs.Problem.{mapped}
 use Rattle.layout.specs.Layout.{Order, inUse, rowPlace, columnPlace, entryLaid}
+use Rattle.amounts.specs.declared.Given.{Given}
+use Rattle.amounts.specs.Amounts.{absent, limitIn}
 use Rattle.tableau.specs.declared.Variable.{Variable}
 use Rattle.tableau.specs.declared.Seat.{Seat}
-use Rattle.tableau.specs.declared.Given.{Given}
 use Rattle.tableau.specs.declared.Limits.{Limits}
 use Rattle.tableau.specs.declared.Tableau.{Tableau}
-use Rattle.tableau.specs.Amounts.{absent, limitIn}
 
 abbrev pub variable : ℕ → Variable
 variable v = record { 0 = v }

@@ -15,13 +15,13 @@ use Rattle.rules.specs.Problem.{Problem, inner, vars}
 use Rattle.rules.specs.Step.{startValue}
 use Rattle.layout.specs.Layout.{Order, inUse, mostEntries, rowLaid, columnLaid, rowAt, columnAt, live, rowPlace}
 use Rattle.layout.specs.Layout.{columnPlace}
+use Rattle.amounts.specs.declared.Given.{Given}
+use Rattle.amounts.specs.Amounts.{absent}
 use Rattle.tableau.specs.declared.Variable.{Variable}
 use Rattle.tableau.specs.declared.Seat.{Seat}
-use Rattle.tableau.specs.declared.Given.{Given}
 use Rattle.tableau.specs.declared.Limits.{Limits}
 use Rattle.tableau.specs.declared.Tableau.{Tableau}
 use Rattle.tableau.specs.declared.read.Starts.{Starts}
-use Rattle.tableau.specs.Amounts.{absent}
 use Rattle.tableau.specs.Parts.{variable, nowhere, lowestOf, highestOf}
 
 abbrev startEntriesLaid : {X : Type 0} → Order → Problem X → List ℤ

@@ -1,5 +1,6 @@
 // The tableau by place. A row is an equation: `common`, the rules' D, times the row's basic variable is the sum of the
 // row's entries, each times its column's nonbasic variable. All of these numbers are whole.
+use amounts::Given;
 use layout::ColumnPlace;
 use layout::RowPlace;
 
@@ -13,16 +14,6 @@ pub struct Seat {
     pub basic: bool,
     pub row: RowPlace,
     pub column: ColumnPlace,
-}
-
-// A limit as it was given: whether it was, whether it is on, whether it excludes its own number, and that number. Every
-// answer is by the limits that are on. Of a missing limit no flag is set and the number is 0.
-#[repr(C)]
-pub struct Given {
-    pub given: bool,
-    pub on: bool,
-    pub strict: bool,
-    pub plain: i32,
 }
 
 // The limits of every variable, and whether some limit is strict.
@@ -65,5 +56,4 @@ impl Tableau {
     pub const LARGEST_NUMBER: i64 = rules::LARGEST_NUMBER;
 }
 
-pub mod amount;
 mod read;

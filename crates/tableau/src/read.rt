@@ -10,16 +10,15 @@ ghost use Rattle.rules.specs.Refusal.{Accepted, problemRefusal};
 ghost use Rattle.rules.specs.Step.{startValue};
 ghost use Rattle.judge.specs.Words.{Framed};
 ghost use Rattle.layout.specs.Layout.{lines, lineAt};
+ghost use Rattle.amounts.specs.Amounts.{limitIn, valueOf};
 ghost use Rattle.tableau.specs.Start.{startUpTo, startEntries, startBasic, startNonbasic, seatFor, startSeats};
-ghost use Rattle.tableau.specs.Amounts.{limitIn, valueOf};
 ghost use Rattle.tableau.specs.Start.{limitsFor, startsFor, startTableau};
-use crate::Given;
 use crate::Limits;
 use crate::Seat;
 use crate::Tableau;
 use crate::Variable;
-use crate::amount;
-use crate::amount::Value;
+use amounts::Given;
+use amounts::Value;
 use layout::ColumnPlace;
 use layout::RowPlace;
 use words::count_at;
@@ -168,7 +167,7 @@ fn start_value(lower: Given, upper: Given) -> Value
         ≡ valueOf (startValue pairs (mapped lowerPair (limitIn lower)) (mapped upperPair (limitIn upper))) ⌝ }
 {
     let zero = Value { plain: 0, small: 0 };
-    amount::put_inside(lower, upper, zero)
+    amounts::put_inside(lower, upper, zero)
 }
 
 // The values of so many problem variables.

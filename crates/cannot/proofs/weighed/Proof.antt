@@ -10,7 +10,7 @@ use mir.Val.{SFits}
 use Rattle.whole.proofs.Numbers.Sizes.{within-*, fits-by}
 use Rattle.rules.specs.Limit.{present}
 use Rattle.rules.specs.Evidence.{plainOf}
-use Rattle.tableau.specs.declared.Given.{Given}
+use Rattle.amounts.specs.declared.Given.{Given}
 use Rattle.cannot.proofs.weighed.Statement.{statement}
 use Rattle.cannot.proofs.weighed.Tie as tie
 

@@ -16,9 +16,9 @@ use Rattle.whole.proofs.Numbers.Sizes.{within-*, within--}
 use Rattle.rules.specs.Sizes.{largestLimit, largestNumber}
 use Rattle.rules.specs.Limit.{Limit, present}
 use Rattle.rules.specs.Evidence.{lowerPart, upperPart, fair, plainOf}
-use Rattle.tableau.specs.declared.Given.{Given}
+use Rattle.amounts.specs.declared.Given.{Given}
+use Rattle.amounts.specs.Amounts.{limitIn}
 use Rattle.tableau.specs.declared.Limits.{Limits}
-use Rattle.tableau.specs.Amounts.{limitIn}
 use Rattle.tableau.specs.Parts.{lowerGiven, lowerOf, upperGiven, upperOf}
 use Rattle.parts.specs.Reads.{Multiplied, fairAt, multipliersFair}
 

@@ -13,6 +13,7 @@ use mir.Val.{SFits, toZ, ofZ}
 use Rattle.whole.proofs.Numbers.Division.{bits-nonzero}
 use Rattle.whole.proofs.Numbers.Order.{true→lt, false→le}
 use Rattle.whole.proofs.Numbers.Sizes.{fits-by}
+use Rattle.whole.proofs.Numbers.Halves.{wide, widened}
 use Rattle.rules.specs.Sizes.{largestNumber}
 use Rattle.pivot.specs.declared.asked.Asked.{Asked}
 use Rattle.pivot.specs.declared.Pivoted.{Pivoted}
@@ -23,7 +24,6 @@ use Rattle.pivot.specs.Asked.{productFor}
 use Rattle.layout.specs.Layout.{mostEntries, live}
 use Rattle.pivot.specs.Pivot.{Pivotable, commonAfter, entriesAfter, fitsAfter, pivotedBy, entriesBy, beyondBelow}
 use Rattle.pivot.specs.Trials.{Settles, EndsAs}
-use Rattle.pivot.proofs.Laws.Numbers.Halves.{wide, widened}
 use Rattle.pivot.proofs.Laws.Ranges.{small-none, small-some}
 use Rattle.pivot.proofs.Laws.Wide.Reductions.{nonzero-by, quotient-fits, fits-common, end-in}
 use Rattle.pivot.proofs.Laws.Trial.Settling.{within-up, beyond-up}

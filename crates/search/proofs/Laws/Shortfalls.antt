@@ -21,9 +21,9 @@ use Rattle.rules.specs.Step.{Leaving, Side, State, above, below, leaves, seated
 use Rattle.rules.proofs.Step.Leaving.{left}
 use Rattle.rules.proofs.Step.Rule.{shortfall-positive}
 use Rattle.rules.specs.Facts.State.{Rowed}
-use Rattle.tableau.specs.declared.Given.{Given}
+use Rattle.amounts.specs.declared.Given.{Given}
+use Rattle.amounts.specs.Amounts.{limitIn}
 use Rattle.tableau.specs.declared.Tableau.{Tableau}
-use Rattle.tableau.specs.Amounts.{limitIn}
 use Rattle.tableau.specs.Parts.{lowerGiven, rowOf, seatAt, upperGiven}
 use Rattle.tableau.specs.Stands.{Stands}
 use Rattle.sides.specs.Sides.{Modest, leastIn, mostIn}

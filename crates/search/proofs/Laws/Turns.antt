@@ -17,8 +17,8 @@ use Rattle.whole.proofs.Bools.{true-false}
 use Rattle.whole.proofs.Lists.Turns.{lowest-more, lowest-here}
 use Rattle.rules.specs.Sizes.{mostVariables}
 use Rattle.rules.specs.Step.{Leaving, Side, below, above, leaves}
+use Rattle.amounts.specs.Amounts.{amountOf, pairOf}
 use Rattle.tableau.specs.declared.Tableau.{Tableau}
-use Rattle.tableau.specs.Amounts.{amountOf, pairOf}
 use Rattle.tableau.specs.Parts.{seatAt, rowOf}
 use Rattle.sides.specs.declared.Breach.{Breach}
 use Rattle.sides.specs.Sides.{sideBy, rising, asBreach}

@@ -9,8 +9,8 @@ use Rattle.rules.specs.Limit.{Limit, lowerPair, present, upperPair}
 use Rattle.rules.specs.Problem.{mapped}
 use Rattle.rules.specs.Run.{crossed}
 use Rattle.rules.specs.Session.{inside}
-use Rattle.tableau.specs.declared.Given.{Given}
-use Rattle.tableau.specs.Amounts.{givenLower, givenUpper, putInside}
+use Rattle.amounts.specs.declared.Given.{Given}
+use Rattle.amounts.specs.Amounts.{givenLower, givenUpper, putInside}
 use Rattle.sides.specs.Sides.{leastIn, mostIn}
 
 module _ (g h : Given) (x : ℤ × ℤ) where

@@ -10,8 +10,8 @@ use Rattle.whole.specs.Values.{pairs}
 use Rattle.whole.proofs.Numbers.Sizes.{within-*, within-le, within-neg}
 use Rattle.rules.specs.Limit.{inset}
 use Rattle.rules.specs.Sizes.{largestLimit, largestNumber}
-use Rattle.tableau.specs.declared.Given.{Given}
-use Rattle.tableau.specs.Amounts.{givenLower, givenUpper}
+use Rattle.amounts.specs.declared.Given.{Given}
+use Rattle.amounts.specs.Amounts.{givenLower, givenUpper}
 use Rattle.sides.specs.Sides.{Modest}
 
 pub record NearLimit (x : ℤ × ℤ) : Type 0 where

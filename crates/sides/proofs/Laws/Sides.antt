@@ -21,8 +21,8 @@ use Rattle.whole.proofs.Ring.Tools.{ring-at}
 use Rattle.rules.specs.Limit.{Limit, lowerPair, present, upperPair}
 use Rattle.rules.specs.Problem.{mapped}
 use Rattle.rules.specs.Step.{Side, above, below, gap, mayFall, mayRise, over, pull, seated, shortfallBy, suits, under}
-use Rattle.tableau.specs.declared.Given.{Given}
-use Rattle.tableau.specs.Amounts.{amountOf, givenLower, givenUpper}
+use Rattle.amounts.specs.declared.Given.{Given}
+use Rattle.amounts.specs.Amounts.{amountOf, givenLower, givenUpper}
 use Rattle.sides.specs.declared.LimitPair.{LimitPair}
 use Rattle.sides.specs.Sides.{sideFrom, sideOf, asBreach, leastIn, mostIn, lowerIn, upperIn, breachOf, suitsOf}
 

@@ -9,7 +9,7 @@ use mir.Facts.{toZ-ofZ}
 use Rattle.whole.specs.Values.{pairs}
 use Rattle.whole.proofs.Bools.{or-false, true-false}
 use Rattle.rules.specs.Step.{gap, over, under}
-use Rattle.tableau.specs.Amounts.{amountOf, givenLower, givenUpper, pairIn, pairOf}
+use Rattle.amounts.specs.Amounts.{amountOf, givenLower, givenUpper, pairIn, pairOf}
 use Rattle.sides.specs.Sides.{Modest, lowerIn, upperIn}
 use Rattle.sides.specs.declared.LimitPair.{LimitPair}
 use Rattle.sides.proofs.Laws.Modest.{limit-modest, lower-near, upper-near}

@@ -6,8 +6,8 @@ use mir.Facts.{toZ-ofZ}
 use mir.Syntax.{w64}
 use mir.Val.{SFits}
 use Rattle.whole.proofs.Numbers.Sizes.{fits-by, within--}
-use Rattle.tableau.specs.Amounts.{amountOf, pairOf}
-use Rattle.tableau.proofs.Laws.Parts.{Parted}
+use Rattle.amounts.specs.Amounts.{amountOf, pairOf}
+use Rattle.amounts.proofs.Laws.Parts.{Parted}
 use Rattle.sides.proofs.Laws.Sides.{gap-parts}
 use Rattle.sides.proofs.gap.Statement.{statement}
 use Rattle.sides.proofs.gap.Tie as tie

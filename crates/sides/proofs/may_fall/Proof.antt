@@ -3,7 +3,7 @@ use mathlib.Core.Bool.{not, _||_}
 use mathlib.Core.Path.{ap, _∙_}
 use borrow.Author.Needs.{needs}
 use Rattle.whole.specs.Values.{pairs}
-use Rattle.tableau.specs.Amounts.{pairIn}
+use Rattle.amounts.specs.Amounts.{pairIn}
 use Rattle.sides.proofs.Laws.Sides.{fall-joined}
 use Rattle.sides.proofs.may_fall.Statement.{statement}
 use Rattle.sides.proofs.may_fall.Tie as tie

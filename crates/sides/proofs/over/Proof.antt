@@ -4,7 +4,7 @@ use mathlib.Core.Path.{_≡_, ap, _∙_}
 use borrow.Author.Needs.{needs}
 use mir.Facts.{toZ-ofZ}
 use Rattle.whole.specs.Values.{pairs}
-use Rattle.tableau.specs.Amounts.{amountOf, givenUpper, pairIn, pairOf}
+use Rattle.amounts.specs.Amounts.{amountOf, givenUpper, pairIn, pairOf}
 use Rattle.sides.proofs.Laws.Sides.{over-joined}
 use Rattle.sides.proofs.over.Statement.{statement}
 use Rattle.sides.proofs.over.Tie as tie

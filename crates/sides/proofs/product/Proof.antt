@@ -3,7 +3,7 @@ use lib.IntN.{_*ℤ_}
 use mir.Facts.{toZ-ofZ}
 use mir.Syntax.{w64}
 use mir.Val.{SFits}
-use Rattle.pivot.proofs.Laws.Numbers.Halves.{half-product, wide}
+use Rattle.whole.proofs.Numbers.Halves.{half-product, wide}
 use Rattle.sides.proofs.product.Statement.{statement}
 use Rattle.sides.proofs.product.Tie as tie
 

@@ -10,7 +10,7 @@ use mir.Val.{SFits}
 use Rattle.whole.specs.Values.{pairs}
 use Rattle.whole.proofs.Tells.{bits-eq}
 use Rattle.rules.specs.Step.{mayFall, mayRise}
-use Rattle.tableau.specs.Amounts.{pairIn}
+use Rattle.amounts.specs.Amounts.{pairIn}
 use Rattle.sides.specs.Sides.{lowerIn, upperIn}
 use Rattle.sides.proofs.Laws.Sides.{falls, suitsJoined, suits-joined}
 use Rattle.sides.proofs.suits.Statement.{statement}

@@ -4,7 +4,7 @@ use mathlib.Core.Path.{_≡_, ap, _∙_}
 use borrow.Author.Needs.{needs}
 use mir.Facts.{toZ-ofZ}
 use Rattle.whole.specs.Values.{pairs}
-use Rattle.tableau.specs.Amounts.{amountOf, givenLower, pairIn, pairOf}
+use Rattle.amounts.specs.Amounts.{amountOf, givenLower, pairIn, pairOf}
 use Rattle.sides.proofs.Laws.Sides.{under-joined}
 use Rattle.sides.proofs.under.Statement.{statement}
 use Rattle.sides.proofs.under.Tie as tie

@@ -12,10 +12,10 @@ use lib.ListN.{getD, set}
 use Rattle.whole.proofs.Bools.{zero-one}
 use Rattle.layout.specs.declared.ColumnPlace.{ColumnPlace}
 use Rattle.layout.specs.declared.RowPlace.{RowPlace}
+use Rattle.amounts.specs.declared.Value.{Value}
+use Rattle.amounts.specs.Amounts.{pairIn, valueOf}
 use Rattle.tableau.specs.declared.Seat.{Seat}
 use Rattle.tableau.specs.declared.Tableau.{Tableau}
-use Rattle.tableau.specs.declared.amount.Value.{Value}
-use Rattle.tableau.specs.Amounts.{pairIn, valueOf}
 use Rattle.tableau.specs.Parts.{variable}
 use Rattle.pivot.specs.Pivot.{commonAfter, entriesAfter, entriesBy}
 use Rattle.tableau.specs.Pivot.{pivotedLaid, swappedAt, withNumbers}

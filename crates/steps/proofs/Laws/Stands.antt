@@ -22,9 +22,9 @@ use Rattle.rules.proofs.Step.Cases.{Stepped, is-can, is-cannot, is-goes, is-ran
 use Rattle.rules.specs.Facts.State.{Rowed}
 use Rattle.layout.specs.declared.ColumnPlace.{ColumnPlace}
 use Rattle.layout.specs.declared.RowPlace.{RowPlace}
-use Rattle.tableau.specs.declared.Given.{Given}
+use Rattle.amounts.specs.declared.Given.{Given}
+use Rattle.amounts.specs.declared.Value.{Value}
 use Rattle.tableau.specs.declared.Tableau.{Tableau}
-use Rattle.tableau.specs.declared.amount.Value.{Value}
 use Rattle.tableau.specs.Parts.{basicAt, lowerGiven, upperGiven}
 use Rattle.tableau.specs.Pivot.{Swappable}
 use Rattle.tableau.specs.Stands.{Ranged, Stands}

@@ -11,8 +11,8 @@ use mir.Val.{SFits}
 use Rattle.whole.proofs.Bools.{zero-one}
 use Rattle.whole.proofs.Numbers.Sizes.{fits-by}
 use Rattle.pivot.specs.declared.Pivoted.the-variants as pivots
+use Rattle.amounts.specs.Amounts.{valueOf}
 use Rattle.tableau.specs.declared.Tableau.{Tableau}
-use Rattle.tableau.specs.Amounts.{valueOf}
 use Rattle.pivot.specs.Pivot.{commonAfter, entriesAfter, entriesBy, pivotedBy}
 use Rattle.pivot.proofs.Laws.Wide.Reductions.{fits-common}
 use Rattle.search.specs.declared.Choice.{Choice}

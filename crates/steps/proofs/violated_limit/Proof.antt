@@ -1,6 +1,6 @@
 -- `steps::violated_limit` meets its contract. Assumes nothing.
 use mathlib.Core.Path.{ap, sym, _∙_}
-use Rattle.tableau.specs.Amounts.{valueOf}
+use Rattle.amounts.specs.Amounts.{valueOf}
 use Rattle.steps.specs.Step.{violatedPair}
 use Rattle.steps.proofs.violated_limit.Statement.{statement}
 use Rattle.steps.proofs.violated_limit.Tie as tie

@@ -25,8 +25,8 @@ use Rattle.rules.specs.Sizes.{largestCoefficient, largestLimit, mostColumns, mo
 use Rattle.rules.specs.Step.{startValue}
 use Rattle.layout.proofs.Laws.Layout.{column-flat, column-live, flat-live, row-flat, row-live}
 use Rattle.layout.specs.Layout.{columnAt, flat, live, mostEntries, rowAt}
+use Rattle.amounts.specs.Amounts.{absent}
 use Rattle.tableau.proofs.Laws.Read.{lower-of, upper-of}
-use Rattle.tableau.specs.Amounts.{absent}
 use Rattle.tableau.specs.Parts.{cell, cellAt}
 use Rattle.tableau.specs.Stands.{Ranged, Serves}
 use Rattle.tableau.specs.Start.{givenOf, isStrict, limitsFor, startLaid, startTableau, strictAt}

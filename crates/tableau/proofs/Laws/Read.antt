@@ -4,10 +4,9 @@
 --   lower-read, upper-read           a limit as it was given, from its kind and its word
 --   marks-read                       whether one of a variable's limits is strict, from the kind
 --   lower-of, upper-of               a problem's limits, back from the arrays
---   value-is                         the start value is 0 put inside the limits
 --   starts-same                      the start values from the arrays are the problem's
 use mathlib.Core.Path.{_≡_, refl, sym, _∙_, ap, ap₂}
-use mathlib.Core.Bool.{Bool, true, false, cond, _&&_, _||_}
+use mathlib.Core.Bool.{Bool, true, false, _||_}
 use mathlib.Core.List.{List}
 use mathlib.Core.Option.{Option, none, some}
 use Prim.Native.Nat.{ℕ, _+_, _*_, _<_}
@@ -27,9 +26,9 @@ use Rattle.rules.specs.Refusal.{Accepted, FineLimit}
 use Rattle.rules.specs.Step.{startValue}
 use Rattle.judge.specs.Words.{Framed}
 use Rattle.judge.proofs.Laws.Judged.{kind-place, vars-are}
-use Rattle.tableau.specs.declared.Given.{Given}
+use Rattle.amounts.specs.declared.Given.{Given}
+use Rattle.amounts.specs.Amounts.{absent, limitIn}
 use Rattle.tableau.specs.declared.read.Starts.{Starts}
-use Rattle.tableau.specs.Amounts.{absent, givenLower, givenUpper, limitIn, putInside}
 use Rattle.tableau.specs.Parts.{lowerOf, upperOf}
 use Rattle.tableau.specs.Start.{givenOf, isStrict, limitsFor, startFrom, startOf, startSmalls}
 use Rattle.tableau.specs.Start.{startValues, startsFor, strictAt}
@@ -108,27 +107,7 @@ module _ (P : Problem Limit) (v : ℕ) (h : v < vars P) where
   upper-of = ap limitIn (filled-in mostVariables absent (vars P) (λ u. givenOf (P .upper u)) v h)
       ∙ limit-back (P .upper v)
 
--- ---- the start value
-
--- both limits by their flags, each asked for without a branch
-pub value-is : (g h : Given) →
-    startValue pairs (mapped lowerPair (limitIn g)) (mapped upperPair (limitIn h)) ≡ putInside g h (pairs .nil)
-unfolding startValue present mapped putInside
-value-is g h = go (g .on) (h .on)
-  where
-    l : Limit
-    l = record { plain = g .plain; strict = g .strict }
-
-    u : Limit
-    u = record { plain = h .plain; strict = h .strict }
-
-    go : (a b : Bool) → startValue pairs (mapped lowerPair (present a l)) (mapped upperPair (present b u))
-        ≡ cond (a && pairs .less (pairs .nil) (givenLower g)) (givenLower g)
-        (cond (b && pairs .less (givenUpper h) (pairs .nil)) (givenUpper h) (pairs .nil))
-    go true true = refl
-    go true false = refl
-    go false true = refl
-    go false false = refl
+-- ---- the start values
 
 module _ (P : Problem Limit) where
   -- one part of each value

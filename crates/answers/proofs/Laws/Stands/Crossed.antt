@@ -21,10 +21,10 @@ use Rattle.rules.specs.Sizes.{mostVariables}
 use Rattle.rules.specs.Step.{State}
 use Rattle.rules.proofs.Answer.Run.{crosses-exactly, spending-crossed}
 use Rattle.rules.specs.Facts.State.{Rowed}
-use Rattle.tableau.specs.declared.Given.{Given}
+use Rattle.amounts.specs.declared.Given.{Given}
+use Rattle.amounts.specs.Amounts.{givenLower, givenUpper}
 use Rattle.tableau.specs.declared.Tableau.{Tableau}
 use Rattle.tableau.specs.declared.Variable.{Variable}
-use Rattle.tableau.specs.Amounts.{givenLower, givenUpper}
 use Rattle.tableau.specs.Stands.{Stands}
 use Rattle.sides.specs.Sides.{leastIn, mostIn}
 use Rattle.search.proofs.Laws.Stands.{all-vars}

@@ -2,7 +2,7 @@
 use mathlib.Core.Bool.{_&&_}
 use mathlib.Core.Path.{ap, ap₂, _∙_}
 use Rattle.whole.specs.Values.{pairs}
-use Rattle.tableau.specs.Amounts.{pairIn}
+use Rattle.amounts.specs.Amounts.{pairIn}
 use Rattle.answers.proofs.Laws.Stands.Crossed.{crossed-joined}
 use Rattle.answers.proofs.conflict.is_crossed.Statement.{statement}
 use Rattle.answers.proofs.conflict.is_crossed.Tie as tie

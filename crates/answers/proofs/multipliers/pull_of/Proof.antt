@@ -11,10 +11,10 @@ use mir.Syntax.{w32, w64}
 use mir.Val.{SFits}
 use Rattle.whole.specs.Numbers.{Within}
 use Rattle.whole.proofs.Numbers.Sizes.{fits-by, within-neg}
+use Rattle.whole.proofs.Numbers.Halves.{wide}
 use Rattle.rules.specs.Sizes.{largestNumber}
 use Rattle.rules.specs.Step.{pull}
 use Rattle.layout.specs.Layout.{flat, entryIn}
-use Rattle.pivot.proofs.Laws.Numbers.Halves.{wide}
 use Rattle.sides.specs.Sides.{sideBy}
 use Rattle.answers.specs.Multipliers.{pullLaid, relationFrom}
 use Rattle.answers.proofs.multipliers.pull_of.Statement.{statement}

@@ -46,7 +46,7 @@ use Rattle.pivot.specs.Pivot.{fitsAfter, Pivotable, inRange}
 use Rattle.pivot.specs.Border.{raisedBy, borderAt, borderFor, borderDivisor, differenceAt}
 use Rattle.pivot.specs.Trials.{DivisorFound, Exceeds, SettledAs, EndsAs}
 use Rattle.pivot.proofs.Laws.Trial.Border.{beside-is, above-is, difference-is}
-use Rattle.pivot.proofs.Laws.Numbers.Divides.{over-neg, over-sum, over-sizes, quotient-is, back-divides}
+use Rattle.pivot.proofs.Laws.Divides.{over-neg, over-sum, over-sizes, quotient-is, back-divides}
 use Rattle.layout.proofs.Laws.Layout.{flat-live, row-flat, column-flat}
 use Rattle.pivot.proofs.Laws.Ranges.{small-cell, small-common}
 use Rattle.pivot.proofs.Laws.Wide.Reductions.{nonzero-product, nonzero-by, end-in}

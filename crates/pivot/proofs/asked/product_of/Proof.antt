@@ -5,7 +5,7 @@ use lib.IntN.{ℤ, _*ℤ_}
 use mir.Facts.{toZ-ofZ}
 use mir.Syntax.{w32, w64}
 use mir.Val.{SFits}
-use Rattle.pivot.proofs.Laws.Numbers.Halves.{wide, widened, half-product}
+use Rattle.whole.proofs.Numbers.Halves.{wide, widened, half-product}
 use Rattle.pivot.proofs.asked.product_of.Statement.{statement}
 use Rattle.pivot.proofs.asked.product_of.Tie as tie
 

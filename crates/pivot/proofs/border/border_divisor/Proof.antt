@@ -9,8 +9,8 @@ use mir.Syntax.{w32}
 use mir.Val.{SFits}
 use Rattle.whole.specs.Divisors.{gcd}
 use Rattle.whole.proofs.Numbers.Sizes.{within-le}
+use Rattle.whole.proofs.Numbers.Halves.{wide, widened, half-most}
 use Rattle.divisor.specs.Cells.{divisorBelow}
-use Rattle.pivot.proofs.Laws.Numbers.Halves.{wide, widened, half-most}
 use Rattle.pivot.proofs.border.border_divisor.Statement.{statement}
 use Rattle.pivot.proofs.border.border_divisor.Tie as tie
 

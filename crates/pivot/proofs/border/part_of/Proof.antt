@@ -12,9 +12,9 @@ use mir.Val.{SFits}
 use mir.Facts.{toZ-ofZ}
 use Rattle.whole.specs.Divisors.{gcd}
 use Rattle.whole.proofs.Numbers.Sizes.{within-le}
+use Rattle.whole.proofs.Numbers.Halves.{half-most, wide, widened}
 use Rattle.divisor.specs.Cells.{divisorBelow}
 use Rattle.divisor.proofs.Laws.Cells.{divisor-none, divisor-more, divisor-one}
-use Rattle.pivot.proofs.Laws.Numbers.Halves.{half-most, wide, widened}
 use Rattle.pivot.proofs.border.part_of.Statement.{statement}
 use Rattle.pivot.proofs.border.part_of.Tie as tie
 

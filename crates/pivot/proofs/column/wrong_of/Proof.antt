@@ -7,7 +7,7 @@ use mir.Syntax.{w64}
 use mir.Val.{SFits}
 use Rattle.whole.proofs.Bools.{zero-one}
 use Rattle.whole.proofs.Numbers.Tests.{test-eq}
-use Rattle.pivot.proofs.Laws.Numbers.Halves.{wide, half-product, widened}
+use Rattle.whole.proofs.Numbers.Halves.{wide, half-product, widened}
 use Rattle.pivot.proofs.column.wrong_of.Statement.{statement}
 use Rattle.pivot.proofs.column.wrong_of.Tie as tie
 

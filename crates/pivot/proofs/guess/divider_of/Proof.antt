@@ -6,7 +6,7 @@ use lib.Count.{trailing-le, trailingZeros}
 use lib.Dec.{lit<}
 use mir.Facts.{toZ-ofZ}
 use Rattle.whole.proofs.Numbers.Sizes.{fits-by}
-use Rattle.pivot.proofs.Laws.Numbers.Halves.{wide}
+use Rattle.whole.proofs.Numbers.Halves.{wide}
 use Rattle.pivot.proofs.guess.divider_of.Statement.{statement}
 use Rattle.pivot.proofs.guess.divider_of.Tie as tie
 

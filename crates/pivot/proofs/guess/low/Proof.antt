@@ -7,8 +7,8 @@ use mir.Facts.{toZ-ofZ, fits-below}
 use mir.Syntax.{w32, w64}
 use mir.Val.{SFits}
 use Rattle.whole.proofs.Numbers.Sizes.{fits-by, quot-fits, within-+}
+use Rattle.whole.proofs.Numbers.Halves.{rem-most, rem-up, raised-up}
 use Rattle.whole.specs.Numbers.{Within}
-use Rattle.pivot.proofs.Laws.Numbers.Halves.{rem-most, rem-up, raised-up}
 use Rattle.pivot.proofs.guess.low.Statement.{statement}
 use Rattle.pivot.proofs.guess.low.Tie as tie
 

@@ -10,7 +10,7 @@ use mir.Facts.{toZ-ofZ, toZ-pos}
 use mir.Syntax.{w32, w64}
 use mir.Val.{SFits, toZ}
 use Rattle.whole.proofs.Numbers.Sizes.{fits-by, quot-fits}
-use Rattle.pivot.proofs.Laws.Numbers.Halves.{rem-most, half-down, wide}
+use Rattle.whole.proofs.Numbers.Halves.{rem-most, half-down, wide}
 use Rattle.pivot.proofs.guess.signed_half.Statement.{statement}
 use Rattle.pivot.proofs.guess.signed_half.Tie as tie
 

@@ -4,7 +4,7 @@ use mir.Facts.{toZ-ofZ}
 use mir.Syntax.{w64}
 use mir.Val.{SFits}
 use Rattle.whole.proofs.Numbers.Sizes.{within-*, within--, fits-by}
-use Rattle.pivot.proofs.Laws.Numbers.Halves.{wide, half-product, widened}
+use Rattle.whole.proofs.Numbers.Halves.{wide, half-product, widened}
 use Rattle.pivot.proofs.numbers.difference.Statement.{statement}
 use Rattle.pivot.proofs.numbers.difference.Tie as tie
 

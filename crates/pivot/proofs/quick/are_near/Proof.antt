@@ -7,8 +7,8 @@ use lib.Dec.{leb, lit≤}
 use lib.IntN.{natAbs}
 use mir.Facts.{toZ-ofZ}
 use Rattle.whole.proofs.Numbers.Sizes.{within-le}
+use Rattle.whole.proofs.Numbers.Halves.{wide, widened}
 use Rattle.rules.specs.Sizes.{largestNumber}
-use Rattle.pivot.proofs.Laws.Numbers.Halves.{wide, widened}
 use Rattle.pivot.proofs.quick.are_near.Statement.{statement}
 use Rattle.pivot.proofs.quick.are_near.Tie as tie
 

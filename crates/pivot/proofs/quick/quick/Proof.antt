@@ -16,6 +16,7 @@ use mir.Val.{SFits}
 use Rattle.whole.specs.Numbers.{Within}
 use Rattle.whole.proofs.Bools.{not-false, true→T}
 use Rattle.whole.proofs.Numbers.Sizes.{fits-by, size-pos, within-le}
+use Rattle.whole.proofs.Numbers.Halves.{wide, widened}
 use Rattle.rules.specs.Sizes.{largestNumber}
 use Rattle.divisor.specs.Cells.{largestSize}
 use Rattle.divisor.specs.Signs.{signedBy}
@@ -29,7 +30,6 @@ use Rattle.pivot.specs.Pivot.{product}
 use Rattle.pivot.specs.Border.{borderFor, borderDivisor, Bordered}
 use Rattle.pivot.specs.Trials.{SettledAs}
 use Rattle.pivot.proofs.Laws.Trial.Border.{bordered}
-use Rattle.pivot.proofs.Laws.Numbers.Halves.{wide, widened}
 use Rattle.pivot.proofs.Laws.Wide.Reductions.{within-size, nonzero-product}
 use Rattle.pivot.proofs.Laws.Trial.Settling.{first-multiple, first-divides, first-above, settled-ends}
 use Rattle.pivot.proofs.quick.quick.Statement.{statement}

@@ -4,7 +4,7 @@ use mathlib.Core.Path.{ap, sym, _∙_}
 use mir.Facts.{toZ-ofZ}
 use mir.Syntax.{w32}
 use mir.Val.{toZ, ofZ}
-use Rattle.pivot.proofs.Laws.Numbers.Halves.{not-least}
+use Rattle.whole.proofs.Numbers.Halves.{not-least}
 use Rattle.pivot.proofs.Laws.Ranges.{beyond-least, beyond-within}
 use Rattle.pivot.proofs.range.beyond_of.Statement.{statement}
 use Rattle.pivot.proofs.range.beyond_of.Tie as tie

@@ -8,11 +8,11 @@ use lib.Dec.{lit≤}
 use lib.IntN.{natAbs}
 use mir.Facts.{toZ-ofZ}
 use Rattle.whole.proofs.Numbers.Sizes.{within-le}
+use Rattle.whole.proofs.Numbers.Halves.{wide, widened}
 use Rattle.rules.specs.Sizes.{largestNumber}
 use Rattle.pivot.specs.declared.column.Column.{Column}
 use Rattle.pivot.specs.Trials.{Columned, someAbove}
 use Rattle.pivot.proofs.Laws.Trial.Columns.{columned}
-use Rattle.pivot.proofs.Laws.Numbers.Halves.{wide, widened}
 use Rattle.pivot.proofs.settle.is_beyond.Statement.{statement}
 use Rattle.pivot.proofs.settle.is_beyond.Tie as tie
 

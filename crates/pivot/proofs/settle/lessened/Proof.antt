@@ -10,6 +10,7 @@ use mir.Facts.{toZ-ofZ}
 use mir.Syntax.{w32, w64}
 use mir.Val.{SFits}
 use Rattle.whole.proofs.Numbers.Sizes.{size-pos, within-le, fits-by}
+use Rattle.whole.proofs.Numbers.Halves.{wide, widened}
 use Rattle.divisor.specs.Cells.{largestSize}
 use Rattle.divisor.specs.Signs.{signedBy}
 use Rattle.divisor.proofs.Laws.Signs.{size-signed}
@@ -17,7 +18,6 @@ use Rattle.rules.specs.Sizes.{largestNumber}
 use Rattle.pivot.specs.declared.column.Column.{Column}
 use Rattle.pivot.specs.Trials.{Columned, borderColumn, columnDivisor}
 use Rattle.pivot.proofs.Laws.Trial.Columns.{columned, column-divides}
-use Rattle.pivot.proofs.Laws.Numbers.Halves.{wide, widened}
 use Rattle.pivot.proofs.settle.lessened.Statement.{statement}
 use Rattle.pivot.proofs.settle.lessened.Tie as tie
 

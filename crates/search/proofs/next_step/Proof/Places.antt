@@ -25,8 +25,8 @@ use Rattle.whole.specs.Below.{lowest}
 use Rattle.whole.specs.Values.{pairs}
 use Rattle.rules.specs.Sizes.{mostColumns, mostVariables}
 use Rattle.rules.specs.Step.{leaves, pull, suits}
+use Rattle.amounts.specs.Amounts.{pairOf}
 use Rattle.tableau.specs.declared.Tableau.{Tableau}
-use Rattle.tableau.specs.Amounts.{pairOf}
 use Rattle.tableau.specs.Parts.{columnOf, highestOf, lowestOf, plainAt, rowOf, seatAt, smallAt, valueAt}
 use Rattle.sides.specs.declared.Breach.{Breach}
 use Rattle.sides.specs.Sides.{asBreach, breachAt, breachOf, sideBy, suitsOf}

@@ -25,10 +25,10 @@ use Rattle.rules.specs.Session.{isOn, liveOf, noneOn, opened}
 use Rattle.rules.specs.Sizes.{largestLimit, mostColumns, mostVariables}
 use Rattle.rules.specs.Step.{start, startValue}
 use Rattle.rules.proofs.Session.Fair.{fair-opened}
-use Rattle.tableau.specs.declared.Given.{Given}
+use Rattle.amounts.specs.declared.Given.{Given}
+use Rattle.amounts.specs.Amounts.{absent, limitIn}
 use Rattle.tableau.specs.declared.Limits.{Limits}
 use Rattle.tableau.specs.declared.Tableau.{Tableau}
-use Rattle.tableau.specs.Amounts.{absent, limitIn}
 use Rattle.tableau.specs.Parts.{lowerGiven, upperGiven, valueAt}
 use Rattle.tableau.specs.Stands.{Ranged, Serves, Stands}
 use Rattle.tableau.specs.Start.{givenOf, limitsFor, startLaid, startOf, startTableau}

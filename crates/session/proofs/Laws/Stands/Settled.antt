@@ -23,10 +23,10 @@ use Rattle.rules.specs.Sizes.{largestLimit, mostColumns}
 use Rattle.rules.specs.Step.{seat}
 use Rattle.rules.specs.Facts.Session.{Fair}
 use Rattle.rules.proofs.Session.Fair.{seat-settled}
-use Rattle.tableau.specs.declared.Given.{Given}
+use Rattle.amounts.specs.declared.Given.{Given}
+use Rattle.amounts.specs.Amounts.{givenLower, givenUpper, limitIn}
 use Rattle.tableau.specs.declared.Limits.{Limits}
 use Rattle.tableau.specs.declared.Tableau.{Tableau}
-use Rattle.tableau.specs.Amounts.{givenLower, givenUpper, limitIn}
 use Rattle.tableau.specs.Parts.{columnOf, lowerGiven, nonbasicAt, upperGiven, valueAt}
 use Rattle.tableau.specs.Stands.{HasColumn, Ranged, Serves, Stands}
 use Rattle.tableau.proofs.Laws.Fits.{inset-within, outset-within}

@@ -31,9 +31,9 @@ use Rattle.rules.proofs.Refusal.First.{first-hit, first-skip}
 use Rattle.rules.specs.Facts.Session.{Fair}
 use Rattle.rules.proofs.Session.Fair.{fair-switched}
 use Rattle.rules.proofs.Session.Switched.{settled-one, switched-done, switched-refused}
-use Rattle.tableau.specs.declared.Given.{Given}
+use Rattle.amounts.specs.declared.Given.{Given}
+use Rattle.amounts.specs.Amounts.{absent}
 use Rattle.tableau.specs.declared.Tableau.{Tableau}
-use Rattle.tableau.specs.Amounts.{absent}
 use Rattle.tableau.specs.Parts.{columnOf, lowerGiven, seatAt, upperGiven}
 use Rattle.search.proofs.Laws.Stands.{all-vars}
 use Rattle.solver.specs.Spend.{manyOf}

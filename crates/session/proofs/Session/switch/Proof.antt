@@ -3,7 +3,7 @@
 use mathlib.Core.Path.{_≡_, ap, _∙_}
 use Prim.Native.Nat.{_<_}
 use borrow.Author.Needs.{needs}
-use Rattle.tableau.specs.declared.Given.{Given}
+use Rattle.amounts.specs.declared.Given.{Given}
 use Rattle.solver.specs.Spend.{manyOf}
 use Rattle.session.specs.Switching.{givenAt, limitRefusal}
 use Rattle.session.proofs.Laws.Stands.Switch.{done, refused-limit, refused-unknown, settleable, switches-as}

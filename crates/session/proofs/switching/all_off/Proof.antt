@@ -9,8 +9,8 @@ use lib.ListN.{getD}
 use Rattle.whole.specs.Tables.{filled}
 use Rattle.whole.proofs.Lists.Prefix.{filled-start, filled-more}
 use Rattle.rules.specs.Sizes.{mostVariables}
-use Rattle.tableau.specs.declared.Given.{Given}
-use Rattle.tableau.specs.Amounts.{absent}
+use Rattle.amounts.specs.declared.Given.{Given}
+use Rattle.amounts.specs.Amounts.{absent}
 use Rattle.session.specs.Switching.{switchedTo}
 use Rattle.session.proofs.switching.all_off.Statement.{statement}
 use Rattle.session.proofs.switching.all_off.Tie as tie

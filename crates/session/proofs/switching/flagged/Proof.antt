@@ -2,7 +2,7 @@
 use mathlib.Core.Path.{_≡_, ap, sym, _∙_}
 use borrow.Author.Needs.{needs}
 use lib.ListN.{set}
-use Rattle.tableau.specs.declared.Given.{Given}
+use Rattle.amounts.specs.declared.Given.{Given}
 use Rattle.session.specs.Switching.{flaggedAt, givenAt, switchedTo}
 use Rattle.session.proofs.switching.flagged.Statement.{statement}
 use Rattle.session.proofs.switching.flagged.Tie as tie

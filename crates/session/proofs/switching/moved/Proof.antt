@@ -2,7 +2,7 @@
 use mathlib.Core.Bool.{true, false}
 use mathlib.Core.Path.{ap, sym, _∙_}
 use borrow.Author.Needs.{needs}
-use Rattle.tableau.specs.Amounts.{pairIn, valueOf}
+use Rattle.amounts.specs.Amounts.{pairIn, valueOf}
 use Rattle.session.proofs.Laws.Inside.{inside-by}
 use Rattle.session.proofs.switching.moved.Statement.{statement}
 use Rattle.session.proofs.switching.moved.Tie as tie

@@ -2,7 +2,7 @@
 use mathlib.Core.List.{List}
 use mathlib.Core.Path.{ap₂}
 use borrow.Author.Needs.{needs}
-use Rattle.tableau.specs.declared.Given.{Given}
+use Rattle.amounts.specs.declared.Given.{Given}
 use Rattle.session.specs.Switching.{furnished, zeroValues, quietAt}
 use Rattle.session.proofs.switching.quiet.Statement.{statement}
 use Rattle.session.proofs.switching.quiet.Tie as tie

@@ -3,7 +3,7 @@ use mathlib.Core.Bool.{Bool, false, not, _&&_}
 use mathlib.Core.Path.{_≡_, refl, sym, _∙_}
 use Rattle.rules.specs.Refusal.{first}
 use Rattle.rules.proofs.Refusal.First.{first-hit, first-skip}
-use Rattle.tableau.specs.declared.Given.{Given}
+use Rattle.amounts.specs.declared.Given.{Given}
 use Rattle.session.specs.Switching.{limitRefusal, limitTests}
 use Rattle.session.proofs.switching.refusal_of.Statement.{statement}
 use Rattle.session.proofs.switching.refusal_of.Tie as tie

@@ -6,9 +6,9 @@ use lib.ListN.{set}
 use mir.Facts.{toZ-ofZ}
 use mir.Syntax.{w32}
 use mir.Val.{SFits}
+use Rattle.amounts.specs.declared.Value.{Value}
+use Rattle.amounts.specs.Amounts.{valueOf}
 use Rattle.tableau.specs.declared.Tableau.{Tableau}
-use Rattle.tableau.specs.declared.amount.Value.{Value}
-use Rattle.tableau.specs.Amounts.{valueOf}
 use Rattle.tableau.specs.Parts.{columnOf, plainAt, smallAt, valueAt}
 use Rattle.session.specs.Switching.{furnished, insideAt, settledAt, settledBy}
 use Rattle.session.proofs.switching.settled.Statement.{statement}

@@ -8,9 +8,9 @@ use lib.IntN.{ℤ, pos}
 use mir.Facts.{toZ-ofZ}
 use mir.Syntax.{w32, w64}
 use mir.Val.{SFits}
+use Rattle.whole.proofs.Numbers.Halves.{wide}
 use Rattle.rules.specs.Sizes.{mostVariables}
 use Rattle.tableau.specs.declared.Tableau.{Tableau}
-use Rattle.pivot.proofs.Laws.Numbers.Halves.{wide}
 use Rattle.search.specs.Search.{Searchable}
 use Rattle.search.specs.declared.Blocked.{Blocked}
 use Rattle.answers.specs.declared.Verdict.the-variants as verdicts

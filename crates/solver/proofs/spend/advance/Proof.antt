@@ -13,8 +13,8 @@ use mir.Val.{SFits}
 use Rattle.whole.proofs.Numbers.Sizes.{fits-by}
 use Rattle.layout.specs.declared.ColumnPlace.{ColumnPlace}
 use Rattle.layout.specs.declared.RowPlace.{RowPlace}
+use Rattle.amounts.specs.declared.Value.{Value}
 use Rattle.tableau.specs.declared.Tableau.{Tableau}
-use Rattle.tableau.specs.declared.amount.Value.{Value}
 use Rattle.tableau.specs.Pivot.{Swappable}
 use Rattle.search.specs.Search.{nextAt}
 use Rattle.steps.specs.Step.{Course, Held, leftAt, on, outcomeAt, over, steppedAt}

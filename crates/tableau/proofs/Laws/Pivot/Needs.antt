@@ -18,10 +18,10 @@ use Rattle.rules.specs.Sizes.{mostVariables, largestLimit}
 use Rattle.rules.specs.Step.{State, Side, below, above, Leaving}
 use Rattle.rules.specs.Facts.Rule.{Outside, too-high, too-low}
 use Rattle.pivot.specs.Pivot.{Pivotable, smallBelow}
-use Rattle.tableau.specs.declared.Given.{Given}
+use Rattle.amounts.specs.declared.Given.{Given}
+use Rattle.amounts.specs.Amounts.{givenLower, givenUpper}
 use Rattle.tableau.specs.declared.Limits.{Limits}
 use Rattle.tableau.specs.declared.Tableau.{Tableau}
-use Rattle.tableau.specs.Amounts.{givenLower, givenUpper}
 use Rattle.tableau.specs.Parts.{valueAt, basicAt, nonbasicAt, lowerGiven, upperGiven}
 use Rattle.tableau.specs.Pivot.{Cells, Swappable, pivotedLaid, swappedAt}
 use Rattle.tableau.specs.Stands.{Ranged}

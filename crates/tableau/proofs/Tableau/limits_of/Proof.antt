@@ -21,9 +21,9 @@ use Rattle.rules.specs.Limit.{Limit, bit}
 use Rattle.rules.specs.Problem.{Problem, problem, vars, word}
 use Rattle.rules.proofs.Refusal.Accepted.{problem-vars}
 use Rattle.judge.proofs.Laws.Judged.{few-words, vars-are}
-use Rattle.tableau.specs.declared.Given.{Given}
+use Rattle.amounts.specs.declared.Given.{Given}
+use Rattle.amounts.specs.Amounts.{absent}
 use Rattle.tableau.specs.declared.Limits.{Limits}
-use Rattle.tableau.specs.Amounts.{absent}
 use Rattle.tableau.specs.Start.{givenOf, limitsFor, strictAt}
 use Rattle.tableau.proofs.Laws.Read.{lower-read, marks-read, upper-read}
 use Rattle.tableau.proofs.Tableau.limits_of.Statement.{statement}

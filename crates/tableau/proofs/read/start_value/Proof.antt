@@ -1,8 +1,8 @@
 -- `tableau::read::start_value` meets its contract. Assumes nothing.
 use mathlib.Core.Path.{_∙_, ap, sym}
 use borrow.Author.Needs.{needs}
-use Rattle.tableau.specs.Amounts.{valueOf}
-use Rattle.tableau.proofs.Laws.Read.{value-is}
+use Rattle.amounts.specs.Amounts.{valueOf}
+use Rattle.amounts.proofs.Laws.Inside.{value-is}
 use Rattle.tableau.proofs.read.start_value.Statement.{statement}
 use Rattle.tableau.proofs.read.start_value.Tie as tie
 

@@ -11,9 +11,9 @@ use mir.Syntax.{w32}
 use mir.Val.{SFits}
 use Rattle.whole.proofs.Lists.Prefix.{filled-start, filled-more}
 use Rattle.rules.specs.Sizes.{mostColumns}
+use Rattle.amounts.specs.Amounts.{valueOf}
 use Rattle.tableau.specs.declared.Limits.{Limits}
 use Rattle.tableau.specs.declared.read.Starts.{Starts}
-use Rattle.tableau.specs.Amounts.{valueOf}
 use Rattle.tableau.specs.Start.{startFrom, startsFor}
 use Rattle.tableau.proofs.read.start_values.Statement.{statement}
 use Rattle.tableau.proofs.read.start_values.Tie as tie

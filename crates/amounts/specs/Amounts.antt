@@ -4,9 +4,9 @@ use mathlib.Core.Option.{Option}
 use lib.IntN.{ℤ, pos, negℤ}
 use Rattle.whole.specs.Values.{pairs}
 use Rattle.rules.specs.Limit.{Limit, inset, present}
-use Rattle.tableau.specs.declared.Given.{Given}
-use Rattle.tableau.specs.declared.amount.Amount.{Amount}
-use Rattle.tableau.specs.declared.amount.Value.{Value}
+use Rattle.amounts.specs.declared.Given.{Given}
+use Rattle.amounts.specs.declared.Amount.{Amount}
+use Rattle.amounts.specs.declared.Value.{Value}
 
 -- a missing limit
 abbrev pub absent : Given

@@ -1,14 +1,14 @@
--- `tableau::amount::times` meets its contract: each product fits 64 bits. Assumes nothing.
+-- `amounts::times` meets its contract: each product fits 64 bits. Assumes nothing.
 use borrow.Author.Needs.{needs}
 use lib.IntN.{_*ℤ_}
 use mir.Facts.{toZ-ofZ}
 use mir.Syntax.{w32, w64}
 use mir.Val.{SFits}
-use Rattle.pivot.proofs.Laws.Numbers.Halves.{half-product, wide, widened}
-use Rattle.tableau.specs.Amounts.{pairIn}
-use Rattle.tableau.proofs.Laws.Parts.{Parted}
-use Rattle.tableau.proofs.amount.times.Statement.{statement}
-use Rattle.tableau.proofs.amount.times.Tie as tie
+use Rattle.whole.proofs.Numbers.Halves.{half-product, wide, widened}
+use Rattle.amounts.specs.Amounts.{pairIn}
+use Rattle.amounts.proofs.Laws.Parts.{Parted}
+use Rattle.amounts.proofs.times.Statement.{statement}
+use Rattle.amounts.proofs.times.Tie as tie
 
 module _ (s : tie.Start) where
   fit : Parted w32 (pairIn (s .args .value))

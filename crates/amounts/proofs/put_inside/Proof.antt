@@ -1,13 +1,13 @@
--- `tableau::amount::put_inside` meets its contract: the tests in their order. Assumes nothing.
+-- `amounts::put_inside` meets its contract: the tests in their order. Assumes nothing.
 use mathlib.Core.Bool.{Bool, true, false, cond, _&&_}
 use mathlib.Core.Path.{_≡_, ap, ap₂, refl, sym, _∙_}
 use borrow.Author.Needs.{needs}
 use lib.IntN.{ℤ}
 use Rattle.whole.specs.Values.{pairs}
-use Rattle.tableau.specs.declared.Given.{Given}
-use Rattle.tableau.specs.Amounts.{givenLower, givenUpper, pairIn, putInside, valueOf}
-use Rattle.tableau.proofs.amount.put_inside.Statement.{statement}
-use Rattle.tableau.proofs.amount.put_inside.Tie as tie
+use Rattle.amounts.specs.declared.Given.{Given}
+use Rattle.amounts.specs.Amounts.{givenLower, givenUpper, pairIn, putInside, valueOf}
+use Rattle.amounts.proofs.put_inside.Statement.{statement}
+use Rattle.amounts.proofs.put_inside.Tie as tie
 
 -- the value by the answers of the two tests
 module _ (s : tie.Start) where

@@ -1,12 +1,12 @@
--- `tableau::amount::lower_value` meets its contract. Assumes nothing.
+-- `amounts::lower_value` meets its contract. Assumes nothing.
 use mathlib.Core.Path.{ap}
 use borrow.Author.Needs.{needs}
 use mir.Facts.{toZ-ofZ}
 use mir.Syntax.{w32}
 use mir.Val.{SFits}
-use Rattle.tableau.specs.Amounts.{valueOf}
-use Rattle.tableau.proofs.amount.lower_value.Statement.{statement}
-use Rattle.tableau.proofs.amount.lower_value.Tie as tie
+use Rattle.amounts.specs.Amounts.{valueOf}
+use Rattle.amounts.proofs.lower_value.Statement.{statement}
+use Rattle.amounts.proofs.lower_value.Tie as tie
 
 inset-of-requires : tie.Need-inset-of-requires
 inset-of-requires c κs = search needs

@@ -1,4 +1,4 @@
--- `tableau::amount::upper_value` meets its contract. Assumes nothing.
+-- `amounts::upper_value` meets its contract. Assumes nothing.
 use mathlib.Core.Path.{_≡_, refl, _∙_, ap}
 use mathlib.Core.Bool.{Bool, true, false}
 use native.Mathlib.Omega.{arith}
@@ -8,9 +8,9 @@ use mir.Facts.{toZ-ofZ}
 use mir.Syntax.{w32}
 use mir.Val.{SFits}
 use Rattle.rules.specs.Limit.{inset}
-use Rattle.tableau.specs.Amounts.{valueOf}
-use Rattle.tableau.proofs.amount.upper_value.Statement.{statement}
-use Rattle.tableau.proofs.amount.upper_value.Tie as tie
+use Rattle.amounts.specs.Amounts.{valueOf}
+use Rattle.amounts.proofs.upper_value.Statement.{statement}
+use Rattle.amounts.proofs.upper_value.Tie as tie
 
 inset-of-requires : tie.Need-inset-of-requires
 inset-of-requires c κs = search needs

@@ -1,10 +1,10 @@
--- `tableau::amount::is_below` meets its contract. Assumes nothing.
+-- `amounts::is_below` meets its contract. Assumes nothing.
 use mathlib.Core.Path.{ap₂, _∙_}
 use borrow.Author.Needs.{needs}
 use Rattle.whole.specs.Values.{pairs}
-use Rattle.tableau.specs.Amounts.{pairOf}
-use Rattle.tableau.proofs.amount.is_below.Statement.{statement}
-use Rattle.tableau.proofs.amount.is_below.Tie as tie
+use Rattle.amounts.specs.Amounts.{pairOf}
+use Rattle.amounts.proofs.is_below.Statement.{statement}
+use Rattle.amounts.proofs.is_below.Tie as tie
 
 widened-requires : tie.Need-widened-requires
 widened-requires c κs = search needs

@@ -1,6 +1,6 @@
--- `tableau::amount::inset_of` meets its contract. Assumes nothing.
-use Rattle.tableau.proofs.amount.inset_of.Statement.{statement}
-use Rattle.tableau.proofs.amount.inset_of.Tie as tie
+-- `amounts::inset_of` meets its contract. Assumes nothing.
+use Rattle.amounts.proofs.inset_of.Statement.{statement}
+use Rattle.amounts.proofs.inset_of.Tie as tie
 
 returns : tie.Need-returns
 returns c = simp (c .if1 .taken)

@@ -1,10 +1,19 @@
-// Pairs of a plain part and a multiple of the small amount: docs/RULES.md, "The run". They are compared by their plain
-// parts, and where these are equal by the small ones.
+// Limits as they were given, and the pairs of a plain part and a multiple of the small amount that they stand for:
+// docs/RULES.md, "The run". Pairs are compared by their plain parts, and where these are equal by the small ones.
 ghost use mathlib.Core.Path.{_≡_};
 ghost use Rattle.whole.specs.Values.{pairs};
 ghost use Rattle.rules.specs.Limit.{inset};
-ghost use Rattle.tableau.specs.Amounts.{amountOf, givenLower, givenUpper, pairIn, pairOf, putInside, valueOf};
-use crate::Given;
+ghost use Rattle.amounts.specs.Amounts.{amountOf, givenLower, givenUpper, pairIn, pairOf, putInside, valueOf};
+
+// A limit as it was given: whether it was, whether it is on, whether it excludes its own number, and that number. Every
+// answer is by the limits that are on. Of a missing limit no flag is set and the number is 0.
+#[repr(C)]
+pub struct Given {
+    pub given: bool,
+    pub on: bool,
+    pub strict: bool,
+    pub plain: i32,
+}
 
 // A value that a nonbasic variable may have: 0, or what a limit stands for.
 pub struct Value {

@@ -1,12 +1,12 @@
--- `tableau::amount::widened` meets its contract. Assumes nothing.
+-- `amounts::widened` meets its contract. Assumes nothing.
 use borrow.Author.Needs.{needs}
 use mir.Facts.{toZ-ofZ}
 use mir.Syntax.{w32}
-use Rattle.pivot.proofs.Laws.Numbers.Halves.{wide, widened}
-use Rattle.tableau.specs.Amounts.{pairIn}
-use Rattle.tableau.proofs.Laws.Parts.{Parted}
-use Rattle.tableau.proofs.amount.widened.Statement.{statement}
-use Rattle.tableau.proofs.amount.widened.Tie as tie
+use Rattle.whole.proofs.Numbers.Halves.{wide, widened}
+use Rattle.amounts.specs.Amounts.{pairIn}
+use Rattle.amounts.proofs.Laws.Parts.{Parted}
+use Rattle.amounts.proofs.widened.Statement.{statement}
+use Rattle.amounts.proofs.widened.Tie as tie
 
 fit : (s : tie.Start) → Parted w32 (pairIn (s .args .value))
 fit s = search needs

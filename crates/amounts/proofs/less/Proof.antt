@@ -1,4 +1,4 @@
--- `tableau::amount::less` meets its contract. Assumes nothing.
+-- `amounts::less` meets its contract. Assumes nothing.
 use mathlib.Core.Path.{_≡_, refl}
 use mathlib.Core.Bool.{Bool, true, false, not, _&&_, _||_}
 use borrow.Author.Needs.{needs}
@@ -6,10 +6,10 @@ use lib.Signed.{ltZ}
 use mir.Facts.{toZ-ofZ}
 use mir.Syntax.{w64}
 use Rattle.whole.specs.Values.{lexicographic}
-use Rattle.tableau.specs.Amounts.{pairOf}
-use Rattle.tableau.proofs.Laws.Parts.{Parted}
-use Rattle.tableau.proofs.amount.less.Statement.{statement}
-use Rattle.tableau.proofs.amount.less.Tie as tie
+use Rattle.amounts.specs.Amounts.{pairOf}
+use Rattle.amounts.proofs.Laws.Parts.{Parted}
+use Rattle.amounts.proofs.less.Statement.{statement}
+use Rattle.amounts.proofs.less.Tie as tie
 
 fit-a : (s : tie.Start) → Parted w64 (pairOf (s .args .a))
 fit-a s = search needs

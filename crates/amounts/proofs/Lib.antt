@@ -1,0 +1,2 @@
+-- The laws behind limits, values and amounts. Assumes nothing.
+pub mod Laws

@@ -1,0 +1,2 @@
+-- What limits, values and amounts stand for.
+pub mod Amounts
