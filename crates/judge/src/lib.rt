@@ -5,7 +5,7 @@ ghost use mathlib.Core.List.{[], _∷_};
 ghost use Prim.Native.Nat.{_/_, _%_, _<_};
 ghost use lib.Dec.{eqb};
 ghost use lib.IntN.{pos, natAbs};
-ghost use lib.Signed.{_<ℤ_, _≤ℤ_};
+ghost use lib.Signed.{_<ℤ_};
 ghost use Rattle.whole.specs.Numbers.{within};
 ghost use Rattle.rules.specs.Limit.{hasLower, hasUpper, strictLower, strictUpper, badKindWord, badLimitWord};
 ghost use Rattle.rules.specs.Refusal.{badCoefficient, blankRow, first, problemRefusal, someBlank};
@@ -13,17 +13,7 @@ ghost use Rattle.judge.specs.Words.{Framed, badBy, badVariable};
 use words::count_at;
 use words::is_bad_size;
 use words::is_outside;
-
-// Whether the size of a word is at most `largest`.
-fn is_within(word: i32, largest: i32) -> bool
-    requires { ⌜ pos 0 ≤ℤ largest ⌝ }
-    ensures { λ r. ⌜ r ≡ within (natAbs largest) word ⌝ }
-{
-    if word < -largest {
-        return false;
-    }
-    word <= largest
-}
+use words::is_within;
 
 // Whether a kind has the bit that stands for `power`.
 fn has_bit(kind: i32, power: i32) -> bool

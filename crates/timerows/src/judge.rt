@@ -16,6 +16,7 @@ use lengths::MOST_VERTICES;
 use words::count_at;
 use words::is_bad_size;
 use words::is_outside;
+use words::is_within;
 
 const MOST_ROWS: u32 = 256;
 
@@ -26,10 +27,7 @@ const NO_ROOM: u32 = 17;
 fn is_too_long(word: i32) -> bool
     ensures { λ r. ⌜ r ≡ not (within largestLength word) ⌝ }
 {
-    if word < -Length::LARGEST {
-        return true;
-    }
-    Length::LARGEST < word
+    !is_within(word, Length::LARGEST)
 }
 
 // The number of the first of tests 14 to 16 that applies to a row x, y, strict, c, or 17. The last vertex is `most`.

@@ -1,2 +1,3 @@
--- Two allowed results are equal. Assumes nothing.
+-- Laws that the proofs share. Assumes nothing.
 pub mod Only
+mod Ranges

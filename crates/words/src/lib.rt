@@ -5,6 +5,7 @@ ghost use Prim.Native.Nat.{_≤_, _<_};
 ghost use lib.IntN.{pos, natAbs};
 ghost use lib.ListN.{length};
 ghost use lib.Signed.{ltZ, _≤ℤ_};
+ghost use Rattle.whole.specs.Numbers.{within};
 ghost use Rattle.rules.specs.Problem.{word};
 ghost use Rattle.words.specs.Sizes.{sizesOutside};
 
@@ -13,6 +14,17 @@ pub fn is_outside(z: i64, low: i64, high: i64) -> bool
     ensures { λ r. ⌜ r ≡ (ltZ z low || ltZ high z) ⌝ }
 {
     (z < low) | (high < z)
+}
+
+// Whether the size of a word is at most `largest`.
+pub fn is_within(word: i32, largest: i32) -> bool
+    requires { ⌜ pos 0 ≤ℤ largest ⌝ }
+    ensures { λ r. ⌜ r ≡ within (natAbs largest) word ⌝ }
+{
+    if word < -largest {
+        return false;
+    }
+    word <= largest
 }
 
 // A word that is not below 0, as a count.

@@ -1,12 +1,10 @@
 -- What the tests on the words come to.
 --   parity                        the remainder by 2 of a signed number, against that of its size
 --   zero-bits                     a signed number's bits are 0 exactly where it is
---   neg-fits                      the negation of a number that is not below 0
---   within-below, within-above    a number within a size, tested on one side and then on the other
 --   few-words, kind-place, ..     the places of words whose sizes and whose length are fine
 --   accepted-framed               accepted words are such
 use mathlib.Core.Path.{_≡_, refl, sym, _∙_, ap, ap₂}
-use mathlib.Core.Bool.{true, false, not}
+use mathlib.Core.Bool.{not}
 use mathlib.Core.List.{List}
 use Prim.Native.Nat.{ℕ, zero, suc, _+_, _*_, _%_, _^_, _-_, _≤_, _<_}
 use native.Mathlib.Omega.{arith}
@@ -14,13 +12,10 @@ use native.Mathlib.Nat.{mod-lt, mul-le-mul}
 use borrow.Author.Tests.{ne-eqb}
 use lib.Dec.{eqb}
 use lib.IntN.{ℤ, pos, negsuc, negℤ, natAbs}
-use lib.Signed.{leZ, ltZ, remZ, _≤ℤ_}
+use lib.Signed.{remZ}
 use mir.Syntax.{w32}
 use mir.Val.{SFits, ofZ}
-use Rattle.whole.specs.Numbers.{within, eqZ}
-use Rattle.whole.proofs.Numbers.Order.{true→lt, false→le}
-use Rattle.whole.proofs.Numbers.Sizes.{abs-neg, fits-abs}
-use Rattle.whole.proofs.Tells.{within-over, within-under}
+use Rattle.whole.specs.Numbers.{eqZ}
 use Rattle.rules.specs.Sizes.{mostRows}
 use Rattle.rules.specs.Problem.{mOf, nOf, varsOf, kindPlace}
 use Rattle.rules.specs.Refusal.{Accepted}
@@ -46,20 +41,6 @@ parity (negsuc a) = down (suc a % 2) (mod-lt (suc a) (omega arith))
 pub zero-bits : (z : ℤ) → SFits w32 z → eqb (ofZ w32 z) 0 ≡ eqZ z (pos 0)
 zero-bits (pos a) f = refl
 zero-bits (negsuc a) f = let h : a < 2 ^ 31 = f .sfits in ne-eqb (2 ^ 32 - suc a) 0 (λ e. omega arith)
-
-pub neg-fits : (z : ℤ) → pos 0 ≤ℤ z → SFits w32 z → SFits w32 (negℤ z)
-neg-fits (pos a) h f = fits-abs (rw (abs-neg (pos a)) (f .sfits))
-neg-fits (negsuc a) h f = absurd (h .le)
-
--- ---- within a size
-
-pub within-below : (l z : ℤ) → pos 0 ≤ℤ l → ltZ z (negℤ l) ≡ true → within (natAbs l) z ≡ false
-within-below (pos n) z h e = within-under n z (true→lt {a = z} {b = negℤ (pos n)} e)
-within-below (negsuc n) z h e = absurd (h .le)
-
-pub within-above : (l z : ℤ) → pos 0 ≤ℤ l → ltZ z (negℤ l) ≡ false → leZ z l ≡ within (natAbs l) z
-within-above (pos n) z h e = within-over n z (false→le {a = negℤ (pos n)} {b = z} e)
-within-above (negsuc n) z h e = absurd (h .le)
 
 -- ---- places
 

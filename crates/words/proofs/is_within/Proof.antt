@@ -1,12 +1,12 @@
--- `judge::is_within` meets its contract. Assumes nothing.
+-- `words::is_within` meets its contract. Assumes nothing.
 use mathlib.Core.Path.{sym}
 use lib.IntN.{negℤ, +ℤ-idl}
 use mir.Facts.{toZ-ofZ}
 use mir.Syntax.{w32}
 use mir.Val.{SFits}
-use Rattle.judge.proofs.Laws.Judged.{neg-fits, within-below, within-above}
-use Rattle.judge.proofs.is_within.Statement.{statement}
-use Rattle.judge.proofs.is_within.Tie as tie
+use Rattle.words.proofs.Ranges.{neg-fits, within-below, within-above}
+use Rattle.words.proofs.is_within.Statement.{statement}
+use Rattle.words.proofs.is_within.Tie as tie
 
 negated : (c : tie.Start) → SFits w32 (negℤ (c .args .largest))
 negated c = neg-fits (c .args .largest) (c .pre) (c .fits .largest)
