@@ -7,17 +7,12 @@ use crate::write_answer;
 use crate::write_refusal;
 use words::count_at;
 
-// The most words of a problem, and of an answer.
-const MOST_WORDS: usize = 202;
-
-const MOST_ANSWER: usize = 51;
-
 // What the program prints for these words. An answer always has room, so the refusal is the problem's own.
 fn reply(words: &[i32], out: &mut [u8]) -> Written
     ensures { λ r. ⌜ Printed (replyTo (problemRefusal (now (words .entry))) (now (words .entry)))
         (now (out .entry)) (now (out .exit)) r ⌝ }
 {
-    let mut answer = [0i64; MOST_ANSWER];
+    let mut answer = [0i64; rules::MOST_ANSWER];
     let number = solver::solve(words, &mut answer);
     if number != 0 {
         return write_refusal(number, out);
@@ -34,7 +29,7 @@ pub fn respond(input: &[u8], out: &mut [u8]) -> Written
     if refused != 0 {
         return write_refusal(refused, out);
     }
-    let mut words = [0i32; MOST_WORDS];
+    let mut words = [0i32; rules::MOST_WORDS];
     let count = wire::words_of(input, &mut words);
     reply(&words[..count], out)
 }

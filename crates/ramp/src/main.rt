@@ -3,7 +3,7 @@ use lines::Written;
 use lines::respond::respond;
 
 // One word more than the largest problem has, so that a longer input is seen to be too long and is not read on.
-const MOST_INPUT: usize = 812;
+const MOST_INPUT: usize = 4 * rules::MOST_WORDS + 4;
 
 // No text has more bytes.
 const MOST_TEXT: usize = 1475;

@@ -7,7 +7,7 @@ ghost use lib.ListN.{length, drop};
 ghost use Rattle.rules.specs.Program.Bytes.{joined, signed, wordAt, wordsFrom, countRefusal};
 
 // The most bytes that a problem has.
-const MOST_BYTES: usize = 808;
+const MOST_BYTES: usize = 4 * rules::MOST_WORDS;
 
 // The refusal of an input of so many bytes, or 0.
 pub fn count_refusal(count: usize) -> u32
