@@ -24,13 +24,12 @@ pub fn problem(input: Input) -> Result<(String, Limits), Failure> {
             _ => input::words(&bytes),
         },
     };
-    if let Err(refusal) = scatterflock::Problem::from_words(&words) {
-        if refusal != Refusal::BlankRow {
-            return Err(refused(refusal, vec![]));
-        }
+    // A blank row is told later, with its number. Other words that are refused may have no text.
+    match (scatterflock::Problem::from_words(&words), Limits::from_words(&words)) {
+        (Ok(_) | Err(Refusal::BlankRow), Some(problem)) => Ok((file, problem)),
+        (Err(refusal), _) => Err(refused(refusal, vec![])),
+        (Ok(_), None) => panic!("words that are not refused have a text"),
     }
-    let problem = Limits::from_words(&words).expect("the words are not refused");
-    Ok((file, problem))
 }
 
 /// The refusal, with lines that tell where it comes from.

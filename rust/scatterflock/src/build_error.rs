@@ -1,5 +1,6 @@
 //! What is wrong with a step of building.
 
+use crate::sizes::{MOST_ROWS, MOST_TIME_ROWS, MOST_VARIABLES, MOST_VERTICES};
 use std::error::Error;
 use std::fmt;
 
@@ -41,8 +42,10 @@ pub enum BuildError {
 impl fmt::Display for BuildError {
     fn fmt(&self, to: &mut fmt::Formatter) -> fmt::Result {
         match self {
-            BuildError::Variables(n) => write!(to, "{n} variables: there are 1 to 8"),
-            BuildError::Rows => to.write_str("there are 16 rows at most"),
+            BuildError::Variables(n) => {
+                write!(to, "{n} variables: there are 1 to {MOST_VARIABLES}")
+            }
+            BuildError::Rows => write!(to, "there are {MOST_ROWS} rows at most"),
             BuildError::RowLength { given, variables } => {
                 write!(to, "a row of {given} coefficients, for {variables} variables")
             }
@@ -55,8 +58,10 @@ impl fmt::Display for BuildError {
             BuildError::LimitTwice(number) => {
                 write!(to, "variable {number} has a limit on that side already")
             }
-            BuildError::Vertices(n) => write!(to, "{n} points in time: there are 1 to 64"),
-            BuildError::TimeRows => to.write_str("there are 256 time rows at most"),
+            BuildError::Vertices(n) => {
+                write!(to, "{n} points in time: there are 1 to {MOST_VERTICES}")
+            }
+            BuildError::TimeRows => write!(to, "there are {MOST_TIME_ROWS} time rows at most"),
             BuildError::NoVertex(number) => write!(to, "there is no point in time {number}"),
             BuildError::Length(number) => {
                 write!(to, "{number}: the length of a time row is from -30,000 to 30,000")

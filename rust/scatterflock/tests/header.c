@@ -171,7 +171,7 @@ static void in_a_session(void)
  * so a call that names this argument sees how far the archive itself writes. */
 typedef void *(*into)(void *, const int32_t *, size_t);
 
-#define BEYOND 512
+#define BEYOND 4096
 
 static void length(const char *call, into hand_back, size_t size)
 {
