@@ -27,10 +27,14 @@ fn verdict(returned: u32, verdict: i64) -> String {
     }
 }
 
+/// So many that no least share is missed by chance: each is five standard
+/// deviations below what is expected.
+const PROBLEMS: u64 = 4_000;
+
 /// The verdicts of a family, and what the checker says of bent answers.
 fn limit_shares(family: limits::Family, seed: u64) -> (Shares, Shares) {
     let (mut verdicts, mut evidence) = (Shares::new(), Shares::new());
-    for problem in 0..1_000 {
+    for problem in 0..PROBLEMS {
         let mut random = Random::of_problem(seed, problem);
         let words = family.words(&mut random);
         let mut out = [0; 51];
