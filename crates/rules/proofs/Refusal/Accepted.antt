@@ -3,16 +3,18 @@
 --   coefficient-within                      every coefficient is within its range
 --   lower-within, upper-within              every present limit is within its range
 --   problem-n, problem-m, problem-vars      the problem's sizes are the words'
+--   inset-within, outset-within             a limit stands one small amount inside its number at most
 use mathlib.Core.Bool.{Bool, false, true}
 use mathlib.Core.List.{List}
 use mathlib.Core.Option.{Option·none-ne-some, some}
 use mathlib.Core.Path.{ap, refl, _≡_}
 use Prim.Native.Nat.{ℕ, _*_, _+_, _<_, _≤_}
+use native.Mathlib.Omega.{arith}
 use lib.Arith.{digits-lt}
-use lib.IntN.{ℤ}
+use lib.IntN.{ℤ, negℤ}
 use Rattle.whole.proofs.Numbers.Tests.{under-size}
 use Rattle.whole.specs.Numbers.{Within}
-use Rattle.rules.specs.Limit.{Limit, strictLower, strictUpper, hasLower, hasUpper, present}
+use Rattle.rules.specs.Limit.{Limit, inset, strictLower, strictUpper, hasLower, hasUpper, present}
 use Rattle.rules.specs.Problem.{kind, lowerWord, mOf, nOf, problem, upperWord, vars, varsOf, word}
 use Rattle.rules.specs.Refusal.{Accepted, FineLimit}
 use Rattle.rules.specs.Sizes.{largestCoefficient, largestLimit, mostColumns}
@@ -57,3 +59,11 @@ module _ {rows : ℕ} {ws : List ℤ} (A : Accepted rows ws) where
   unfolding problem
   upper-within v u h e =
       present-within (hasUpper (kind ws v)) (strictUpper (kind ws v)) (upperWord ws v) u (A .uppers v h) e
+
+pub inset-within : (b : Bool) → Within (inset b) 1
+inset-within true = record { within = omega arith }
+inset-within false = record { within = omega arith }
+
+pub outset-within : (b : Bool) → Within (negℤ (inset b)) 1
+outset-within true = record { within = omega arith }
+outset-within false = record { within = omega arith }

@@ -29,7 +29,7 @@ use Rattle.tableau.specs.Parts.{basicAt, lowerGiven, upperGiven}
 use Rattle.tableau.specs.Pivot.{Swappable}
 use Rattle.tableau.specs.Stands.{Ranged, Stands}
 use Rattle.pivot.proofs.Laws.Wide.Reductions.{fits-common}
-use Rattle.tableau.proofs.Laws.Fits.{inset-within, outset-within}
+use Rattle.rules.proofs.Refusal.Accepted.{inset-within, outset-within}
 use Rattle.search.specs.declared.Choice.{Choice}
 use Rattle.search.specs.declared.Next.the-variants as nexts
 use Rattle.search.specs.Search.{Searchable, blockedAt, choiceAt, nextAt}

@@ -1,6 +1,5 @@
 -- A problem within the sizes of the rules, and the numbers of its tableau at the start of a run.
 --   Fitting, fitting-accepted   a problem within the sizes; that of accepted words is one
---   inset-within, outset-within how far inside a limit stands
 --   serves-start                the limits of the tableau are the problem's, and in range
 --   coefficients-start, coefficient-start   each entry is a coefficient, or 0; and which one
 --   ranged-start                every number may stand in a tableau, and every value is 0 or what a limit stands for
@@ -17,7 +16,8 @@ use Rattle.whole.proofs.Numbers.Sizes.{within-le}
 use Rattle.whole.proofs.Lists.Tables.{filled-each, filled-in}
 use Rattle.whole.specs.Numbers.{Within}
 use Rattle.whole.specs.Values.{pairs}
-use Rattle.rules.proofs.Refusal.Accepted.{coefficient-within, lower-within, m-few, n-few, upper-within}
+use Rattle.rules.proofs.Refusal.Accepted.{coefficient-within, inset-within, lower-within, m-few, n-few}
+use Rattle.rules.proofs.Refusal.Accepted.{outset-within, upper-within}
 use Rattle.rules.specs.Limit.{Limit, inset, lowerPair, upperPair}
 use Rattle.rules.specs.Problem.{Problem, inner, mapped, problem, vars}
 use Rattle.rules.specs.Refusal.{Accepted}
@@ -53,15 +53,6 @@ fitting-accepted ws A = record {
 
 zero-within : {n : ℕ} → Within (pos 0) n
 zero-within = record { within = omega arith }
-
--- what a limit stands for is at most one small amount off its number
-pub inset-within : (b : Bool) → Within (inset b) 1
-inset-within true = record { within = omega arith }
-inset-within false = record { within = omega arith }
-
-pub outset-within : (b : Bool) → Within (negℤ (inset b)) 1
-outset-within true = record { within = omega arith }
-outset-within false = record { within = omega arith }
 
 given-within : {n : ℕ} (o : Option Limit) → ((l : Limit) → o ≡ some l → Within (l .plain) n) →
     Within (givenOf o .plain) n

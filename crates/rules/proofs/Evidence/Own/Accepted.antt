@@ -5,7 +5,6 @@
 --   answer-accepted    of accepted words: the checker's number is 8
 --   answer-not-range   the same of any verdict but out of range
 --   written-accepted   what the solver leaves in an output, handed to the checker as it is, gives 8
-use mathlib.Core.Bool.{Bool, false, true}
 use mathlib.Core.List.{List, _++_}
 use mathlib.Core.Logic.{inl, inr, _≢_, _⊎_}
 use mathlib.Core.Option.{Option, none, some}
@@ -13,7 +12,7 @@ use mathlib.Core.Path.{refl, subst, sym, _∙_, _≡_}
 use Prim.Native.Nat.{ℕ, _*_, _+_, _<_, _≤_}
 use native.Mathlib.Omega.{arith}
 use lib.Dec.{T}
-use lib.IntN.{negℤ, pos, ℤ}
+use lib.IntN.{pos, ℤ}
 use lib.ListN.{List·getD-append, drop, length}
 use Rattle.whole.proofs.Values.Beside.{pairs-laws}
 use Rattle.whole.specs.Numbers.{Within}
@@ -29,13 +28,13 @@ use Rattle.rules.proofs.Evidence.Own.Words.{Judged, can-words, cannot-w
 use Rattle.rules.proofs.Run.Numbers.{kept-after, kept-begin}
 use Rattle.rules.proofs.Step.Leaving.{left}
 use Rattle.rules.proofs.Step.Cases.{Stepped, is-can, is-cannot, is-goes, is-range, stepped}
-use Rattle.rules.proofs.Refusal.Accepted.{lower-within, n-few, upper-within}
+use Rattle.rules.proofs.Refusal.Accepted.{inset-within, lower-within, n-few, outset-within, upper-within}
 use Rattle.rules.proofs.Refusal.Exactly.{accepted-exactly, answered-exactly}
 use Rattle.rules.proofs.Answer.Shape.{answer-shaped}
 use Rattle.rules.specs.Answer.{answer, answerFrom, wordsOf, written}
 use Rattle.rules.specs.Facts.Answer.{Decided, Shape, laid, shape-can, shape-cannot, shape-range}
 use Rattle.rules.specs.Evidence.{checked, verdictOf}
-use Rattle.rules.specs.Limit.{Limit, inset, lowerPair, upperPair}
+use Rattle.rules.specs.Limit.{Limit, lowerPair, upperPair}
 use Rattle.rules.specs.Problem.{Problem, inner, answerLength, problem, vars, varsOf}
 use Rattle.rules.specs.Refusal.{Accepted, problemRefusal, refusal}
 use Rattle.rules.specs.Run.{after, conflict}
@@ -53,20 +52,16 @@ undecided v n m (inr d) = let z : v ≡ 2 = cc in absurd (m z)
 abbrev pub LimitSized : ℤ × ℤ → Type 0
 LimitSized x = Within (x .0) largestLimit × Within (x .1) 1
 
-inset-within : (b : Bool) → Within (inset b) 1 × Within (negℤ (inset b)) 1
-inset-within true = (record { within = omega arith }, record { within = omega arith })
-inset-within false = (record { within = omega arith }, record { within = omega arith })
-
 module _ (P : Problem Limit) where
   pub low-modest : ((v : ℕ) (l : Limit) → v < vars P → P .lower v ≡ some l → Within (l .plain) largestLimit) →
       (v : ℕ) (x : ℤ × ℤ) → v < vars P → inner P .lower v ≡ some x → LimitSized x
   low-modest f v x h e = let (l, p, q) = mapped-some lowerPair (P .lower v) x e in
-      rw q (f v l h p, inset-within (l .strict) .0)
+      rw q (f v l h p, inset-within (l .strict))
 
   pub high-modest : ((v : ℕ) (u : Limit) → v < vars P → P .upper v ≡ some u → Within (u .plain) largestLimit) →
       (v : ℕ) (x : ℤ × ℤ) → v < vars P → inner P .upper v ≡ some x → LimitSized x
   high-modest f v x h e = let (u, p, q) = mapped-some upperPair (P .upper v) x e in
-      rw q (f v u h p, inset-within (u .strict) .1)
+      rw q (f v u h p, outset-within (u .strict))
 
 -- ---- one step
 

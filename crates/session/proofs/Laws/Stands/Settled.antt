@@ -29,7 +29,7 @@ use Rattle.tableau.specs.declared.Limits.{Limits}
 use Rattle.tableau.specs.declared.Tableau.{Tableau}
 use Rattle.tableau.specs.Parts.{columnOf, lowerGiven, nonbasicAt, upperGiven, valueAt}
 use Rattle.tableau.specs.Stands.{HasColumn, Ranged, Serves, Stands}
-use Rattle.tableau.proofs.Laws.Fits.{inset-within, outset-within}
+use Rattle.rules.proofs.Refusal.Accepted.{inset-within, outset-within}
 use Rattle.session.specs.declared.Session.{Session}
 use Rattle.session.specs.Sessions.{Flags, SessionHolds, Offers}
 use Rattle.session.specs.Switching.{furnished, handedIn, insideAt, settledAt, settledBy, switchedTo}

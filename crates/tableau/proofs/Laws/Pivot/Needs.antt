@@ -25,7 +25,7 @@ use Rattle.tableau.specs.declared.Tableau.{Tableau}
 use Rattle.tableau.specs.Parts.{valueAt, basicAt, nonbasicAt, lowerGiven, upperGiven}
 use Rattle.tableau.specs.Pivot.{Cells, Swappable, pivotedLaid, swappedAt}
 use Rattle.tableau.specs.Stands.{Ranged}
-use Rattle.tableau.proofs.Laws.Fits.{inset-within, outset-within}
+use Rattle.rules.proofs.Refusal.Accepted.{inset-within, outset-within}
 use Rattle.tableau.proofs.Laws.Stands.Pivot.{stands-next}
 use Rattle.tableau.proofs.Laws.Exchange.{value-here, value-other}
 use Rattle.tableau.proofs.Laws.Live.{end}
