@@ -7,10 +7,9 @@ use Prim.Native.Nat.{ℕ}
 use borrow.Author.Needs.{needs}
 use lib.IntN.{ℤ, natAbs, pos}
 use lib.Signed.{_≤ℤ_, ltZ}
-use mir.Facts.{sfits-widen, toZ-ofZ}
-use mir.Syntax.{w32, w64}
-use mir.Val.{SFits}
+use mir.Facts.{toZ-ofZ}
 use Rattle.whole.specs.Numbers.{outside, within}
+use Rattle.whole.proofs.Numbers.Halves.{wide}
 use Rattle.whole.proofs.Numbers.Tests.{own-size}
 use Rattle.rules.specs.Sizes.{largestLength}
 use Rattle.rules.specs.Refusal.{first}
@@ -35,10 +34,6 @@ module _ (s : tie.Start) where
 
   abbrev number : ℕ
   number = testNumber (bad-x || bad-y) bad-strict bad-length
-
--- a word fits 64 bits too
-wide : {z : ℤ} → SFits w32 z → SFits w64 z
-wide f = sfits-widen {w = w32} tt f
 
 -- an end against the last vertex
 outside-most : (most z : ℤ) → pos 0 ≤ℤ most → (ltZ z (pos 0) || ltZ most z) ≡ outside 0 (natAbs most) z
