@@ -60,7 +60,7 @@ fn sessions() {
         ("can", 2 * SESSIONS),
         ("can after pivots", SESSIONS / 2),
         ("cannot", SESSIONS / 2),
-        ("conflict", SESSIONS / 10),
+        ("conflict", SESSIONS / 7),
         ("range", SESSIONS / 25),
         ("conflict ended", SESSIONS / 50),
         ("values seen", 25 * SESSIONS),
