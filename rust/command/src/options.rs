@@ -15,15 +15,21 @@ usage: scatterflock [--json] solve [--each] FILE
 
   --json    the answer as one line of JSON
   --each    for each limit of a clash, values that meet the others
-  --times   FILE has time rows, not limits
+  --times   the words of FILE are time rows, not limits
   --bytes   words as bytes, four each, as a file .words has them
 
-A FILE is a text with one limit a line,
+A FILE is a text that declares its names and has one limit a line,
 
+    names zone1 zone2 solder
     zone1 >= 20
     3 zone1 - 2 zone2 <= 400      # a comment
     zone2 = zone1 + 45
     solder < 217                  # strict: 217 itself is left out
+
+or, of time rows,
+
+    times start1 start2
+    start1 + 30 <= start2
 
 or a file .words, or a text of bare numbers; - is standard input.
 

@@ -6,11 +6,16 @@ use crate::problem::problem;
 use crate::{times, Ended, Failure, CAN};
 use std::ffi::OsStr;
 use std::io::Read;
+use text::Holds;
 
 pub fn run(file: &OsStr, options: &Options, stdin: &mut dyn Read) -> Result<Ended, Failure> {
     let input = input::problem(file, stdin)?;
+    let holds = match &input.content {
+        Content::Text(text) => Holds::of(text),
+        _ => None,
+    };
     let is_text = matches!(input.content, Content::Text(_));
-    let (words, text) = if options.times {
+    let (words, text) = if options.times || holds == Some(Holds::Times) {
         let (_, rows) = times::rows(input)?;
         (rows.words(), rows.text())
     } else {

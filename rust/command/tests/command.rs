@@ -32,24 +32,26 @@ fn bytes(words: &[i32]) -> Vec<u8> {
 #[test]
 fn verdicts_and_statuses() {
     for (words, input, first, status) in [
-        (&["solve", "-"][..], "x >= 1", "can", 0),
-        (&["solve", "-"], "x >= 1\nx <= 0", "cannot", 1),
-        (&["solve", "-"], "0 < x < 1", "can", 0),
-        (&["solve", "-"], "5 < x <= 5", "cannot", 1),
+        (&["solve", "-"][..], "names x\nx >= 1", "can", 0),
+        (&["solve", "-"], "names x\nx >= 1\nx <= 0", "cannot", 1),
+        (&["solve", "-"], "names x\n0 < x < 1", "can", 0),
+        (&["solve", "-"], "names x\n5 < x <= 5", "cannot", 1),
+        (&["solve", "-"], "names x\nfree x", "can", 0),
         (&["solve", "-"], "1 0 9 0 0", "refused 5", 3),
-        (&["solve", "-"], "0 x >= 1", "refused 10", 3),
+        (&["solve", "-"], "names x\n0 x >= 1", "refused 10", 3),
         (&["solve", "-"], "9 0", "refused 2", 3),
         (&["solve", "-"], "1", "refused 1", 3),
-        (&["times", "-"], "a - b <= 1", "can", 0),
-        (&["times", "-"], "a - a < 0", "cannot", 1),
-        (&["times", "-"], "a - b < 1\nb < a", "can", 0),
-        (&["times", "-"], "a - b < 1\na - b >= 1", "cannot", 1),
-        (&["times", "-"], "a - b = 1", "can", 0),
+        (&["times", "-"], "times a b\na - b <= 1", "can", 0),
+        (&["times", "-"], "times a\nrow a - a < 0", "cannot", 1),
+        (&["times", "-"], "times a b\na - b < 1\nb < a", "can", 0),
+        (&["times", "-"], "times a b\na - b < 1\na - b >= 1", "cannot", 1),
+        (&["times", "-"], "times a b\na - b = 1", "can", 0),
         (&["times", "-"], "65 0", "refused 12", 3),
-        (&["words", "-"], "x >= 1", "1 0 1 1 0", 0),
-        (&["words", "-"], "1 0 1 1 0", "x0 >= 1", 0),
-        (&["words", "-"], "1 0 7 1 2", "1 < x0 <= 2", 0),
-        (&["words", "--times", "-"], "a - b <= 1", "2 1 0 1 0 1", 0),
+        (&["words", "-"], "names x\nx >= 1", "1 0 1 1 0", 0),
+        (&["words", "-"], "1 0 1 1 0", "names x0", 0),
+        (&["words", "--times", "-"], "2 1 0 1 0 1", "times t0 t1", 0),
+        (&["words", "--times", "-"], "times a b\na - b <= 1", "2 1 0 1 0 1", 0),
+        (&["words", "-"], "times a b\na - b <= 1", "2 1 0 1 0 1", 0),
         (&["--help"], "", "usage: scatterflock [--json] solve [--each] FILE", 0),
         (&["solve", "-", "--json"], "", "{\"error\":\"there is no limit in this text\",\"file\":\"standard input\",\"line\":1,\"column\":1}", 4),
     ] {
@@ -61,6 +63,42 @@ fn verdicts_and_statuses() {
     assert_eq!((output.lines().next(), status), (Some("range"), 2));
     let version = fs::read_to_string(files::top().join("VERSION")).unwrap();
     assert_eq!(ran(&["--version"], b"").0, format!("scatterflock {version}"));
+}
+
+/// A slip in a name, or a unit, declares nothing and turns nothing off.
+#[test]
+fn slips_are_no_names() {
+    for (command, text, place) in [
+        ("solve", "names zone1\nzone1 >= 20 degC\n", "2:13: degC is not among the names; a unit"),
+        ("solve", "names zone1\nzne1 >= 20\n", "2:1: zne1 is not among the names; is it zone1?"),
+        (
+            "solve",
+            "names zone1 zone2 zone3\n25 <= zone1 <= 40\nzone2 - zone1 <= 60\nzone3 - zon2 <= 60\n\
+             zone3 >= 300\n",
+            "4:9: zon2 is not among the names; is it zone2?",
+        ),
+        (
+            "times",
+            "times start1 start2\nstart2 - strt1 >= 30\n",
+            "2:10: strt1 is not among the names; is it start1?",
+        ),
+        (
+            "solve",
+            "zone1 >= 20 degC\n",
+            "1:1: the names are not declared; put this line first: names zone1\n",
+        ),
+        ("solve", "times a b\na - b <= 3\n", "1:1: these are time rows"),
+        ("check", "times a b\na - b <= 3\n", "1:1: these are time rows"),
+        ("times", "names a b\na - b <= 3\n", "1:1: these are limits"),
+    ] {
+        let words = match command {
+            "check" => vec!["check", "-", "problems/a.txt"],
+            command => vec![command, "-"],
+        };
+        let (output, errors, status) = ran(&words, text.as_bytes());
+        assert_eq!((output.as_str(), status), ("", 4), "{text}");
+        assert!(errors.starts_with(&format!("standard input:{place}")), "{text}: {errors}");
+    }
 }
 
 #[test]
@@ -86,7 +124,7 @@ fn usage_and_files() {
     assert_eq!((output.as_str(), status), ("{\"error\":\"--json is no option of words\"}\n", 4));
     let (_, errors, status) = ran(&["solve", "-"], &vec![b'#'; 2 << 20]);
     assert!(status == 5 && errors.contains("longer"), "{errors}");
-    let (_, errors, status) = ran(&["solve", "-"], b"x >= 1\n# \xff");
+    let (_, errors, status) = ran(&["solve", "-"], b"names x\n# \xff");
     assert_eq!(status, 4);
     assert!(errors.starts_with("standard input:2:3: this byte is no text"), "{errors}");
 }
@@ -115,18 +153,27 @@ fn solved(problem: &str) -> (String, bool) {
 #[test]
 fn strict_limits() {
     for (problem, lines) in [
-        ("x > 0", "x = 0 + small   # just above 0\n# Put any amount above 0 for small, the"),
         (
-            "0 < x < 1",
-            "#   line 1   x > 0   a small amount to spare\n#   line 1   x < 1   1 - small to",
+            "names x\nx > 0",
+            "x = 0 + small   # just above 0\n# Put any amount above 0 for small, the",
         ),
         (
-            "0 < x < 1\nrow 3 x",
+            "names x\n0 < x < 1",
+            "#   line 2   x > 0   a small amount to spare\n#   line 2   x < 1   1 - small to",
+        ),
+        (
+            "names x\n0 < x < 1\nrow 3 x",
             "#   3 x = 0 + 3 small, just above 0\n# Put any amount above 0 and below 1 ",
         ),
-        ("x > 0\ny < 3\nx + y > 3", "x = 3 + small   # just above 3\ny = 0"),
-        ("5 < x <= 5", "1 times line 1 lower   # x > 5\n#    x >  5\n#   -x >= -5\n#    0 >  0"),
-        ("x <= 0\ny < 3\nx + y >= 3", "1 times line 2   # y < 3\n#      -y >  -3\n#       0 >  0"),
+        ("names x y\nx > 0\ny < 3\nx + y > 3", "x = 3 + small   # just above 3\ny = 0"),
+        (
+            "names x\n5 < x <= 5",
+            "1 times line 2 lower   # x > 5\n#    x >  5\n#   -x >= -5\n#    0 >  0",
+        ),
+        (
+            "names x y\nx <= 0\ny < 3\nx + y >= 3",
+            "1 times line 3   # y < 3\n#      -y >  -3\n#       0 >  0",
+        ),
     ] {
         let (said, accepted) = solved(problem);
         assert!(accepted, "{problem}: {said}");
@@ -157,47 +204,48 @@ fn strict_answers_are_read_back() {
 
 #[test]
 fn values_without_each_limit() {
-    let (said, _, status) = ran(&["solve", "--each", "-"], b"x > 2\ny >= 2\nx + y <= 4\nx <= 9");
+    let (said, _, status) =
+        ran(&["solve", "--each", "-"], b"names x y\nx > 2\ny >= 2\nx + y <= 4\nx <= 9");
     assert_eq!(status, 1);
     for line in [
-        "#   without line 1   x = 0, y = 2",
-        "#   without line 2   x = 2 + small, y = 0",
-        "#   without line 3   x = 2 + small, y = 2",
+        "#   without line 2   x = 0, y = 2",
+        "#   without line 3   x = 2 + small, y = 0",
+        "#   without line 4   x = 2 + small, y = 2",
     ] {
         assert!(said.lines().any(|other| other == line), "no {line} in\n{said}");
     }
-    assert!(!said.contains("line 4"), "{said}");
-    let (said, _, _) = ran(&["--json", "solve", "--each", "-"], b"5 < x <= 5");
+    assert!(!said.contains("line 5"), "{said}");
+    let (said, _, _) = ran(&["--json", "solve", "--each", "-"], b"names x\n5 < x <= 5");
     assert!(
         json::is_one_line(&said) && said.matches("\"without\":[{\"name\":").count() == 2,
         "{said}"
     );
-    let (can, _, status) = ran(&["solve", "--each", "-"], b"x > 2");
-    assert_eq!((can, status), (ran(&["solve", "-"], b"x > 2").0, 0));
+    let (can, _, status) = ran(&["solve", "--each", "-"], b"names x\nx > 2");
+    assert_eq!((can, status), (ran(&["solve", "-"], b"names x\nx > 2").0, 0));
 }
 
 #[test]
 fn strict_limits_as_json() {
-    let (said, _, status) = ran(&["--json", "solve", "-"], b"2 < x < 7");
+    let (said, _, status) = ran(&["--json", "solve", "-"], b"names x\n2 < x < 7");
     assert_eq!(status, 0);
     assert!(json::is_one_line(&said));
     let small = "\"decimal\":\"2\",\"exact\":true,\"small\":{\"numerator\":1,\"denominator\":1}";
     assert!(said.contains(small), "{said}");
     assert!(said.contains("\"small_below\":{\"numerator\":5,\"denominator\":1}"), "{said}");
-    let (said, _, _) = ran(&["--json", "solve", "-"], b"2 < x < 2");
+    let (said, _, _) = ran(&["--json", "solve", "-"], b"names x\n2 < x < 2");
     assert!(said.contains("\"sum\":\"0 > 0\""), "{said}");
 }
 
 #[test]
 fn what_breaks_strict_limits() {
     let path = PathBuf::from(env!("CARGO_TARGET_TMPDIR")).join("melting.txt");
-    fs::write(&path, "20 <= solder < 217\n").unwrap();
+    fs::write(&path, "names solder\n20 <= solder < 217\n").unwrap();
     for (value, what) in [
-        ("217", "#   line 1   solder < 217   met exactly, and it is strict"),
-        ("217 + 1/2 small", "#   line 1   solder < 217   by a small amount"),
-        ("218 - 2 small", "#   line 1   solder < 217   by 1 - 2 small"),
-        ("20 - small", "#   line 1   solder >= 20   by a small amount"),
-        ("39/2", "#   line 1   solder >= 20   by 1/2"),
+        ("217", "#   line 2   solder < 217   met exactly, and it is strict"),
+        ("217 + 1/2 small", "#   line 2   solder < 217   by a small amount"),
+        ("218 - 2 small", "#   line 2   solder < 217   by 1 - 2 small"),
+        ("20 - small", "#   line 2   solder >= 20   by a small amount"),
+        ("39/2", "#   line 2   solder >= 20   by 1/2"),
     ] {
         let answer = format!("can\nsolder = {value}\n");
         let (said, _, status) = ran(&["check", path.to_str().unwrap(), "-"], answer.as_bytes());
@@ -357,7 +405,7 @@ fn a_full_disk_and_a_closed_pipe_are_noticed() {
         .spawn()
         .unwrap();
     drop(child.stdout.take());
-    child.stdin.take().unwrap().write_all(b"x >= 1\n").unwrap();
+    child.stdin.take().unwrap().write_all(b"names x\nx >= 1\n").unwrap();
     let ran = child.wait_with_output().unwrap();
     assert_eq!(ran.status.code(), Some(5));
     assert!(!ran.stderr.is_empty());

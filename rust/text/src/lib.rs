@@ -2,6 +2,8 @@
 //!
 //! - `fault`: what is wrong, with line and column
 //! - `tokens`: a line's tokens
+//! - `opening`: the lines that say what a text holds and declare its names
+//! - `names`, `near`: declared names, and the one that was probably meant
 //! - `statement`: sums of names and numbers, and the signs between them
 //! - [`limits`]: a limit problem as text
 //! - [`times`]: time rows as text
@@ -12,9 +14,12 @@ pub mod answer;
 mod fault;
 pub mod limits;
 mod names;
+mod near;
 pub mod numbers;
+mod opening;
 mod statement;
 pub mod times;
 mod tokens;
 
 pub use fault::Fault;
+pub use opening::Holds;

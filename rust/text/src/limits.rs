@@ -136,6 +136,32 @@ impl Limits {
         words
     }
 
+    /// The names that nothing limits: they have no limit, and stand in no row
+    /// that has one, or in one alone, which can be met then whatever it says. That
+    /// row comes with them. A problem with a row of zeros is refused, and none are
+    /// told of it.
+    #[must_use]
+    pub fn unlimited(&self) -> Vec<(usize, Option<usize>)> {
+        let n = self.names.len();
+        let is_blank = |row: &Vec<i32>| row.iter().all(|&coefficient| coefficient == 0);
+        if self.rows.iter().any(is_blank) {
+            return vec![];
+        }
+        let limited = |row: &usize| self.limits[n + row] != [None; 2];
+        let open = (0..n).filter(|&name| self.limits[name] == [None; 2]);
+        let found = open.filter_map(|name| {
+            let has = |row: &usize| self.rows[*row][name] != 0;
+            let rows: Vec<usize> = (0..self.rows.len()).filter(limited).filter(has).collect();
+            let others = |row: usize| self.rows[row].iter().filter(|&&c| c != 0).count() > 1;
+            match rows[..] {
+                [] => Some((name, None)),
+                [row] if others(row) => Some((name, Some(row))),
+                _ => None,
+            }
+        });
+        found.collect()
+    }
+
     /// What a variable, or a row, is made of: a coefficient for each name.
     #[must_use]
     pub fn coefficients(&self, variable: usize) -> Vec<i32> {

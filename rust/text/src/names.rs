@@ -1,51 +1,110 @@
-//! Names, numbered in the order of their first use.
+//! The names of a text: those that its first lines declare, and no others.
 
 use crate::fault::Fault;
+use crate::near::nearest;
 use crate::tokens::{Kind, Line};
 
 /// Words that begin a line of their own kind, and are no names.
-pub const RESERVED: [&str; 2] = ["free", "row"];
+pub const RESERVED: [&str; 4] = ["names", "times", "free", "row"];
 
-#[derive(Debug, Default)]
+/// How many names are listed where one is not among them.
+const MOST_LISTED: usize = 8;
+
+#[derive(Debug)]
 pub struct Names {
     pub list: Vec<String>,
+    /// The line and the column where each is declared.
+    pub places: Vec<(usize, usize)>,
     most: usize,
 }
 
 impl Names {
     pub fn new(most: usize) -> Names {
-        Names { list: Vec::new(), most }
+        Names { list: Vec::new(), places: Vec::new(), most }
     }
 
-    /// The number of a name that is used here, for the first time or again.
-    pub fn used(&mut self, line: &Line, column: usize, name: &str) -> Result<usize, Fault> {
-        if RESERVED.contains(&name) {
-            let what = format!("{name} is no name: it begins a line of its own kind");
-            return Err(line.fault(column, what));
+    /// Takes the names of a line `names x y`, or `times x y`.
+    pub fn declare(&mut self, line: &Line) -> Result<(), Fault> {
+        for (name, column) in after_first(line)? {
+            if let Some(word) = reserved(name) {
+                let what = format!("{name} is no name: {word} begins a line of its own kind");
+                return Err(line.fault(column, what));
+            }
+            if let Some(before) = self.list.iter().position(|other| other == name) {
+                let what = format!("{name} is declared already, in line {}", self.places[before].0);
+                return Err(line.fault(column, what));
+            }
+            if let Some(other) = self.list.iter().find(|other| other.eq_ignore_ascii_case(name)) {
+                let what = format!("{name} and {other} differ in small and capital letters alone");
+                return Err(line.fault(column, what));
+            }
+            if self.list.len() == self.most {
+                let what = format!("{name} is one too many: there are {} names at most", self.most);
+                return Err(line.fault(column, what));
+            }
+            self.list.push(name.to_string());
+            self.places.push((line.number, column));
         }
-        if let Some(number) = self.list.iter().position(|other| other == name) {
-            return Ok(number);
+        Ok(())
+    }
+
+    /// The number of a name that is used here; `is_counted` where a number
+    /// stands before it.
+    pub fn used(
+        &self,
+        line: &Line,
+        column: usize,
+        name: &str,
+        is_counted: bool,
+    ) -> Result<usize, Fault> {
+        let found = self.list.iter().position(|other| other == name);
+        found.ok_or_else(|| line.fault(column, self.unknown(name, is_counted)))
+    }
+
+    /// What to say of a name that is not declared.
+    fn unknown(&self, name: &str, is_counted: bool) -> String {
+        if let Some(word) = reserved(name) {
+            return match name == word {
+                true => format!("{name} is no name: it begins a line of its own kind"),
+                false => format!("{name} is no name: write {word}, at the beginning of a line"),
+            };
         }
-        if self.list.len() == self.most {
-            let what = format!("{name} is one too many: there are {} names at most", self.most);
-            return Err(line.fault(column, what));
+        let start = format!("{name} is not among the names");
+        if let Some(near) = nearest(name, self.list.iter().map(String::as_str)) {
+            return format!("{start}; is it {near}?");
         }
-        self.list.push(name.to_string());
-        Ok(self.list.len() - 1)
+        if is_counted {
+            return format!("{start}; a unit is left out, or stands in a comment: # {name}");
+        }
+        let more = if self.list.len() > MOST_LISTED { " .." } else { "" };
+        let listed = &self.list[..self.list.len().min(MOST_LISTED)];
+        format!("{start}: {}{more}", listed.join(" "))
     }
 
     /// The names of a line `free x y`.
-    pub fn free(&mut self, line: &Line) -> Result<Vec<(usize, usize)>, Fault> {
-        if line.tokens.len() == 1 {
-            return Err(line.fault(line.end, "a name is missing after free"));
-        }
-        let mut freed = Vec::new();
-        for token in &line.tokens[1..] {
-            let Kind::Name(name) = &token.kind else {
-                return Err(line.fault(token.column, "after free stand names alone: free x y"));
-            };
-            freed.push((self.used(line, token.column, name)?, token.column));
-        }
-        Ok(freed)
+    pub fn free(&self, line: &Line) -> Result<Vec<(usize, usize)>, Fault> {
+        let names = after_first(line)?.into_iter();
+        names.map(|(name, column)| Ok((self.used(line, column, name, false)?, column))).collect()
     }
+}
+
+/// The word that this is, but for small and capital letters.
+fn reserved(name: &str) -> Option<&'static str> {
+    RESERVED.into_iter().find(|word| word.eq_ignore_ascii_case(name))
+}
+
+/// The names behind a line's first word, with their columns.
+fn after_first(line: &Line) -> Result<Vec<(&str, usize)>, Fault> {
+    let first = line.first_name().unwrap_or_default();
+    if line.tokens.len() == 1 {
+        return Err(line.fault(line.end, format!("a name is missing after {first}")));
+    }
+    let names = line.tokens[1..].iter().map(|token| match &token.kind {
+        Kind::Name(name) => Ok((name.as_str(), token.column)),
+        _ => {
+            let what = format!("after {first} stand names alone: {first} x y");
+            Err(line.fault(token.column, what))
+        }
+    });
+    names.collect()
 }

@@ -14,6 +14,8 @@ pub struct Term {
     pub coefficient: i32,
     pub name: String,
     pub column: usize,
+    /// Whether a number stands before the name.
+    pub is_counted: bool,
 }
 
 /// What a line says: that the sum of the terms is within limits.
@@ -41,6 +43,9 @@ struct Side {
 /// The statement of a line whose first tokens are left out.
 pub fn statement(line: &Line, skipped: usize) -> Result<Statement, Fault> {
     let tokens = &line.tokens[skipped..];
+    if let Some(fault) = misleading(line, tokens) {
+        return Err(fault);
+    }
     let mut signs = Vec::new();
     let mut sides = Vec::new();
     let mut rest = tokens;
@@ -80,6 +85,37 @@ pub fn statement(line: &Line, skipped: usize) -> Result<Statement, Fault> {
         return Err(line.fault(tokens[0].column, "there is no name in this line"));
     }
     Ok(found)
+}
+
+/// What would be read as something else than was meant: an item of a list, a
+/// sign in two pieces, a range.
+fn misleading(line: &Line, tokens: &[Token]) -> Option<Fault> {
+    if let [Token { kind: first @ (Kind::Plus | Kind::Minus), column }, next, ..] = tokens {
+        if next.column > column + 1 {
+            let sign = if *first == Kind::Minus { "minus" } else { "plus" };
+            let what =
+                format!("a line is no item of a list; where {sign} is meant, leave no space");
+            return Some(line.fault(*column, what));
+        }
+    }
+    for pair in tokens.windows(2) {
+        let what = match (&pair[0].kind, &pair[1].kind) {
+            (Kind::Sign(Sign::Below), Kind::Sign(Sign::Equal)) => "write <= in one piece",
+            (Kind::Sign(Sign::Above), Kind::Sign(Sign::Equal)) => "write >= in one piece",
+            _ => continue,
+        };
+        return Some(line.fault(pair[0].column, what));
+    }
+    let mut sides = tokens.split(|token| matches!(token.kind, Kind::Sign(_)));
+    let range = sides.find(|side| match side {
+        [low, minus, high] => {
+            let are_numbers = [low, high].map(|token| matches!(token.kind, Kind::Number(_)));
+            are_numbers == [true; 2] && minus.kind == Kind::Minus
+        }
+        _ => false,
+    })?;
+    let what = "a range is written 20 <= x <= 40; for a difference write the number";
+    Some(line.fault(range[0].column, what))
 }
 
 /// A sum. `end` is the column past it.
@@ -138,6 +174,7 @@ fn term(
             coefficient: (sign * size) as i32,
             name: name.clone(),
             column: rest[length - 1].column,
+            is_counted: length > 1,
         }),
         None => side.number += sign * size,
     }

@@ -2,6 +2,7 @@
 
 use crate::fault::Fault;
 use crate::names::Names;
+use crate::opening::{self, Holds};
 use crate::statement::{statement, Limit, Statement};
 use crate::tokens::{lines, Line};
 
@@ -44,25 +45,46 @@ pub struct Row {
 ///
 /// The first fault, with line and column.
 pub fn read(text: &str) -> Result<Times, Fault> {
-    let mut names = Names::new(MOST_VERTICES);
-    let mut rows = Vec::new();
-    for line in lines(text) {
+    let mut lines = lines(text).peekable();
+    let names = opening::names(text, &mut lines, Holds::Times, MOST_VERTICES)?;
+    let mut free = vec![false; names.list.len()];
+    let mut found = Times { names: names.list.clone(), rows: Vec::new() };
+    for line in lines {
         let line = line?;
+        if let Some(fault) = opening::late(&line, Holds::Times) {
+            return Err(fault);
+        }
         if line.begins_with("free") {
-            names.free(&line)?;
+            names.free(&line)?.into_iter().for_each(|(name, _)| free[name] = true);
             continue;
         }
-        let said = statement(&line, 0)?;
-        say(&line, &said, &mut names, &mut rows)?;
+        let is_alone = line.begins_with("row");
+        if is_alone && line.tokens.len() == 1 {
+            return Err(line.fault(line.end, "a difference is missing after row"));
+        }
+        let said = statement(&line, usize::from(is_alone))?;
+        say(&line, &said, is_alone, &names, &mut found.rows)?;
     }
-    if names.list.is_empty() {
-        return Err(Fault::new(1, 1, "there is no time row in this text"));
+    if let Some(name) = found.unlimited().into_iter().find(|&name| !free[name]) {
+        let (name, (line, column)) = (&names.list[name], names.places[name]);
+        let what = format!("no row speaks of {name}; a line free {name} says that this is meant");
+        return Err(Fault::new(line, column, what));
     }
-    Ok(Times { names: names.list, rows })
+    Ok(found)
 }
 
-fn say(line: &Line, said: &Statement, names: &mut Names, rows: &mut Vec<Row>) -> Result<(), Fault> {
-    let [first, second] = &said.terms[..] else {
+fn say(
+    line: &Line,
+    said: &Statement,
+    is_alone: bool,
+    names: &Names,
+    rows: &mut Vec<Row>,
+) -> Result<(), Fault> {
+    let mut named = Vec::new();
+    for term in &said.terms {
+        named.push(names.used(line, term.column, &term.name, term.is_counted)?);
+    }
+    let ([first, second], [first_at, second_at]) = (&said.terms[..], &named[..]) else {
         let column = said.terms.get(2).unwrap_or(&said.terms[0]).column;
         return Err(line.fault(column, "a time row has two names: end - start <= 30"));
     };
@@ -77,9 +99,15 @@ fn say(line: &Line, said: &Statement, names: &mut Names, rows: &mut Vec<Row>) ->
         let what = "a time row is about a difference: end - start <= 30";
         return Err(line.fault(second.column, what));
     }
-    let first_at = names.used(line, first.column, &first.name)?;
-    let second_at = names.used(line, second.column, &second.name)?;
-    let (x, y) = if first.coefficient > 0 { (first_at, second_at) } else { (second_at, first_at) };
+    if first_at == second_at && !is_alone {
+        let name = &first.name;
+        let what = format!("{name} - {name} is 0; begin the line with row if that is meant");
+        return Err(line.fault(second.column, what));
+    }
+    let (x, y) = match first.coefficient > 0 {
+        true => (*first_at, *second_at),
+        false => (*second_at, *first_at),
+    };
     if said.lower.is_none() && said.upper.is_none() {
         let what = "a sign is missing: <=, <, >=, > or = says how far they are apart";
         return Err(line.fault(line.end, what));
@@ -91,10 +119,25 @@ fn say(line: &Line, said: &Statement, names: &mut Names, rows: &mut Vec<Row>) ->
             let what = format!("one row too many: there are {MOST_ROWS} at most");
             return Err(line.fault(line.tokens[0].column, what));
         }
-        let Limit { number: c, is_strict, .. } = limit;
-        rows.push(Row { x, y, is_strict, c, is_turned, line: Some(line.number) });
+        let Limit { number: c, is_strict, column } = limit;
+        let row = Row { x, y, is_strict, c, is_turned, line: Some(line.number) };
+        if let Some(before) = rows.iter().find(|other| other.says_what(&row)).filter(|_| !is_alone)
+        {
+            let place = before.line.unwrap_or_default();
+            let what = format!("line {place} says the same; begin with row to have both");
+            return Err(line.fault(column, what));
+        }
+        rows.push(row);
     }
     Ok(())
+}
+
+impl Row {
+    /// Whether another row says the same.
+    fn says_what(&self, other: &Row) -> bool {
+        let said = |row: &Row| (row.x, row.y, row.is_strict, row.c);
+        said(self) == said(other)
+    }
 }
 
 impl Times {
@@ -143,13 +186,24 @@ impl Times {
         }
     }
 
-    /// All rows as text, a line each. The text has the same words.
+    /// The names that no row speaks of.
+    fn unlimited(&self) -> Vec<usize> {
+        let names = 0..self.names.len();
+        names.filter(|&name| self.rows.iter().all(|row| row.x != name && row.y != name)).collect()
+    }
+
+    /// All rows as text, a line each, below their names. The text has the same
+    /// words.
     #[must_use]
     pub fn text(&self) -> String {
-        let rows: String = self.rows.iter().map(|row| self.row_text(row) + "\n").collect();
-        match read(&rows) {
-            Ok(again) if again.names == self.names => rows,
-            _ => format!("free {}\n{rows}", self.names.join(" ")),
+        let mut lines = opening::opened(Holds::Times, &self.names);
+        lines += &opening::free(self.unlimited().into_iter().map(|name| &self.names[name]));
+        for (place, row) in self.rows.iter().enumerate() {
+            let is_alone =
+                row.x == row.y || self.rows[..place].iter().any(|other| other.says_what(row));
+            let start = if is_alone { "row " } else { "" };
+            lines += &format!("{start}{}\n", self.row_text(row));
         }
+        lines
     }
 }

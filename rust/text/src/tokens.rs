@@ -41,9 +41,17 @@ impl Line {
         Fault::new(self.number, column, what)
     }
 
-    /// The first token, where it is this name.
+    /// The first token, where it is a name.
+    pub fn first_name(&self) -> Option<&str> {
+        match self.tokens.first() {
+            Some(Token { kind: Kind::Name(name), .. }) => Some(name),
+            _ => None,
+        }
+    }
+
+    /// Whether the first token is this name.
     pub fn begins_with(&self, name: &str) -> bool {
-        matches!(self.tokens.first(), Some(Token { kind: Kind::Name(first), .. }) if first == name)
+        self.first_name() == Some(name)
     }
 }
 
@@ -56,6 +64,11 @@ pub fn lines(text: &str) -> impl Iterator<Item = Result<Line, Fault>> + '_ {
 }
 
 fn tokens(number: usize, text: &str) -> Result<Line, Fault> {
+    let text = text.strip_suffix('\r').unwrap_or(text);
+    if let Some(at) = text.chars().position(is_other_end) {
+        let what = "this character looks like the end of a line, or turns its order round";
+        return Err(Fault::new(number, at + 1, what));
+    }
     let chars: Vec<char> = text.split('#').next().unwrap_or("").chars().collect();
     let end = chars.iter().rposition(|c| !c.is_whitespace()).map_or(1, |last| last + 2);
     let mut tokens = Vec::new();
@@ -71,6 +84,12 @@ fn tokens(number: usize, text: &str) -> Result<Line, Fault> {
         at += length;
     }
     Ok(Line { number, tokens, end })
+}
+
+/// Whether a screen may show a new line here, or another order of the
+/// characters, so that a comment hides what looks like a limit.
+fn is_other_end(c: char) -> bool {
+    matches!(c, '\r' | '\u{b}' | '\u{c}' | '\u{85}' | '\u{2028}'..='\u{202e}' | '\u{2066}'..='\u{2069}')
 }
 
 /// The first token and its length.

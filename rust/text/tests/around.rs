@@ -5,62 +5,91 @@ use problems::random::{seed, Random};
 use problems::{times, worked};
 use text::limits::{self, Limits};
 use text::times::{self as time_text, Times};
+use text::Holds;
 
 fn words(text: &str) -> Vec<i32> {
     limits::read(text).unwrap_or_else(|fault| panic!("{fault}: {text}")).words()
 }
 
+/// The words of lines under a line that declares these names.
+fn said(names: &str, lines: &str) -> Vec<i32> {
+    words(&format!("names {names}\n{lines}"))
+}
+
 #[test]
 fn lines_and_their_words() {
-    for (text, expected) in [
-        ("zone1 >= 20", vec![1, 0, 1, 20, 0]),
-        ("20 <= zone1 <= 40", vec![1, 0, 3, 20, 40]),
-        ("40 >= zone1 >= 20", vec![1, 0, 3, 20, 40]),
-        ("20 >= zone1", vec![1, 0, 2, 0, 20]),
-        ("-zone1 <= -20", vec![1, 0, 1, 20, 0]),
-        ("+1 zone1 + 5 >= 25\r\n", vec![1, 0, 1, 20, 0]),
-        ("\u{feff}x >= 1\nx <= 3", vec![1, 0, 3, 1, 3]),
-        ("3 zone1 - 2 zone2 <= 400", vec![2, 1, 3, -2, 0, 0, 0, 0, 0, 0, 2, 0, 400]),
-        ("3*zone1-2 * zone2<=400", vec![2, 1, 3, -2, 0, 0, 0, 0, 0, 0, 2, 0, 400]),
-        ("zone2 = zone1 + 45", vec![2, 1, 1, -1, 0, 0, 0, 0, 0, 0, 3, 45, 45]),
-        ("7 >= x + y", vec![2, 1, 1, 1, 0, 0, 0, 0, 0, 0, 2, 0, 7]),
-        ("x - y <= 5\ny - x <= 4", vec![2, 1, 1, -1, 0, 0, 0, 0, 0, 0, 3, -4, 5]),
+    for (names, lines, expected) in [
+        ("zone1", "zone1 >= 20", vec![1, 0, 1, 20, 0]),
+        ("zone1", "20 <= zone1 <= 40", vec![1, 0, 3, 20, 40]),
+        ("zone1", "40 >= zone1 >= 20", vec![1, 0, 3, 20, 40]),
+        ("zone1", "20 >= zone1", vec![1, 0, 2, 0, 20]),
+        ("zone1", "-zone1 <= -20", vec![1, 0, 1, 20, 0]),
+        ("zone1", "+1 zone1 + 5 >= 25\r\n", vec![1, 0, 1, 20, 0]),
+        ("x", "x >= 1\nx <= 3", vec![1, 0, 3, 1, 3]),
+        ("x", "x >= 007", vec![1, 0, 1, 7, 0]),
+        ("x", "\tx\t>=\u{a0}7\r", vec![1, 0, 1, 7, 0]),
+        ("a b", "free b a\n3 a - 2 b <= 400", vec![2, 1, 3, -2, 0, 0, 0, 0, 0, 0, 2, 0, 400]),
+        ("a b", "free b a\n3*a-2 * b<=400", vec![2, 1, 3, -2, 0, 0, 0, 0, 0, 0, 2, 0, 400]),
+        ("a b", "free b a\nb = a + 45", vec![2, 1, -1, 1, 0, 0, 0, 0, 0, 0, 3, 45, 45]),
+        ("x y", "free x\nfree y\n7 >= x + y", vec![2, 1, 1, 1, 0, 0, 0, 0, 0, 0, 2, 0, 7]),
+        ("x y", "x - y <= 5\ny - x <= 4\nfree y x", vec![2, 1, 1, -1, 0, 0, 0, 0, 0, 0, 3, -4, 5]),
         (
+            "x y",
             "x - y <= 5\n2 x - 2 y >= 4",
             vec![2, 2, 1, -1, 2, -2, 0, 0, 0, 0, 0, 0, 2, 0, 5, 1, 4, 0],
         ),
-        ("0 x >= 1", vec![1, 1, 0, 0, 0, 0, 1, 1, 0]),
-        ("free x", vec![1, 0, 0, 0, 0]),
-        ("free y\nx = 3", vec![2, 0, 0, 0, 0, 3, 3, 3]),
-        ("row x <= 4\nx >= 1", vec![1, 1, 1, 1, 1, 0, 2, 0, 4]),
-        ("row 2 x\n2 x <= 4", vec![1, 2, 2, 2, 0, 0, 0, 0, 0, 0, 2, 0, 4]),
-        ("5 <= x <= 1", vec![1, 0, 3, 5, 1]),
-        ("solder < 217", vec![1, 0, 10, 0, 217]),
-        ("217 > solder", vec![1, 0, 10, 0, 217]),
-        ("x > 0", vec![1, 0, 5, 0, 0]),
-        ("-x < 0", vec![1, 0, 5, 0, 0]),
-        ("0 < x <= 3", vec![1, 0, 7, 0, 3]),
-        ("3 > x >= 0", vec![1, 0, 11, 0, 3]),
-        ("0 < x < 3", vec![1, 0, 15, 0, 3]),
-        ("5 < x < 5", vec![1, 0, 15, 5, 5]),
-        ("5 < x <= 5", vec![1, 0, 7, 5, 5]),
-        ("x > 1\nx <= 3", vec![1, 0, 7, 1, 3]),
-        ("x - y < 5\ny - x <= 4", vec![2, 1, 1, -1, 0, 0, 0, 0, 0, 0, 11, -4, 5]),
-        ("x - y <= 5\ny < x + 4", vec![2, 1, 1, -1, 0, 0, 0, 0, 0, 0, 7, -4, 5]),
+        ("x", "0 x >= 1", vec![1, 1, 0, 0, 0, 0, 1, 1, 0]),
+        ("x", "free x", vec![1, 0, 0, 0, 0]),
+        ("y x", "free y\nx = 3", vec![2, 0, 0, 0, 0, 3, 3, 3]),
+        ("x", "row x <= 4\nx >= 1", vec![1, 1, 1, 1, 1, 0, 2, 0, 4]),
+        ("x", "row 2 x\n2 x <= 4", vec![1, 2, 2, 2, 0, 0, 0, 0, 0, 0, 2, 0, 4]),
+        ("x", "5 <= x <= 1", vec![1, 0, 3, 5, 1]),
+        ("solder", "solder < 217", vec![1, 0, 10, 0, 217]),
+        ("solder", "217 > solder", vec![1, 0, 10, 0, 217]),
+        ("x", "x > 0", vec![1, 0, 5, 0, 0]),
+        ("x", "-x < 0", vec![1, 0, 5, 0, 0]),
+        ("x", "0 < x <= 3", vec![1, 0, 7, 0, 3]),
+        ("x", "3 > x >= 0", vec![1, 0, 11, 0, 3]),
+        ("x", "0 < x < 3", vec![1, 0, 15, 0, 3]),
+        ("x", "5 < x < 5", vec![1, 0, 15, 5, 5]),
+        ("x", "5 < x <= 5", vec![1, 0, 7, 5, 5]),
+        ("x", "x > 1\nx <= 3", vec![1, 0, 7, 1, 3]),
+        ("x y", "x - y < 5\ny - x <= 4\nfree x y", vec![2, 1, 1, -1, 0, 0, 0, 0, 0, 0, 11, -4, 5]),
+        ("x y", "x - y <= 5\ny < x + 4\nfree x y", vec![2, 1, 1, -1, 0, 0, 0, 0, 0, 0, 7, -4, 5]),
+        ("x\nnames y # two\n", "x = 1\ny = 2", vec![2, 0, 3, 1, 1, 3, 2, 2]),
     ] {
-        assert_eq!(words(text), expected, "{text}");
+        assert_eq!(said(names, lines), expected, "{lines}");
     }
-    for (text, expected) in [
-        ("start2 - start1 <= 30", vec![2, 1, 0, 1, 0, 30]),
-        ("start2 <= start1 + 30", vec![2, 1, 0, 1, 0, 30]),
-        ("a - b < 5\na - b > 2", vec![2, 2, 0, 1, 1, 5, 1, 0, 1, -2]),
-        ("a - b = 5", vec![2, 2, 1, 0, 0, -5, 0, 1, 0, 5]),
-        ("3 <= a - b < 5", vec![2, 2, 1, 0, 0, -3, 0, 1, 1, 5]),
-        ("5 >= -a + b", vec![2, 1, 1, 0, 0, 5]),
-        ("x - x < 0", vec![1, 1, 0, 0, 1, 0]),
-        ("free a b\nb - a <= 1", vec![2, 1, 1, 0, 0, 1]),
+    assert_eq!(words("\u{feff}# x\n\n names x\nx >= 1"), vec![1, 0, 1, 1, 0]);
+    for (names, lines, expected) in [
+        ("start2 start1", "start2 - start1 <= 30", vec![2, 1, 0, 1, 0, 30]),
+        ("start2 start1", "start2 <= start1 + 30", vec![2, 1, 0, 1, 0, 30]),
+        ("a b", "a - b < 5\na - b > 2", vec![2, 2, 0, 1, 1, 5, 1, 0, 1, -2]),
+        ("a b", "a - b = 5", vec![2, 2, 1, 0, 0, -5, 0, 1, 0, 5]),
+        ("a b", "3 <= a - b < 5", vec![2, 2, 1, 0, 0, -3, 0, 1, 1, 5]),
+        ("a b", "5 >= -a + b", vec![2, 1, 1, 0, 0, 5]),
+        ("a b", "a - b <= 5\na - b <= 4", vec![2, 2, 0, 1, 0, 5, 0, 1, 0, 4]),
+        ("a b", "a - b <= 5\nrow a - b <= 5", vec![2, 2, 0, 1, 0, 5, 0, 1, 0, 5]),
+        ("x", "row x - x < 0", vec![1, 1, 0, 0, 1, 0]),
+        ("a b c", "free c\nb - a <= 1", vec![3, 1, 1, 0, 0, 1]),
     ] {
-        assert_eq!(time_text::read(text).unwrap().words(), expected, "{text}");
+        let text = format!("times {names}\n{lines}");
+        assert_eq!(time_text::read(&text).unwrap().words(), expected, "{text}");
+    }
+}
+
+#[test]
+fn what_a_text_holds() {
+    for (text, holds) in [
+        ("names x", Some(Holds::Limits)),
+        ("# times\n\n \u{9}times x # names", Some(Holds::Times)),
+        ("\u{feff}names x", Some(Holds::Limits)),
+        ("namesx", None),
+        ("Names x", None),
+        ("x >= 1\nnames x", None),
+        ("", None),
+    ] {
+        assert_eq!(Holds::of(text), holds, "{text}");
     }
 }
 
@@ -71,18 +100,19 @@ fn every_kind_comes_round() {
         let words = [1, 0, kind, numbers[0], numbers[1]];
         let shown = Limits::from_words(&words).map(|shown| shown.text());
         let expected = match kind {
-            0 => Some("free x0\n"),
-            1 => Some("x0 >= 7\n"),
-            2 => Some("x0 <= 7\n"),
-            3 => Some("x0 = 7\n"),
-            5 => Some("x0 > 7\n"),
-            7 => Some("7 < x0 <= 7\n"),
-            10 => Some("x0 < 7\n"),
-            11 => Some("7 <= x0 < 7\n"),
-            15 => Some("7 < x0 < 7\n"),
+            0 => Some("free x0"),
+            1 => Some("x0 >= 7"),
+            2 => Some("x0 <= 7"),
+            3 => Some("x0 = 7"),
+            5 => Some("x0 > 7"),
+            7 => Some("7 < x0 <= 7"),
+            10 => Some("x0 < 7"),
+            11 => Some("7 <= x0 < 7"),
+            15 => Some("7 < x0 < 7"),
             _ => None,
         };
-        assert_eq!(shown.as_deref(), expected, "{kind}");
+        let expected = expected.map(|line| format!("names x0\n{line}\n"));
+        assert_eq!(shown, expected, "{kind}");
         if let Some(text) = shown {
             assert_eq!(self::words(&text), words);
         }

@@ -11,9 +11,22 @@ fn time_fault(text: &str) -> String {
     times::read(text).map_or_else(|fault| fault.to_string(), |read| format!("{read:?}"))
 }
 
+/// The fault of lines whose names are declared in a line before the first. The
+/// place is counted without it; the lines that are told are those of the text.
+fn below(opening: &str, lines: &str) -> String {
+    let text = format!("{opening}\n{lines}");
+    let fault = match opening.starts_with("names") {
+        true => limits::read(&text).map(|read| format!("{read:?}")),
+        false => times::read(&text).map(|read| format!("{read:?}")),
+    };
+    fault.unwrap_or_else(|Fault { line, column, what }| format!("{}:{column}: {what}", line - 1))
+}
+
 #[test]
 fn of_limits() {
     let missing = "a number or a name is missing here";
+    let item = "a line is no item of a list; where";
+    let range = "a range is written 20 <= x <= 40; for a difference write the number";
     let glued = "is not a whole number; between a number and a name stands a space or *";
     for (text, fault) in [
         ("x >= 2.5", "1:6: 2.5 is not a whole number".to_string()),
@@ -37,8 +50,8 @@ fn of_limits() {
         ("3 * 4 >= 5", "1:3: only a number and a name can be multiplied: 3 * x".to_string()),
         ("x + y - x >= 5", "1:9: x comes twice in this line".to_string()),
         ("x >= x", "1:6: x comes twice in this line".to_string()),
-        ("x > 1\nx >= 2", "2:3: x has its lower limit already, in line 1".to_string()),
-        ("x <= 1\n1 < x < 2", "2:7: x has its upper limit already, in line 1".to_string()),
+        ("x > 1\nx >= 2", "2:3: x has its lower limit already, in line 2".to_string()),
+        ("x <= 1\n1 < x < 2", "2:7: x has its upper limit already, in line 2".to_string()),
         ("1 < x > 5", "1:7: the two signs of a line must point the same way".to_string()),
         ("x <> 5", "1:3: there is no sign for \"other than\"".to_string()),
         ("x == 5", "1:3: write = in place of ==".to_string()),
@@ -65,13 +78,13 @@ fn of_limits() {
         ("x >= -30001", "1:7: 30001 is out of range: a limit is from -30000 to 30000".to_string()),
         ("x + 1 >= -30000", "1:7: -30001 is out of range: a limit is from -30000 to 30000".into()),
         ("x >= 99999999999999999999", "1:6: 99999999999999999999 is out of range".to_string()),
-        ("x >= 1\nx >= 2", "2:3: x has its lower limit already, in line 1".to_string()),
-        ("x >= 1\n-x <= -2", "2:4: x has its lower limit already, in line 1".to_string()),
-        ("x = 1\nx <= 2", "2:3: x has its upper limit already, in line 1".to_string()),
-        ("x + y >= 1\n-y - x <= 2", "2:8: this sum has its lower limit already, in line 1".into()),
-        ("free x\nx >= 1", "2:3: x is said to be free, in line 1".to_string()),
-        ("x >= 1\nfree y x", "2:8: x has a limit, in line 1".to_string()),
-        ("free x x", "1:8: x is said to be free already, in line 1".to_string()),
+        ("x >= 1\nx >= 2", "2:3: x has its lower limit already, in line 2".to_string()),
+        ("x >= 1\n-x <= -2", "2:4: x has its lower limit already, in line 2".to_string()),
+        ("x = 1\nx <= 2", "2:3: x has its upper limit already, in line 2".to_string()),
+        ("x + y >= 1\n-y - x <= 2", "2:8: this sum has its lower limit already, in line 2".into()),
+        ("free x\nx >= 1", "2:3: x is said to be free, in line 2".to_string()),
+        ("x >= 1\nfree y x", "2:8: x has a limit, in line 2".to_string()),
+        ("free x x", "1:8: x is said to be free already, in line 2".to_string()),
         ("free", "1:5: a name is missing after free".to_string()),
         ("free x + y", "1:8: after free stand names alone: free x y".to_string()),
         ("x + row >= 1", "1:5: row is no name: it begins a line of its own kind".to_string()),
@@ -80,10 +93,15 @@ fn of_limits() {
             "1:10: a sign is missing here: a sum without limits has names alone".to_string(),
         ),
         ("row", "1:4: a sum is missing after row".to_string()),
-        ("", "1:1: there is no limit in this text".to_string()),
-        ("# x >= 1\n", "1:1: there is no limit in this text".to_string()),
+        ("x + 0 y >= 1\ny = 2", "1:7: 0 y says nothing: leave it out".to_string()),
+        ("- x >= 20", format!("1:1: {item} minus is meant, leave no space")),
+        ("row + x >= 20", format!("1:5: {item} plus is meant, leave no space")),
+        ("x > = 20", "1:3: write >= in one piece".to_string()),
+        ("x < = 20", "1:3: write <= in one piece".to_string()),
+        ("x = 20-40", format!("1:5: {range}")),
+        ("20 - 40 <= x", format!("1:1: {range}")),
     ] {
-        assert_eq!(limit_fault(text), fault, "{text}");
+        assert_eq!(below("names x y", text), fault, "{text}");
     }
 }
 
@@ -91,22 +109,27 @@ fn of_limits() {
 fn of_too_many() {
     let names: Vec<String> = (1..=9).map(|number| format!("x{number}")).collect();
     let text = names.iter().map(|name| format!("{name} >= 1\n")).collect::<String>();
-    let fault = "9:1: x9 is one too many: there are 8 names at most";
-    assert_eq!(limit_fault(&text), fault);
-    assert!(limits::read(&text[..text.len() - 8]).is_ok());
-    assert_eq!(limit_fault(&format!("free {}", names.join(" "))), format!("1:30{}", &fault[3..]));
+    let fault = "1:31: x9 is one too many: there are 8 names at most";
+    assert_eq!(limit_fault(&format!("names {}\n{text}", names.join(" "))), fault);
+    let eight = format!("names {}\n{}", names[..8].join(" "), &text[..text.len() - 8]);
+    assert!(limits::read(&eight).is_ok());
 
     let rows: Vec<String> = (2..=18).map(|number| format!("{number} x >= 1\n")).collect();
-    assert_eq!(limit_fault(&rows.concat()), "17:1: one row too many: there are 16 at most");
-    assert_eq!(limits::read(&rows[..16].concat()).unwrap().rows.len(), 16);
-    let shared = rows[..16].concat() + "-2 x >= -5\nx <= 4\n";
+    let fault = "17:1: one row too many: there are 16 at most";
+    assert_eq!(below("names x", &rows.concat()), fault);
+    let sixteen = format!("names x\n{}", rows[..16].concat());
+    assert_eq!(limits::read(&sixteen).unwrap().rows.len(), 16);
+    let shared = sixteen + "-2 x >= -5\nx <= 4\n";
     assert_eq!(limits::read(&shared).unwrap().rows.len(), 16);
 
-    let many: String = (0..65).map(|number| format!("t{number} - t0 <= 1\n")).collect();
-    assert_eq!(time_fault(&many), "65:1: t64 is one too many: there are 64 names at most");
-    let many = "a - b <= 1\n".repeat(257);
-    assert_eq!(time_fault(&many), "257:1: one row too many: there are 256 at most");
-    assert_eq!(times::read(&many[11..]).unwrap().rows.len(), 256);
+    let many: Vec<String> = (0..65).map(|number| format!("t{number}")).collect();
+    let fault = "1:253: t64 is one too many: there are 64 names at most";
+    assert_eq!(time_fault(&format!("times {}", many.join(" "))), fault);
+    let many: String = (0..257).map(|number| format!("a - b <= {number}\n")).collect();
+    let fault = "257:1: one row too many: there are 256 at most";
+    assert_eq!(below("times a b", &many), fault);
+    let most = format!("times a b\n{}", &many[..many.len() - 13]);
+    assert_eq!(times::read(&most).unwrap().rows.len(), 256);
 }
 
 #[test]
@@ -120,15 +143,122 @@ fn of_time_rows() {
         ("a + b <= 5", "1:5: a time row is about a difference: end - start <= 30"),
         ("a - b <= 30001", "1:10: 30001 is out of range: a limit is from -30000 to 30000"),
         ("a - b", "1:6: a sign is missing: <=, <, >=, > or = says how far they are apart"),
+        ("a - a <= 30", "1:5: a - a is 0; begin the line with row if that is meant"),
+        ("a - b <= 5\nb >= a - 5", "2:3: line 2 says the same; begin with row to have both"),
+        ("row", "1:4: a difference is missing after row"),
+        ("a - b <= 30 min", MINUTES),
+        ("a - bb <= 30", "1:5: bb is not among the names: a b c"),
+        ("a - b <= 30", "0:11: no row speaks of c; a line free c says that this is meant"),
+    ] {
+        assert_eq!(below("times a b c", text), fault, "{text}");
+    }
+}
+
+const MINUTES: &str =
+    "1:13: min is not among the names; a unit is left out, or stands in a comment: # min";
+
+#[test]
+fn of_openings() {
+    for (text, fault) in [
+        ("", "1:1: there is no limit in this text"),
+        ("# x >= 1\n", "1:1: there is no limit in this text"),
+        (
+            "\nhello, world\n",
+            "2:1: there is no limit in this text: it opens with its names, as in names zone1 zone2",
+        ),
+        (
+            "# oven\n 25 <= zone1 <= 40\nzone2 - zone1 <= 60\n2 heat >= 1",
+            "2:2: the names are not declared; put this line first: names zone1 zone2 heat",
+        ),
+        (
+            "zone1 >= 20 degC\nzone2 - zone1 <= 60\nzone2 - zne1 >= 2,5\nzne1 >= 3",
+            "1:1: the names are not declared; put this line first: names zone1 zone2",
+        ),
+        ("times x", "1:1: these are time rows, not limits: scatterflock times answers them"),
+        ("can\nx = 2", "1:1: this is an answer: scatterflock check FILE ANSWER looks at it"),
+        ("x >= 1\n\nnames x", "1:1: line 3 declares the names, and has to be the first"),
+        ("names x\nx >= 1\nnames y", "3:1: a line names stands above all others"),
+        ("names x\nx >= 1\ntimes y", "3:1: limits and time rows stand in texts of their own"),
+        ("names", "1:6: a name is missing after names"),
+        ("names x, y", "1:8: the character , has no meaning here"),
+        ("names x 2", "1:9: after names stand names alone: names x y"),
+        ("names x\nnames y x", "2:9: x is declared already, in line 1"),
+        ("names x X", "1:9: X and x differ in small and capital letters alone"),
+        ("names x Row", "1:9: Row is no name: row begins a line of its own kind"),
+        ("names x", "1:7: nothing limits x; a line free x says that this is meant"),
+    ] {
+        assert_eq!(limit_fault(text), fault, "{text}");
+    }
+    for (text, fault) in [
         ("", "1:1: there is no time row in this text"),
+        ("names x", "1:1: these are limits, not time rows: scatterflock solve answers them"),
+        (
+            "start2 - start1 >= 30 min",
+            "1:1: the names are not declared; put this line first: times start2 start1",
+        ),
+        ("times a\nfree a\nnames b", "3:1: limits and time rows stand in texts of their own"),
     ] {
         assert_eq!(time_fault(text), fault, "{text}");
     }
 }
 
 #[test]
+fn of_names() {
+    let free = "says that this is meant";
+    for (text, fault) in [
+        ("zone3 - zon2 <= 60", "1:9: zon2 is not among the names; is it zone2?".to_string()),
+        ("Zone2 >= 60", "1:1: Zone2 is not among the names; is it zone2?".to_string()),
+        ("zone4 >= 60", "1:1: zone4 is not among the names: zone1 zone2 zone3".to_string()),
+        (
+            "zone1 >= 20 degC",
+            "1:13: degC is not among the names; a unit is left out, or stands in a comment: # degC"
+                .to_string(),
+        ),
+        ("zone1 >= 2 zon2", "1:12: zon2 is not among the names; is it zone2?".to_string()),
+        ("Free zone1", "1:6: a sign, + or -, is missing before this".to_string()),
+        ("free zon2", "1:6: zon2 is not among the names; is it zone2?".to_string()),
+        (
+            "zone1 = 1\nzone2 = 2\nzone3 - zone2 <= 60",
+            format!(
+                "3:1: zone3 has no limit and stands in this line alone, so the line says nothing; \
+                 a line free zone3 {free}"
+            ),
+        ),
+        (
+            "zone1 = 1\nzone2 = 2\nzone3 - zone2 <= 60\nzone2 - zone3 <= 60",
+            format!(
+                "3:1: zone3 has no limit and stands in this line alone, so the line says nothing; \
+                 a line free zone3 {free}"
+            ),
+        ),
+        (
+            "zone1 = 1\nzone2 = 2\nrow zone3 + zone2",
+            format!("0:19: nothing limits zone3; a line free zone3 {free}"),
+        ),
+    ] {
+        assert_eq!(below("names zone1 zone2 zone3", text), fault, "{text}");
+    }
+    for lines in [
+        "zone1 = 1\nzone2 = 2\nzone3 - zone2 <= 60\nzone3 - zone1 <= 80",
+        "zone1 = 1\nzone2 = 2\nfree zone3\nzone3 - zone2 <= 60",
+        "zone1 = 1\n3 zone2 = 2\nrow zone3 >= 7",
+    ] {
+        assert!(below("names zone1 zone2 zone3", lines).starts_with("Limits"), "{lines}");
+    }
+}
+
+#[test]
+fn of_ends_of_lines() {
+    let what = "this character looks like the end of a line, or turns its order round";
+    for c in ['\r', '\u{c}', '\u{85}', '\u{2028}', '\u{202e}', '\u{2066}'] {
+        assert_eq!(below("names x", &format!("x >= 1 # a{c}x <= 4")), format!("1:11: {what}"));
+    }
+}
+
+#[test]
 fn of_answers() {
-    let problem = limits::read("1 <= x <= 2\nx + y >= 3\n").unwrap();
+    let problem = "names x y\n1 <= x <= 2\nx + y >= 3\nfree y\n";
+    let problem = limits::read(problem).unwrap();
     let fault = |text: &str| answer::read(text, &problem).map_err(|fault: Fault| fault.to_string());
     for (text, what) in [
         ("", "1:1: there is no answer in this text"),
@@ -142,10 +272,10 @@ fn of_answers() {
         ("can\nx 2", "2:1: here stands a name, =, and its value: x = 7/2"),
         ("cannot\n2 times line 7", "2:9: line 7 of the problem sets no such limit"),
         (
-            "cannot\n2 times line 1",
-            "2:9: line 1 of the problem sets two limits: say lower or upper",
+            "cannot\n2 times line 2",
+            "2:9: line 2 of the problem sets two limits: say lower or upper",
         ),
-        ("cannot\n2 times line 2\n1 times lower 2", "3:1: this limit has its multiplier already"),
+        ("cannot\n2 times line 3\n1 times lower 2", "3:1: this limit has its multiplier already"),
         ("cannot\n2 times lower 3", "2:15: there is no such variable"),
         ("1 2.5", "1:3: 2.5 is not a whole number"),
         ("1 99999999999999999999", "1:3: 99999999999999999999 is out of range for a word"),
@@ -176,7 +306,7 @@ fn of_answers() {
     assert_eq!(fault("can\ny = 3/2 # a comment\nx = -10/4"), Ok(vec![1, 0, 2, -5, 3, -2, 0, 0, 0]));
     let small = "can\nx = -1/2 + small\ny = 3 - 5/3 small";
     assert_eq!(fault(small), Ok(vec![1, 0, 6, -3, 18, 15, 6, -10, -4]));
-    let cannot = "cannot\n2 times line 1 upper\n3 times line 2\n5 times lower 0\n";
+    let cannot = "cannot\n2 times line 2 upper\n3 times line 3\n5 times lower 0\n";
     assert_eq!(fault(cannot), Ok(vec![2, 0, 0, 5, 0, 3, 2, 0, 0]));
     assert_eq!(fault("1 2\n-3 # 4"), Ok(vec![1, 2, -3]));
 }

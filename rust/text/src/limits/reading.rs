@@ -3,6 +3,7 @@
 use super::{Limit, Limits, Side, MOST_ROWS, MOST_VARIABLES};
 use crate::fault::Fault;
 use crate::names::Names;
+use crate::opening::{self, Holds};
 use crate::statement::{self, statement, Statement};
 use crate::tokens::{lines, Line};
 
@@ -19,6 +20,9 @@ struct Row {
     limited: Limited,
     /// Whether its line begins with `row`: it is shared with no other line.
     is_alone: bool,
+    /// The line that has it first, and the column of each name there.
+    line: usize,
+    columns: Vec<(usize, usize)>,
 }
 
 struct Reading {
@@ -33,11 +37,15 @@ struct Reading {
 ///
 /// The first fault, with line and column.
 pub fn read(text: &str) -> Result<Limits, Fault> {
-    let names = Names::new(MOST_VARIABLES);
-    let mut reading = Reading { names, own: Vec::new(), rows: Vec::new() };
-    for line in lines(text) {
+    let mut lines = lines(text).peekable();
+    let names = opening::names(text, &mut lines, Holds::Limits, MOST_VARIABLES)?;
+    let own = names.list.iter().map(|_| Limited::default()).collect();
+    let mut reading = Reading { names, own, rows: Vec::new() };
+    for line in lines {
         let line = line?;
-        if line.begins_with("free") {
+        if let Some(fault) = opening::late(&line, Holds::Limits) {
+            return Err(fault);
+        } else if line.begins_with("free") {
             reading.free(&line)?;
         } else if line.begins_with("row") {
             if line.tokens.len() == 1 {
@@ -47,6 +55,7 @@ pub fn read(text: &str) -> Result<Limits, Fault> {
             reading.say(&line, said, true)?;
         } else {
             let said = statement(&line, 0)?;
+            reading.names_of(&line, &said)?;
             if said.lower.is_none() && said.upper.is_none() {
                 let what = "a sign is missing: <=, <, >=, > or = says what the limit is";
                 return Err(line.fault(line.end, what));
@@ -54,22 +63,13 @@ pub fn read(text: &str) -> Result<Limits, Fault> {
             reading.say(&line, said, false)?;
         }
     }
-    if reading.own.is_empty() {
-        return Err(Fault::new(1, 1, "there is no limit in this text"));
-    }
-    Ok(reading.whole())
+    let found = reading.whole();
+    reading.unlimited(&found).map_or(Ok(found), Err)
 }
 
 impl Reading {
-    fn used(&mut self, line: &Line, column: usize, name: &str) -> Result<usize, Fault> {
-        let number = self.names.used(line, column, name)?;
-        self.own.resize_with(self.names.list.len(), Limited::default);
-        Ok(number)
-    }
-
     fn free(&mut self, line: &Line) -> Result<(), Fault> {
         for (number, column) in self.names.free(line)? {
-            self.own.resize_with(self.names.list.len(), Limited::default);
             let name = &self.names.list[number];
             let own = &mut self.own[number];
             if let Some(limit) = own.limits.iter().flatten().next() {
@@ -87,38 +87,47 @@ impl Reading {
 
     fn say(&mut self, line: &Line, said: Statement, is_alone: bool) -> Result<(), Fault> {
         let limits = [said.lower, said.upper];
-        let row = self.row(line, &said)?;
+        let named = self.names_of(line, &said)?;
         match &said.terms[..] {
             [term] if term.coefficient.abs() == 1 && !is_alone => {
-                let number = self.used(line, term.column, &term.name)?;
                 let is_turned = term.coefficient < 0;
-                limited(line, &mut self.own[number], limits, is_turned, &term.name)
+                limited(line, &mut self.own[named[0]], limits, is_turned, &term.name)
             }
-            _ => self.say_of_row(line, row, limits, is_alone),
+            _ => self.say_of_row(line, &said, &named, is_alone),
         }
     }
 
-    /// A coefficient for each variable that there may be.
-    fn row(&mut self, line: &Line, said: &Statement) -> Result<Vec<i32>, Fault> {
-        let mut row = vec![0; MOST_VARIABLES];
-        for (place, term) in said.terms.iter().enumerate() {
-            if said.terms[..place].iter().any(|other| other.name == term.name) {
+    /// The number of each name of a line.
+    fn names_of(&self, line: &Line, said: &Statement) -> Result<Vec<usize>, Fault> {
+        let mut named = Vec::new();
+        for term in &said.terms {
+            let number = self.names.used(line, term.column, &term.name, term.is_counted)?;
+            if named.contains(&number) {
                 let what = format!("{} comes twice in this line", term.name);
                 return Err(line.fault(term.column, what));
             }
-            row[self.used(line, term.column, &term.name)?] = term.coefficient;
+            if term.coefficient == 0 && said.terms.len() > 1 {
+                let what = format!("0 {} says nothing: leave it out", term.name);
+                return Err(line.fault(term.column, what));
+            }
+            named.push(number);
         }
-        Ok(row)
+        Ok(named)
     }
 
     /// Limits of a row: of one that is there, or of a new one.
     fn say_of_row(
         &mut self,
         line: &Line,
-        row: Vec<i32>,
-        limits: [Option<statement::Limit>; 2],
+        said: &Statement,
+        named: &[usize],
         is_alone: bool,
     ) -> Result<(), Fault> {
+        let limits = [said.lower, said.upper];
+        let mut row = vec![0; self.own.len()];
+        for (term, &number) in said.terms.iter().zip(named) {
+            row[number] = term.coefficient;
+        }
         let turned: Vec<i32> = row.iter().map(|number| -number).collect();
         let shared = self.rows.iter_mut().find(|other| {
             !is_alone && !other.is_alone && [&row, &turned].contains(&&other.coefficients)
@@ -131,20 +140,44 @@ impl Reading {
             let what = format!("one row too many: there are {MOST_ROWS} at most");
             return Err(line.fault(line.tokens[0].column, what));
         }
-        let mut begun = Row { coefficients: row, limited: Limited::default(), is_alone };
+        let columns = named.iter().copied().zip(said.terms.iter().map(|term| term.column));
+        let mut begun = Row {
+            coefficients: row,
+            limited: Limited::default(),
+            is_alone,
+            line: line.number,
+            columns: columns.collect(),
+        };
         limited(line, &mut begun.limited, limits, false, "this sum")?;
         self.rows.push(begun);
         Ok(())
     }
 
-    fn whole(self) -> Limits {
-        let n = self.own.len();
+    fn whole(&self) -> Limits {
         let limits = self.own.iter().chain(self.rows.iter().map(|row| &row.limited));
         Limits {
-            names: self.names.list,
+            names: self.names.list.clone(),
             limits: limits.map(|limited| limited.limits).collect(),
-            rows: self.rows.iter().map(|row| row.coefficients[..n].to_vec()).collect(),
+            rows: self.rows.iter().map(|row| row.coefficients.clone()).collect(),
         }
+    }
+
+    /// The fault of a name that nothing limits, unless `free` says that this is
+    /// meant.
+    fn unlimited(&self, found: &Limits) -> Option<Fault> {
+        let not_meant = |(name, _): &(usize, Option<usize>)| self.own[*name].free.is_none();
+        let (number, row) = found.unlimited().into_iter().find(not_meant)?;
+        let name = &self.names.list[number];
+        let meant = format!("a line free {name} says that this is meant");
+        let Some(row) = row.map(|row| &self.rows[row]) else {
+            let (line, column) = self.names.places[number];
+            return Some(Fault::new(line, column, format!("nothing limits {name}; {meant}")));
+        };
+        let column = row.columns.iter().find(|(other, _)| *other == number)?.1;
+        let what = format!(
+            "{name} has no limit and stands in this line alone, so the line says nothing; {meant}"
+        );
+        Some(Fault::new(row.line, column, what))
     }
 }
 

@@ -1,6 +1,7 @@
 //! A limit problem, shown as text.
 
-use super::{read, Limit, Limits, Side};
+use super::{Limit, Limits, Side};
+use crate::opening::{free, opened, Holds};
 use crate::statement::sum_text;
 
 impl Limits {
@@ -37,12 +38,6 @@ impl Limits {
         some.map_or_else(|| self.blank(), |coefficients| self.sum(&coefficients))
     }
 
-    /// The same with the names in their order.
-    fn left_in_order(&self, variable: usize) -> String {
-        let some = self.some_coefficients(variable);
-        some.map_or_else(|| self.blank(), |coefficients| sum_text(self.terms(&coefficients)))
-    }
-
     /// A row of zeros.
     fn blank(&self) -> String {
         format!("0 {}", self.names[0])
@@ -55,28 +50,15 @@ impl Limits {
         Some(format!("{} {} {}", self.left(variable), limit.sign(side), limit.number))
     }
 
-    /// The whole problem as text, a line for each variable or row that is
-    /// limited. The text has the same words.
+    /// The whole problem as text: its names, those that nothing limits, and a
+    /// line for each variable or row that is limited. The text has the same words.
     #[must_use]
     pub fn text(&self) -> String {
-        for is_in_order in [false, true] {
-            let short = self.lines(false, is_in_order);
-            if read(&short).is_ok_and(|again| again.names == self.names) {
-                return short;
-            }
-        }
-        self.lines(true, false)
-    }
-
-    /// The lines; the names without limits are told where that is asked for.
-    fn lines(&self, tells_free: bool, is_in_order: bool) -> String {
         let n = self.names.len();
-        let mut lines = String::new();
+        let mut lines = opened(Holds::Limits, &self.names);
+        lines += &free(self.unlimited().into_iter().map(|(name, _)| &self.names[name]));
         for (variable, limits) in self.limits.iter().enumerate() {
-            let left = match is_in_order {
-                true => self.left_in_order(variable),
-                false => self.left(variable),
-            };
+            let left = self.left(variable);
             let said = match *limits {
                 [Some(low), Some(high)] if is_one_value(low, high) => {
                     format!("{left} = {}", low.number)
@@ -88,7 +70,6 @@ impl Limits {
                 [Some(low), None] => format!("{left} {} {}", low.sign(Side::Lower), low.number),
                 [None, Some(high)] => format!("{left} {} {}", high.sign(Side::Upper), high.number),
                 [None, None] if variable >= n => left,
-                [None, None] if tells_free => format!("free {left}"),
                 [None, None] => continue,
             };
             let is_alone = variable >= n && self.is_alone(variable - n);
