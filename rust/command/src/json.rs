@@ -41,13 +41,19 @@ pub fn line(line: Option<usize>) -> String {
 }
 
 /// A fraction's parts, and a decimal to read; then how many small amounts are
-/// beside it.
+/// beside it. Where there are any, the decimal is not exact.
 pub fn pair(pair: Pair) -> Vec<(&'static str, String)> {
     let (decimal, is_exact) = pair.plain.decimal();
+    let is_exact = is_exact && pair.small.numerator == 0;
     let mut fields = fraction(pair.plain);
     fields.extend([("decimal", text(&decimal)), ("exact", is_exact.to_string())]);
     fields.push(("small", inner(&fraction(pair.small))));
     fields
+}
+
+/// The same of a fraction with no small amounts.
+pub fn number(plain: Fraction) -> Vec<(&'static str, String)> {
+    pair(Pair { plain, small: Fraction::new(0, 1) })
 }
 
 /// A fraction's parts.

@@ -76,6 +76,36 @@ impl Shown {
         least.map(|(plain, small)| Fraction::new(plain, small))
     }
 
+    /// An amount put for the small one, and the values with it: 1, or the first
+    /// half, quarter and so on that will do. The checker has accepted them. There
+    /// are none without small parts, and none where they are too large for it.
+    fn example(&self, values: Values) -> Option<(Fraction, Vec<Fraction>)> {
+        if values.small.iter().all(|&small| small == 0) {
+            return None;
+        }
+        let end = self.small_below(values);
+        let will_do = |over: &i64| match end {
+            Some(end) => {
+                i128::from(end.denominator) < i128::from(end.numerator) * i128::from(*over)
+            }
+            None => true,
+        };
+        let over = (0..31).map(|halved| 1_i64 << halved).find(will_do)?;
+        let put = |(plain, small): (&i64, &i64)| {
+            i64::try_from(i128::from(*plain) * i128::from(over) + i128::from(*small)).ok()
+        };
+        let all = values.plain.iter().zip(values.small).map(put).collect::<Option<Vec<i64>>>()?;
+        let mut words = vec![1, 0, values.over.checked_mul(over)?];
+        words.extend(&all);
+        words.extend(vec![0; all.len()]);
+        if scatterflock::check(&self.problem.words(), &words) != Ok(Judgement::Accepted) {
+            return None;
+        }
+        let named = all[..self.problem.names.len()].iter();
+        let numbers = named.map(|&number| Fraction::new(number, words[2]));
+        Some((Fraction::new(1, over), numbers.collect()))
+    }
+
     /// The limits that count, with their multipliers.
     fn counted(&self, multipliers: [&Vec<i64>; 2]) -> Vec<(usize, Side, i64)> {
         all_limits(&self.problem)

@@ -1,5 +1,6 @@
 //! `scatterflock times`: an answer about time rows.
 
+use crate::fraction::Fraction;
 use crate::input::{self, bad, Content, Input};
 use crate::table::table;
 use crate::{json, Ended, Failure, CAN, CANNOT};
@@ -59,18 +60,6 @@ fn is_met(row: &Row, times: &Fractions) -> bool {
     spare(row, times) >= i64::from(row.is_strict)
 }
 
-/// A fraction of a minute in its lowest terms: `3`, or `1/2`.
-fn minutes(numerator: i64, over: i64) -> String {
-    let (mut common, mut rest) = (numerator.abs(), over);
-    while rest != 0 {
-        (common, rest) = (rest, common % rest);
-    }
-    match over / common {
-        1 => (numerator / common).to_string(),
-        over => format!("{}/{over}", numerator / common),
-    }
-}
-
 /// What the rows come to, added up, and whether a strict one is among them.
 fn sum(rows: &[&Row]) -> (i64, bool) {
     (rows.iter().map(|row| i64::from(row.c)).sum(), rows.iter().any(|row| row.is_strict))
@@ -100,12 +89,12 @@ fn place(row: &Row) -> Option<String> {
 }
 
 fn can(rows: &Times, times: &Fractions) -> Ended {
-    let time = |numerator: &i64| minutes(*numerator, times.over);
+    let time = |numerator: &i64| Fraction::new(*numerator, times.over);
     let named = rows.names.iter().zip(&times.numerators);
     let values = named.map(|(name, numerator)| vec![format!("{name} = {}", time(numerator))]);
     let mut said = format!("can\n\n{}\n", table("", &values.collect::<Vec<_>>()));
     let far = rows.rows.iter().map(|row| {
-        let far = match minutes(spare(row, times), times.over).as_str() {
+        let far = match Fraction::new(spare(row, times), times.over).to_string().as_str() {
             "0" => "met exactly".to_string(),
             "1" => "1 minute to spare".to_string(),
             spare if spare.contains('/') => format!("{spare} of a minute to spare"),
@@ -149,17 +138,19 @@ fn row_json(rows: &Times, row: &Row) -> Vec<(&'static str, String)> {
 
 fn can_json(file: &str, rows: &Times, times: &Fractions) -> Ended {
     let values = rows.names.iter().zip(&times.numerators).map(|(name, numerator)| {
-        json::inner(&[("name", json::text(name)), ("minutes", numerator.to_string())])
+        let mut fields = vec![("name", json::text(name))];
+        fields.extend(json::number(Fraction::new(*numerator, times.over)));
+        json::inner(&fields)
     });
     let far = rows.rows.iter().map(|row| {
         let mut fields = row_json(rows, row);
-        fields.push(("spare", spare(row, times).to_string()));
+        let spare = Fraction::new(spare(row, times), times.over);
+        fields.push(("spare", json::inner(&json::number(spare))));
         json::inner(&fields)
     });
     let fields = [
         ("verdict", json::text("can")),
         ("file", json::text(file)),
-        ("over", times.over.to_string()),
         ("times", json::list(values)),
         ("rows", json::list(far)),
     ];

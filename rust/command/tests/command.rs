@@ -229,7 +229,7 @@ fn strict_limits_as_json() {
     let (said, _, status) = ran(&["--json", "solve", "-"], b"names x\n2 < x < 7");
     assert_eq!(status, 0);
     assert!(json::is_one_line(&said));
-    let small = "\"decimal\":\"2\",\"exact\":true,\"small\":{\"numerator\":1,\"denominator\":1}";
+    let small = "\"decimal\":\"2\",\"exact\":false,\"small\":{\"numerator\":1,\"denominator\":1}";
     assert!(said.contains(small), "{said}");
     assert!(said.contains("\"small_below\":{\"numerator\":5,\"denominator\":1}"), "{said}");
     let (said, _, _) = ran(&["--json", "solve", "-"], b"names x\n2 < x < 2");

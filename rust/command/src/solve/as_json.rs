@@ -16,9 +16,18 @@ impl Shown {
         });
         let below = self.small_below(values);
         let below = below.map_or("null".to_string(), |end| json::inner(&json::fraction(end)));
+        let example = self.example(values).map_or("null".to_string(), |(_, numbers)| {
+            let named = problem.names.iter().zip(numbers);
+            json::list(named.map(|(name, number)| {
+                let mut fields = vec![("name", json::text(name))];
+                fields.extend(json::number(number));
+                json::inner(&fields)
+            }))
+        });
         let fields = [
             ("values", self.values_json(values)),
             ("small_below", below),
+            ("example", example),
             ("limits", json::list(limits)),
         ];
         self.json("can", &fields, CAN)

@@ -42,8 +42,17 @@ impl Shown {
         }
         let end = self.small_below(values).map(|end| format!(" and below {end}"));
         let end = end.unwrap_or_default();
+        let example = self.example(values).map_or(String::new(), |(amount, numbers)| {
+            let named = self.problem.names.iter().zip(numbers);
+            let said = named.map(|(name, number)| format!("{name} = {number}"));
+            format!(
+                "# With {amount} for it: {}. The checker has accepted that too.\n",
+                said.collect::<Vec<String>>().join(", ")
+            )
+        });
         format!(
-            "# Put any amount above 0{end} for small, the same one everywhere: all limits hold.\n"
+            "# Put any amount above 0{end} for small, the same one everywhere: all limits hold.\n\
+             {example}"
         )
     }
 
