@@ -56,6 +56,15 @@ pub struct Options {
     pub bytes: bool,
 }
 
+const COMMANDS: [&str; 4] = ["solve", "check", "times", "words"];
+const OPTIONS: [&str; 6] = ["--json", "--each", "--times", "--bytes", "--help", "--version"];
+
+/// The question whether another word was meant.
+fn near(word: &str, among: &[&'static str]) -> String {
+    let near = text::nearest(word, among.iter().copied());
+    near.map_or(String::new(), |near| format!("; is it {near}?"))
+}
+
 impl Options {
     pub fn read(words: &[OsString]) -> Result<Options, String> {
         let [mut json, mut each, mut times, mut bytes] = [false; 4];
@@ -72,7 +81,7 @@ impl Options {
                 Some("--times") if !is_over => times = true,
                 Some("--bytes") if !is_over => bytes = true,
                 Some(option) if !is_over && option.starts_with('-') && option != "-" => {
-                    return Err(format!("there is no option {option}"));
+                    return Err(format!("there is no option {option}{}", near(option, &OPTIONS)));
                 }
                 _ => files.push(word.clone()),
             }
@@ -93,7 +102,8 @@ impl Options {
             }
             ("solve" | "times" | "words", _) => return Err(format!("{name} takes one file")),
             ("check", _) => return Err("check takes two files".to_string()),
-            _ => return Err(format!("there is no command {name}")),
+            ("help", _) => Action::Help,
+            _ => return Err(format!("there is no command {name}{}", near(&name, &COMMANDS))),
         };
         if each && !matches!(action, Action::Solve(_)) {
             return Err("--each is an option of solve".to_string());

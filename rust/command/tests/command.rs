@@ -52,6 +52,7 @@ fn verdicts_and_statuses() {
         (&["words", "--times", "-"], "2 1 0 1 0 1", "times t0 t1", 0),
         (&["words", "--times", "-"], "times a b\na - b <= 1", "2 1 0 1 0 1", 0),
         (&["words", "-"], "times a b\na - b <= 1", "2 1 0 1 0 1", 0),
+        (&["help"], "", "usage: scatterflock [--json] solve [--each] FILE", 0),
         (&["--help"], "", "usage: scatterflock [--json] solve [--each] FILE", 0),
         (&["solve", "-", "--json"], "", "{\"error\":\"there is no limit in this text\",\"file\":\"standard input\",\"line\":1,\"column\":1}", 4),
     ] {
@@ -105,7 +106,9 @@ fn slips_are_no_names() {
 fn usage_and_files() {
     for (words, status, what) in [
         (&[][..], 4, "there is no command"),
-        (&["melt", "-"], 4, "there is no command melt"),
+        (&["melt", "-"], 4, "there is no command melt;"),
+        (&["slove", "-"], 4, "there is no command slove; is it solve?"),
+        (&["--jsno", "solve", "-"], 4, "there is no option --jsno; is it --json?"),
         (&["solve"], 4, "solve takes one file"),
         (&["check", "-"], 4, "check takes two files"),
         (&["check", "-", "-"], 4, "not both"),

@@ -3,7 +3,7 @@
 //! - `fault`: what is wrong, with line and column
 //! - `tokens`: a line's tokens
 //! - `opening`: the lines that say what a text holds and declare its names
-//! - `names`, `near`: declared names, and the one that was probably meant
+//! - `names`, [`nearest`]: declared names, and the one that was probably meant
 //! - `statement`: sums of names and numbers, and the signs between them
 //! - [`limits`]: a limit problem as text
 //! - [`times`]: time rows as text
@@ -22,4 +22,5 @@ pub mod times;
 mod tokens;
 
 pub use fault::Fault;
+pub use near::nearest;
 pub use opening::Holds;

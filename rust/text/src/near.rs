@@ -2,6 +2,7 @@
 
 /// The nearest of these, where one is near: a letter or two other, more, less or
 /// exchanged. Digits, and names of a letter or two, tell things apart on purpose.
+#[must_use]
 pub fn nearest<'a>(name: &str, among: impl Iterator<Item = &'a str>) -> Option<&'a str> {
     let near = among.map(|other| (distance(name, other), other));
     near.filter(|&(far, other)| {

@@ -116,6 +116,12 @@ fn unopened(text: &str, holds: Holds) -> Fault {
         return fault("this is an answer: scatterflock check FILE ANSWER looks at it".to_string());
     }
     let word = holds.word();
+    if let Some(word) = first.and_then(Line::first_name).filter(|first| {
+        let is_list = all[0].tokens.iter().all(|token| matches!(token.kind, Kind::Name(_)));
+        is_list && *first != word && nearest(first, [word].into_iter()).is_some()
+    }) {
+        return fault(format!("{word}: write {}, in small letters", holds.word()));
+    }
     if let Some(late) = all.iter().find(|line| line.begins_with(word)) {
         return fault(format!("line {} declares the names, and has to be the first", late.number));
     }

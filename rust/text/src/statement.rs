@@ -87,8 +87,8 @@ pub fn statement(line: &Line, skipped: usize) -> Result<Statement, Fault> {
     Ok(found)
 }
 
-/// What would be read as something else than was meant: an item of a list, a
-/// sign in two pieces, a range.
+/// What would be read as something else than was meant: an item of a list, two
+/// limits, a sign in two pieces, a range.
 fn misleading(line: &Line, tokens: &[Token]) -> Option<Fault> {
     if let [Token { kind: first @ (Kind::Plus | Kind::Minus), column }, next, ..] = tokens {
         if next.column > column + 1 {
@@ -97,6 +97,19 @@ fn misleading(line: &Line, tokens: &[Token]) -> Option<Fault> {
                 format!("a line is no item of a list; where {sign} is meant, leave no space");
             return Some(line.fault(*column, what));
         }
+    }
+    for three in tokens.windows(3) {
+        let [Kind::Number(_) | Kind::Name(_), Kind::Name(word), Kind::Number(_) | Kind::Name(_)] =
+            [0, 1, 2].map(|place| &three[place].kind)
+        else {
+            continue;
+        };
+        let what = match word.as_str() {
+            "and" => "a line has one limit: what stands behind and begins a new one",
+            "or" => "there is no or: all lines have to hold together",
+            _ => continue,
+        };
+        return Some(line.fault(three[1].column, what));
     }
     for pair in tokens.windows(2) {
         let what = match (&pair[0].kind, &pair[1].kind) {
@@ -127,8 +140,9 @@ fn side(line: &Line, tokens: &[Token], end: usize) -> Result<Side, Fault> {
         let sign = match rest.first().map(|token| &token.kind) {
             Some(Kind::Plus) => Some(1),
             Some(Kind::Minus) => Some(-1),
-            Some(_) if !is_first => {
-                return Err(line.fault(rest[0].column, "a sign, + or -, is missing before this"))
+            Some(next) if !is_first => {
+                let before = &tokens[tokens.len() - rest.len() - 1].kind;
+                return Err(line.fault(rest[0].column, unjoined(before, next)));
             }
             _ => None,
         };
@@ -139,6 +153,28 @@ fn side(line: &Line, tokens: &[Token], end: usize) -> Result<Side, Fault> {
     }
     Ok(side)
 }
+
+/// What to say where no sign stands between two things.
+fn unjoined(before: &Kind, next: &Kind) -> String {
+    match (before, next) {
+        (Kind::Name(word), _) if OPTIMISING.contains(&word.to_ascii_lowercase().as_str()) => {
+            "there is no optimising: a line says what a limit is, as in x <= 40".to_string()
+        }
+        (Kind::Name(name), Kind::Number(number)) => {
+            format!("a name has no space in it: {name}{number}; or a sign, + or -, is missing")
+        }
+        (Kind::Number(_), Kind::Number(_)) => {
+            "a number has no space in it, or a sign, + or -, is missing before this".to_string()
+        }
+        (_, Kind::Times | Kind::Over) => PRODUCT.to_string(),
+        _ => "a sign, + or -, is missing before this".to_string(),
+    }
+}
+
+/// Words that ask for the best of all answers.
+const OPTIMISING: [&str; 6] = ["maximize", "maximise", "minimize", "minimise", "max", "min"];
+
+const PRODUCT: &str = "only a number and a name can be multiplied: 3 * x";
 
 /// Adds the term that comes next, and says how many tokens it is made of.
 fn term(
@@ -160,7 +196,7 @@ fn term(
         }
     };
     if let Some(Token { kind: Kind::Times | Kind::Over, column }) = rest.get(length) {
-        return Err(line.fault(*column, "only a number and a name can be multiplied: 3 * x"));
+        return Err(line.fault(*column, PRODUCT));
     }
     let (largest, what) = match name {
         Some(_) => (LARGEST_COEFFICIENT, "a coefficient is from -1000 to 1000"),

@@ -86,7 +86,15 @@ fn say(
     }
     let ([first, second], [first_at, second_at]) = (&said.terms[..], &named[..]) else {
         let column = said.terms.get(2).unwrap_or(&said.terms[0]).column;
-        return Err(line.fault(column, "a time row has two names: end - start <= 30"));
+        let start = "a time row has two names: end - start <= 30";
+        let what = match &said.terms[..] {
+            [only] => format!(
+                "{start}; give the beginning of the day one too, and write {} - day",
+                only.name
+            ),
+            _ => start.to_string(),
+        };
+        return Err(line.fault(column, what));
     };
     for term in [first, second] {
         if term.coefficient.abs() != 1 {

@@ -115,17 +115,39 @@ fn token(chars: &[char]) -> Result<(Kind, usize), String> {
         (c, _) if c.is_ascii_digit() => number(chars),
         ('.' | ',', c) if c.is_ascii_digit() => number(chars),
         (c, _) if c.is_ascii_alphabetic() || c == '_' => name(chars),
-        (c, _) if c.is_control() => {
-            Err(format!("the character {} has no meaning", c.escape_unicode()))
-        }
-        (c, _) => Err(format!("the character {c} has no meaning here")),
+        (c, _) => Err(no_meaning(c)),
     }
+}
+
+/// What to say of a character that no line has.
+fn no_meaning(c: char) -> String {
+    let advice = match c {
+        '(' | ')' | '[' | ']' | '{' | '}' => ": there are none, write 2 x + 2 y for 2 (x + y)",
+        ';' => ": the end of a line ends a limit",
+        ',' => ": names have a space between them, and a decimal has a point",
+        '&' => ": a line has one limit",
+        '|' => ": there is no \"or\", and no size of a difference",
+        '^' => ": only a number and a name can be multiplied",
+        '"' | '\'' | '`' => ": names and numbers stand by themselves",
+        '\u{b0}' | '%' | '$' | '\u{20ac}' | '\u{b5}' | '\u{2126}' => {
+            ": a unit is left out, or stands in a comment"
+        }
+        c if c.is_alphabetic() => ": letters of names are those from a to z",
+        c if c.is_numeric() => ": digits are those from 0 to 9",
+        _ => "",
+    };
+    let is_shown = !c.is_control() && !c.is_whitespace() && !('\u{200b}'..='\u{206f}').contains(&c);
+    let shown = if is_shown { c.to_string() } else { c.escape_unicode().to_string() };
+    format!("the character {shown} has no meaning here{advice}")
 }
 
 /// Everything that somebody may have meant as one number.
 fn number(chars: &[char]) -> Result<(Kind, usize), String> {
     let is_part = |c: &char| c.is_alphanumeric() || matches!(c, '_' | '.' | ',');
     let text: String = chars.iter().take_while(|c| is_part(c)).collect();
+    if let Some(minutes) = clock(&text, &chars[text.chars().count()..]) {
+        return Err(minutes);
+    }
     if text.chars().all(|c| c.is_ascii_digit()) {
         let number = text.parse().map_err(|_| format!("{text} is out of range"))?;
         return Ok((Kind::Number(number), text.len()));
@@ -133,12 +155,23 @@ fn number(chars: &[char]) -> Result<(Kind, usize), String> {
     let has_comma = text.contains(',');
     let is_plain = |c: char| c.is_ascii_digit() || c == ',';
     Err(if has_comma && text.chars().all(is_plain) && !text.ends_with(',') {
-        format!("{text}: numbers are written without commas")
+        format!("{text}: numbers are written without commas, and a decimal has a point")
     } else if text.chars().all(|c| is_plain(c) || c == '.') {
         format!("{text} is not a whole number")
     } else {
         format!("{text} is not a whole number; between a number and a name stands a space or *")
     })
+}
+
+/// What to say of a clock time, such as 06:30.
+fn clock(hours: &str, behind: &[char]) -> Option<String> {
+    let minutes: String = behind.iter().skip(1).take_while(|c| c.is_ascii_digit()).collect();
+    if behind.first() != Some(&':') || minutes.len() != 2 {
+        return None;
+    }
+    let [whole, part] = [hours, &minutes].map(|digits| digits.parse::<i64>().ok());
+    let sum = whole.filter(|hours| *hours < 100)? * 60 + part?;
+    Some(format!("{hours}:{minutes} is a clock time: write minutes, {sum}"))
 }
 
 fn name(chars: &[char]) -> Result<(Kind, usize), String> {

@@ -36,7 +36,11 @@ fn of_limits() {
         ("x >= -Inf", "1:7: Inf is no whole number, and no name".to_string()),
         ("x >= 1e5", format!("1:6: 1e5 {glued}")),
         ("2x >= 5", format!("1:1: 2x {glued}")),
-        ("x >= 30,000", "1:6: 30,000: numbers are written without commas".to_string()),
+        (
+            "x >= 30,000",
+            "1:6: 30,000: numbers are written without commas, and a decimal has a point"
+                .to_string(),
+        ),
         ("x >= 2,", "1:6: 2, is not a whole number".to_string()),
         ("# first\n\nx >=  # nothing", format!("3:5: {missing}")),
         ("x >= ", format!("1:5: {missing}")),
@@ -44,14 +48,25 @@ fn of_limits() {
         ("x + >= 5", format!("1:5: {missing}")),
         ("x - -3 >= 5", format!("1:5: {missing}")),
         ("x y >= 5", "1:3: a sign, + or -, is missing before this".to_string()),
-        ("3 4 x >= 5", "1:3: a sign, + or -, is missing before this".to_string()),
+        (
+            "3 4 x >= 5",
+            "1:3: a number has no space in it, or a sign, + or -, is missing before this".into(),
+        ),
         ("x * 3 >= 5", "1:3: only a number and a name can be multiplied: 3 * x".to_string()),
         ("x / 3 >= 5", "1:3: only a number and a name can be multiplied: 3 * x".to_string()),
         ("3 * 4 >= 5", "1:3: only a number and a name can be multiplied: 3 * x".to_string()),
-        ("x + y - x >= 5", "1:9: x comes twice in this line".to_string()),
-        ("x >= x", "1:6: x comes twice in this line".to_string()),
-        ("x > 1\nx >= 2", "2:3: x has its lower limit already, in line 2".to_string()),
-        ("x <= 1\n1 < x < 2", "2:7: x has its upper limit already, in line 2".to_string()),
+        ("x + y - x >= 5", "1:9: x comes twice in this line: add them up".to_string()),
+        ("x >= x", "1:6: x comes twice in this line: add them up".to_string()),
+        (
+            "x > 1\nx >= 2",
+            "2:3: x has its lower limit already, in line 2; begin with row to have both"
+                .to_string(),
+        ),
+        (
+            "x <= 1\n1 < x < 2",
+            "2:7: x has its upper limit already, in line 2; begin with row to have both"
+                .to_string(),
+        ),
         ("1 < x > 5", "1:7: the two signs of a line must point the same way".to_string()),
         ("x <> 5", "1:3: there is no sign for \"other than\"".to_string()),
         ("x == 5", "1:3: write = in place of ==".to_string()),
@@ -60,8 +75,12 @@ fn of_limits() {
         ("x != 5", "1:3: there is no sign for \"other than\"".to_string()),
         ("x \u{2265} 5", "1:3: write >= in place of \u{2265}".to_string()),
         ("x >= \u{2212}5", "1:6: write - for minus: this is another dash".to_string()),
-        ("x >= 5 %", "1:8: the character % has no meaning here".to_string()),
-        ("x >= 5\u{7}", "1:7: the character \\u{7} has no meaning".to_string()),
+        (
+            "x >= 5 %",
+            "1:8: the character % has no meaning here: a unit is left out, or stands in a comment"
+                .to_string(),
+        ),
+        ("x >= 5\u{7}", "1:7: the character \\u{7} has no meaning here".to_string()),
         ("3 >= 2", "1:1: there is no name in this line".to_string()),
         ("x", "1:2: a sign is missing: <=, <, >=, > or = says what the limit is".to_string()),
         ("1 <= x <= 5 <= y", "1:13: a line has one sign or two: 20 <= x <= 40".to_string()),
@@ -78,10 +97,25 @@ fn of_limits() {
         ("x >= -30001", "1:7: 30001 is out of range: a limit is from -30000 to 30000".to_string()),
         ("x + 1 >= -30000", "1:7: -30001 is out of range: a limit is from -30000 to 30000".into()),
         ("x >= 99999999999999999999", "1:6: 99999999999999999999 is out of range".to_string()),
-        ("x >= 1\nx >= 2", "2:3: x has its lower limit already, in line 2".to_string()),
-        ("x >= 1\n-x <= -2", "2:4: x has its lower limit already, in line 2".to_string()),
-        ("x = 1\nx <= 2", "2:3: x has its upper limit already, in line 2".to_string()),
-        ("x + y >= 1\n-y - x <= 2", "2:8: this sum has its lower limit already, in line 2".into()),
+        (
+            "x >= 1\nx >= 2",
+            "2:3: x has its lower limit already, in line 2; begin with row to have both"
+                .to_string(),
+        ),
+        (
+            "x >= 1\n-x <= -2",
+            "2:4: x has its lower limit already, in line 2; begin with row to have both"
+                .to_string(),
+        ),
+        (
+            "x = 1\nx <= 2",
+            "2:3: x has its upper limit already, in line 2; begin with row to have both"
+                .to_string(),
+        ),
+        (
+            "x + y >= 1\n-y - x <= 2",
+            "2:8: line 2 limits this sum on the same side; begin with row to have both".into(),
+        ),
         ("free x\nx >= 1", "2:3: x is said to be free, in line 2".to_string()),
         ("x >= 1\nfree y x", "2:8: x has a limit, in line 2".to_string()),
         ("free x x", "1:8: x is said to be free already, in line 2".to_string()),
@@ -137,7 +171,7 @@ fn of_time_rows() {
     for (text, fault) in [
         ("a - b <= 2.5", "1:10: 2.5 is not a whole number"),
         ("a - b <=", "1:9: a number or a name is missing here"),
-        ("a <= 5", "1:1: a time row has two names: end - start <= 30"),
+        ("a <= 5", ONE_NAME),
         ("a - b + c <= 5", "1:9: a time row has two names: end - start <= 30"),
         ("2 a - b <= 5", "1:3: names of time rows are taken once, not more often"),
         ("a + b <= 5", "1:5: a time row is about a difference: end - start <= 30"),
@@ -153,6 +187,9 @@ fn of_time_rows() {
         assert_eq!(below("times a b c", text), fault, "{text}");
     }
 }
+
+const ONE_NAME: &str = "1:1: a time row has two names: end - start <= 30; \
+     give the beginning of the day one too, and write a - day";
 
 const MINUTES: &str =
     "1:13: min is not among the names; a unit is left out, or stands in a comment: # min";
@@ -180,7 +217,7 @@ fn of_openings() {
         ("names x\nx >= 1\nnames y", "3:1: a line names stands above all others"),
         ("names x\nx >= 1\ntimes y", "3:1: limits and time rows stand in texts of their own"),
         ("names", "1:6: a name is missing after names"),
-        ("names x, y", "1:8: the character , has no meaning here"),
+        ("names x, y", "1:8: the character , has no meaning here: names have a space between them, and a decimal has a point"),
         ("names x 2", "1:9: after names stand names alone: names x y"),
         ("names x\nnames y x", "2:9: x is declared already, in line 1"),
         ("names x X", "1:9: X and x differ in small and capital letters alone"),
@@ -216,6 +253,7 @@ fn of_names() {
         ),
         ("zone1 >= 2 zon2", "1:12: zon2 is not among the names; is it zone2?".to_string()),
         ("Free zone1", "1:6: a sign, + or -, is missing before this".to_string()),
+        ("Free >= 1", "1:1: Free is no name: write free, at the beginning of a line".to_string()),
         ("free zon2", "1:6: zon2 is not among the names; is it zone2?".to_string()),
         (
             "zone1 = 1\nzone2 = 2\nzone3 - zone2 <= 60",
@@ -244,6 +282,51 @@ fn of_names() {
         "zone1 = 1\n3 zone2 = 2\nrow zone3 >= 7",
     ] {
         assert!(below("names zone1 zone2 zone3", lines).starts_with("Limits"), "{lines}");
+    }
+}
+
+/// What a colleague would say who looks over one's shoulder.
+#[test]
+fn of_what_others_write() {
+    let none = "has no meaning here: there are none, write 2 x + 2 y for 2 (x + y)";
+    let unit = "has no meaning here: a unit is left out, or stands in a comment";
+    let best = "there is no optimising: a line says what a limit is, as in x <= 40";
+    for (line, fault) in [
+        ("x >= 93,5", "6: 93,5: numbers are written without commas, and a decimal has a point".into()),
+        ("maximize x", format!("10: {best}")),
+        ("min x + y", format!("5: {best}")),
+        (
+            "x >= 1 and y >= 2",
+            "8: a line has one limit: what stands behind and begins a new one".to_string(),
+        ),
+        ("x >= 1 or y >= 2", "8: there is no or: all lines have to hold together".to_string()),
+        ("zone 1 >= 20", "6: a name has no space in it: zone1; or a sign, + or -, is missing".into()),
+        ("x >= 1 000", "8: a number has no space in it, or a sign, + or -, is missing before this".into()),
+        ("2(x + y) <= 9", format!("2: the character ( {none}")),
+        ("x >= 20;", "8: the character ; has no meaning here: the end of a line ends a limit".into()),
+        ("x >= 06:30", "6: 06:30 is a clock time: write minutes, 390".to_string()),
+        ("x >= 20 \u{b0}C", format!("9: the character \u{b0} {unit}")),
+        ("x >= 5 %", format!("8: the character % {unit}")),
+        ("x, y >= 5", "2: the character , has no meaning here: names have a space between them, and a decimal has a point".to_string()),
+        ("|x - y| <= 5", "1: the character | has no meaning here: there is no \"or\", and no size of a difference".to_string()),
+        ("x^2 <= 5", "2: the character ^ has no meaning here: only a number and a name can be multiplied".to_string()),
+        ("z\u{43e}ne1 >= 5", "2: the character \u{43e} has no meaning here: letters of names are those from a to z".to_string()),
+        ("x >= \u{ff11}", "6: the character \u{ff11} has no meaning here: digits are those from 0 to 9".to_string()),
+        ("x\u{200b} >= 1", "2: the character \\u{200b} has no meaning here".to_string()),
+        ("\"x\" >= 1", "1: the character \" has no meaning here: names and numbers stand by themselves".to_string()),
+        ("y <= 2 x - y", "12: y comes twice in this line: add them up".to_string()),
+        ("x >= 1\nx >= 2", "3: x has its lower limit already, in line 2; begin with row to have both".to_string()),
+        ("x < y\ny - x > 6", "7: line 2 limits this sum on the same side; begin with row to have both".to_string()),
+    ] {
+        let said = below("names x y", line);
+        let (_, said) = said.split_once(':').unwrap();
+        assert_eq!(said, fault, "{line}");
+    }
+    for (opening, fault) in [
+        ("name x y", "1:1: name: write names, in small letters"),
+        ("Names x y", "1:1: Names: write names, in small letters"),
+    ] {
+        assert_eq!(limit_fault(&format!("{opening}\nx = 1\ny = 2")), fault);
     }
 }
 

@@ -103,7 +103,7 @@ impl Reading {
         for term in &said.terms {
             let number = self.names.used(line, term.column, &term.name, term.is_counted)?;
             if named.contains(&number) {
-                let what = format!("{} comes twice in this line", term.name);
+                let what = format!("{} comes twice in this line: add them up", term.name);
                 return Err(line.fault(term.column, what));
             }
             if term.coefficient == 0 && said.terms.len() > 1 {
@@ -206,8 +206,19 @@ fn limited(
             return Err(line.fault(limit.column, what));
         }
         if let Some(before) = to.limits[side as usize] {
-            let what =
-                format!("{name} has its {} limit already, {}", side.name(), place(before.line));
+            let what = match name {
+                "this sum" => {
+                    let before = before.line.unwrap_or_default();
+                    format!(
+                        "line {before} limits {name} on the same side; begin with row to have both"
+                    )
+                }
+                name => format!(
+                    "{name} has its {} limit already, {}; begin with row to have both",
+                    side.name(),
+                    place(before.line)
+                ),
+            };
             return Err(line.fault(limit.column, what));
         }
         let is_strict = limit.is_strict;
