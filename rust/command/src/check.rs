@@ -1,5 +1,7 @@
 //! `scatterflock check`: an answer, anybody's, before the proved checker.
 
+use crate::clash::{counted, left_sum, reference, sum_text};
+use crate::fraction::Pair;
 use crate::input::{self, any_text, bad};
 use crate::problem::{all_limits, place, problem, refused_words, Values};
 use crate::table::table;
@@ -7,8 +9,10 @@ use crate::{json, Ended, Failure, CAN, CANNOT};
 use scatterflock::{Judgement, Refusal};
 use std::ffi::OsStr;
 use std::io::Read;
-use text::limits::Limits;
+use text::limits::{Limits, Side};
 
+/// The largest denominator and multiplier that the checker takes.
+const LARGEST: i64 = 2_147_483_647;
 /// The largest numerator that the checker takes.
 const LARGEST_NUMERATOR: u64 = 515_396_075_280_000;
 /// The largest small part.
@@ -34,39 +38,122 @@ pub fn run(
     })?;
     let is_accepted = judgement == Judgement::Accepted;
     let status = if is_accepted { CAN } else { CANNOT };
+    let why = if is_accepted { Why::default() } else { why(&problem, &words) };
     if is_json {
-        let fields = [("accepted", is_accepted.to_string())];
+        let listed = why.rows.iter().map(|row| json::text(&row.join("   ")));
+        let mut fields = vec![("accepted", is_accepted.to_string())];
+        if !is_accepted {
+            fields.extend([("reason", json::text(&why.what)), ("why", json::list(listed))]);
+        }
         return Ok(Ended::saying(json::object(&fields), status));
     }
-    Ok(Ended::saying(said(&problem, &words, is_accepted), status))
-}
-
-fn said(problem: &Limits, words: &[i64], is_accepted: bool) -> String {
     if is_accepted {
         let shown = match words[0] {
             1 => "these values meet all limits",
             _ => "these limits, so many times each, cannot be met together",
         };
-        return format!("accepted\n\n# The proved checker says that {shown}.\n");
+        let said = format!("accepted\n\n# The proved checker says that {shown}.\n");
+        return Ok(Ended::saying(said, status));
     }
-    let start = "not accepted\n\n# The proved checker does not take this for evidence.";
-    let broken = broken(problem, words);
-    if broken.is_empty() {
-        return format!("{start}\n");
-    }
-    format!("{start} These values break\n{}", table("#   ", &broken))
+    let Why { what, rows, sum } = why;
+    let said = format!(
+        "not accepted\n\n# The proved checker does not take this for evidence. {what}\n{}{sum}",
+        table("#   ", &rows)
+    );
+    Ok(Ended::saying(said, status))
 }
 
-/// The limits that the values break, where the words are values at all.
-fn broken(problem: &Limits, words: &[i64]) -> Vec<Vec<String>> {
+/// Why an answer is not accepted: a sentence, what it is about, and of a
+/// "cannot" the sum that is left. The checker says yes or no; this is worked out
+/// beside it, by its rules.
+#[derive(Default)]
+struct Why {
+    what: String,
+    rows: Vec<Vec<String>>,
+    sum: String,
+}
+
+impl Why {
+    fn new(what: &str, rows: Vec<Vec<String>>) -> Why {
+        Why { what: what.to_string(), rows, sum: String::new() }
+    }
+}
+
+fn why(problem: &Limits, words: &[i64]) -> Why {
     let count = problem.limits.len();
-    let &[1, _, over @ 1..=2_147_483_647, ref rest @ ..] = words else { return vec![] };
-    let (plain, small) = rest[..2 * count].split_at(count);
-    let beyond = |part: &[i64], most| part.iter().any(|value| value.unsigned_abs() > most);
-    if beyond(plain, LARGEST_NUMERATOR) || beyond(small, LARGEST_SMALL) {
-        return vec![];
+    let (first, second) = words[3..3 + 2 * count].split_at(count);
+    match words[0] {
+        1 => why_not_can(problem, words[2], first, second),
+        2 => why_not_cannot(problem, words[2], [first, second]),
+        other => {
+            Why::new(&format!("Its first word is {other}: 1 is \"can\", 2 is \"cannot\"."), vec![])
+        }
+    }
+}
+
+fn why_not_can(problem: &Limits, over: i64, plain: &[i64], small: &[i64]) -> Why {
+    if !(1..=LARGEST).contains(&over) {
+        let what = format!("Its denominator is {over}, and has to be from 1 to {LARGEST}.");
+        return Why::new(&what, vec![]);
+    }
+    let is_beyond = |part: i64, most: u64| part.unsigned_abs() > most;
+    let beyond = (0..plain.len()).filter(|&variable| {
+        is_beyond(plain[variable], LARGEST_NUMERATOR) || is_beyond(small[variable], LARGEST_SMALL)
+    });
+    let beyond: Vec<Vec<String>> = beyond.map(|variable| vec![problem.left(variable)]).collect();
+    if !beyond.is_empty() {
+        return Why::new("Too large for it are the numbers of", beyond);
     }
     let values = Values { over, plain, small };
+    let other = (0..problem.rows.len()).filter_map(|row| {
+        let sum_of = |part: &[i64]| {
+            let terms = problem.rows[row].iter().zip(part);
+            terms.map(|(coefficient, value)| i64::from(*coefficient) * value).sum::<i64>()
+        };
+        let variable = problem.names.len() + row;
+        let (said, sum) = (values.at(variable), Pair::new([sum_of(plain), sum_of(small)], over));
+        let told =
+            || vec![problem.left(variable), format!("is said to be {said}, and comes to {sum}")];
+        (said != sum).then(told)
+    });
+    let other: Vec<Vec<String>> = other.collect();
+    if !other.is_empty() {
+        return Why::new("Sums are not what is said:", other);
+    }
+    Why::new("These values break", broken(problem, values))
+}
+
+fn why_not_cannot(problem: &Limits, third: i64, multipliers: [&[i64]; 2]) -> Why {
+    if third != 0 {
+        return Why::new(&format!("Its third word is {third}, and 0 in a \"cannot\"."), vec![]);
+    }
+    let all =
+        (0..problem.limits.len()).flat_map(|variable| Side::BOTH.map(|side| (variable, side)));
+    let wrong = all.filter_map(|(variable, side)| {
+        let times = multipliers[side as usize][variable];
+        let is_there = problem.limits[variable][side as usize].is_some();
+        let what = match is_there {
+            true if !(0..=LARGEST).contains(&times) => format!("from 0 to {LARGEST} times"),
+            false if times != 0 => "there is no such limit".to_string(),
+            _ => return None,
+        };
+        Some(vec![format!("{times} times {}", reference(problem, variable, side)), what])
+    });
+    let wrong: Vec<Vec<String>> = wrong.collect();
+    if !wrong.is_empty() {
+        return Why::new("It cannot count", wrong);
+    }
+    let counted = counted(problem, multipliers);
+    let left = left_sum(problem, &counted);
+    let what = match left.iter().any(|&number| number != 0) {
+        true => "Added up they leave names over, so the sum is no contradiction:",
+        false => "Added up they are no contradiction:",
+    };
+    Why { what: what.to_string(), rows: vec![], sum: sum_text(problem, &counted) }
+}
+
+/// The limits that the values break.
+fn broken(problem: &Limits, values: Values) -> Vec<Vec<String>> {
     let told = all_limits(problem).into_iter().filter_map(|(variable, side)| {
         let is_strict = problem.limits[variable][side as usize]?.is_strict;
         let spare = values.spare(problem, (variable, side));

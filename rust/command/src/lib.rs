@@ -4,12 +4,14 @@
 //! - `options`: the words of the command line
 //! - `input`: files as words or as text
 //! - `problem`: a limit problem of a file
+//! - `clash`: limits that clash, and their sum
 //! - `fraction`: fractions in lowest terms, with small amounts, and decimals to
 //!   read
 //! - `json`, `table`: values as JSON, lines of cells
 //! - `solve`, `check`, `times`, `words`: what the command does
 
 mod check;
+mod clash;
 mod fraction;
 mod input;
 mod json;

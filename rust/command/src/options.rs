@@ -3,7 +3,7 @@
 use std::ffi::OsString;
 
 pub const HELP: &str = "\
-usage: scatterflock [--json] solve [--each] FILE
+usage: scatterflock [--json | --words] solve [--each] FILE
        scatterflock [--json] check FILE ANSWER
        scatterflock [--json] times FILE
        scatterflock words [--times] [--bytes] FILE
@@ -14,6 +14,7 @@ usage: scatterflock [--json] solve [--each] FILE
   words   a text as words, or words as a text
 
   --json    the answer as one line of JSON
+  --words   the answer as bare numbers, which check takes too
   --each    for each limit of a clash, values that meet the others
   --times   the words of FILE are time rows, not limits
   --bytes   words as bytes, four each, as a file .words has them
@@ -51,13 +52,15 @@ pub enum Action {
 pub struct Options {
     pub action: Action,
     pub json: bool,
+    pub words: bool,
     pub each: bool,
     pub times: bool,
     pub bytes: bool,
 }
 
 const COMMANDS: [&str; 4] = ["solve", "check", "times", "words"];
-const OPTIONS: [&str; 6] = ["--json", "--each", "--times", "--bytes", "--help", "--version"];
+const OPTIONS: [&str; 7] =
+    ["--json", "--words", "--each", "--times", "--bytes", "--help", "--version"];
 
 /// The question whether another word was meant.
 fn near(word: &str, among: &[&'static str]) -> String {
@@ -67,7 +70,7 @@ fn near(word: &str, among: &[&'static str]) -> String {
 
 impl Options {
     pub fn read(words: &[OsString]) -> Result<Options, String> {
-        let [mut json, mut each, mut times, mut bytes] = [false; 4];
+        let [mut json, mut words_too, mut each, mut times, mut bytes] = [false; 5];
         let mut is_over = false;
         let mut files = Vec::new();
         let mut asked = None;
@@ -77,6 +80,7 @@ impl Options {
                 Some("--help" | "-h") if !is_over => asked = asked.or(Some(Action::Help)),
                 Some("--version" | "-V") if !is_over => asked = asked.or(Some(Action::Version)),
                 Some("--json") if !is_over => json = true,
+                Some("--words") if !is_over => words_too = true,
                 Some("--each") if !is_over => each = true,
                 Some("--times") if !is_over => times = true,
                 Some("--bytes") if !is_over => bytes = true,
@@ -87,7 +91,7 @@ impl Options {
             }
         }
         if let Some(action) = asked {
-            return Ok(Options { action, json, each, times, bytes });
+            return Ok(Options { action, json, words: words_too, each, times, bytes });
         }
         if files.is_empty() {
             return Err("there is no command".to_string());
@@ -105,6 +109,11 @@ impl Options {
             ("help", _) => Action::Help,
             _ => return Err(format!("there is no command {name}{}", near(&name, &COMMANDS))),
         };
+        if words_too && (json || each || !matches!(action, Action::Solve(_))) {
+            return Err(
+                "--words is an option of solve, and not beside --json or --each".to_string()
+            );
+        }
         if each && !matches!(action, Action::Solve(_)) {
             return Err("--each is an option of solve".to_string());
         }
@@ -117,6 +126,6 @@ impl Options {
         if matches!(&action, Action::Check(a, b) if a == "-" && b == "-") {
             return Err("one of the two files can be standard input, not both".to_string());
         }
-        Ok(Options { action, json, each, times, bytes })
+        Ok(Options { action, json, words: words_too, each, times, bytes })
     }
 }

@@ -3,10 +3,11 @@
 mod as_json;
 mod as_text;
 
+use crate::clash::{self, Counted};
 use crate::fraction::Fraction;
 use crate::options::Options;
 use crate::problem::{all_limits, problem, refused_words, Values};
-use crate::{input, Ended, Failure};
+use crate::{input, Ended, Failure, CAN, CANNOT, RANGE};
 use scatterflock::{Answer, Judgement, Problem, Verdict};
 use std::ffi::OsStr;
 use std::io::Read;
@@ -15,6 +16,9 @@ use text::limits::{Limits, Side};
 pub fn run(file: &OsStr, options: &Options, stdin: &mut dyn Read) -> Result<Ended, Failure> {
     let (file, problem) = problem(input::problem(file, stdin)?)?;
     let answer = solved(&problem)?;
+    if options.words {
+        return Ok(as_words(&problem, &answer));
+    }
     let shown = Shown { file, problem, answer };
     if let Some(values) = Values::of(&shown.answer.verdict) {
         return Ok(if options.json { shown.can_json(values) } else { shown.can(values) });
@@ -46,6 +50,21 @@ fn solved(problem: &Limits) -> Result<Answer, Failure> {
     Ok(answer)
 }
 
+/// The answer's words, as bare numbers.
+fn as_words(problem: &Limits, answer: &Answer) -> Ended {
+    let status = match answer.verdict {
+        Verdict::Can { .. } => CAN,
+        Verdict::Cannot { .. } => CANNOT,
+        _ => RANGE,
+    };
+    let words = answer.evidence().unwrap_or_else(|| {
+        let zeros = vec![0; 2 * problem.limits.len()];
+        [&[3, answer.pivots as i64, 0], &zeros[..]].concat()
+    });
+    let words: Vec<String> = words.iter().map(i64::to_string).collect();
+    Ended::saying(words.join(" ") + "\n", status)
+}
+
 struct Shown {
     file: String,
     problem: Limits,
@@ -54,13 +73,6 @@ struct Shown {
 
 /// For each limit of a clash the answer to the others, if they are alone.
 type Each = Vec<Answer>;
-
-/// A limit as "at least", so many times: a sum, a sign and a number.
-struct AtLeast {
-    left: String,
-    sign: &'static str,
-    right: i64,
-}
 
 impl Shown {
     /// The least amount that is too large for the small one, where there is any:
@@ -107,17 +119,13 @@ impl Shown {
     }
 
     /// The limits that count, with their multipliers.
-    fn counted(&self, multipliers: [&Vec<i64>; 2]) -> Vec<(usize, Side, i64)> {
-        all_limits(&self.problem)
-            .into_iter()
-            .map(|(variable, side)| (variable, side, multipliers[side as usize][variable]))
-            .filter(|(_, _, times)| *times != 0)
-            .collect()
+    fn counted(&self, [lower, upper]: [&Vec<i64>; 2]) -> Vec<Counted> {
+        clash::counted(&self.problem, [lower, upper])
     }
 
     /// For each limit that counts, the answer to the others that do. It is no
     /// "cannot".
-    fn each(&self, counted: &[(usize, Side, i64)]) -> Result<Each, Failure> {
+    fn each(&self, counted: &[Counted]) -> Result<Each, Failure> {
         let problem =
             Problem::from_words(&self.problem.words()).map_err(|_| Failure::Contradicted)?;
         let each = counted.iter().map(|&(variable, side, _)| {
@@ -130,40 +138,6 @@ impl Shown {
             others.ok_or(Failure::Contradicted)
         });
         each.collect()
-    }
-
-    /// Each limit as "at least", so many times, and what they come to.
-    fn added_up(&self, counted: &[(usize, Side, i64)]) -> (Vec<AtLeast>, AtLeast) {
-        let each: Vec<AtLeast> = counted.iter().map(|&limit| self.at_least(limit)).collect();
-        let is_strict = each.iter().any(|limit| limit.sign == ">");
-        let sum = AtLeast {
-            left: self.problem.sum(&self.left_sum(counted)),
-            sign: if is_strict { ">" } else { ">=" },
-            right: each.iter().map(|limit| limit.right).sum(),
-        };
-        (each, sum)
-    }
-
-    fn at_least(&self, (variable, side, times): (usize, Side, i64)) -> AtLeast {
-        let problem = &self.problem;
-        let limit = problem.limits[variable][side as usize];
-        let number = limit.map_or(0, |limit| limit.number);
-        let left = problem.sum(&self.left_sum(&[(variable, side, times)]));
-        let signed = if side == Side::Lower { times } else { -times };
-        let sign = limit.map_or(">=", |limit| limit.sign(Side::Lower));
-        AtLeast { left, sign, right: signed * i64::from(number) }
-    }
-
-    /// What the left sides come to, as "at least" and so many times each.
-    fn left_sum(&self, counted: &[(usize, Side, i64)]) -> Vec<i64> {
-        let mut sum = vec![0; self.problem.names.len()];
-        for &(variable, side, times) in counted {
-            let signed = if side == Side::Lower { times } else { -times };
-            for (sum, coefficient) in sum.iter_mut().zip(self.problem.coefficients(variable)) {
-                *sum += signed * i64::from(coefficient);
-            }
-        }
-        sum
     }
 }
 

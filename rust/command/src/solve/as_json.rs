@@ -1,6 +1,7 @@
 //! An answer as JSON.
 
 use super::{Each, Shown};
+use crate::clash::{added_up, Counted};
 use crate::problem::{all_limits, Values};
 use crate::{json, Ended, CAN, CANNOT, RANGE};
 use text::limits::Side;
@@ -64,8 +65,8 @@ impl Shown {
         Ended::saying(json::object(&all), status)
     }
 
-    pub(super) fn cannot_json(&self, counted: &[(usize, Side, i64)], each: Option<Each>) -> Ended {
-        let (_, sum) = self.added_up(counted);
+    pub(super) fn cannot_json(&self, counted: &[Counted], each: Option<Each>) -> Ended {
+        let (_, sum) = added_up(&self.problem, counted);
         let limits = counted.iter().enumerate().map(|(place, &(variable, side, times))| {
             let mut fields = self.limit_json(variable, side);
             fields.push(("times", times.to_string()));

@@ -1,6 +1,7 @@
 //! An answer in the reader's words.
 
-use super::{AtLeast, Each, Shown};
+use super::{Each, Shown};
+use crate::clash::{reference, sum_text, Counted};
 use crate::problem::{all_limits, is_one_value, place, Values};
 use crate::table::table;
 use crate::{Ended, CAN, CANNOT, RANGE};
@@ -92,10 +93,10 @@ impl Shown {
         .collect()
     }
 
-    pub(super) fn cannot(&self, counted: &[(usize, Side, i64)], each: Option<Each>) -> Ended {
+    pub(super) fn cannot(&self, counted: &[Counted], each: Option<Each>) -> Ended {
         let named = counted.iter().map(|&(variable, side, times)| {
             let limit = self.problem.limit_text(variable, side).unwrap_or_default();
-            let reference = self.reference(variable, side);
+            let reference = reference(&self.problem, variable, side);
             vec![format!("{times} times {reference}"), format!("# {limit}")]
         });
         let said = format!(
@@ -103,7 +104,7 @@ impl Shown {
              # No values meet these limits together.\n\
              # Each of them is needed for that: drop any one, and the others named here can be met.\n{}{}",
             table("", &named.collect::<Vec<Vec<String>>>()),
-            self.sum(counted),
+            sum_text(&self.problem, counted),
             each.map_or(String::new(), |each| self.others(counted, each)),
             self.accepted()
         );
@@ -111,7 +112,7 @@ impl Shown {
     }
 
     /// For each limit that counts, values that meet the others.
-    fn others(&self, counted: &[(usize, Side, i64)], each: Each) -> String {
+    fn others(&self, counted: &[Counted], each: Each) -> String {
         let rows = counted.iter().zip(&each).map(|(&(variable, side, _), answer)| {
             let values = Values::of(&answer.verdict).map(|values| {
                 let names = self.problem.names.iter().enumerate();
@@ -119,39 +120,10 @@ impl Shown {
                 named.collect::<Vec<String>>().join(", ")
             });
             let unknown = || "a number grew beyond 2147483647, so no values are shown".to_string();
-            let reference = self.reference(variable, side);
+            let reference = reference(&self.problem, variable, side);
             vec![format!("without {reference}"), values.unwrap_or_else(unknown)]
         });
         format!("#\n{}#\n", table("#   ", &rows.collect::<Vec<Vec<String>>>()))
-    }
-
-    /// Each limit as "at least", and below a rule what they come to.
-    fn sum(&self, counted: &[(usize, Side, i64)]) -> String {
-        let (each, sum) = self.added_up(counted);
-        let all = || each.iter().chain([&sum]);
-        let wide = all().map(|limit| limit.left.chars().count()).max().unwrap_or(0);
-        let right_wide = all().map(|limit| limit.right.to_string().len()).max().unwrap_or(0);
-        let line = |AtLeast { left, sign, right }: &AtLeast| {
-            format!("#   {left:>wide$} {sign:<2} {right}\n")
-        };
-        let lines: String = each.iter().map(line).collect();
-        format!("{lines}#   {}\n{}", "-".repeat(wide + 4 + right_wide), line(&sum))
-    }
-
-    /// How an answer names a limit.
-    fn reference(&self, variable: usize, side: Side) -> String {
-        let problem = &self.problem;
-        let Some(limit) = problem.limits[variable][side as usize] else { return String::new() };
-        let Some(line) = limit.line else {
-            return format!("{} {variable}", side.name());
-        };
-        let same = |other: &&(usize, Side)| {
-            problem.limits[other.0][other.1 as usize].is_some_and(|other| other.line == Some(line))
-        };
-        match all_limits(problem).iter().filter(same).count() {
-            1 => format!("line {line}"),
-            _ => format!("line {line} {}", side.name()),
-        }
     }
 
     pub(super) fn range(&self) -> Ended {
