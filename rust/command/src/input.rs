@@ -23,11 +23,12 @@ pub enum Content {
     Text(String),
 }
 
-/// Reads a problem: a file `.words`, or standard input with a zero byte in it,
-/// is bytes; a text of bare numbers is words; anything else is text.
+/// Reads a problem: a file `.words`, or one with a zero byte in it, is bytes; a
+/// text of bare numbers is words; anything else is text.
 pub fn problem(file: &OsStr, stdin: &mut dyn Read) -> Result<Input, Failure> {
     let (name, bytes) = bytes(file, stdin)?;
-    let is_words = if file == "-" { bytes.contains(&0) } else { name.ends_with(".words") };
+    let is_named = file != "-" && name.to_ascii_lowercase().ends_with(".words");
+    let is_words = is_named || bytes.contains(&0) && !is_wide(&bytes);
     if is_words {
         return Ok(Input { file: name, content: Content::Bytes(bytes) });
     }
@@ -69,6 +70,10 @@ fn bytes(file: &OsStr, stdin: &mut dyn Read) -> Result<(String, Vec<u8>), Failur
 
 /// The text of bytes, but for a mark of byte order at its start.
 fn text(name: &str, mut bytes: Vec<u8>) -> Result<String, Failure> {
+    if is_wide(&bytes) {
+        let what = "this text is UTF-16: save it as UTF-8".to_string();
+        return Err(bad(name, "", Fault { line: 1, column: 1, what }));
+    }
     if bytes.starts_with(b"\xef\xbb\xbf") {
         bytes.drain(..3);
     }
@@ -76,10 +81,23 @@ fn text(name: &str, mut bytes: Vec<u8>) -> Result<String, Failure> {
         let read = String::from_utf8_lossy(&error.as_bytes()[..error.utf8_error().valid_up_to()]);
         let line = read.split('\n').count();
         let last = read.rsplit('\n').next().unwrap_or("");
-        let what = "this byte is no text (UTF-8); words as bytes are in a file .words".to_string();
+        let what = "this byte is no text: save it as UTF-8; words as bytes are in a file .words";
+        let what = what.to_string();
         let fault = Fault { line, column: last.chars().count() + 1, what };
         bad(name, &read, fault)
     })
+}
+
+/// Whether bytes are a text of UTF-16: with the mark of byte order, or a
+/// character and a zero byte by turns.
+fn is_wide(bytes: &[u8]) -> bool {
+    let is_char = |byte: &u8| matches!(byte, b'\t' | b'\n' | b'\r' | b' '..=b'~');
+    let by_turns = |first: usize| {
+        bytes.iter().skip(first).step_by(2).all(is_char)
+            && bytes.iter().skip(1 - first).step_by(2).all(|&byte| byte == 0)
+    };
+    let has_mark = bytes.starts_with(b"\xff\xfe") || bytes.starts_with(b"\xfe\xff");
+    has_mark || bytes.len() >= 2 && (by_turns(0) || by_turns(1))
 }
 
 /// The failure of a text, with the line that is at fault.

@@ -7,11 +7,13 @@
 //! - `clash`: limits that clash, and their sum
 //! - `fraction`: fractions in lowest terms, with small amounts, and decimals to
 //!   read
-//! - `json`, `table`: values as JSON, lines of cells
+//! - `json`, `table`, `excerpt`: values as JSON, lines of cells, the line of a
+//!   fault
 //! - `solve`, `check`, `times`, `words`: what the command does
 
 mod check;
 mod clash;
+mod excerpt;
 mod fraction;
 mod input;
 mod json;
@@ -22,6 +24,7 @@ mod table;
 mod times;
 mod words;
 
+use excerpt::excerpt;
 use options::{Action, Options};
 use std::ffi::OsString;
 use std::io::Read;
@@ -42,6 +45,8 @@ pub const BAD: u8 = 4;
 pub const UNREAD: u8 = 5;
 /// The status of output that cannot be written.
 pub const UNWRITTEN: u8 = 5;
+/// The status of output that nobody reads any more, as a signal would give it.
+pub const UNHEARD: u8 = 141;
 /// The status of an answer of the solver that the checker does not accept. It
 /// has never been seen.
 pub const CONTRADICTED: u8 = 6;
@@ -104,8 +109,8 @@ impl Failure {
             }
             Failure::Bad { file, fault, line } => {
                 let Fault { line: number, column, what } = &fault;
-                let arrow = " ".repeat(column - 1) + "^";
-                let error = format!("{file}:{number}:{column}: {what}\n  {line}\n  {arrow}\n");
+                let shown = excerpt(&line, *column);
+                let error = format!("{file}:{number}:{column}: {what}\n{shown}");
                 let fields = [
                     ("error", json::text(what)),
                     ("file", json::text(&file)),

@@ -10,6 +10,9 @@ fn main() -> ExitCode {
     eprint(&ended.errors);
     let mut out = io::stdout().lock();
     if let Err(error) = out.write_all(&ended.output).and_then(|()| out.flush()) {
+        if error.kind() == io::ErrorKind::BrokenPipe {
+            return ExitCode::from(command::UNHEARD);
+        }
         eprint(&format!("scatterflock: the output cannot be written: {error}\n"));
         return ExitCode::from(command::UNWRITTEN);
     }

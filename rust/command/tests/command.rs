@@ -127,9 +127,34 @@ fn usage_and_files() {
     assert_eq!((output.as_str(), status), ("{\"error\":\"--json is no option of words\"}\n", 4));
     let (_, errors, status) = ran(&["solve", "-"], &vec![b'#'; 2 << 20]);
     assert!(status == 5 && errors.contains("longer"), "{errors}");
+    let wide = |text: &str| text.encode_utf16().flat_map(u16::to_le_bytes).collect::<Vec<u8>>();
+    for text in ["names x\nx >= 1\n", "\u{feff}names x\nx >= 1 # \u{b0}\n"] {
+        let path = PathBuf::from(env!("CARGO_TARGET_TMPDIR")).join("wide.txt");
+        fs::write(&path, wide(text)).unwrap();
+        for (file, input) in [("-", wide(text)), (path.to_str().unwrap(), vec![])] {
+            let (_, errors, status) = ran(&["solve", file], &input);
+            let told = errors.contains(":1:1: this text is UTF-16: save it as UTF-8");
+            assert!(status == 4 && told, "{errors}");
+        }
+    }
+    for name in ["some.bin", "SOME.WORDS"] {
+        let path = PathBuf::from(env!("CARGO_TARGET_TMPDIR")).join(name);
+        fs::write(&path, bytes(&[1, 0, 1, 1, 0])).unwrap();
+        assert_eq!(ran(&["words", path.to_str().unwrap()], b"").0, "names x0\nx0 >= 1\n");
+    }
+    let long = format!("names x\nx >= 1{}\n", " + (".repeat(200_000));
+    for text in
+        [&long, &long.replace('(', "y"), &long.replace(" + (", "9"), &long.replace(" + (", "y")]
+    {
+        let (_, errors, status) = ran(&["solve", "-"], text.as_bytes());
+        assert!(status == 4 && errors.len() < 500, "{} bytes", errors.len());
+    }
     let (_, errors, status) = ran(&["solve", "-"], b"names x\n# \xff");
     assert_eq!(status, 4);
-    assert!(errors.starts_with("standard input:2:3: this byte is no text"), "{errors}");
+    assert!(
+        errors.starts_with("standard input:2:3: this byte is no text: save it as UTF-8"),
+        "{errors}"
+    );
 }
 
 #[test]
@@ -456,7 +481,7 @@ fn damaged_texts_never_panic() {
 }
 
 #[test]
-fn a_full_disk_and_a_closed_pipe_are_noticed() {
+fn a_full_disk_is_told_and_a_closed_pipe_is_not() {
     let full = File::options().write(true).open("/dev/full").unwrap();
     let ran = program().args(["solve", "problems/a.txt"]).stdout(full).output().unwrap();
     assert_eq!(ran.status.code(), Some(5));
@@ -473,6 +498,5 @@ fn a_full_disk_and_a_closed_pipe_are_noticed() {
     drop(child.stdout.take());
     child.stdin.take().unwrap().write_all(b"names x\nx >= 1\n").unwrap();
     let ran = child.wait_with_output().unwrap();
-    assert_eq!(ran.status.code(), Some(5));
-    assert!(!ran.stderr.is_empty());
+    assert_eq!((ran.status.code(), ran.stderr.len()), (Some(141), 0));
 }

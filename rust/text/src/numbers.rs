@@ -1,6 +1,7 @@
 //! Bare numbers: the words of a problem or of an answer, with spaces between.
 
 use crate::fault::Fault;
+use crate::tokens::short;
 use std::str::FromStr;
 
 /// Whether a text has numbers alone, comments aside: digits, and neither
@@ -38,7 +39,7 @@ pub fn read<T: FromStr>(text: &str) -> Result<Vec<T>, Fault> {
 fn number<T: FromStr>(word: &str) -> Result<T, String> {
     let digits = word.strip_prefix('-').unwrap_or(word);
     if digits.is_empty() || !digits.chars().all(|c| c.is_ascii_digit()) {
-        return Err(format!("{word} is not a whole number"));
+        return Err(format!("{} is not a whole number", short(word)));
     }
-    word.parse().map_err(|_| format!("{word} is out of range for a word"))
+    word.parse().map_err(|_| format!("{} is out of range for a word", short(word)))
 }

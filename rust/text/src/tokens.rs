@@ -141,6 +141,17 @@ fn no_meaning(c: char) -> String {
     format!("the character {shown} has no meaning here{advice}")
 }
 
+/// The most characters of a name.
+const MOST_NAME: usize = 60;
+
+/// A text, or its beginning where it is long.
+pub fn short(text: &str) -> String {
+    match text.char_indices().nth(MOST_NAME) {
+        Some((end, _)) => format!("{}..", &text[..end]),
+        None => text.to_string(),
+    }
+}
+
 /// Everything that somebody may have meant as one number.
 fn number(chars: &[char]) -> Result<(Kind, usize), String> {
     let is_part = |c: &char| c.is_alphanumeric() || matches!(c, '_' | '.' | ',');
@@ -149,9 +160,10 @@ fn number(chars: &[char]) -> Result<(Kind, usize), String> {
         return Err(minutes);
     }
     if text.chars().all(|c| c.is_ascii_digit()) {
-        let number = text.parse().map_err(|_| format!("{text} is out of range"))?;
+        let number = text.parse().map_err(|_| format!("{} is out of range", short(&text)))?;
         return Ok((Kind::Number(number), text.len()));
     }
+    let text = short(&text);
     let has_comma = text.contains(',');
     let is_plain = |c: char| c.is_ascii_digit() || c == ',';
     Err(if has_comma && text.chars().all(is_plain) && !text.ends_with(',') {
@@ -178,6 +190,12 @@ fn name(chars: &[char]) -> Result<(Kind, usize), String> {
     let is_part = |c: &char| c.is_ascii_alphanumeric() || *c == '_';
     let text: String = chars.iter().take_while(|c| is_part(c)).collect();
     let length = text.len();
+    if length > MOST_NAME {
+        return Err(format!(
+            "{} is too long: a name has {MOST_NAME} letters at most",
+            short(&text)
+        ));
+    }
     match text.to_ascii_lowercase().as_str() {
         "nan" | "inf" | "infinity" => Err(format!("{text} is no whole number, and no name")),
         _ => Ok((Kind::Name(text), length)),
