@@ -1,5 +1,6 @@
 //! Limits that clash, each as "at least" and so many times, and their sum.
 
+use crate::fraction::Pair;
 use crate::problem::all_limits;
 use text::limits::{Limits, Side};
 
@@ -65,6 +66,17 @@ pub fn sum_text(problem: &Limits, counted: &[Counted]) -> String {
         |AtLeast { left, sign, right }: &AtLeast| format!("#   {left:>wide$} {sign:<2} {right}\n");
     let lines: String = each.iter().map(line).collect();
     format!("{lines}#   {}\n{}", "-".repeat(wide + 4 + right_wide), line(&sum))
+}
+
+/// What a limit of a clash has to be loosened to, so that the clash is over: its
+/// number, farther out by the whole of the sum over its multiplier. Where the sum
+/// is strict it has to be more than that.
+pub fn loosened(problem: &Limits, (variable, side, times): Counted, sum: &AtLeast) -> Pair {
+    let limit = problem.limits[variable][side as usize];
+    let number = limit.map_or(0, |limit| i64::from(limit.number));
+    let out = if side == Side::Lower { -1 } else { 1 };
+    let beyond = if sum.sign == ">" { times * out } else { 0 };
+    Pair::new([number * times + out * sum.right, beyond], times)
 }
 
 /// How an answer names a limit: by its line, with the side where the line sets

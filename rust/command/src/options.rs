@@ -15,7 +15,7 @@ usage: scatterflock [--json | --words] solve [--each] FILE
 
   --json    the answer as one line of JSON
   --words   the answer as bare numbers, which check takes too
-  --each    for each limit of a clash, values that meet the others
+  --each    for each limit of a clash, what the others come to without it
   --times   the words of FILE are time rows, not limits
   --bytes   words as bytes, four each, as a file .words has them
 

@@ -71,8 +71,9 @@ struct Shown {
     answer: Answer,
 }
 
-/// For each limit of a clash the answer to the others, if they are alone.
-type Each = Vec<Answer>;
+/// For each limit of a clash the answer to the others that it names, and the
+/// answer to the whole problem without that limit.
+type Each = Vec<(Answer, Shown)>;
 
 impl Shown {
     /// The least amount that is too large for the small one, where there is any:
@@ -123,19 +124,23 @@ impl Shown {
         clash::counted(&self.problem, [lower, upper])
     }
 
-    /// For each limit that counts, the answer to the others that do. It is no
-    /// "cannot".
+    /// For each limit that counts, the answer to the others that do, which is no
+    /// "cannot", and the answer to all others.
     fn each(&self, counted: &[Counted]) -> Result<Each, Failure> {
         let problem =
             Problem::from_words(&self.problem.words()).map_err(|_| Failure::Contradicted)?;
         let each = counted.iter().map(|&(variable, side, _)| {
+            let mut rest = self.problem.clone();
+            rest.limits[variable][side as usize] = None;
+            let answer = solved(&rest)?;
+            let rest = Shown { file: self.file.clone(), problem: rest, answer };
             let side = match side {
                 Side::Lower => scatterflock::Side::Lower,
                 Side::Upper => scatterflock::Side::Upper,
             };
             let answer = problem.without(&self.answer, variable, side);
             let others = answer.filter(|answer| !matches!(answer.verdict, Verdict::Cannot { .. }));
-            others.ok_or(Failure::Contradicted)
+            Ok((others.ok_or(Failure::Contradicted)?, rest))
         });
         each.collect()
     }
@@ -146,6 +151,7 @@ mod tests {
     use super::*;
     use problems::limits::Family;
     use problems::random::{seed, Random};
+    use text::limits::Limit;
 
     #[test]
     fn each_amount_below_will_do() {
@@ -172,5 +178,52 @@ mod tests {
             count += 1;
         }
         assert!(count > 100, "{count} have an end, SEED={seed}");
+    }
+    /// With one limit loosened so far the named limits can be met, and with less
+    /// they cannot. All limits are taken so many times that the new one is whole;
+    /// where one is out of range then, that is refused.
+    #[test]
+    fn loosened_so_far_and_no_less() {
+        let seed = seed();
+        println!("SEED={seed}");
+        let [mut count, mut strict] = [0; 2];
+        for number in 0..5_000 {
+            let mut random = Random::of_problem(seed, number);
+            let family = Family::ALL[random.below(Family::ALL.len())];
+            let words = family.words(&mut random);
+            let Some(problem) = Limits::from_words(&words) else { continue };
+            let Ok(answer) = solved(&problem) else { continue };
+            let Verdict::Cannot { lower, upper } = &answer.verdict else { continue };
+            let counted = clash::counted(&problem, [lower, upper]);
+            let (_, sum) = clash::added_up(&problem, &counted);
+            for &limit in &counted {
+                let to = clash::loosened(&problem, limit, &sum);
+                let by = to.plain.denominator;
+                let mut named = problem.clone();
+                named.limits.fill([None; 2]);
+                for &(variable, side, _) in &counted {
+                    let at = problem.limits[variable][side as usize].unwrap();
+                    let times = (i64::from(at.number) * by).clamp(-30_001, 30_001) as i32;
+                    named.limits[variable][side as usize] = Some(Limit { number: times, ..at });
+                }
+                let out = if limit.1 == Side::Lower { -1 } else { 1 };
+                let is_strict = to.small.numerator != 0;
+                for (farther, is_over) in [(-1, false), (0, !is_strict), (1, true)] {
+                    let Ok(number) = i32::try_from(to.plain.numerator + out * farther) else {
+                        continue;
+                    };
+                    let place = &mut named.limits[limit.0][limit.1 as usize];
+                    *place = place.map(|at| Limit { number, ..at });
+                    let Ok(again) = solved(&named) else { continue };
+                    let is_clash = matches!(again.verdict, Verdict::Cannot { .. });
+                    let is_met = matches!(again.verdict, Verdict::Can { .. });
+                    assert!(!is_met || is_over, "SEED={seed}: {words:?} {limit:?}");
+                    assert!(!is_clash || !is_over, "SEED={seed}: {words:?} {limit:?}");
+                    [count, strict] = [count + 1, strict + usize::from(is_strict)];
+                }
+            }
+        }
+        println!("{count} loosened, {strict} of them strict");
+        assert!(count > 2_000 && strict > 100, "{count}, {strict}, SEED={seed}");
     }
 }

@@ -243,6 +243,26 @@ fn values_without_each_limit() {
         assert!(said.lines().any(|other| other == line), "no {line} in\n{said}");
     }
     assert!(!said.contains("line 5"), "{said}");
+    let steep = b"names a b\n20 <= a <= 30\nb - a <= 40\na + b <= 55\nb >= 90\n";
+    let (said, _, _) = ran(&["solve", "--each", "-"], steep);
+    for line in [
+        "# One of them loosened to this, and this clash is over (another may show then):",
+        "#   line 2 upper   a <= 50",
+        "#   line 3         b - a <= 60",
+        "#   line 5         b >= 70",
+        "# One of them left out, and all other limits kept:",
+        "#   without line 2 upper   cannot still, for line 3, line 4, line 5",
+        "#   without line 5         can: a = 20, b = 0",
+    ] {
+        assert!(said.lines().any(|other| other == line), "no {line} in\n{said}");
+    }
+    let (said, _, _) = ran(&["--json", "solve", "--each", "-"], steep);
+    let json = json::read(&said).unwrap();
+    let [upper, step, last] = json.at("limits").list() else { panic!("{said}") };
+    assert_eq!(upper.at("rest").at("verdict").text(), "cannot");
+    assert_eq!(upper.at("rest").at("limits").list().len(), 3);
+    assert_eq!(step.at("loosened").at("decimal").text(), "60");
+    assert_eq!(last.at("rest").at("values").list()[0].at("decimal").text(), "20");
     let (said, _, _) = ran(&["--json", "solve", "--each", "-"], b"names x\n5 < x <= 5");
     assert!(
         json::is_one_line(&said) && said.matches("\"without\":[{\"name\":").count() == 2,
@@ -262,6 +282,9 @@ fn strict_limits_as_json() {
     assert!(said.contains("\"small_below\":{\"numerator\":5,\"denominator\":1}"), "{said}");
     let (said, _, _) = ran(&["--json", "solve", "-"], b"names x\n2 < x < 2");
     assert!(said.contains("\"sum\":\"0 > 0\""), "{said}");
+    let beyond = json::read(&said).unwrap().at("limits").list()[0].at("loosened").clone();
+    assert_eq!(beyond.at("exact"), &json::Json::False);
+    assert_eq!(beyond.at("small").at("numerator").number(), -1);
 }
 
 #[test]

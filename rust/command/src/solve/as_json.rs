@@ -1,9 +1,10 @@
 //! An answer as JSON.
 
 use super::{Each, Shown};
-use crate::clash::{added_up, Counted};
+use crate::clash::{added_up, loosened, Counted};
 use crate::problem::{all_limits, Values};
 use crate::{json, Ended, CAN, CANNOT, RANGE};
+use scatterflock::Verdict;
 use text::limits::Side;
 
 impl Shown {
@@ -70,15 +71,35 @@ impl Shown {
         let limits = counted.iter().enumerate().map(|(place, &(variable, side, times))| {
             let mut fields = self.limit_json(variable, side);
             fields.push(("times", times.to_string()));
-            if let Some(each) = &each {
-                let others = Values::of(&each[place].verdict);
+            let to = loosened(&self.problem, (variable, side, times), &sum);
+            fields.push(("loosened", json::inner(&json::pair(to))));
+            if let Some((others, rest)) = each.as_ref().map(|each| &each[place]) {
+                let others = Values::of(&others.verdict);
                 let others = others.map_or("null".to_string(), |values| self.values_json(values));
-                fields.push(("without", others));
+                fields.extend([("without", others), ("rest", rest.in_short_json())]);
             }
             json::inner(&fields)
         });
+        let limits = json::list(limits);
         let sum = json::text(&format!("{} {} {}", sum.left, sum.sign, sum.right));
-        self.json("cannot", &[("limits", json::list(limits)), ("sum", sum)], CANNOT)
+        self.json("cannot", &[("limits", limits), ("sum", sum)], CANNOT)
+    }
+
+    /// The verdict, with values or with the limits that clash.
+    fn in_short_json(&self) -> String {
+        if let Some(values) = Values::of(&self.answer.verdict) {
+            let fields = [("verdict", json::text("can")), ("values", self.values_json(values))];
+            return json::inner(&fields);
+        }
+        let Verdict::Cannot { lower, upper } = &self.answer.verdict else {
+            return json::inner(&[("verdict", json::text("range"))]);
+        };
+        let limits = self.counted([lower, upper]).into_iter().map(|(variable, side, times)| {
+            let mut fields = self.limit_json(variable, side);
+            fields.push(("times", times.to_string()));
+            json::inner(&fields)
+        });
+        json::inner(&[("verdict", json::text("cannot")), ("limits", json::list(limits))])
     }
 
     pub(super) fn range_json(&self) -> Ended {

@@ -1,10 +1,11 @@
 //! An answer in the reader's words.
 
 use super::{Each, Shown};
-use crate::clash::{reference, sum_text, Counted};
+use crate::clash::{added_up, loosened, reference, sum_text, Counted};
 use crate::problem::{all_limits, is_one_value, place, Values};
 use crate::table::table;
 use crate::{Ended, CAN, CANNOT, RANGE};
+use scatterflock::Verdict;
 use text::limits::Side;
 
 impl Shown {
@@ -102,28 +103,75 @@ impl Shown {
         let said = format!(
             "cannot\n\n{}\n# Each as \"at least\", so many times, and all of them added up:\n{}#\n\
              # No values meet these limits together.\n\
-             # Each of them is needed for that: drop any one, and the others named here can be met.\n{}{}",
+             # Each of them is needed for that: drop any one, and the others named here can be met.\n\
+             {}{}{}",
             table("", &named.collect::<Vec<Vec<String>>>()),
             sum_text(&self.problem, counted),
+            self.enough(counted),
             each.map_or(String::new(), |each| self.others(counted, each)),
             self.accepted()
         );
         Ended::saying(said, CANNOT)
     }
 
-    /// For each limit that counts, values that meet the others.
-    fn others(&self, counted: &[Counted], each: Each) -> String {
-        let rows = counted.iter().zip(&each).map(|(&(variable, side, _), answer)| {
-            let values = Values::of(&answer.verdict).map(|values| {
-                let names = self.problem.names.iter().enumerate();
-                let named = names.map(|(at, name)| format!("{name} = {}", values.at(at)));
-                named.collect::<Vec<String>>().join(", ")
-            });
-            let unknown = || "a number grew beyond 2147483647, so no values are shown".to_string();
-            let reference = reference(&self.problem, variable, side);
-            vec![format!("without {reference}"), values.unwrap_or_else(unknown)]
+    /// How far each limit has to be loosened, all others as they are.
+    fn enough(&self, counted: &[Counted]) -> String {
+        let (_, sum) = added_up(&self.problem, counted);
+        let rows = counted.iter().map(|&limit| {
+            let (variable, side, _) = limit;
+            let to = loosened(&self.problem, limit, &sum).plain;
+            let read = to.read_as().map_or(String::new(), |read| format!(", {read}"));
+            let sign = if side == Side::Lower { ">=" } else { "<=" };
+            let said = format!("{} {sign} {to}{read}", self.problem.left(variable));
+            vec![reference(&self.problem, variable, side), said]
         });
-        format!("#\n{}#\n", table("#   ", &rows.collect::<Vec<Vec<String>>>()))
+        let rows: Vec<Vec<String>> = rows.collect();
+        let how = if sum.sign == ">" { "beyond this" } else { "to this" };
+        format!(
+            "#\n# One of them loosened {how}, and this clash is over (another may show then):\n{}#\n",
+            table("#   ", &rows)
+        )
+    }
+
+    /// For each limit that counts, what the others allow: those that are named, and
+    /// all of the file.
+    fn others(&self, counted: &[Counted], each: Each) -> String {
+        let unknown = || "a number grew beyond 2147483647, so no values are shown".to_string();
+        let [named, rest] = [true, false].map(|is_named| {
+            let rows = counted.iter().zip(&each).map(|(&(variable, side, _), (answer, rest))| {
+                let said = match is_named {
+                    true => self.in_short(&answer.verdict).unwrap_or_else(unknown),
+                    false => rest.told(),
+                };
+                vec![format!("without {}", reference(&self.problem, variable, side)), said]
+            });
+            table("#   ", &rows.collect::<Vec<Vec<String>>>())
+        });
+        format!(
+            "# One of them left out, and all other limits kept:\n{rest}#\n\
+             # One of them left out, and the others named here alone:\n{named}#\n"
+        )
+    }
+
+    /// The values of a "can" in one line.
+    fn in_short(&self, verdict: &Verdict) -> Option<String> {
+        let values = Values::of(verdict)?;
+        let names = self.problem.names.iter().enumerate();
+        let named = names.map(|(at, name)| format!("{name} = {}", values.at(at)));
+        Some(named.collect::<Vec<String>>().join(", "))
+    }
+
+    /// The answer in one line.
+    fn told(&self) -> String {
+        if let Some(values) = self.in_short(&self.answer.verdict) {
+            return format!("can: {values}");
+        }
+        let Verdict::Cannot { lower, upper } = &self.answer.verdict else {
+            return "range: a number grew beyond 2147483647".to_string();
+        };
+        let named = self.counted([lower, upper]).into_iter();
+        let named = named.map(|(variable, side, _)| reference(&self.problem, variable, side));
+        format!("cannot still, for {}", named.collect::<Vec<String>>().join(", "))
     }
 
     pub(super) fn range(&self) -> Ended {
