@@ -17,6 +17,16 @@ pub struct Input {
     pub content: Content,
 }
 
+impl Input {
+    /// The text, where it is one.
+    pub fn text(&self) -> Option<String> {
+        match &self.content {
+            Content::Text(text) => Some(text.clone()),
+            _ => None,
+        }
+    }
+}
+
 pub enum Content {
     Bytes(Vec<u8>),
     Words(Vec<i32>),

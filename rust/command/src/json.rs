@@ -40,6 +40,11 @@ pub fn line(line: Option<usize>) -> String {
     line.map_or("null".to_string(), |line| line.to_string())
 }
 
+/// The lines that are comments and read as limits.
+pub fn left_out(text: Option<&str>) -> String {
+    list(text.map(::text::left_out).unwrap_or_default().iter().map(usize::to_string))
+}
+
 /// A fraction's parts, and a decimal to read; then how many small amounts are
 /// beside it. Where there are any, the decimal is not exact.
 pub fn pair(pair: Pair) -> Vec<(&'static str, String)> {

@@ -53,6 +53,18 @@ pub fn refused_words(problem: &Limits, refusal: Refusal) -> Failure {
     refused(refusal, if refusal == Refusal::BlankRow { notes.collect() } else { vec![] })
 }
 
+/// What is said of comments that read as limits, where there are any: `what` is
+/// limits or rows.
+pub fn left_out(text: Option<&str>, what: &str) -> String {
+    let lines = text.map(text::left_out).unwrap_or_default();
+    let listed = lines.iter().map(usize::to_string).collect::<Vec<String>>().join(", ");
+    match lines.len() {
+        0 => String::new(),
+        1 => format!("# Left out, since they are comments, are {what} in line {listed}.\n"),
+        _ => format!("# Left out, since they are comments, are {what} in lines {listed}.\n"),
+    }
+}
+
 /// `line 3`, where there is one.
 pub fn place(problem: &Limits, variable: usize, side: Side) -> Option<String> {
     let line = problem.limits[variable][side as usize]?.line?;

@@ -14,12 +14,14 @@ use std::io::Read;
 use text::limits::{Limits, Side};
 
 pub fn run(file: &OsStr, options: &Options, stdin: &mut dyn Read) -> Result<Ended, Failure> {
-    let (file, problem) = problem(input::problem(file, stdin)?)?;
+    let input = input::problem(file, stdin)?;
+    let text = input.text();
+    let (file, problem) = problem(input)?;
     let answer = solved(&problem)?;
     if options.words {
         return Ok(as_words(&problem, &answer));
     }
-    let shown = Shown { file, problem, answer };
+    let shown = Shown { file, text, problem, answer };
     if let Some(values) = Values::of(&shown.answer.verdict) {
         return Ok(if options.json { shown.can_json(values) } else { shown.can(values) });
     }
@@ -67,6 +69,7 @@ fn as_words(problem: &Limits, answer: &Answer) -> Ended {
 
 struct Shown {
     file: String,
+    text: Option<String>,
     problem: Limits,
     answer: Answer,
 }
@@ -133,7 +136,7 @@ impl Shown {
             let mut rest = self.problem.clone();
             rest.limits[variable][side as usize] = None;
             let answer = solved(&rest)?;
-            let rest = Shown { file: self.file.clone(), problem: rest, answer };
+            let rest = Shown { file: self.file.clone(), text: None, problem: rest, answer };
             let side = match side {
                 Side::Lower => scatterflock::Side::Lower,
                 Side::Upper => scatterflock::Side::Upper,
@@ -164,7 +167,7 @@ mod tests {
             let problem = Limits::from_words(&family.words(&mut random)).unwrap();
             let Ok(answer) = solved(&problem) else { panic!("it is answered, SEED={seed}") };
             let Some(values) = Values::of(&answer.verdict) else { continue };
-            let shown = Shown { file: String::new(), problem, answer: answer.clone() };
+            let shown = Shown { file: String::new(), text: None, problem, answer: answer.clone() };
             let Some(end) = shown.small_below(values) else { continue };
             let [end, over] = [end.numerator, end.denominator].map(i128::from);
             for part in 1..8 {

@@ -2,6 +2,7 @@
 
 use crate::fraction::Fraction;
 use crate::input::{self, bad, Content, Input};
+use crate::problem::left_out;
 use crate::table::table;
 use crate::{json, Ended, Failure, CAN, CANNOT};
 use scatterflock::{Fractions, Schedule, TimesRefusal};
@@ -9,19 +10,30 @@ use std::ffi::OsStr;
 use std::io::Read;
 use text::times::{self, Row, Times};
 
+/// What is asked.
+struct Asked {
+    file: String,
+    text: Option<String>,
+    rows: Times,
+}
+
 pub fn run(file: &OsStr, is_json: bool, stdin: &mut dyn Read) -> Result<Ended, Failure> {
-    let (file, rows) = rows(input::problem(file, stdin)?)?;
+    let input = input::problem(file, stdin)?;
+    let text = input.text();
+    let (file, rows) = rows(input)?;
+    let asked = Asked { file, text, rows };
+    let rows = &asked.rows;
     let schedule = scatterflock::times(&rows.words()).map_err(refused)?;
     if let Some(times) = schedule.fractions() {
         return match rows.rows.iter().all(|row| is_met(row, &times)) {
-            true if is_json => Ok(can_json(&file, &rows, &times)),
-            true => Ok(can(&rows, &times)),
+            true if is_json => Ok(can_json(&asked, &times)),
+            true => Ok(can(&asked, &times)),
             false => Err(Failure::Contradicted),
         };
     }
     match schedule {
-        Schedule::Cycle(cycle) if is_cycle(&rows, &cycle) => {
-            Ok(if is_json { cannot_json(&file, &rows, &cycle) } else { cannot(&rows, &cycle) })
+        Schedule::Cycle(cycle) if is_cycle(rows, &cycle) => {
+            Ok(if is_json { cannot_json(&asked, &cycle) } else { cannot(&asked, &cycle) })
         }
         _ => Err(Failure::Contradicted),
     }
@@ -88,7 +100,8 @@ fn place(row: &Row) -> Option<String> {
     row.line.map(|line| format!("line {line}"))
 }
 
-fn can(rows: &Times, times: &Fractions) -> Ended {
+fn can(asked: &Asked, times: &Fractions) -> Ended {
+    let rows = &asked.rows;
     let time = |numerator: &i64| Fraction::new(*numerator, times.over);
     let named = rows.names.iter().zip(&times.numerators);
     let values = named.map(|(name, numerator)| vec![format!("{name} = {}", time(numerator))]);
@@ -106,11 +119,13 @@ fn can(rows: &Times, times: &Fractions) -> Ended {
     if !far.is_empty() {
         said += &format!("# How far each row is from being broken:\n{}#\n", table("#   ", &far));
     }
+    said += &left_out(asked.text.as_deref(), "rows");
     said += "# Minutes from 0 on. Every row was looked at once more before this was shown.\n";
     Ended::saying(said, CAN)
 }
 
-fn cannot(rows: &Times, cycle: &[usize]) -> Ended {
+fn cannot(asked: &Asked, cycle: &[usize]) -> Ended {
+    let rows = &asked.rows;
     let listed: Vec<&Row> = cycle.iter().map(|&row| &rows.rows[row]).collect();
     let named = listed.iter().zip(cycle).map(|(row, number)| {
         vec![place(row).unwrap_or(format!("row {number}")), format!("# {}", rows.row_text(row))]
@@ -127,6 +142,7 @@ fn cannot(rows: &Times, cycle: &[usize]) -> Ended {
     }
     said += &format!("#   {}\n", "-".repeat(wide + 4 + right_wide));
     said += &format!("#   {:>wide$} {:<2} {sum}\n#\n", "0", sign(is_strict));
+    said += &left_out(asked.text.as_deref(), "rows");
     said +=
         "# No times meet these rows together. The sum was made once more before this was shown.\n";
     Ended::saying(said, CANNOT)
@@ -136,7 +152,8 @@ fn row_json(rows: &Times, row: &Row) -> Vec<(&'static str, String)> {
     vec![("line", json::line(row.line)), ("row", json::text(&rows.row_text(row)))]
 }
 
-fn can_json(file: &str, rows: &Times, times: &Fractions) -> Ended {
+fn can_json(asked: &Asked, times: &Fractions) -> Ended {
+    let Asked { file, text, rows } = asked;
     let values = rows.names.iter().zip(&times.numerators).map(|(name, numerator)| {
         let mut fields = vec![("name", json::text(name))];
         fields.extend(json::number(Fraction::new(*numerator, times.over)));
@@ -153,11 +170,13 @@ fn can_json(file: &str, rows: &Times, times: &Fractions) -> Ended {
         ("file", json::text(file)),
         ("times", json::list(values)),
         ("rows", json::list(far)),
+        ("left_out", json::left_out(text.as_deref())),
     ];
     Ended::saying(json::object(&fields), CAN)
 }
 
-fn cannot_json(file: &str, rows: &Times, cycle: &[usize]) -> Ended {
+fn cannot_json(asked: &Asked, cycle: &[usize]) -> Ended {
+    let Asked { file, text, rows } = asked;
     let listed: Vec<&Row> = cycle.iter().map(|&row| &rows.rows[row]).collect();
     let (sum, is_strict) = sum(&listed);
     let fields = [
@@ -165,6 +184,7 @@ fn cannot_json(file: &str, rows: &Times, cycle: &[usize]) -> Ended {
         ("file", json::text(file)),
         ("rows", json::list(listed.iter().map(|row| json::inner(&row_json(rows, row))))),
         ("sum", json::text(&format!("0 {} {sum}", sign(is_strict)))),
+        ("left_out", json::left_out(text.as_deref())),
     ];
     Ended::saying(json::object(&fields), CANNOT)
 }

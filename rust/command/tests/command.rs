@@ -66,6 +66,26 @@ fn verdicts_and_statuses() {
     assert_eq!(ran(&["--version"], b"").0, format!("scatterflock {version}"));
 }
 
+/// A comment that reads as a limit is told, in case that it was forgotten.
+#[test]
+fn limits_that_are_left_out() {
+    let text = b"names x\nx >= 1\n# x <= 4\n";
+    let (said, _, _) = ran(&["solve", "-"], text);
+    assert!(
+        said.contains("# Left out, since they are comments, are limits in line 3.\n"),
+        "{said}"
+    );
+    assert!(ran(&["solve", "--json", "-"], text).0.ends_with(",\"left_out\":[3]}\n"));
+    let text = b"# b < a\ntimes a b\na - b <= 1\n# b - a > 4\n";
+    let (said, _, _) = ran(&["times", "-"], text);
+    assert!(
+        said.contains("# Left out, since they are comments, are rows in lines 1, 4.\n"),
+        "{said}"
+    );
+    assert!(ran(&["times", "--json", "-"], text).0.ends_with(",\"left_out\":[1,4]}\n"));
+    assert!(ran(&["solve", "--json", "-"], b"1 0 1 1 0").0.ends_with(",\"left_out\":[]}\n"));
+}
+
 /// A slip in a name, or a unit, declares nothing and turns nothing off.
 #[test]
 fn slips_are_no_names() {

@@ -5,12 +5,14 @@
 //! - `opening`: the lines that say what a text holds and declare its names
 //! - `names`, [`nearest`]: declared names, and the one that was probably meant
 //! - `statement`: sums of names and numbers, and the signs between them
+//! - [`left_out`]: comments that read as a limit
 //! - [`limits`]: a limit problem as text
 //! - [`times`]: time rows as text
 //! - [`answer`]: an answer as text
 //! - [`numbers`]: bare numbers
 
 pub mod answer;
+mod comments;
 mod fault;
 pub mod limits;
 mod names;
@@ -21,6 +23,7 @@ mod statement;
 pub mod times;
 mod tokens;
 
+pub use comments::left_out;
 pub use fault::Fault;
 pub use near::nearest;
 pub use opening::Holds;

@@ -63,6 +63,7 @@ impl Shown {
             ("checked", is_checked.to_string()),
         ];
         all.extend(fields.iter().cloned());
+        all.push(("left_out", json::left_out(self.text.as_deref())));
         Ended::saying(json::object(&all), status)
     }
 

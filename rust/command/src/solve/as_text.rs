@@ -2,7 +2,7 @@
 
 use super::{Each, Shown};
 use crate::clash::{added_up, loosened, reference, sum_text, Counted};
-use crate::problem::{all_limits, is_one_value, place, Values};
+use crate::problem::{all_limits, is_one_value, left_out, place, Values};
 use crate::table::table;
 use crate::{Ended, CAN, CANNOT, RANGE};
 use scatterflock::Verdict;
@@ -11,7 +11,8 @@ use text::limits::Side;
 impl Shown {
     fn accepted(&self) -> String {
         let pivots = pivots(self.answer.pivots);
-        format!("# The proved checker has accepted this answer. It took {pivots}.\n")
+        let left_out = left_out(self.text.as_deref(), "limits");
+        format!("{left_out}# The proved checker has accepted this answer. It took {pivots}.\n")
     }
 
     pub(super) fn can(&self, values: Values) -> Ended {
