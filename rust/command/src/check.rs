@@ -104,14 +104,17 @@ fn why_not_can(problem: &Limits, over: i64, plain: &[i64], small: &[i64]) -> Why
     if !beyond.is_empty() {
         return Why::new("Too large for it are the numbers of", beyond);
     }
-    let values = Values { over, plain, small };
+    let values = Values { problem, over, plain, small };
     let other = (0..problem.rows.len()).filter_map(|row| {
         let sum_of = |part: &[i64]| {
             let terms = problem.rows[row].iter().zip(part);
             terms.map(|(coefficient, value)| i64::from(*coefficient) * value).sum::<i64>()
         };
         let variable = problem.names.len() + row;
-        let (said, sum) = (values.at(variable), Pair::new([sum_of(plain), sum_of(small)], over));
+        let (said, sum) = (
+            values.at(variable),
+            Pair::new([sum_of(plain), sum_of(small)], over * problem.scale(variable)),
+        );
         let told =
             || vec![problem.left(variable), format!("is said to be {said}, and comes to {sum}")];
         (said != sum).then(told)
@@ -156,7 +159,7 @@ fn why_not_cannot(problem: &Limits, third: i64, multipliers: [&[i64]; 2]) -> Why
 fn broken(problem: &Limits, values: Values) -> Vec<Vec<String>> {
     let told = all_limits(problem).into_iter().filter_map(|(variable, side)| {
         let is_strict = problem.limits[variable][side as usize]?.is_strict;
-        let spare = values.spare(problem, (variable, side));
+        let spare = values.spare((variable, side));
         let by = match (spare.sign(), spare.plain.numerator) {
             (0, _) if is_strict => "met exactly, and it is strict".to_string(),
             (-1, 0) => "by a small amount".to_string(),

@@ -1,26 +1,53 @@
 //! Limits that clash, each as "at least" and so many times, and their sum.
 
-use crate::fraction::Pair;
+use crate::fraction::{Fraction, Pair};
 use crate::problem::all_limits;
 use text::limits::{Limits, Side};
+use text::Exact;
 
-/// A limit of a clash, by its variable and side, and how many times it counts.
+/// A limit of a clash, by its variable and side, and how many times it counts as
+/// it is shown.
 pub type Counted = (usize, Side, i64);
 
 /// A limit as "at least", so many times: a sum, a sign and a number.
 pub struct AtLeast {
     pub left: String,
     pub sign: &'static str,
-    pub right: i64,
+    pub right: Exact,
 }
 
-/// The limits that count, with their multipliers.
+/// The limits that count, with the multipliers of the words.
+pub fn multipliers(problem: &Limits, multipliers: [&[i64]; 2]) -> Vec<Counted> {
+    let all = all_limits(problem).into_iter();
+    let all = all.map(|(variable, side)| (variable, side, multipliers[side as usize][variable]));
+    all.filter(|(_, _, times)| *times != 0).collect()
+}
+
+/// The limits that count, with the multipliers of what is shown: those of the
+/// words, but for rows that are taken several times there and are shown once.
 pub fn counted(problem: &Limits, multipliers: [&[i64]; 2]) -> Vec<Counted> {
-    all_limits(problem)
-        .into_iter()
-        .map(|(variable, side)| (variable, side, multipliers[side as usize][variable]))
-        .filter(|(_, _, times)| *times != 0)
-        .collect()
+    let words = |(variable, side): (usize, Side)| multipliers[side as usize][variable];
+    let limits = || all_limits(problem).into_iter().filter(|&limit| words(limit) != 0);
+    let shown = |limit: (usize, Side)| words(limit) * problem.times(limit.0);
+    let common =
+        |of: &dyn Fn((usize, Side)) -> i64| limits().fold(0, |all, at| divisor(all, of(at)));
+    let less = common(&shown) / common(&words).max(1);
+    limits().map(|limit| (limit.0, limit.1, shown(limit) / less.max(1))).collect()
+}
+
+fn divisor(a: i64, b: i64) -> i64 {
+    if b == 0 {
+        a
+    } else {
+        divisor(b, a % b)
+    }
+}
+
+/// The sum of fractions.
+pub fn plus(one: Exact, other: Exact) -> Exact {
+    let over = one.denominator / divisor(one.denominator, other.denominator) * other.denominator;
+    let [one, other] = [one, other].map(|part| part.numerator * (over / part.denominator));
+    Exact::new(one + other, over)
 }
 
 /// Each limit as "at least", so many times, and what they come to.
@@ -30,18 +57,18 @@ pub fn added_up(problem: &Limits, counted: &[Counted]) -> (Vec<AtLeast>, AtLeast
     let sum = AtLeast {
         left: problem.sum(&left_sum(problem, counted)),
         sign: if is_strict { ">" } else { ">=" },
-        right: each.iter().map(|limit| limit.right).sum(),
+        right: each.iter().fold(Exact::ZERO, |sum, limit| plus(sum, limit.right)),
     };
     (each, sum)
 }
 
 fn at_least(problem: &Limits, (variable, side, times): Counted) -> AtLeast {
     let limit = problem.limits[variable][side as usize];
-    let number = limit.map_or(0, |limit| limit.number);
+    let number = problem.limit(variable, side).unwrap_or(Exact::ZERO);
     let left = problem.sum(&left_sum(problem, &[(variable, side, times)]));
     let signed = if side == Side::Lower { times } else { -times };
     let sign = limit.map_or(">=", |limit| limit.sign(Side::Lower));
-    AtLeast { left, sign, right: signed * i64::from(number) }
+    AtLeast { left, sign, right: Exact::new(signed * number.numerator, number.denominator) }
 }
 
 /// What the left sides come to, as "at least" and so many times each.
@@ -72,11 +99,13 @@ pub fn sum_text(problem: &Limits, counted: &[Counted]) -> String {
 /// number, farther out by the whole of the sum over its multiplier. Where the sum
 /// is strict it has to be more than that.
 pub fn loosened(problem: &Limits, (variable, side, times): Counted, sum: &AtLeast) -> Pair {
-    let limit = problem.limits[variable][side as usize];
-    let number = limit.map_or(0, |limit| i64::from(limit.number));
+    let number = problem.limit(variable, side).unwrap_or(Exact::ZERO);
     let out = if side == Side::Lower { -1 } else { 1 };
-    let beyond = if sum.sign == ">" { times * out } else { 0 };
-    Pair::new([number * times + out * sum.right, beyond], times)
+    let Exact { numerator, denominator } = sum.right;
+    let by = Fraction::new(out * numerator, denominator * times);
+    let to = plus(number, Exact::new(by.numerator, by.denominator));
+    let beyond = if sum.sign == ">" { out } else { 0 };
+    Pair { plain: Fraction::new(to.numerator, to.denominator), small: Fraction::new(beyond, 1) }
 }
 
 /// How an answer names a limit: by its line, with the side where the line sets

@@ -5,6 +5,7 @@
 //! - `input`: files as words or as text
 //! - `problem`: a limit problem of a file
 //! - `clash`: limits that clash, and their sum
+//! - `own`: an answer put back into the text's own numbers
 //! - `fraction`: fractions in lowest terms, with small amounts, and decimals to
 //!   read
 //! - `json`, `table`, `excerpt`: values as JSON, lines of cells, the line of a
@@ -18,6 +19,7 @@ mod fraction;
 mod input;
 mod json;
 mod options;
+mod own;
 mod problem;
 mod solve;
 mod table;

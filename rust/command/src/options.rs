@@ -23,7 +23,7 @@ A FILE is a text that declares its names and has one limit a line,
 
     names zone1 zone2 solder
     zone1 >= 20
-    3 zone1 - 2 zone2 <= 400      # a comment
+    3 zone1 - 2 zone2 <= 412.5    # a comment
     zone2 = zone1 + 45
     solder < 217                  # strict: 217 itself is left out
 

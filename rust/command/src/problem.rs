@@ -90,30 +90,33 @@ pub fn is_one_value(problem: &Limits, variable: usize) -> bool {
     lower.is_some_and(|limit| !limit.is_strict) && lower == upper
 }
 
-/// Numerators over one denominator, and their small parts, for each variable.
+/// Numerators over one denominator, and their small parts, for each variable, as
+/// the words have them.
 #[derive(Clone, Copy)]
 pub struct Values<'a> {
+    pub problem: &'a Limits,
     pub over: i64,
     pub plain: &'a [i64],
     pub small: &'a [i64],
 }
 
-impl Values<'_> {
+impl<'a> Values<'a> {
     /// The values of a verdict, where it has any.
-    pub fn of(verdict: &Verdict) -> Option<Values<'_>> {
+    pub fn of(problem: &'a Limits, verdict: &'a Verdict) -> Option<Values<'a>> {
         let Verdict::Can { over, numerators, small } = verdict else { return None };
-        Some(Values { over: *over, plain: numerators, small })
+        Some(Values { problem, over: *over, plain: numerators, small })
     }
 
-    /// The value of a variable.
+    /// The value of a variable or a row, as the text has it.
     pub fn at(self, variable: usize) -> Pair {
-        Pair::new([self.plain[variable], self.small[variable]], self.over)
+        let over = self.over * self.problem.scale(variable);
+        Pair::new([self.plain[variable], self.small[variable]], over)
     }
 
     /// How far it is inside of a limit, over the denominator; below 0 where it
     /// breaks it.
-    pub fn room(self, problem: &Limits, (variable, side): (usize, Side)) -> [i64; 2] {
-        let limit = problem.limits[variable][side as usize];
+    pub fn room(self, (variable, side): (usize, Side)) -> [i64; 2] {
+        let limit = self.problem.limits[variable][side as usize];
         let limit = limit.map_or(0, |limit| i64::from(limit.number));
         let (plain, small) = (self.plain[variable] - limit * self.over, self.small[variable]);
         match side {
@@ -122,8 +125,8 @@ impl Values<'_> {
         }
     }
 
-    /// The same as a fraction.
-    pub fn spare(self, problem: &Limits, limit: (usize, Side)) -> Pair {
-        Pair::new(self.room(problem, limit), self.over)
+    /// The same as a fraction, as the text has it.
+    pub fn spare(self, limit: (usize, Side)) -> Pair {
+        Pair::new(self.room(limit), self.over * self.problem.scale(limit.0))
     }
 }

@@ -7,7 +7,7 @@ use crate::clash::{self, Counted};
 use crate::fraction::Fraction;
 use crate::options::Options;
 use crate::problem::{all_limits, problem, refused_words, Values};
-use crate::{input, Ended, Failure, CAN, CANNOT, RANGE};
+use crate::{input, own, Ended, Failure, CAN, CANNOT, RANGE};
 use scatterflock::{Answer, Judgement, Problem, Verdict};
 use std::ffi::OsStr;
 use std::io::Read;
@@ -22,7 +22,7 @@ pub fn run(file: &OsStr, options: &Options, stdin: &mut dyn Read) -> Result<Ende
         return Ok(as_words(&problem, &answer));
     }
     let shown = Shown { file, text, problem, answer };
-    if let Some(values) = Values::of(&shown.answer.verdict) {
+    if let Some(values) = Values::of(&shown.problem, &shown.answer.verdict) {
         return Ok(if options.json { shown.can_json(values) } else { shown.can(values) });
     }
     Ok(match (&shown.answer.verdict, options.json) {
@@ -40,7 +40,8 @@ pub fn run(file: &OsStr, options: &Options, stdin: &mut dyn Read) -> Result<Ende
     })
 }
 
-/// The answer, which the checker has accepted where it is evidence.
+/// The answer, which the checker has accepted where it is evidence, and which is
+/// right in the text's own numbers too.
 fn solved(problem: &Limits) -> Result<Answer, Failure> {
     let words = problem.words();
     let answer = scatterflock::solve(&words).map_err(|refusal| refused_words(problem, refusal))?;
@@ -48,6 +49,9 @@ fn solved(problem: &Limits) -> Result<Answer, Failure> {
         if scatterflock::check(&words, &evidence) != Ok(Judgement::Accepted) {
             return Err(Failure::Contradicted);
         }
+    }
+    if !own::agrees(problem, &answer.verdict) {
+        return Err(Failure::Contradicted);
     }
     Ok(answer)
 }
@@ -82,7 +86,7 @@ impl Shown {
     /// The least amount that is too large for the small one, where there is any:
     /// with each that is less all limits hold.
     fn small_below(&self, values: Values) -> Option<Fraction> {
-        let rooms = all_limits(&self.problem).into_iter().map(|at| values.room(&self.problem, at));
+        let rooms = all_limits(&self.problem).into_iter().map(|at| values.room(at));
         let ends = rooms.filter(|&[_, small]| small < 0).map(|[plain, small]| (plain, -small));
         let wide = |(plain, small)| (i128::from(plain), i128::from(small));
         let least = ends.min_by(|&one, &other| {
@@ -106,20 +110,21 @@ impl Shown {
             }
             None => true,
         };
-        let over = (0..31).map(|halved| 1_i64 << halved).find(will_do)?;
+        let halves = (0..31).map(|halved| 1_i64 << halved).find(will_do)?;
         let put = |(plain, small): (&i64, &i64)| {
-            i64::try_from(i128::from(*plain) * i128::from(over) + i128::from(*small)).ok()
+            i64::try_from(i128::from(*plain) * i128::from(halves) + i128::from(*small)).ok()
         };
         let all = values.plain.iter().zip(values.small).map(put).collect::<Option<Vec<i64>>>()?;
-        let mut words = vec![1, 0, values.over.checked_mul(over)?];
+        let mut words = vec![1, 0, values.over.checked_mul(halves)?];
         words.extend(&all);
         words.extend(vec![0; all.len()]);
         if scatterflock::check(&self.problem.words(), &words) != Ok(Judgement::Accepted) {
             return None;
         }
         let named = all[..self.problem.names.len()].iter();
-        let numbers = named.map(|&number| Fraction::new(number, words[2]));
-        Some((Fraction::new(1, over), numbers.collect()))
+        let over = words[2].checked_mul(self.problem.parts.into())?;
+        let numbers = named.map(|&number| Fraction::new(number, over));
+        Some((Fraction::new(1, halves), numbers.collect()))
     }
 
     /// The limits that count, with their multipliers.
@@ -133,8 +138,7 @@ impl Shown {
         let problem =
             Problem::from_words(&self.problem.words()).map_err(|_| Failure::Contradicted)?;
         let each = counted.iter().map(|&(variable, side, _)| {
-            let mut rest = self.problem.clone();
-            rest.limits[variable][side as usize] = None;
+            let rest = self.problem.without(variable, side);
             let answer = solved(&rest)?;
             let rest = Shown { file: self.file.clone(), text: None, problem: rest, answer };
             let side = match side {
@@ -166,13 +170,13 @@ mod tests {
             let family = random.pick(&[Family::Strict, Family::Touching]);
             let problem = Limits::from_words(&family.words(&mut random)).unwrap();
             let Ok(answer) = solved(&problem) else { panic!("it is answered, SEED={seed}") };
-            let Some(values) = Values::of(&answer.verdict) else { continue };
             let shown = Shown { file: String::new(), text: None, problem, answer: answer.clone() };
+            let Some(values) = Values::of(&shown.problem, &answer.verdict) else { continue };
             let Some(end) = shown.small_below(values) else { continue };
             let [end, over] = [end.numerator, end.denominator].map(i128::from);
             for part in 1..8 {
                 for at in all_limits(&shown.problem) {
-                    let [plain, small] = values.room(&shown.problem, at).map(i128::from);
+                    let [plain, small] = values.room(at).map(i128::from);
                     assert!(plain * 8 * over + small * part * end >= 0, "SEED={seed}");
                     let is_strict = shown.problem.limits[at.0][at.1 as usize].unwrap().is_strict;
                     assert!(!is_strict || plain * 8 * over + small * part * end > 0, "SEED={seed}");

@@ -9,6 +9,7 @@ use scatterflock::{Fractions, Schedule, TimesRefusal};
 use std::ffi::OsStr;
 use std::io::Read;
 use text::times::{self, Row, Times};
+use text::Exact;
 
 /// What is asked.
 struct Asked {
@@ -61,7 +62,13 @@ fn refused(refusal: TimesRefusal) -> Failure {
     Failure::Refused { number: refusal.number(), what: refusal.to_string(), notes: vec![] }
 }
 
-/// How many minutes are left in a row, over the denominator of the times.
+/// A number of parts of a minute, over the denominator of the times, in minutes.
+fn minutes(rows: &Times, numerator: i64, times: &Fractions) -> Fraction {
+    Fraction::new(numerator, times.over * i64::from(rows.parts))
+}
+
+/// How many parts of a minute are left in a row, over the denominator of the
+/// times.
 fn spare(row: &Row, times: &Fractions) -> i64 {
     let [x, y] = [row.x, row.y].map(|point| times.numerators[point]);
     i64::from(row.c) * times.over - (x - y)
@@ -102,12 +109,12 @@ fn place(row: &Row) -> Option<String> {
 
 fn can(asked: &Asked, times: &Fractions) -> Ended {
     let rows = &asked.rows;
-    let time = |numerator: &i64| Fraction::new(*numerator, times.over);
+    let time = |numerator: &i64| minutes(rows, *numerator, times);
     let named = rows.names.iter().zip(&times.numerators);
     let values = named.map(|(name, numerator)| vec![format!("{name} = {}", time(numerator))]);
     let mut said = format!("can\n\n{}\n", table("", &values.collect::<Vec<_>>()));
     let far = rows.rows.iter().map(|row| {
-        let far = match Fraction::new(spare(row, times), times.over).to_string().as_str() {
+        let far = match minutes(rows, spare(row, times), times).to_string().as_str() {
             "0" => "met exactly".to_string(),
             "1" => "1 minute to spare".to_string(),
             spare if spare.contains('/') => format!("{spare} of a minute to spare"),
@@ -134,14 +141,20 @@ fn cannot(asked: &Asked, cycle: &[usize]) -> Ended {
     said += "# All of them added up:\n";
     let left = |row: &Row| format!("{} - {}", rows.names[row.x], rows.names[row.y]);
     let (sum, is_strict) = sum(&listed);
+    let shown = |c: i64| Exact::new(c, rows.parts.into()).to_string();
     let wide = listed.iter().map(|row| left(row).len()).max().unwrap_or(0);
     let rights = listed.iter().map(|row| i64::from(row.c)).chain([sum]);
-    let right_wide = rights.map(|right| right.to_string().len()).max().unwrap_or(0);
+    let right_wide = rights.map(|right| shown(right).len()).max().unwrap_or(0);
     for row in &listed {
-        said += &format!("#   {:>wide$} {:<2} {}\n", left(row), sign(row.is_strict), row.c);
+        said += &format!(
+            "#   {:>wide$} {:<2} {}\n",
+            left(row),
+            sign(row.is_strict),
+            shown(row.c.into())
+        );
     }
     said += &format!("#   {}\n", "-".repeat(wide + 4 + right_wide));
-    said += &format!("#   {:>wide$} {:<2} {sum}\n#\n", "0", sign(is_strict));
+    said += &format!("#   {:>wide$} {:<2} {}\n#\n", "0", sign(is_strict), shown(sum));
     said += &left_out(asked.text.as_deref(), "rows");
     said +=
         "# No times meet these rows together. The sum was made once more before this was shown.\n";
@@ -156,12 +169,12 @@ fn can_json(asked: &Asked, times: &Fractions) -> Ended {
     let Asked { file, text, rows } = asked;
     let values = rows.names.iter().zip(&times.numerators).map(|(name, numerator)| {
         let mut fields = vec![("name", json::text(name))];
-        fields.extend(json::number(Fraction::new(*numerator, times.over)));
+        fields.extend(json::number(minutes(rows, *numerator, times)));
         json::inner(&fields)
     });
     let far = rows.rows.iter().map(|row| {
         let mut fields = row_json(rows, row);
-        let spare = Fraction::new(spare(row, times), times.over);
+        let spare = minutes(rows, spare(row, times), times);
         fields.push(("spare", json::inner(&json::number(spare))));
         json::inner(&fields)
     });
@@ -179,6 +192,7 @@ fn cannot_json(asked: &Asked, cycle: &[usize]) -> Ended {
     let Asked { file, text, rows } = asked;
     let listed: Vec<&Row> = cycle.iter().map(|&row| &rows.rows[row]).collect();
     let (sum, is_strict) = sum(&listed);
+    let sum = Exact::new(sum, rows.parts.into());
     let fields = [
         ("verdict", json::text("cannot")),
         ("file", json::text(file)),

@@ -15,19 +15,23 @@ pub fn run(file: &OsStr, options: &Options, stdin: &mut dyn Read) -> Result<Ende
         _ => None,
     };
     let is_text = matches!(input.content, Content::Text(_));
-    let (words, text) = if options.times || holds == Some(Holds::Times) {
+    let (words, text, parts) = if options.times || holds == Some(Holds::Times) {
         let (_, rows) = times::rows(input)?;
-        (rows.words(), rows.text())
+        (rows.words(), rows.text(), rows.parts)
     } else {
         let (_, problem) = problem(input)?;
-        (problem.words(), problem.text())
+        (problem.words(), problem.text(), problem.parts)
     };
     Ok(if options.bytes {
         let output = words.iter().flat_map(|word| word.to_le_bytes()).collect();
         Ended { output, errors: String::new(), status: CAN }
     } else if is_text {
         let words: Vec<String> = words.iter().map(i32::to_string).collect();
-        Ended::saying(words.join(" ") + "\n", CAN)
+        let unit = match parts {
+            1 => String::new(),
+            parts => format!("# Values and limits of names count parts of 1/{parts}.\n"),
+        };
+        Ended::saying(unit + &words.join(" ") + "\n", CAN)
     } else {
         Ended::saying(text, CAN)
     })

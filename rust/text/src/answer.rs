@@ -1,5 +1,6 @@
 //! An answer to a limit problem as text, and its words.
 
+use crate::exact::{self, multiple};
 use crate::fault::Fault;
 use crate::limits::{Limits, Side};
 use crate::numbers;
@@ -56,7 +57,11 @@ fn can(lines: &[Line], end: &Line, problem: &Limits) -> Result<Vec<i64>, Fault> 
         if values[number].is_some() {
             return Err(line.fault(*column, format!("{name} has a value already")));
         }
-        let value = self::value(line, value)?;
+        let value = self::value(line, value)?.map(|(above, below)| {
+            let above = above * i128::from(problem.parts);
+            let common = divisor(above.abs(), below);
+            (above / common, below / common)
+        });
         for (_, denominator) in value {
             over = over / divisor(over, denominator) * denominator;
             if over > LARGEST {
@@ -94,7 +99,7 @@ fn can(lines: &[Line], end: &Line, problem: &Limits) -> Result<Vec<i64>, Fault> 
 /// numerator and a denominator.
 type Value = [(i128, i128); 2];
 
-const VALUE: &str = "a value is a whole number or a fraction: 7/2, or 7/2 - 3/4 small";
+const VALUE: &str = "a value is a number or a fraction: 7/2, or 7/2 - 3/4 small";
 
 /// A fraction, and behind a sign how many small amounts there are.
 fn value(line: &Line, tokens: &[Token]) -> Result<Value, Fault> {
@@ -126,6 +131,7 @@ fn fraction(line: &Line, tokens: &[Token]) -> Result<(i128, i128), Fault> {
     };
     let (numerator, denominator) = match kinds {
         [Kind::Number(numerator)] => (*numerator, 1),
+        [Kind::Decimal(digits, ten)] => (*digits, *ten),
         [Kind::Number(numerator), Kind::Over, Kind::Number(denominator)] if *denominator > 0 => {
             (*numerator, *denominator)
         }
@@ -179,7 +185,26 @@ fn cannot(lines: &[Line], problem: &Limits) -> Result<Vec<i64>, Fault> {
         }
         *word = *times;
     }
+    of_the_words(problem, &mut words);
     Ok(words)
+}
+
+/// Multipliers of what is shown, as multipliers of the words: those of a row that
+/// is taken several times there are smaller by that, and all of them so many times
+/// that they are whole.
+fn of_the_words(problem: &Limits, words: &mut [i64]) {
+    let count = problem.limits.len();
+    let times = |place: usize| problem.times(place % count);
+    let used = words[3..].iter().enumerate().filter(|(_, word)| **word != 0);
+    let all = used.fold(1, |all, (place, _)| multiple(all, times(place)));
+    if all == 1 {
+        return;
+    }
+    for (place, word) in words[3..].iter_mut().enumerate() {
+        *word = word.saturating_mul(all / times(place));
+    }
+    let common = words[3..].iter().fold(0, |common, word| exact::divisor(common, word.abs()));
+    words[3..].iter_mut().for_each(|word| *word /= common.max(1));
 }
 
 const MULTIPLIER: &str =

@@ -1,5 +1,6 @@
 //! Limits, time rows and answers as text, as docs/formats/text.md has them.
 //!
+//! - `exact`: numbers of a text, decimals and fractions among them
 //! - `fault`: what is wrong, with line and column
 //! - `tokens`: a line's tokens
 //! - `opening`: the lines that say what a text holds and declare its names
@@ -13,6 +14,7 @@
 
 pub mod answer;
 mod comments;
+mod exact;
 mod fault;
 pub mod limits;
 mod names;
@@ -24,6 +26,7 @@ pub mod times;
 mod tokens;
 
 pub use comments::left_out;
+pub use exact::Exact;
 pub use fault::Fault;
 pub use near::nearest;
 pub use opening::Holds;

@@ -8,6 +8,7 @@ mod shown;
 
 pub use reading::read;
 
+use crate::exact::Exact;
 use crate::statement;
 
 /// The most names.
@@ -28,6 +29,27 @@ pub struct Limits {
     pub rows: Vec<Vec<i32>>,
     /// Lower and upper limit of each variable, then of each row.
     pub limits: Vec<[Option<Limit>; 2]>,
+    /// How many parts a unit of the text has: values and limits are counted in
+    /// these. It is 1 where the limits of names are whole.
+    pub parts: i32,
+    /// How many times each row is taken, so that its limits are whole in parts.
+    pub taken: Vec<i32>,
+    /// What each line of the text says, in its own numbers.
+    pub said: Vec<Own>,
+}
+
+/// What a line says of a sum of names, in its own numbers.
+#[derive(Debug, Clone, PartialEq, Eq)]
+pub struct Own {
+    /// The line.
+    pub line: usize,
+    /// A coefficient for each name.
+    pub coefficients: Vec<Exact>,
+    /// Lower and upper limit, and whether each is strict.
+    pub limits: [Option<(Exact, bool)>; 2],
+    /// Whether its lower limit is an upper one of the variable or row that it is
+    /// about.
+    pub is_turned: bool,
 }
 
 /// A limit, and the line that sets it.
@@ -117,6 +139,9 @@ impl Limits {
             names: (0..n).map(|number| format!("x{number}")).collect(),
             rows: coefficients.chunks_exact(n).map(<[i32]>::to_vec).collect(),
             limits: limits.collect::<Option<Vec<_>>>()?,
+            parts: 1,
+            taken: vec![1; m],
+            said: vec![],
         })
     }
 
@@ -162,13 +187,47 @@ impl Limits {
         found.collect()
     }
 
-    /// What a variable, or a row, is made of: a coefficient for each name.
+    /// What a variable, or a row, is made of: a coefficient for each name. A row
+    /// that is taken several times is shown once.
     #[must_use]
     pub fn coefficients(&self, variable: usize) -> Vec<i32> {
         let n = self.names.len();
         match variable.checked_sub(n) {
-            Some(row) => self.rows[row].clone(),
+            Some(row) => self.rows[row].iter().map(|number| number / self.taken[row]).collect(),
             None => (0..n).map(|other| i32::from(other == variable)).collect(),
         }
+    }
+
+    /// How many times a variable, or a row, is taken in the words.
+    #[must_use]
+    pub fn times(&self, variable: usize) -> i64 {
+        let row = variable.checked_sub(self.names.len());
+        row.map_or(1, |row| self.taken[row].into())
+    }
+
+    /// How many parts of the words are one of the text, for a variable or a row.
+    #[must_use]
+    pub fn scale(&self, variable: usize) -> i64 {
+        i64::from(self.parts) * self.times(variable)
+    }
+
+    /// The same without one limit.
+    #[must_use]
+    pub fn without(&self, variable: usize, side: Side) -> Limits {
+        let mut rest = self.clone();
+        let limit = rest.limits[variable][side as usize].take();
+        let line = limit.and_then(|limit| limit.line);
+        for own in rest.said.iter_mut().filter(|own| Some(own.line) == line) {
+            let side = side as usize;
+            own.limits[if own.is_turned { 1 - side } else { side }] = None;
+        }
+        rest
+    }
+
+    /// A limit as the text has it.
+    #[must_use]
+    pub fn limit(&self, variable: usize, side: Side) -> Option<Exact> {
+        let limit = self.limits.get(variable)?[side as usize]?;
+        Some(Exact::new(limit.number.into(), self.scale(variable)))
     }
 }

@@ -159,7 +159,7 @@ fn said(lines: &[Line]) -> Vec<&str> {
                 continue;
             }
             let before = place.checked_sub(1).map(|before| &line.tokens[before].kind);
-            let is_counted = matches!(before, Some(Kind::Number(_)));
+            let is_counted = before.is_some_and(Kind::is_number);
             match found.iter_mut().find(|other| other.0 == name) {
                 Some((_, count, always_counted)) => {
                     *count += 1;

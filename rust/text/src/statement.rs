@@ -1,5 +1,6 @@
 //! A line that says something: sums of names and numbers, with signs between.
 
+use crate::exact::Exact;
 use crate::fault::Fault;
 use crate::tokens::{Kind, Line, Sign, Token};
 
@@ -11,14 +12,15 @@ pub const LARGEST_LIMIT: i64 = 30_000;
 /// A name with its coefficient.
 #[derive(Debug, Clone)]
 pub struct Term {
-    pub coefficient: i32,
+    pub coefficient: Exact,
     pub name: String,
     pub column: usize,
     /// Whether a number stands before the name.
     pub is_counted: bool,
 }
 
-/// What a line says: that the sum of the terms is within limits.
+/// What a line says, in its own numbers: that the sum of the terms is within
+/// limits.
 #[derive(Debug, Clone)]
 pub struct Statement {
     /// In the order in which they stand in the line.
@@ -29,7 +31,7 @@ pub struct Statement {
 
 #[derive(Debug, Clone, Copy)]
 pub struct Limit {
-    pub number: i32,
+    pub number: Exact,
     pub is_strict: bool,
     /// Where its sign stands.
     pub column: usize,
@@ -37,7 +39,7 @@ pub struct Limit {
 
 struct Side {
     terms: Vec<Term>,
-    number: i64,
+    number: Exact,
 }
 
 /// The statement of a line whose first tokens are left out.
@@ -72,7 +74,7 @@ pub fn statement(line: &Line, skipped: usize) -> Result<Statement, Fault> {
         }
         _ => {
             let only = sides.pop().expect("there is a side");
-            if only.number != 0 {
+            if only.number != Exact::ZERO {
                 return Err(line.fault(
                     line.end,
                     "a sign is missing here: a sum without limits has names alone",
@@ -99,11 +101,12 @@ fn misleading(line: &Line, tokens: &[Token]) -> Option<Fault> {
         }
     }
     for three in tokens.windows(3) {
-        let [Kind::Number(_) | Kind::Name(_), Kind::Name(word), Kind::Number(_) | Kind::Name(_)] =
-            [0, 1, 2].map(|place| &three[place].kind)
-        else {
+        let [before, word, next] = [0, 1, 2].map(|place| &three[place].kind);
+        let is_thing = |kind: &Kind| kind.is_number() || matches!(kind, Kind::Name(_));
+        let Kind::Name(word) = word else { continue };
+        if !is_thing(before) || !is_thing(next) {
             continue;
-        };
+        }
         let what = match word.as_str() {
             "and" => "a line has one limit: what stands behind and begins a new one",
             "or" => "there is no or: all lines have to hold together",
@@ -122,8 +125,7 @@ fn misleading(line: &Line, tokens: &[Token]) -> Option<Fault> {
     let mut sides = tokens.split(|token| matches!(token.kind, Kind::Sign(_)));
     let range = sides.find(|side| match side {
         [low, minus, high] => {
-            let are_numbers = [low, high].map(|token| matches!(token.kind, Kind::Number(_)));
-            are_numbers == [true; 2] && minus.kind == Kind::Minus
+            low.kind.is_number() && high.kind.is_number() && minus.kind == Kind::Minus
         }
         _ => false,
     })?;
@@ -133,7 +135,7 @@ fn misleading(line: &Line, tokens: &[Token]) -> Option<Fault> {
 
 /// A sum. `end` is the column past it.
 fn side(line: &Line, tokens: &[Token], end: usize) -> Result<Side, Fault> {
-    let mut side = Side { terms: Vec::new(), number: 0 };
+    let mut side = Side { terms: Vec::new(), number: Exact::ZERO };
     let mut rest = tokens;
     let mut is_first = true;
     while is_first || !rest.is_empty() {
@@ -163,7 +165,7 @@ fn unjoined(before: &Kind, next: &Kind) -> String {
         (Kind::Name(name), Kind::Number(number)) => {
             format!("a name has no space in it: {name}{number}; or a sign, + or -, is missing")
         }
-        (Kind::Number(_), Kind::Number(_)) => {
+        (before, next) if before.is_number() && next.is_number() => {
             "a number has no space in it, or a sign, + or -, is missing before this".to_string()
         }
         (_, Kind::Times | Kind::Over) => PRODUCT.to_string(),
@@ -184,37 +186,65 @@ fn term(
     sign: i64,
     side: &mut Side,
 ) -> Result<usize, Fault> {
-    let kinds: Vec<&Kind> = rest.iter().take(3).map(|token| &token.kind).collect();
-    let (size, name, length) = match kinds[..] {
-        [Kind::Number(size), Kind::Times, Kind::Name(name), ..] => (*size, Some(name), 3),
-        [Kind::Number(size), Kind::Name(name), ..] => (*size, Some(name), 2),
-        [Kind::Number(size), ..] => (*size, None, 1),
-        [Kind::Name(name), ..] => (1, Some(name), 1),
-        _ => {
+    let kinds: Vec<&Kind> = rest.iter().take(6).map(|token| &token.kind).collect();
+    let (size, counted) = number(&kinds);
+    let (name, mut length) = match (size, &kinds[counted..]) {
+        (Some(_), [Kind::Times, Kind::Name(name), ..]) => (Some(name), counted + 2),
+        (_, [Kind::Name(name), ..]) => (Some(name), counted + 1),
+        (Some(_), _) => (None, counted),
+        (None, _) => {
             let column = rest.first().map_or(end, |token| token.column);
             return Err(line.fault(column, "a number or a name is missing here"));
         }
     };
+    let place = length - 1;
+    let mut size = size.unwrap_or((1, 1));
+    if let (Some(_), [Kind::Over, Kind::Number(over @ 1..), ..]) = (name, &kinds[length..]) {
+        size.1 = size.1.saturating_mul(*over);
+        length += 2;
+    }
     if let Some(Token { kind: Kind::Times | Kind::Over, column }) = rest.get(length) {
         return Err(line.fault(*column, PRODUCT));
     }
+    let fine = Exact::fine(size.0, size.1);
+    let size = fine.ok_or_else(|| line.fault(rest[0].column, TOO_FINE))?;
     let (largest, what) = match name {
         Some(_) => (LARGEST_COEFFICIENT, "a coefficient is from -1000 to 1000"),
         None => (LARGEST_LIMIT, "a limit is from -30000 to 30000"),
     };
-    if size > largest {
+    if size.is_beyond(largest) {
         return Err(line.fault(rest[0].column, format!("{size} is out of range: {what}")));
     }
+    let signed = if sign < 0 { size.turned() } else { size };
     match name {
         Some(name) => side.terms.push(Term {
-            coefficient: (sign * size) as i32,
+            coefficient: signed,
             name: name.clone(),
-            column: rest[length - 1].column,
-            is_counted: length > 1,
+            column: rest[place].column,
+            is_counted: counted > 0,
         }),
-        None => side.number += sign * size,
+        None => side.number = sum(line, rest[0].column, side.number, signed)?,
     }
     Ok(length)
+}
+
+const TOO_FINE: &str = "that is too fine: thousandths are the smallest parts of a number";
+
+fn sum(line: &Line, column: usize, one: Exact, other: Exact) -> Result<Exact, Fault> {
+    one.plus(other).ok_or_else(|| line.fault(column, TOO_FINE))
+}
+
+/// The number that comes first, as one over another, and how many tokens it is
+/// made of.
+fn number(kinds: &[&Kind]) -> (Option<(i64, i64)>, usize) {
+    match kinds {
+        [Kind::Number(above), Kind::Over, Kind::Number(below @ 1..), ..] => {
+            (Some((*above, *below)), 3)
+        }
+        [Kind::Number(whole), ..] => (Some((*whole, 1)), 1),
+        [Kind::Decimal(digits, ten), ..] => (Some((*digits, *ten)), 1),
+        _ => (None, 0),
+    }
 }
 
 /// Left, a sign, right: the names go to the left, the numbers to the right.
@@ -230,7 +260,8 @@ fn compared(
         true => (right, turned(sign), left),
         false => (left, sign, right),
     };
-    let limit = |is_strict| limit(line, right.number - left.number, is_strict, column).map(Some);
+    let number = sum(line, column, right.number, left.number.turned())?;
+    let limit = |is_strict| limit(line, number, is_strict, column).map(Some);
     let (lower, upper) = match sign {
         Sign::AtMost => (None, limit(false)?),
         Sign::AtLeast => (limit(false)?, None),
@@ -240,7 +271,7 @@ fn compared(
     };
     let mut terms = left.terms;
     terms.extend(
-        right.terms.into_iter().map(|term| Term { coefficient: -term.coefficient, ..term }),
+        right.terms.into_iter().map(|term| Term { coefficient: term.coefficient.turned(), ..term }),
     );
     Ok(Statement { terms, lower, upper })
 }
@@ -262,18 +293,23 @@ fn between(
         return Err(line.fault(term.column, "in a line with two signs, names stand between them"));
     }
     let is_strict = |sign| matches!(sign, Sign::Below | Sign::Above);
-    let a = limit(line, first.number - middle.number, is_strict(left), left_column)?;
-    let b = limit(line, last.number - middle.number, is_strict(right), right_column)?;
+    let less = middle.number.turned();
+    let [a, b] =
+        [(first, left, left_column), (last, right, right_column)].map(|(outer, sign, column)| {
+            let number = sum(line, column, outer.number, less)?;
+            limit(line, number, is_strict(sign), column)
+        });
+    let (a, b) = (a?, b?);
     let (lower, upper) = if is_rising(left) { (a, b) } else { (b, a) };
     Ok(Statement { terms: middle.terms, lower: Some(lower), upper: Some(upper) })
 }
 
-fn limit(line: &Line, number: i64, is_strict: bool, column: usize) -> Result<Limit, Fault> {
-    if number.abs() > LARGEST_LIMIT {
+fn limit(line: &Line, number: Exact, is_strict: bool, column: usize) -> Result<Limit, Fault> {
+    if number.is_beyond(LARGEST_LIMIT) {
         let what = format!("{number} is out of range: a limit is from -30000 to 30000");
         return Err(line.fault(column, what));
     }
-    Ok(Limit { number: number as i32, is_strict, column })
+    Ok(Limit { number, is_strict, column })
 }
 
 fn turned(sign: Sign) -> Sign {

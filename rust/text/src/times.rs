@@ -1,5 +1,6 @@
 //! Time rows as text, and their words.
 
+use crate::exact::{multiple, Exact, LARGEST_DENOMINATOR};
 use crate::fault::Fault;
 use crate::names::Names;
 use crate::opening::{self, Holds};
@@ -20,6 +21,9 @@ pub struct Times {
     pub names: Vec<String>,
     /// The rows.
     pub rows: Vec<Row>,
+    /// How many parts a minute has: rows and times are counted in these. It is 1
+    /// where all numbers of the text are whole.
+    pub parts: i32,
 }
 
 /// The row x - y <= c, or x - y < c where it is strict.
@@ -31,7 +35,7 @@ pub struct Row {
     pub y: usize,
     /// Whether it says "less than".
     pub is_strict: bool,
-    /// How much the difference is at most.
+    /// How many parts of a minute the difference is at most.
     pub c: i32,
     /// Whether the text says it of y - x, as "at least".
     pub is_turned: bool,
@@ -48,7 +52,7 @@ pub fn read(text: &str) -> Result<Times, Fault> {
     let mut lines = lines(text).peekable();
     let names = opening::names(text, &mut lines, Holds::Times, MOST_VERTICES)?;
     let mut free = vec![false; names.list.len()];
-    let mut found = Times { names: names.list.clone(), rows: Vec::new() };
+    let mut found = Vec::new();
     for line in lines {
         let line = line?;
         if let Some(fault) = opening::late(&line, Holds::Times) {
@@ -63,8 +67,9 @@ pub fn read(text: &str) -> Result<Times, Fault> {
             return Err(line.fault(line.end, "a difference is missing after row"));
         }
         let said = statement(&line, usize::from(is_alone))?;
-        say(&line, &said, is_alone, &names, &mut found.rows)?;
+        say(&line, &said, is_alone, &names, &mut found)?;
     }
+    let found = whole(names.list.clone(), &found)?;
     if let Some(name) = found.unlimited().into_iter().find(|&name| !free[name]) {
         let (name, (line, column)) = (&names.list[name], names.places[name]);
         let what = format!("no row speaks of {name}; a line free {name} says that this is meant");
@@ -73,12 +78,43 @@ pub fn read(text: &str) -> Result<Times, Fault> {
     Ok(found)
 }
 
+/// A row in the numbers of its line; `column` is that of its sign.
+struct Found {
+    row: Row,
+    number: Exact,
+    column: usize,
+}
+
+/// The rows in parts of a minute that are fine enough for each of them.
+fn whole(names: Vec<String>, found: &[Found]) -> Result<Times, Fault> {
+    let mut parts = 1;
+    for Found { row, number, column } in found {
+        parts = multiple(parts, number.denominator);
+        if parts > LARGEST_DENOMINATOR {
+            let what = "with the rows before, parts of a minute get finer than thousandths";
+            return Err(Fault::new(row.line.unwrap_or(1), *column, what));
+        }
+    }
+    let mut rows = Vec::new();
+    for Found { row, number, column } in found {
+        let number = number.times(parts).numerator;
+        if number.abs() > i64::from(LARGEST) {
+            let what = format!(
+                "this is {number} times 1/{parts} of a minute, and {LARGEST} times is the most"
+            );
+            return Err(Fault::new(row.line.unwrap_or(1), *column, what));
+        }
+        rows.push(Row { c: number as i32, ..*row });
+    }
+    Ok(Times { names, rows, parts: parts as i32 })
+}
+
 fn say(
     line: &Line,
     said: &Statement,
     is_alone: bool,
     names: &Names,
-    rows: &mut Vec<Row>,
+    rows: &mut Vec<Found>,
 ) -> Result<(), Fault> {
     let mut named = Vec::new();
     for term in &said.terms {
@@ -97,7 +133,7 @@ fn say(
         return Err(line.fault(column, what));
     };
     for term in [first, second] {
-        if term.coefficient.abs() != 1 {
+        if !term.coefficient.is_one() {
             return Err(
                 line.fault(term.column, "names of time rows are taken once, not more often")
             );
@@ -112,7 +148,7 @@ fn say(
         let what = format!("{name} - {name} is 0; begin the line with row if that is meant");
         return Err(line.fault(second.column, what));
     }
-    let (x, y) = match first.coefficient > 0 {
+    let (x, y) = match first.coefficient.numerator > 0 {
         true => (*first_at, *second_at),
         false => (*second_at, *first_at),
     };
@@ -120,22 +156,23 @@ fn say(
         let what = "a sign is missing: <=, <, >=, > or = says how far they are apart";
         return Err(line.fault(line.end, what));
     }
-    let lower = said.lower.map(|limit| (y, x, true, Limit { number: -limit.number, ..limit }));
+    let lower =
+        said.lower.map(|limit| (y, x, true, Limit { number: limit.number.turned(), ..limit }));
     let upper = said.upper.map(|limit| (x, y, false, limit));
     for (x, y, is_turned, limit) in [lower, upper].into_iter().flatten() {
         if rows.len() == MOST_ROWS {
             let what = format!("one row too many: there are {MOST_ROWS} at most");
             return Err(line.fault(line.tokens[0].column, what));
         }
-        let Limit { number: c, is_strict, column } = limit;
-        let row = Row { x, y, is_strict, c, is_turned, line: Some(line.number) };
-        if let Some(before) = rows.iter().find(|other| other.says_what(&row)).filter(|_| !is_alone)
-        {
-            let place = before.line.unwrap_or_default();
+        let Limit { number, is_strict, column } = limit;
+        let row = Row { x, y, is_strict, c: 0, is_turned, line: Some(line.number) };
+        let is_same = |other: &&Found| other.row.says_what(&row) && other.number == number;
+        if let Some(before) = rows.iter().find(is_same).filter(|_| !is_alone) {
+            let place = before.row.line.unwrap_or_default();
             let what = format!("line {place} says the same; begin with row to have both");
             return Err(line.fault(column, what));
         }
-        rows.push(row);
+        rows.push(Found { row, number, column });
     }
     Ok(())
 }
@@ -169,6 +206,7 @@ impl Times {
         Some(Times {
             names: (0..*n).map(|number| format!("t{number}")).collect(),
             rows: rows.collect::<Option<Vec<Row>>>()?,
+            parts: 1,
         })
     }
 
@@ -186,11 +224,12 @@ impl Times {
     #[must_use]
     pub fn row_text(&self, row: &Row) -> String {
         let [x, y] = [row.x, row.y].map(|point| &self.names[point]);
+        let c = Exact::new(row.c.into(), self.parts.into());
         match (row.is_turned, row.is_strict) {
-            (false, false) => format!("{x} - {y} <= {}", row.c),
-            (false, true) => format!("{x} - {y} < {}", row.c),
-            (true, false) => format!("{y} - {x} >= {}", -row.c),
-            (true, true) => format!("{y} - {x} > {}", -row.c),
+            (false, false) => format!("{x} - {y} <= {c}"),
+            (false, true) => format!("{x} - {y} < {c}"),
+            (true, false) => format!("{y} - {x} >= {}", c.turned()),
+            (true, true) => format!("{y} - {x} > {}", c.turned()),
         }
     }
 

@@ -15,6 +15,8 @@ pub enum Sign {
 pub enum Kind {
     /// A whole number from 0 on.
     Number(i64),
+    /// A decimal: its digits, and the power of ten that they are over.
+    Decimal(i64, i64),
     Name(String),
     Plus,
     Minus,
@@ -27,6 +29,13 @@ pub enum Kind {
 pub struct Token {
     pub kind: Kind,
     pub column: usize,
+}
+
+impl Kind {
+    /// Whether it is a number, whole or not.
+    pub fn is_number(&self) -> bool {
+        matches!(self, Kind::Number(_) | Kind::Decimal(..))
+    }
 }
 
 /// The tokens of a line and the column past its end, comment left out.
@@ -163,16 +172,43 @@ fn number(chars: &[char]) -> Result<(Kind, usize), String> {
         let number = text.parse().map_err(|_| format!("{} is out of range", short(&text)))?;
         return Ok((Kind::Number(number), text.len()));
     }
+    if let Some(decimal) = decimal(&text)? {
+        return Ok((decimal, text.len()));
+    }
     let text = short(&text);
     let has_comma = text.contains(',');
     let is_plain = |c: char| c.is_ascii_digit() || c == ',';
     Err(if has_comma && text.chars().all(is_plain) && !text.ends_with(',') {
         format!("{text}: numbers are written without commas, and a decimal has a point")
     } else if text.chars().all(|c| is_plain(c) || c == '.') {
-        format!("{text} is not a whole number")
+        format!("{text} is no number")
     } else {
-        format!("{text} is not a whole number; between a number and a name stands a space or *")
+        format!("{text} is no number; between a number and a name stands a space or *")
     })
+}
+
+/// The most digits behind the point of a decimal.
+const MOST_DIGITS: usize = 3;
+
+/// The decimal that a text is, if it is one.
+fn decimal(text: &str) -> Result<Option<Kind>, String> {
+    let Some((whole, part)) = text.split_once('.') else { return Ok(None) };
+    let are_digits = |text: &str| !text.is_empty() && text.chars().all(|c| c.is_ascii_digit());
+    if !are_digits(whole) || !are_digits(part) {
+        return Ok(None);
+    }
+    if part.len() == 3 && part.ends_with('0') && !whole.trim_start_matches('0').is_empty() {
+        let less = part.trim_end_matches('0');
+        let point = if less.is_empty() { "" } else { "." };
+        return Err(format!("{}: is it {whole}{part}, or {whole}{point}{less}?", short(text)));
+    }
+    let part = part.trim_end_matches('0');
+    if part.len() > MOST_DIGITS {
+        return Err(format!("{} has more than {MOST_DIGITS} digits behind the point", short(text)));
+    }
+    let digits = format!("{whole}{part}").parse();
+    let digits = digits.map_err(|_| format!("{} is out of range", short(text)))?;
+    Ok(Some(Kind::Decimal(digits, 10_i64.pow(part.len() as u32))))
 }
 
 /// What to say of a clock time, such as 06:30.
@@ -197,7 +233,7 @@ fn name(chars: &[char]) -> Result<(Kind, usize), String> {
         ));
     }
     match text.to_ascii_lowercase().as_str() {
-        "nan" | "inf" | "infinity" => Err(format!("{text} is no whole number, and no name")),
+        "nan" | "inf" | "infinity" => Err(format!("{text} is no number, and no name")),
         _ => Ok((Kind::Name(text), length)),
     }
 }

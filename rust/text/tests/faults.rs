@@ -27,13 +27,45 @@ fn of_limits() {
     let missing = "a number or a name is missing here";
     let item = "a line is no item of a list; where";
     let range = "a range is written 20 <= x <= 40; for a difference write the number";
-    let glued = "is not a whole number; between a number and a name stands a space or *";
+    let glued = "is no number; between a number and a name stands a space or *";
     for (text, fault) in [
-        ("x >= 2.5", "1:6: 2.5 is not a whole number".to_string()),
-        ("x >= .5", "1:6: .5 is not a whole number".to_string()),
-        ("x >= 2.", "1:6: 2. is not a whole number".to_string()),
-        ("x >= nan", "1:6: nan is no whole number, and no name".to_string()),
-        ("x >= -Inf", "1:7: Inf is no whole number, and no name".to_string()),
+        ("x >= 2.5.1", "1:6: 2.5.1 is no number".to_string()),
+        ("x >= 2.5551", "1:6: 2.5551 has more than 3 digits behind the point".to_string()),
+        ("x >= 1.500", "1:6: 1.500: is it 1500, or 1.5?".to_string()),
+        ("x >= 30.000", "1:6: 30.000: is it 30000, or 30?".to_string()),
+        (
+            "x >= 1/1001",
+            "1:6: that is too fine: thousandths are the smallest parts of a number".into(),
+        ),
+        ("x >= 1/0", "1:7: only a number and a name can be multiplied: 3 * x".to_string()),
+        (
+            "x >= 1/7\ny >= 0.001",
+            "2:3: with the limits before, parts of a unit get finer than thousandths".into(),
+        ),
+        (
+            "x >= 0.001\nx <= 31",
+            "2:3: with whole numbers this limit is 31000, and 30000 is the most: \
+             limits of this text need parts of 1/1000"
+                .to_string(),
+        ),
+        (
+            "x + y >= 100.001\nfree x y",
+            "1:7: with whole numbers this limit is 100001, and 30000 is the most".to_string(),
+        ),
+        (
+            "3 x + y >= 1.001\nfree x y",
+            "1:3: with whole numbers this line has 3000: a coefficient is from -1000 to 1000"
+                .into(),
+        ),
+        (
+            "0.001 x + 2 y >= 1",
+            "1:13: with whole numbers this line has 2000: a coefficient is from -1000 to 1000"
+                .into(),
+        ),
+        ("x >= .5", "1:6: .5 is no number".to_string()),
+        ("x >= 2.", "1:6: 2. is no number".to_string()),
+        ("x >= nan", "1:6: nan is no number, and no name".to_string()),
+        ("x >= -Inf", "1:7: Inf is no number, and no name".to_string()),
         ("x >= 1e5", format!("1:6: 1e5 {glued}")),
         ("2x >= 5", format!("1:1: 2x {glued}")),
         (
@@ -41,7 +73,7 @@ fn of_limits() {
             "1:6: 30,000: numbers are written without commas, and a decimal has a point"
                 .to_string(),
         ),
-        ("x >= 2,", "1:6: 2, is not a whole number".to_string()),
+        ("x >= 2,", "1:6: 2, is no number".to_string()),
         ("# first\n\nx >=  # nothing", format!("3:5: {missing}")),
         ("x >= ", format!("1:5: {missing}")),
         ("<= 5", format!("1:1: {missing}")),
@@ -53,7 +85,7 @@ fn of_limits() {
             "1:3: a number has no space in it, or a sign, + or -, is missing before this".into(),
         ),
         ("x * 3 >= 5", "1:3: only a number and a name can be multiplied: 3 * x".to_string()),
-        ("x / 3 >= 5", "1:3: only a number and a name can be multiplied: 3 * x".to_string()),
+        ("x / y >= 5", "1:3: only a number and a name can be multiplied: 3 * x".to_string()),
         ("3 * 4 >= 5", "1:3: only a number and a name can be multiplied: 3 * x".to_string()),
         ("x + y - x >= 5", "1:9: x comes twice in this line: add them up".to_string()),
         ("x >= x", "1:6: x comes twice in this line: add them up".to_string()),
@@ -169,7 +201,12 @@ fn of_too_many() {
 #[test]
 fn of_time_rows() {
     for (text, fault) in [
-        ("a - b <= 2.5", "1:10: 2.5 is not a whole number"),
+        ("a - b <= 2.5.1", "1:10: 2.5.1 is no number"),
+        (
+            "a - b <= 0.001\nc - a <= 30.001",
+            "2:7: this is 30001 times 1/1000 of a minute, and 30000 times is the most",
+        ),
+        ("0.5 a - 0.5 b <= 5", "1:5: names of time rows are taken once, not more often"),
         ("a - b <=", "1:9: a number or a name is missing here"),
         ("a <= 5", ONE_NAME),
         ("a - b + c <= 5", "1:9: a time row has two names: end - start <= 30"),
@@ -351,7 +388,7 @@ fn of_answers() {
         ("can\nx = 2", "2:6: y has no value"),
         ("can\nx = 2\nx = 3", "3:1: x has a value already"),
         ("can\nz = 2", "2:1: z is no name of the problem"),
-        ("can\nx = 2.5", "2:5: 2.5 is not a whole number"),
+        ("can\nx = 2.5.1", "2:5: 2.5.1 is no number"),
         ("can\nx 2", "2:1: here stands a name, =, and its value: x = 7/2"),
         ("cannot\n2 times line 7", "2:9: line 7 of the problem sets no such limit"),
         (
@@ -377,7 +414,7 @@ fn of_answers() {
         ("2 + 3/0 small", 9),
         ("2 + small small", 9),
     ] {
-        let what = "a value is a whole number or a fraction: 7/2, or 7/2 - 3/4 small";
+        let what = "a value is a number or a fraction: 7/2, or 7/2 - 3/4 small";
         let expected = format!("2:{column}: {what}");
         assert_eq!(fault(&format!("can\nx = {value}")), Err(expected), "{value}");
     }
@@ -392,4 +429,12 @@ fn of_answers() {
     let cannot = "cannot\n2 times line 2 upper\n3 times line 3\n5 times lower 0\n";
     assert_eq!(fault(cannot), Ok(vec![2, 0, 0, 5, 0, 3, 2, 0, 0]));
     assert_eq!(fault("1 2\n-3 # 4"), Ok(vec![1, 2, -3]));
+    assert_eq!(fault("can\ny = 1.5\nx = -2.50"), Ok(vec![1, 0, 2, -5, 3, -2, 0, 0, 0]));
+    let halves = limits::read("names x y\nx >= 0.5\nx + y <= 1.25\nfree y").unwrap();
+    assert_eq!(
+        answer::read("can\nx = 0.5\ny = 1/3", &halves),
+        Ok(vec![1, 0, 3, 3, 2, 10, 0, 0, 0])
+    );
+    let read = answer::read("cannot\n3 times line 2\n1 times line 3", &halves);
+    assert_eq!(read, Ok(vec![2, 0, 0, 6, 0, 0, 0, 0, 1]));
 }

@@ -11,7 +11,7 @@ impl Shown {
     pub(super) fn can_json(&self, values: Values) -> Ended {
         let problem = &self.problem;
         let limits = all_limits(problem).into_iter().map(|(variable, side)| {
-            let spare = values.spare(problem, (variable, side));
+            let spare = values.spare((variable, side));
             let mut fields = self.limit_json(variable, side);
             fields.push(("spare", json::inner(&json::pair(spare))));
             json::inner(&fields)
@@ -75,7 +75,7 @@ impl Shown {
             let to = loosened(&self.problem, (variable, side, times), &sum);
             fields.push(("loosened", json::inner(&json::pair(to))));
             if let Some((others, rest)) = each.as_ref().map(|each| &each[place]) {
-                let others = Values::of(&others.verdict);
+                let others = Values::of(&self.problem, &others.verdict);
                 let others = others.map_or("null".to_string(), |values| self.values_json(values));
                 fields.extend([("without", others), ("rest", rest.in_short_json())]);
             }
@@ -88,7 +88,7 @@ impl Shown {
 
     /// The verdict, with values or with the limits that clash.
     fn in_short_json(&self) -> String {
-        if let Some(values) = Values::of(&self.answer.verdict) {
+        if let Some(values) = Values::of(&self.problem, &self.answer.verdict) {
             let fields = [("verdict", json::text("can")), ("values", self.values_json(values))];
             return json::inner(&fields);
         }

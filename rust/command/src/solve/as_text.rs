@@ -66,7 +66,7 @@ impl Shown {
         let told = limits
             .filter(|&(variable, side)| side == Side::Lower || !is_one_value(problem, variable));
         told.map(|(variable, side)| {
-            let spare = values.spare(problem, (variable, side));
+            let spare = values.spare((variable, side));
             let far = match (spare.plain.numerator, spare.plain.read_as()) {
                 (0, _) if spare.sign() == 0 => "met exactly".to_string(),
                 (0, _) => "a small amount to spare".to_string(),
@@ -121,9 +121,12 @@ impl Shown {
         let rows = counted.iter().map(|&limit| {
             let (variable, side, _) = limit;
             let to = loosened(&self.problem, limit, &sum).plain;
-            let read = to.read_as().map_or(String::new(), |read| format!(", {read}"));
+            let to = match to.decimal() {
+                (decimal, true) => decimal,
+                (decimal, false) => format!("{to}, about {decimal}"),
+            };
             let sign = if side == Side::Lower { ">=" } else { "<=" };
-            let said = format!("{} {sign} {to}{read}", self.problem.left(variable));
+            let said = format!("{} {sign} {to}", self.problem.left(variable));
             vec![reference(&self.problem, variable, side), said]
         });
         let rows: Vec<Vec<String>> = rows.collect();
@@ -156,7 +159,7 @@ impl Shown {
 
     /// The values of a "can" in one line.
     fn in_short(&self, verdict: &Verdict) -> Option<String> {
-        let values = Values::of(verdict)?;
+        let values = Values::of(&self.problem, verdict)?;
         let names = self.problem.names.iter().enumerate();
         let named = names.map(|(at, name)| format!("{name} = {}", values.at(at)));
         Some(named.collect::<Vec<String>>().join(", "))

@@ -47,7 +47,8 @@ impl Limits {
     #[must_use]
     pub fn limit_text(&self, variable: usize, side: Side) -> Option<String> {
         let limit = self.limits.get(variable)?[side as usize]?;
-        Some(format!("{} {} {}", self.left(variable), limit.sign(side), limit.number))
+        let number = self.limit(variable, side)?;
+        Some(format!("{} {} {number}", self.left(variable), limit.sign(side)))
     }
 
     /// The whole problem as text: its names, those that nothing limits, and a
@@ -59,16 +60,18 @@ impl Limits {
         lines += &free(self.unlimited().into_iter().map(|(name, _)| &self.names[name]));
         for (variable, limits) in self.limits.iter().enumerate() {
             let left = self.left(variable);
+            let [lower, upper] = Side::BOTH
+                .map(|side| self.limit(variable, side).map_or(String::new(), |n| n.to_string()));
             let said = match *limits {
                 [Some(low), Some(high)] if is_one_value(low, high) => {
-                    format!("{left} = {}", low.number)
+                    format!("{left} = {lower}")
                 }
                 [Some(low), Some(high)] => {
                     let [first, second] = [low, high].map(|limit| limit.sign(Side::Upper));
-                    format!("{} {first} {left} {second} {}", low.number, high.number)
+                    format!("{lower} {first} {left} {second} {upper}")
                 }
-                [Some(low), None] => format!("{left} {} {}", low.sign(Side::Lower), low.number),
-                [None, Some(high)] => format!("{left} {} {}", high.sign(Side::Upper), high.number),
+                [Some(low), None] => format!("{left} {} {lower}", low.sign(Side::Lower)),
+                [None, Some(high)] => format!("{left} {} {upper}", high.sign(Side::Upper)),
                 [None, None] if variable >= n => left,
                 [None, None] => continue,
             };
@@ -80,12 +83,15 @@ impl Limits {
 
     /// Whether a line about this row would be taken for something else.
     fn is_alone(&self, place: usize) -> bool {
-        let row = &self.rows[place];
+        let n = self.names.len();
+        let row = &self.coefficients(n + place);
         let turned: Vec<i32> = row.iter().map(|number| -number).collect();
         let named: Vec<i32> = row.iter().copied().filter(|&number| number != 0).collect();
         matches!(named[..], [1 | -1])
-            || self.rows[..place].iter().any(|other| other == row || *other == turned)
-            || self.limits[self.names.len() + place] == [None; 2]
+            || (n..n + place)
+                .map(|other| self.coefficients(other))
+                .any(|other| [row, &turned].contains(&&other))
+            || self.limits[n + place] == [None; 2]
     }
 }
 
