@@ -1,5 +1,6 @@
 //! Files as words or as text.
 
+use crate::digest::digest;
 use crate::Failure;
 use std::ffi::OsStr;
 use std::fs::File;
@@ -14,6 +15,8 @@ const MOST_BYTES: u64 = 1 << 20;
 pub struct Input {
     /// The file's name, to tell.
     pub file: String,
+    /// Its digest.
+    pub digest: String,
     pub content: Content,
 }
 
@@ -37,10 +40,11 @@ pub enum Content {
 /// text of bare numbers is words; anything else is text.
 pub fn problem(file: &OsStr, stdin: &mut dyn Read) -> Result<Input, Failure> {
     let (name, bytes) = bytes(file, stdin)?;
+    let digest = digest(&bytes);
     let is_named = file != "-" && name.to_ascii_lowercase().ends_with(".words");
     let is_words = is_named || bytes.contains(&0) && !is_wide(&bytes);
     if is_words {
-        return Ok(Input { file: name, content: Content::Bytes(bytes) });
+        return Ok(Input { file: name, digest, content: Content::Bytes(bytes) });
     }
     let text = text(&name, bytes)?;
     let content = if numbers::are_bare(&text) {
@@ -48,7 +52,7 @@ pub fn problem(file: &OsStr, stdin: &mut dyn Read) -> Result<Input, Failure> {
     } else {
         Content::Text(text)
     };
-    Ok(Input { file: name, content })
+    Ok(Input { file: name, digest, content })
 }
 
 /// Reads a file that is text.

@@ -10,16 +10,19 @@
 //!   read
 //! - `json`, `table`, `excerpt`: values as JSON, lines of cells, the line of a
 //!   fault
+//! - `page`, `digest`: an answer as a page of HTML, and the digest that it has
 //! - `solve`, `check`, `times`, `words`: what the command does
 
 mod check;
 mod clash;
+mod digest;
 mod excerpt;
 mod fraction;
 mod input;
 mod json;
 mod options;
 mod own;
+mod page;
 mod problem;
 mod solve;
 mod table;
@@ -92,7 +95,7 @@ pub fn run(words: &[OsString], stdin: &mut dyn Read) -> Ended {
         }
         Action::Solve(file) => solve::run(file, &options, stdin),
         Action::Check(file, answer) => check::run(file, answer, options.json, stdin),
-        Action::Times(file) => times::run(file, options.json, stdin),
+        Action::Times(file) => times::run(file, &options, stdin),
         Action::Words(file) => words::run(file, &options, stdin),
     };
     done.unwrap_or_else(|failure| failure.told(options.json))

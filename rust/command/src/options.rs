@@ -3,9 +3,9 @@
 use std::ffi::OsString;
 
 pub const HELP: &str = "\
-usage: scatterflock [--json | --words] solve [--each] FILE
+usage: scatterflock [--json | --page | --words] solve [--each] FILE
        scatterflock [--json] check FILE ANSWER
-       scatterflock [--json] times FILE
+       scatterflock [--json | --page] times FILE
        scatterflock words [--times] [--bytes] FILE
 
   solve   can all limits of FILE be met at once? With values, or with the limits that clash
@@ -14,6 +14,7 @@ usage: scatterflock [--json | --words] solve [--each] FILE
   words   a text as words, or words as a text
 
   --json    the answer as one line of JSON
+  --page    the answer as a page of HTML, with pictures, to look at or to print
   --words   the answer as bare numbers, which check takes too
   --each    for each limit of a clash, what the others come to without it
   --times   the words of FILE are time rows, not limits
@@ -52,6 +53,7 @@ pub enum Action {
 pub struct Options {
     pub action: Action,
     pub json: bool,
+    pub page: bool,
     pub words: bool,
     pub each: bool,
     pub times: bool,
@@ -59,8 +61,8 @@ pub struct Options {
 }
 
 const COMMANDS: [&str; 4] = ["solve", "check", "times", "words"];
-const OPTIONS: [&str; 7] =
-    ["--json", "--words", "--each", "--times", "--bytes", "--help", "--version"];
+const OPTIONS: [&str; 8] =
+    ["--json", "--page", "--words", "--each", "--times", "--bytes", "--help", "--version"];
 
 /// The question whether another word was meant.
 fn near(word: &str, among: &[&'static str]) -> String {
@@ -70,7 +72,7 @@ fn near(word: &str, among: &[&'static str]) -> String {
 
 impl Options {
     pub fn read(words: &[OsString]) -> Result<Options, String> {
-        let [mut json, mut words_too, mut each, mut times, mut bytes] = [false; 5];
+        let [mut json, mut page, mut words_too, mut each, mut times, mut bytes] = [false; 6];
         let mut is_over = false;
         let mut files = Vec::new();
         let mut asked = None;
@@ -80,6 +82,7 @@ impl Options {
                 Some("--help" | "-h") if !is_over => asked = asked.or(Some(Action::Help)),
                 Some("--version" | "-V") if !is_over => asked = asked.or(Some(Action::Version)),
                 Some("--json") if !is_over => json = true,
+                Some("--page") if !is_over => page = true,
                 Some("--words") if !is_over => words_too = true,
                 Some("--each") if !is_over => each = true,
                 Some("--times") if !is_over => times = true,
@@ -91,7 +94,7 @@ impl Options {
             }
         }
         if let Some(action) = asked {
-            return Ok(Options { action, json, words: words_too, each, times, bytes });
+            return Ok(Options { action, json, page, words: words_too, each, times, bytes });
         }
         if files.is_empty() {
             return Err("there is no command".to_string());
@@ -109,7 +112,11 @@ impl Options {
             ("help", _) => Action::Help,
             _ => return Err(format!("there is no command {name}{}", near(&name, &COMMANDS))),
         };
-        if words_too && (json || each || !matches!(action, Action::Solve(_))) {
+        if page && (json || each || !matches!(action, Action::Solve(_) | Action::Times(_))) {
+            let what = "--page is an option of solve and times, and not beside --json or --each";
+            return Err(what.to_string());
+        }
+        if words_too && (json || page || each || !matches!(action, Action::Solve(_))) {
             return Err(
                 "--words is an option of solve, and not beside --json or --each".to_string()
             );
@@ -126,6 +133,6 @@ impl Options {
         if matches!(&action, Action::Check(a, b) if a == "-" && b == "-") {
             return Err("one of the two files can be standard input, not both".to_string());
         }
-        Ok(Options { action, json, words: words_too, each, times, bytes })
+        Ok(Options { action, json, page, words: words_too, each, times, bytes })
     }
 }

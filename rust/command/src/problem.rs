@@ -9,7 +9,7 @@ use text::limits::{self, Limits, Side};
 
 /// The problem of a file. Its words are not refused, but for a row of zeros.
 pub fn problem(input: Input) -> Result<(String, Limits), Failure> {
-    let Input { file, content } = input;
+    let Input { file, content, .. } = input;
     let words = match content {
         Content::Text(text) => {
             let problem = limits::read(&text).map_err(|fault| bad(&file, &text, fault))?;

@@ -1,6 +1,7 @@
 //! `scatterflock solve`: an answer about limits.
 
 mod as_json;
+mod as_page;
 mod as_text;
 
 use crate::clash::{self, Counted};
@@ -15,13 +16,20 @@ use text::limits::{Limits, Side};
 
 pub fn run(file: &OsStr, options: &Options, stdin: &mut dyn Read) -> Result<Ended, Failure> {
     let input = input::problem(file, stdin)?;
-    let text = input.text();
+    let (text, digest) = (input.text(), input.digest.clone());
     let (file, problem) = problem(input)?;
     let answer = solved(&problem)?;
     if options.words {
         return Ok(as_words(&problem, &answer));
     }
-    let shown = Shown { file, text, problem, answer };
+    let shown = Shown { file, digest, text, problem, answer };
+    if options.page {
+        return Ok(match &shown.answer.verdict {
+            Verdict::Cannot { lower, upper } => shown.cannot_page(&shown.counted([lower, upper])),
+            verdict => Values::of(&shown.problem, verdict)
+                .map_or_else(|| shown.range_page(), |values| shown.can_page(values)),
+        });
+    }
     if let Some(values) = Values::of(&shown.problem, &shown.answer.verdict) {
         return Ok(if options.json { shown.can_json(values) } else { shown.can(values) });
     }
@@ -73,6 +81,7 @@ fn as_words(problem: &Limits, answer: &Answer) -> Ended {
 
 struct Shown {
     file: String,
+    digest: String,
     text: Option<String>,
     problem: Limits,
     answer: Answer,
@@ -140,7 +149,13 @@ impl Shown {
         let each = counted.iter().map(|&(variable, side, _)| {
             let rest = self.problem.without(variable, side);
             let answer = solved(&rest)?;
-            let rest = Shown { file: self.file.clone(), text: None, problem: rest, answer };
+            let rest = Shown {
+                file: String::new(),
+                digest: String::new(),
+                text: None,
+                problem: rest,
+                answer,
+            };
             let side = match side {
                 Side::Lower => scatterflock::Side::Lower,
                 Side::Upper => scatterflock::Side::Upper,
@@ -170,7 +185,9 @@ mod tests {
             let family = random.pick(&[Family::Strict, Family::Touching]);
             let problem = Limits::from_words(&family.words(&mut random)).unwrap();
             let Ok(answer) = solved(&problem) else { panic!("it is answered, SEED={seed}") };
-            let shown = Shown { file: String::new(), text: None, problem, answer: answer.clone() };
+            let answered = answer.clone();
+            let (file, digest) = (String::new(), String::new());
+            let shown = Shown { file, digest, text: None, problem, answer: answered };
             let Some(values) = Values::of(&shown.problem, &answer.verdict) else { continue };
             let Some(end) = shown.small_below(values) else { continue };
             let [end, over] = [end.numerator, end.denominator].map(i128::from);

@@ -1,7 +1,10 @@
 //! `scatterflock times`: an answer about time rows.
 
+mod as_page;
+
 use crate::fraction::Fraction;
 use crate::input::{self, bad, Content, Input};
+use crate::options::Options;
 use crate::problem::left_out;
 use crate::table::table;
 use crate::{json, Ended, Failure, CAN, CANNOT};
@@ -14,27 +17,33 @@ use text::Exact;
 /// What is asked.
 struct Asked {
     file: String,
+    digest: String,
     text: Option<String>,
     rows: Times,
 }
 
-pub fn run(file: &OsStr, is_json: bool, stdin: &mut dyn Read) -> Result<Ended, Failure> {
+pub fn run(file: &OsStr, options: &Options, stdin: &mut dyn Read) -> Result<Ended, Failure> {
     let input = input::problem(file, stdin)?;
-    let text = input.text();
+    let (text, digest) = (input.text(), input.digest.clone());
     let (file, rows) = rows(input)?;
-    let asked = Asked { file, text, rows };
+    let asked = Asked { file, digest, text, rows };
     let rows = &asked.rows;
     let schedule = scatterflock::times(&rows.words()).map_err(refused)?;
     if let Some(times) = schedule.fractions() {
         return match rows.rows.iter().all(|row| is_met(row, &times)) {
-            true if is_json => Ok(can_json(&asked, &times)),
+            true if options.json => Ok(can_json(&asked, &times)),
+            true if options.page => Ok(as_page::can(&asked, &times)),
             true => Ok(can(&asked, &times)),
             false => Err(Failure::Contradicted),
         };
     }
     match schedule {
         Schedule::Cycle(cycle) if is_cycle(rows, &cycle) => {
-            Ok(if is_json { cannot_json(&asked, &cycle) } else { cannot(&asked, &cycle) })
+            Ok(match (options.json, options.page) {
+                (true, _) => cannot_json(&asked, &cycle),
+                (false, true) => as_page::cannot(&asked, &cycle),
+                (false, false) => cannot(&asked, &cycle),
+            })
         }
         _ => Err(Failure::Contradicted),
     }
@@ -42,7 +51,7 @@ pub fn run(file: &OsStr, is_json: bool, stdin: &mut dyn Read) -> Result<Ended, F
 
 /// The time rows of a file; their words are not refused.
 pub fn rows(input: Input) -> Result<(String, Times), Failure> {
-    let Input { file, content } = input;
+    let Input { file, content, .. } = input;
     let words = match content {
         Content::Text(text) => {
             let rows = times::read(&text).map_err(|fault| bad(&file, &text, fault))?;
@@ -166,7 +175,7 @@ fn row_json(rows: &Times, row: &Row) -> Vec<(&'static str, String)> {
 }
 
 fn can_json(asked: &Asked, times: &Fractions) -> Ended {
-    let Asked { file, text, rows } = asked;
+    let Asked { file, text, rows, .. } = asked;
     let values = rows.names.iter().zip(&times.numerators).map(|(name, numerator)| {
         let mut fields = vec![("name", json::text(name))];
         fields.extend(json::number(minutes(rows, *numerator, times)));
@@ -189,7 +198,7 @@ fn can_json(asked: &Asked, times: &Fractions) -> Ended {
 }
 
 fn cannot_json(asked: &Asked, cycle: &[usize]) -> Ended {
-    let Asked { file, text, rows } = asked;
+    let Asked { file, text, rows, .. } = asked;
     let listed: Vec<&Row> = cycle.iter().map(|&row| &rows.rows[row]).collect();
     let (sum, is_strict) = sum(&listed);
     let sum = Exact::new(sum, rows.parts.into());

@@ -39,7 +39,7 @@ impl Shown {
     }
 
     /// What the small amount may be, where there is one.
-    fn small(&self, values: Values) -> String {
+    pub(super) fn small(&self, values: Values) -> String {
         if values.small.iter().all(|&small| small == 0) {
             return String::new();
         }
