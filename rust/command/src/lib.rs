@@ -11,11 +11,12 @@
 //! - `json`, `table`, `excerpt`: values as JSON, lines of cells, the line of a
 //!   fault
 //! - `page`, `digest`: an answer as a page of HTML, and the digest that it has
-//! - `solve`, `check`, `times`, `words`: what the command does
+//! - `solve`, `check`, `times`, `words`, `edit`: what the command does
 
 mod check;
 mod clash;
 mod digest;
+mod edit;
 mod excerpt;
 mod fraction;
 mod input;
@@ -32,7 +33,7 @@ mod words;
 use excerpt::excerpt;
 use options::{Action, Options};
 use std::ffi::OsString;
-use std::io::Read;
+use std::io::{BufReader, Read, Write};
 use text::Fault;
 
 /// The status of a problem that can be met, or of an accepted answer.
@@ -84,6 +85,15 @@ enum Failure {
 
 /// Runs the command with these words.
 pub fn run(words: &[OsString], stdin: &mut dyn Read) -> Ended {
+    let mut said = Vec::new();
+    let mut ended = run_writing(words, stdin, &mut said);
+    ended.output.splice(..0, said);
+    ended
+}
+
+/// Runs the command with these words. What `edit` answers goes to `out` at once;
+/// all else is handed back.
+pub fn run_writing(words: &[OsString], stdin: &mut dyn Read, out: &mut dyn Write) -> Ended {
     let options = match Options::read(words) {
         Ok(options) => options,
         Err(what) => return Failure::Usage(what).told(words.iter().any(|word| word == "--json")),
@@ -97,6 +107,7 @@ pub fn run(words: &[OsString], stdin: &mut dyn Read) -> Ended {
         Action::Check(file, answer) => check::run(file, answer, options.json, stdin),
         Action::Times(file) => times::run(file, &options, stdin),
         Action::Words(file) => words::run(file, &options, stdin),
+        Action::Edit(file) => edit::run(file, &mut BufReader::new(stdin), out),
     };
     done.unwrap_or_else(|failure| failure.told(options.json))
 }

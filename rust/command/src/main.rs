@@ -6,9 +6,9 @@ use std::process::ExitCode;
 
 fn main() -> ExitCode {
     let words = env::args_os().skip(1).collect::<Vec<_>>();
-    let ended = command::run(&words, &mut io::stdin());
-    eprint(&ended.errors);
     let mut out = io::stdout().lock();
+    let ended = command::run_writing(&words, &mut io::stdin(), &mut out);
+    eprint(&ended.errors);
     if let Err(error) = out.write_all(&ended.output).and_then(|()| out.flush()) {
         if error.kind() == io::ErrorKind::BrokenPipe {
             return ExitCode::from(command::UNHEARD);

@@ -7,11 +7,13 @@ usage: scatterflock [--json | --page | --words] solve [--each] FILE
        scatterflock [--json] check FILE ANSWER
        scatterflock [--json | --page] times FILE
        scatterflock words [--times] [--bytes] FILE
+       scatterflock edit FILE
 
   solve   can all limits of FILE be met at once? With values, or with the limits that clash
   check   is ANSWER right for the limits of FILE? Asks the proved checker
   times   can all time rows of FILE be met? With times, or with the rows that go round
   words   a text as words, or words as a text
+  edit    limits of FILE switched off and on, with an answer each time: off 4, on 4, back, list, why
 
   --json    the answer as one line of JSON
   --page    the answer as a page of HTML, with pictures, to look at or to print
@@ -47,6 +49,7 @@ pub enum Action {
     Check(OsString, OsString),
     Times(OsString),
     Words(OsString),
+    Edit(OsString),
 }
 
 #[derive(Debug, PartialEq, Eq)]
@@ -60,7 +63,7 @@ pub struct Options {
     pub bytes: bool,
 }
 
-const COMMANDS: [&str; 4] = ["solve", "check", "times", "words"];
+const COMMANDS: [&str; 5] = ["solve", "check", "times", "words", "edit"];
 const OPTIONS: [&str; 8] =
     ["--json", "--page", "--words", "--each", "--times", "--bytes", "--help", "--version"];
 
@@ -104,10 +107,18 @@ impl Options {
             ("solve", Ok([file])) => Action::Solve(file),
             ("times", Ok([file])) => Action::Times(file),
             ("words", Ok([file])) => Action::Words(file),
+            ("edit", Ok([file])) if file == "-" => {
+                return Err(
+                    "edit reads commands from standard input, and FILE is another".to_string()
+                )
+            }
+            ("edit", Ok([file])) => Action::Edit(file),
             ("check", Err(files)) if files.len() == 2 => {
                 Action::Check(files[0].clone(), files[1].clone())
             }
-            ("solve" | "times" | "words", _) => return Err(format!("{name} takes one file")),
+            ("solve" | "times" | "words" | "edit", _) => {
+                return Err(format!("{name} takes one file"))
+            }
             ("check", _) => return Err("check takes two files".to_string()),
             ("help", _) => Action::Help,
             _ => return Err(format!("there is no command {name}{}", near(&name, &COMMANDS))),
@@ -129,6 +140,9 @@ impl Options {
         }
         if json && matches!(action, Action::Words(_)) {
             return Err("--json is no option of words".to_string());
+        }
+        if json && matches!(action, Action::Edit(_)) {
+            return Err("--json is no option of edit".to_string());
         }
         if matches!(&action, Action::Check(a, b) if a == "-" && b == "-") {
             return Err("one of the two files can be standard input, not both".to_string());
