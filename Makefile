@@ -1,7 +1,7 @@
 COUNT ?= 1000000
 PREFIX ?= /usr/local
 
-.PHONY: run lib install test soak bench help
+.PHONY: run lib install deb test soak bench help
 
 run:
 	@PROBLEM='$(PROBLEM)' tools/run
@@ -11,6 +11,9 @@ lib:
 
 install:
 	@PREFIX='$(PREFIX)' DESTDIR='$(DESTDIR)' tools/install
+
+deb:
+	@tools/deb
 
 test:
 	@tools/test
