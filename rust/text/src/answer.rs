@@ -45,12 +45,13 @@ fn can(lines: &[Line], end: &Line, problem: &Limits) -> Result<Vec<i64>, Fault> 
     let mut values: Vec<Option<Value>> = vec![None; problem.names.len()];
     let mut over: i128 = 1;
     for line in lines {
-        let [Token { kind: Kind::Name(name), column }, Token { kind: Kind::Sign(Sign::Equal), .. }, value @ ..] =
-            &line.tokens[..]
-        else {
-            let what = "here stands a name, =, and its value: x = 7/2";
-            return Err(line.fault(line.tokens[0].column, what));
+        let [first, equal, value @ ..] = &line.tokens[..] else {
+            return Err(line.fault(line.tokens[0].column, PLACE));
         };
+        let (Kind::Name(name), Kind::Sign(Sign::Equal)) = (&first.kind, &equal.kind) else {
+            return Err(line.fault(line.tokens[0].column, PLACE));
+        };
+        let column = &first.column;
         let Some(number) = problem.names.iter().position(|other| other == name) else {
             return Err(line.fault(*column, format!("{name} is no name of the problem")));
         };
@@ -94,6 +95,8 @@ fn can(lines: &[Line], end: &Line, problem: &Limits) -> Result<Vec<i64>, Fault> 
     }
     Ok(words)
 }
+
+const PLACE: &str = "here stands a name, =, and its value: x = 7/2";
 
 /// The plain part of a value, and how often it has the small amount: each a
 /// numerator and a denominator.

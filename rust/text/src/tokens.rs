@@ -98,7 +98,8 @@ fn tokens(number: usize, text: &str) -> Result<Line, Fault> {
 /// Whether a screen may show a new line here, or another order of the
 /// characters, so that a comment hides what looks like a limit.
 fn is_other_end(c: char) -> bool {
-    matches!(c, '\r' | '\u{b}' | '\u{c}' | '\u{85}' | '\u{2028}'..='\u{202e}' | '\u{2066}'..='\u{2069}')
+    let is_end = matches!(c, '\r' | '\u{b}' | '\u{c}' | '\u{85}');
+    is_end || matches!(c, '\u{2028}'..='\u{202e}' | '\u{2066}'..='\u{2069}')
 }
 
 /// The first token and its length.

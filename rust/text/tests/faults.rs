@@ -254,7 +254,11 @@ fn of_openings() {
         ("names x\nx >= 1\nnames y", "3:1: a line names stands above all others"),
         ("names x\nx >= 1\ntimes y", "3:1: limits and time rows stand in texts of their own"),
         ("names", "1:6: a name is missing after names"),
-        ("names x, y", "1:8: the character , has no meaning here: names have a space between them, and a decimal has a point"),
+        (
+            "names x, y",
+            "1:8: the character , has no meaning here: names have a space between them, and a \
+             decimal has a point",
+        ),
         ("names x 2", "1:9: after names stand names alone: names x y"),
         ("names x\nnames y x", "2:9: x is declared already, in line 1"),
         ("names x X", "1:9: X and x differ in small and capital letters alone"),
@@ -329,7 +333,10 @@ fn of_what_others_write() {
     let unit = "has no meaning here: a unit is left out, or stands in a comment";
     let best = "there is no optimising: a line says what a limit is, as in x <= 40";
     for (line, fault) in [
-        ("x >= 93,5", "6: 93,5: numbers are written without commas, and a decimal has a point".into()),
+        (
+            "x >= 93,5",
+            "6: 93,5: numbers are written without commas, and a decimal has a point".into(),
+        ),
         ("maximize x", format!("10: {best}")),
         ("min x + y", format!("5: {best}")),
         (
@@ -337,23 +344,74 @@ fn of_what_others_write() {
             "8: a line has one limit: what stands behind and begins a new one".to_string(),
         ),
         ("x >= 1 or y >= 2", "8: there is no or: all lines have to hold together".to_string()),
-        ("zone 1 >= 20", "6: a name has no space in it: zone1; or a sign, + or -, is missing".into()),
-        ("x >= 1 000", "8: a number has no space in it, or a sign, + or -, is missing before this".into()),
+        (
+            "zone 1 >= 20",
+            "6: a name has no space in it: zone1; or a sign, + or -, is missing".into(),
+        ),
+        (
+            "x >= 1 000",
+            "8: a number has no space in it, or a sign, + or -, is missing before \
+             this"
+                .into(),
+        ),
         ("2(x + y) <= 9", format!("2: the character ( {none}")),
-        ("x >= 20;", "8: the character ; has no meaning here: the end of a line ends a limit".into()),
+        (
+            "x >= 20;",
+            "8: the character ; has no meaning here: the end of a line ends a limit".into(),
+        ),
         ("x >= 06:30", "6: 06:30 is a clock time: write minutes, 390".to_string()),
         ("x >= 20 \u{b0}C", format!("9: the character \u{b0} {unit}")),
         ("x >= 5 %", format!("8: the character % {unit}")),
-        ("x, y >= 5", "2: the character , has no meaning here: names have a space between them, and a decimal has a point".to_string()),
-        ("|x - y| <= 5", "1: the character | has no meaning here: there is no \"or\", and no size of a difference".to_string()),
-        ("x^2 <= 5", "2: the character ^ has no meaning here: only a number and a name can be multiplied".to_string()),
-        ("z\u{43e}ne1 >= 5", "2: the character \u{43e} has no meaning here: letters of names are those from a to z".to_string()),
-        ("x >= \u{ff11}", "6: the character \u{ff11} has no meaning here: digits are those from 0 to 9".to_string()),
+        (
+            "x, y >= 5",
+            "2: the character , has no meaning here: names have a space between \
+             them, and a decimal has a point"
+                .to_string(),
+        ),
+        (
+            "|x - y| <= 5",
+            "1: the character | has no meaning here: there is no \"or\", and no \
+             size of a difference"
+                .to_string(),
+        ),
+        (
+            "x^2 <= 5",
+            "2: the character ^ has no meaning here: only a number and a name can \
+             be multiplied"
+                .to_string(),
+        ),
+        (
+            "z\u{43e}ne1 >= 5",
+            "2: the character \u{43e} has no meaning here: letters of names are \
+             those from a to z"
+                .to_string(),
+        ),
+        (
+            "x >= \u{ff11}",
+            "6: the character \u{ff11} has no meaning here: digits are those from 0 \
+             to 9"
+                .to_string(),
+        ),
         ("x\u{200b} >= 1", "2: the character \\u{200b} has no meaning here".to_string()),
-        ("\"x\" >= 1", "1: the character \" has no meaning here: names and numbers stand by themselves".to_string()),
+        (
+            "\"x\" >= 1",
+            "1: the character \" has no meaning here: names and numbers stand by \
+             themselves"
+                .to_string(),
+        ),
         ("y <= 2 x - y", "12: y comes twice in this line: add them up".to_string()),
-        ("x >= 1\nx >= 2", "3: x has its lower limit already, in line 2; begin with row to have both".to_string()),
-        ("x < y\ny - x > 6", "7: line 2 limits this sum on the same side; begin with row to have both".to_string()),
+        (
+            "x >= 1\nx >= 2",
+            "3: x has its lower limit already, in line 2; begin with row to have \
+             both"
+                .to_string(),
+        ),
+        (
+            "x < y\ny - x > 6",
+            "7: line 2 limits this sum on the same side; begin with row to have \
+             both"
+                .to_string(),
+        ),
     ] {
         let said = below("names x y", line);
         let (_, said) = said.split_once(':').unwrap();
