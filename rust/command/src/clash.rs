@@ -116,8 +116,10 @@ pub fn reference(problem: &Limits, variable: usize, side: Side) -> String {
     let same = |other: &&(usize, Side)| {
         problem.limits[other.0][other.1 as usize].is_some_and(|other| other.line == Some(line))
     };
+    let label = problem.labels.of_line(line);
+    let named = label.map_or_else(|| format!("line {line}"), str::to_string);
     match all_limits(problem).iter().filter(same).count() {
-        1 => format!("line {line}"),
-        _ => format!("line {line} {}", side.name()),
+        1 => named,
+        _ => format!("{named} {}", side.name()),
     }
 }

@@ -11,7 +11,7 @@ use std::io::{BufRead, Write};
 use text::limits::{Limits, Side};
 
 const HELP: &str = "\
-off 4         switches off what line 4 sets
+off 4         switches off what line 4 sets; the name of a line will do too
 off 4 upper   its upper limit alone; lower likewise
 on 4          switches it on again
 back          takes the last switch back
@@ -106,8 +106,9 @@ impl Editor {
                     ["upper"] => Some(&Side::BOTH[1..]),
                     _ => None,
                 };
-                match (sides, line.parse::<usize>()) {
-                    (Some(sides), Ok(line)) => self.switched(line, sides, what == "on"),
+                let line = self.problem.labels.line_of(line).or_else(|| line.parse().ok());
+                match (sides, line) {
+                    (Some(sides), Some(line)) => self.switched(line, sides, what == "on"),
                     _ => Ok(self.slip()),
                 }
             }

@@ -65,10 +65,11 @@ pub fn left_out(text: Option<&str>, what: &str) -> String {
     }
 }
 
-/// `line 3`, where there is one.
+/// `line 3`, where there is one, or what the line is called.
 pub fn place(problem: &Limits, variable: usize, side: Side) -> Option<String> {
     let line = problem.limits[variable][side as usize]?.line?;
-    Some(format!("line {line}"))
+    let label = problem.labels.of_line(line);
+    Some(label.map_or_else(|| format!("line {line}"), str::to_string))
 }
 
 /// Every limit that there is, by line and then by variable.

@@ -112,8 +112,11 @@ fn is_cycle(rows: &Times, cycle: &[usize]) -> bool {
     leads_round && sum < i64::from(is_strict)
 }
 
-fn place(row: &Row) -> Option<String> {
-    row.line.map(|line| format!("line {line}"))
+/// `line 3`, where there is one, or what the line is called.
+fn place(rows: &Times, row: &Row) -> Option<String> {
+    let line = row.line?;
+    let label = rows.labels.of_line(line);
+    Some(label.map_or_else(|| format!("line {line}"), str::to_string))
 }
 
 fn can(asked: &Asked, times: &Fractions) -> Ended {
@@ -129,7 +132,7 @@ fn can(asked: &Asked, times: &Fractions) -> Ended {
             spare if spare.contains('/') => format!("{spare} of a minute to spare"),
             spare => format!("{spare} minutes to spare"),
         };
-        place(row).into_iter().chain([rows.row_text(row), far]).collect()
+        place(rows, row).into_iter().chain([rows.row_text(row), far]).collect()
     });
     let far: Vec<Vec<String>> = far.collect();
     if !far.is_empty() {
@@ -144,7 +147,10 @@ fn cannot(asked: &Asked, cycle: &[usize]) -> Ended {
     let rows = &asked.rows;
     let listed: Vec<&Row> = cycle.iter().map(|&row| &rows.rows[row]).collect();
     let named = listed.iter().zip(cycle).map(|(row, number)| {
-        vec![place(row).unwrap_or(format!("row {number}")), format!("# {}", rows.row_text(row))]
+        vec![
+            place(rows, row).unwrap_or(format!("row {number}")),
+            format!("# {}", rows.row_text(row)),
+        ]
     });
     let mut said = format!("cannot\n\n{}\n", table("", &named.collect::<Vec<_>>()));
     said += "# All of them added up:\n";
@@ -171,7 +177,9 @@ fn cannot(asked: &Asked, cycle: &[usize]) -> Ended {
 }
 
 fn row_json(rows: &Times, row: &Row) -> Vec<(&'static str, String)> {
-    vec![("line", json::line(row.line)), ("row", json::text(&rows.row_text(row)))]
+    let label = row.line.and_then(|line| rows.labels.of_line(line));
+    let name = label.map_or("null".to_string(), json::text);
+    vec![("line", json::line(row.line)), ("name", name), ("row", json::text(&rows.row_text(row)))]
 }
 
 fn can_json(asked: &Asked, times: &Fractions) -> Ended {

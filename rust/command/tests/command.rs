@@ -66,6 +66,33 @@ fn verdicts_and_statuses() {
     assert_eq!(ran(&["--version"], b"").0, format!("scatterflock {version}"));
 }
 
+/// A line that has a name is called by it.
+#[test]
+fn lines_with_names() {
+    let path = PathBuf::from(env!("CARGO_TARGET_TMPDIR")).join("named.txt");
+    let text = "names x y\n2 <= x <= 9\nsoak: y >= 2\nbudget: row x + y <= 3.5 # of both\n";
+    fs::write(&path, text).unwrap();
+    let file = path.to_str().unwrap();
+    let (said, _, status) = ran(&["solve", file], b"");
+    assert_eq!(status, 1);
+    for line in [
+        "1 times soak           # y >= 2",
+        "#   budget         x + y <= 4",
+        "1 times line 2 lower   # x >= 2",
+    ] {
+        assert!(said.lines().any(|other| other == line), "no {line} in\n{said}");
+    }
+    assert_eq!(ran(&["check", file, "-"], said.as_bytes()).2, 0);
+    let json = json::read(&ran(&["--json", "solve", file], b"").0).unwrap();
+    let names = json.at("limits").list().iter().map(|limit| limit.at("name").clone());
+    let text = |name: &str| json::Json::Text(name.to_string());
+    assert_eq!(names.collect::<Vec<_>>(), [json::Json::Null, text("soak"), text("budget")]);
+    let (said, _, status) = ran(&["edit", file], b"off budget\n");
+    assert!(said.ends_with("can      x = 2, y = 2\n") && status == 0, "{said}");
+    let (said, _, _) = ran(&["times", "-"], b"times a b\nshift: b - a <= 40\na + 50 <= b\n");
+    assert!(said.contains("\nshift    # b - a <= 40\n"), "{said}");
+}
+
 /// Limits are switched off and on from the keyboard, or from a script.
 #[test]
 fn limits_switched_by_line() {

@@ -174,6 +174,10 @@ fn cannot(lines: &[Line], problem: &Limits) -> Result<Vec<i64>, Fault> {
             [Kind::Name(word), Kind::Number(number), side @ ..] if word == "line" => {
                 of_line(problem, *number, side).map_err(|what| line.fault(column(2), what))?
             }
+            [Kind::Name(label), side @ ..] if problem.labels.line_of(label).is_some() => {
+                let line_of = problem.labels.line_of(label).unwrap_or_default() as i64;
+                of_line(problem, line_of, side).map_err(|what| line.fault(column(2), what))?
+            }
             [Kind::Name(side), Kind::Number(variable)] => {
                 let side = Side::BOTH.into_iter().find(|other| other.name() == side);
                 let side = side.ok_or_else(|| line.fault(column(2), MULTIPLIER))?;

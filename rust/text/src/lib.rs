@@ -6,6 +6,7 @@
 //! - `opening`: the lines that say what a text holds and declare its names
 //! - `names`, [`nearest`]: declared names, and the one that was probably meant
 //! - `statement`: sums of names and numbers, and the signs between them
+//! - `labels`: names of lines
 //! - [`left_out`]: comments that read as a limit
 //! - [`limits`]: a limit problem as text
 //! - [`times`]: time rows as text
@@ -16,6 +17,7 @@ pub mod answer;
 mod comments;
 mod exact;
 mod fault;
+mod labels;
 pub mod limits;
 mod names;
 mod near;
@@ -28,5 +30,6 @@ mod tokens;
 pub use comments::left_out;
 pub use exact::Exact;
 pub use fault::Fault;
+pub use labels::Labels;
 pub use near::nearest;
 pub use opening::Holds;

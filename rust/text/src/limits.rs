@@ -9,6 +9,7 @@ mod shown;
 pub use reading::read;
 
 use crate::exact::Exact;
+use crate::labels::Labels;
 use crate::statement;
 
 /// The most names.
@@ -36,6 +37,8 @@ pub struct Limits {
     pub taken: Vec<i32>,
     /// What each line of the text says, in its own numbers.
     pub said: Vec<Own>,
+    /// What its lines are called.
+    pub labels: Labels,
 }
 
 /// What a line says of a sum of names, in its own numbers.
@@ -142,6 +145,7 @@ impl Limits {
             parts: 1,
             taken: vec![1; m],
             said: vec![],
+            labels: Labels::default(),
         })
     }
 

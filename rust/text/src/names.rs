@@ -25,6 +25,10 @@ impl Names {
 
     /// Takes the names of a line `names x y`, or `times x y`.
     pub fn declare(&mut self, line: &Line) -> Result<(), Fault> {
+        if let Some((label, column)) = &line.label {
+            let what = format!("{label}: a line that opens a text has no name of its own");
+            return Err(line.fault(*column, what));
+        }
         for (name, column) in after_first(line)? {
             if let Some(word) = reserved(name) {
                 let what = format!("{name} is no name: {word} begins a line of its own kind");

@@ -122,6 +122,11 @@ fn unopened(text: &str, holds: Holds) -> Fault {
     }) {
         return fault(format!("{word}: write {}, in small letters", holds.word()));
     }
+    if let Some((label, _)) =
+        first.and_then(|first| first.label.as_ref()).filter(|_| all[0].begins_with(word))
+    {
+        return fault(format!("{label}: a line that opens a text has no name of its own"));
+    }
     if let Some(late) = all.iter().find(|line| line.begins_with(word)) {
         return fault(format!("line {} declares the names, and has to be the first", late.number));
     }

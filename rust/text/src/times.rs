@@ -2,6 +2,7 @@
 
 use crate::exact::{multiple, Exact, LARGEST_DENOMINATOR};
 use crate::fault::Fault;
+use crate::labels::Labels;
 use crate::names::Names;
 use crate::opening::{self, Holds};
 use crate::statement::{statement, Limit, Statement};
@@ -24,6 +25,8 @@ pub struct Times {
     /// How many parts a minute has: rows and times are counted in these. It is 1
     /// where all numbers of the text are whole.
     pub parts: i32,
+    /// What its lines are called.
+    pub labels: Labels,
 }
 
 /// The row x - y <= c, or x - y < c where it is strict.
@@ -52,9 +55,10 @@ pub fn read(text: &str) -> Result<Times, Fault> {
     let mut lines = lines(text).peekable();
     let names = opening::names(text, &mut lines, Holds::Times, MOST_VERTICES)?;
     let mut free = vec![false; names.list.len()];
-    let mut found = Vec::new();
+    let (mut found, mut labels) = (Vec::new(), Labels::default());
     for line in lines {
         let line = line?;
+        labels.take(&line, &names)?;
         if let Some(fault) = opening::late(&line, Holds::Times) {
             return Err(fault);
         }
@@ -69,7 +73,7 @@ pub fn read(text: &str) -> Result<Times, Fault> {
         let said = statement(&line, usize::from(is_alone))?;
         say(&line, &said, is_alone, &names, &mut found)?;
     }
-    let found = whole(names.list.clone(), &found)?;
+    let found = Times { labels, ..whole(names.list.clone(), &found)? };
     if let Some(name) = found.unlimited().into_iter().find(|&name| !free[name]) {
         let (name, (line, column)) = (&names.list[name], names.places[name]);
         let what = format!("no row speaks of {name}; a line free {name} says that this is meant");
@@ -106,7 +110,7 @@ fn whole(names: Vec<String>, found: &[Found]) -> Result<Times, Fault> {
         }
         rows.push(Row { c: number as i32, ..*row });
     }
-    Ok(Times { names, rows, parts: parts as i32 })
+    Ok(Times { names, rows, parts: parts as i32, labels: Labels::default() })
 }
 
 fn say(
@@ -207,6 +211,7 @@ impl Times {
             names: (0..*n).map(|number| format!("t{number}")).collect(),
             rows: rows.collect::<Option<Vec<Row>>>()?,
             parts: 1,
+            labels: Labels::default(),
         })
     }
 

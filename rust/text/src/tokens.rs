@@ -22,6 +22,7 @@ pub enum Kind {
     Minus,
     Times,
     Over,
+    Colon,
     Sign(Sign),
 }
 
@@ -43,6 +44,8 @@ pub struct Line {
     pub number: usize,
     pub tokens: Vec<Token>,
     pub end: usize,
+    /// The name of the line, and its column: `budget: x + y <= 3`.
+    pub label: Option<(String, usize)>,
 }
 
 impl Line {
@@ -92,7 +95,22 @@ fn tokens(number: usize, text: &str) -> Result<Line, Fault> {
         tokens.push(Token { kind, column: at + 1 });
         at += length;
     }
-    Ok(Line { number, tokens, end })
+    let label = match &tokens[..] {
+        [Token { kind: Kind::Name(name), column }, Token { kind: Kind::Colon, .. }, ..] => {
+            Some((name.clone(), *column))
+        }
+        _ => None,
+    };
+    if let Some((name, _)) = &label {
+        tokens.drain(..2);
+        if tokens.is_empty() {
+            return Err(Fault::new(number, end, format!("a limit is missing after {name}:")));
+        }
+    }
+    if let Some(colon) = tokens.iter().find(|token| token.kind == Kind::Colon) {
+        return Err(Fault::new(number, colon.column, no_meaning(':')));
+    }
+    Ok(Line { number, tokens, end, label })
 }
 
 /// Whether a screen may show a new line here, or another order of the
@@ -110,6 +128,7 @@ fn token(chars: &[char]) -> Result<(Kind, usize), String> {
         ('-', _) => Ok((Kind::Minus, 1)),
         ('*', _) => Ok((Kind::Times, 1)),
         ('/', _) => Ok((Kind::Over, 1)),
+        (':', _) => Ok((Kind::Colon, 1)),
         ('<', '=') => Ok((Kind::Sign(Sign::AtMost), 2)),
         ('>', '=') => Ok((Kind::Sign(Sign::AtLeast), 2)),
         ('=', '<') => Err("write <= in place of =<".to_string()),
@@ -134,6 +153,7 @@ fn no_meaning(c: char) -> String {
     let advice = match c {
         '(' | ')' | '[' | ']' | '{' | '}' => ": there are none, write 2 x + 2 y for 2 (x + y)",
         ';' => ": the end of a line ends a limit",
+        ':' => ": it stands behind the name of a line, as in budget: x + y <= 3",
         ',' => ": names have a space between them, and a decimal has a point",
         '&' => ": a line has one limit",
         '|' => ": there is no \"or\", and no size of a difference",

@@ -426,6 +426,26 @@ fn of_what_others_write() {
 }
 
 #[test]
+fn of_names_of_lines() {
+    for (line, fault) in [
+        ("budget:", "1:8: a limit is missing after budget:"),
+        ("budget: x = 1\nbudget: y = 1", "2:1: line 2 is called budget already"),
+        ("X: x = 1", "1:1: X is among the names, and cannot be that of a line"),
+        ("upper: x = 1", "1:1: upper is no name of a line: answers and texts use it otherwise"),
+        ("some: free x", "1:1: a line free has no name of its own"),
+        (
+            "x = 1: y",
+            "1:6: the character : has no meaning here: it stands behind the name of a line, \
+             as in budget: x + y <= 3",
+        ),
+    ] {
+        assert_eq!(below("names x y", line), fault, "{line}");
+    }
+    let what = "1:1: some: a line that opens a text has no name of its own";
+    assert_eq!(limit_fault("some: names x\nx = 1"), what);
+}
+
+#[test]
 fn of_ends_of_lines() {
     let what = "this character looks like the end of a line, or turns its order round";
     for c in ['\r', '\u{c}', '\u{85}', '\u{2028}', '\u{202e}', '\u{2066}'] {

@@ -47,8 +47,11 @@ impl Shown {
     fn limit_json(&self, variable: usize, side: Side) -> Vec<(&'static str, String)> {
         let limit = self.problem.limits[variable][side as usize];
         let said = self.problem.limit_text(variable, side).unwrap_or_default();
+        let line = limit.and_then(|limit| limit.line);
+        let label = line.and_then(|line| self.problem.labels.of_line(line));
         vec![
             ("line", json::line(limit.and_then(|limit| limit.line))),
+            ("name", label.map_or("null".to_string(), json::text)),
             ("limit", json::text(&said)),
             ("side", json::text(side.name())),
         ]

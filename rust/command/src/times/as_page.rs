@@ -69,7 +69,7 @@ pub fn cannot(asked: &Asked, cycle: &[usize]) -> Ended {
     let shown = |c: i64| Exact::new(c, rows.parts.into());
     let parts = listed.iter().map(|row| Part {
         label: rows.row_text(row),
-        place: place(row).unwrap_or_default(),
+        place: place(rows, row).unwrap_or_default(),
         amount: shown(-i64::from(row.c)),
     });
     let (sum, is_strict) = sum(&listed);

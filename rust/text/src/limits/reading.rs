@@ -5,6 +5,7 @@ use super::{
 };
 use crate::exact::{multiple, Exact, LARGEST_DENOMINATOR};
 use crate::fault::Fault;
+use crate::labels::Labels;
 use crate::names::Names;
 use crate::opening::{self, Holds};
 use crate::statement::{self, statement, Statement};
@@ -49,6 +50,7 @@ struct Reading {
     rows: Vec<Row>,
     /// What each line says, in its own numbers.
     said: Vec<Own>,
+    labels: Labels,
 }
 
 /// Reads a text of limits.
@@ -60,9 +62,11 @@ pub fn read(text: &str) -> Result<Limits, Fault> {
     let mut lines = lines(text).peekable();
     let names = opening::names(text, &mut lines, Holds::Limits, MOST_VARIABLES)?;
     let own = names.list.iter().map(|_| Limited::default()).collect();
-    let mut reading = Reading { names, own, rows: Vec::new(), said: Vec::new() };
+    let mut reading =
+        Reading { names, own, rows: Vec::new(), said: Vec::new(), labels: Labels::default() };
     for line in lines {
         let line = line?;
+        reading.labels.take(&line, &reading.names)?;
         if let Some(fault) = opening::late(&line, Holds::Limits) {
             return Err(fault);
         } else if line.begins_with("free") {
@@ -218,7 +222,8 @@ impl Reading {
             taken.push(times as i32);
         }
         let names = self.names.list.clone();
-        Ok(Limits { names, rows, limits, parts: parts as i32, taken, said: self.said.clone() })
+        let (said, labels) = (self.said.clone(), self.labels.clone());
+        Ok(Limits { names, rows, limits, parts: parts as i32, taken, said, labels })
     }
 
     /// The fault of a name that nothing limits, unless `free` says that this is
