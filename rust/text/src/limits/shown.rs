@@ -2,7 +2,6 @@
 
 use super::{Limit, Limits, Side};
 use crate::opening::{free, opened, Holds};
-use crate::statement::sum_text;
 
 impl Limits {
     /// A sum of names, as text: those with 0 are left out, and one that is
@@ -98,4 +97,22 @@ impl Limits {
 /// Whether a lower and an upper limit leave one value, as `=` does.
 fn is_one_value(low: Limit, high: Limit) -> bool {
     low.number == high.number && !low.is_strict && !high.is_strict
+}
+
+/// The sum of terms, as text: `3 x - 2 y`.
+fn sum_text<'a>(terms: impl Iterator<Item = (i64, &'a str)>) -> String {
+    let mut text = String::new();
+    for (coefficient, name) in terms {
+        text += match (text.is_empty(), coefficient < 0) {
+            (true, true) => "-",
+            (true, false) => "",
+            (false, true) => " - ",
+            (false, false) => " + ",
+        };
+        match coefficient.abs() {
+            1 => text += name,
+            size => text += &format!("{size} {name}"),
+        }
+    }
+    text
 }
