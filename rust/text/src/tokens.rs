@@ -1,6 +1,14 @@
 //! A line's tokens, with their columns.
+//!
+//! - `number`: numbers, and what is none
+//! - `strange`: characters that no line has
+
+mod number;
+mod strange;
 
 use crate::fault::Fault;
+use number::number;
+use strange::{is_other_end, no_meaning};
 
 #[derive(Debug, Clone, Copy, PartialEq, Eq)]
 pub enum Sign {
@@ -113,13 +121,6 @@ fn tokens(number: usize, text: &str) -> Result<Line, Fault> {
     Ok(Line { number, tokens, end, label })
 }
 
-/// Whether a screen may show a new line here, or another order of the
-/// characters, so that a comment hides what looks like a limit.
-fn is_other_end(c: char) -> bool {
-    let is_end = matches!(c, '\r' | '\u{b}' | '\u{c}' | '\u{85}');
-    is_end || matches!(c, '\u{2028}'..='\u{202e}' | '\u{2066}'..='\u{2069}')
-}
-
 /// The first token and its length.
 fn token(chars: &[char]) -> Result<(Kind, usize), String> {
     let (first, second) = (chars[0], chars.get(1).copied().unwrap_or(' '));
@@ -148,29 +149,6 @@ fn token(chars: &[char]) -> Result<(Kind, usize), String> {
     }
 }
 
-/// What to say of a character that no line has.
-fn no_meaning(c: char) -> String {
-    let advice = match c {
-        '(' | ')' | '[' | ']' | '{' | '}' => ": there are none, write 2 x + 2 y for 2 (x + y)",
-        ';' => ": the end of a line ends a limit",
-        ':' => ": it stands behind the name of a line, as in budget: x + y <= 3",
-        ',' => ": names have a space between them, and a decimal has a point",
-        '&' => ": a line has one limit",
-        '|' => ": there is no \"or\", and no size of a difference",
-        '^' => ": only a number and a name can be multiplied",
-        '"' | '\'' | '`' => ": names and numbers stand by themselves",
-        '\u{b0}' | '%' | '$' | '\u{20ac}' | '\u{b5}' | '\u{2126}' => {
-            ": a unit is left out, or stands in a comment"
-        }
-        c if c.is_alphabetic() => ": letters of names are those from a to z",
-        c if c.is_numeric() => ": digits are those from 0 to 9",
-        _ => "",
-    };
-    let is_shown = !c.is_control() && !c.is_whitespace() && !('\u{200b}'..='\u{206f}').contains(&c);
-    let shown = if is_shown { c.to_string() } else { c.escape_unicode().to_string() };
-    format!("the character {shown} has no meaning here{advice}")
-}
-
 /// The most characters of a name.
 const MOST_NAME: usize = 60;
 
@@ -180,67 +158,6 @@ pub fn short(text: &str) -> String {
         Some((end, _)) => format!("{}..", &text[..end]),
         None => text.to_string(),
     }
-}
-
-/// Everything that somebody may have meant as one number.
-fn number(chars: &[char]) -> Result<(Kind, usize), String> {
-    let is_part = |c: &char| c.is_alphanumeric() || matches!(c, '_' | '.' | ',');
-    let text: String = chars.iter().take_while(|c| is_part(c)).collect();
-    if let Some(minutes) = clock(&text, &chars[text.chars().count()..]) {
-        return Err(minutes);
-    }
-    if text.chars().all(|c| c.is_ascii_digit()) {
-        let number = text.parse().map_err(|_| format!("{} is out of range", short(&text)))?;
-        return Ok((Kind::Number(number), text.len()));
-    }
-    if let Some(decimal) = decimal(&text)? {
-        return Ok((decimal, text.len()));
-    }
-    let text = short(&text);
-    let has_comma = text.contains(',');
-    let is_plain = |c: char| c.is_ascii_digit() || c == ',';
-    Err(if has_comma && text.chars().all(is_plain) && !text.ends_with(',') {
-        format!("{text}: numbers are written without commas, and a decimal has a point")
-    } else if text.chars().all(|c| is_plain(c) || c == '.') {
-        format!("{text} is no number")
-    } else {
-        format!("{text} is no number; between a number and a name stands a space or *")
-    })
-}
-
-/// The most digits behind the point of a decimal.
-const MOST_DIGITS: usize = 3;
-
-/// The decimal that a text is, if it is one.
-fn decimal(text: &str) -> Result<Option<Kind>, String> {
-    let Some((whole, part)) = text.split_once('.') else { return Ok(None) };
-    let are_digits = |text: &str| !text.is_empty() && text.chars().all(|c| c.is_ascii_digit());
-    if !are_digits(whole) || !are_digits(part) {
-        return Ok(None);
-    }
-    if part.len() == 3 && part.ends_with('0') && !whole.trim_start_matches('0').is_empty() {
-        let less = part.trim_end_matches('0');
-        let point = if less.is_empty() { "" } else { "." };
-        return Err(format!("{}: is it {whole}{part}, or {whole}{point}{less}?", short(text)));
-    }
-    let part = part.trim_end_matches('0');
-    if part.len() > MOST_DIGITS {
-        return Err(format!("{} has more than {MOST_DIGITS} digits behind the point", short(text)));
-    }
-    let digits = format!("{whole}{part}").parse();
-    let digits = digits.map_err(|_| format!("{} is out of range", short(text)))?;
-    Ok(Some(Kind::Decimal(digits, 10_i64.pow(part.len() as u32))))
-}
-
-/// What to say of a clock time, such as 06:30.
-fn clock(hours: &str, behind: &[char]) -> Option<String> {
-    let minutes: String = behind.iter().skip(1).take_while(|c| c.is_ascii_digit()).collect();
-    if behind.first() != Some(&':') || minutes.len() != 2 {
-        return None;
-    }
-    let [whole, part] = [hours, &minutes].map(|digits| digits.parse::<i64>().ok());
-    let sum = whole.filter(|hours| *hours < 100)? * 60 + part?;
-    Some(format!("{hours}:{minutes} is a clock time: write minutes, {sum}"))
 }
 
 fn name(chars: &[char]) -> Result<(Kind, usize), String> {

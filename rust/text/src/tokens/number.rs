@@ -1,0 +1,64 @@
+//! Numbers of a line, and what is none.
+
+use super::{short, Kind};
+
+/// Everything that somebody may have meant as one number.
+pub fn number(chars: &[char]) -> Result<(Kind, usize), String> {
+    let is_part = |c: &char| c.is_alphanumeric() || matches!(c, '_' | '.' | ',');
+    let text: String = chars.iter().take_while(|c| is_part(c)).collect();
+    if let Some(minutes) = clock(&text, &chars[text.chars().count()..]) {
+        return Err(minutes);
+    }
+    if text.chars().all(|c| c.is_ascii_digit()) {
+        let number = text.parse().map_err(|_| format!("{} is out of range", short(&text)))?;
+        return Ok((Kind::Number(number), text.len()));
+    }
+    if let Some(decimal) = decimal(&text)? {
+        return Ok((decimal, text.len()));
+    }
+    let text = short(&text);
+    let has_comma = text.contains(',');
+    let is_plain = |c: char| c.is_ascii_digit() || c == ',';
+    Err(if has_comma && text.chars().all(is_plain) && !text.ends_with(',') {
+        format!("{text}: numbers are written without commas, and a decimal has a point")
+    } else if text.chars().all(|c| is_plain(c) || c == '.') {
+        format!("{text} is no number")
+    } else {
+        format!("{text} is no number; between a number and a name stands a space or *")
+    })
+}
+
+/// The most digits behind the point of a decimal.
+const MOST_DIGITS: usize = 3;
+
+/// The decimal that a text is, if it is one.
+fn decimal(text: &str) -> Result<Option<Kind>, String> {
+    let Some((whole, part)) = text.split_once('.') else { return Ok(None) };
+    let are_digits = |text: &str| !text.is_empty() && text.chars().all(|c| c.is_ascii_digit());
+    if !are_digits(whole) || !are_digits(part) {
+        return Ok(None);
+    }
+    if part.len() == 3 && part.ends_with('0') && !whole.trim_start_matches('0').is_empty() {
+        let less = part.trim_end_matches('0');
+        let point = if less.is_empty() { "" } else { "." };
+        return Err(format!("{}: is it {whole}{part}, or {whole}{point}{less}?", short(text)));
+    }
+    let part = part.trim_end_matches('0');
+    if part.len() > MOST_DIGITS {
+        return Err(format!("{} has more than {MOST_DIGITS} digits behind the point", short(text)));
+    }
+    let digits = format!("{whole}{part}").parse();
+    let digits = digits.map_err(|_| format!("{} is out of range", short(text)))?;
+    Ok(Some(Kind::Decimal(digits, 10_i64.pow(part.len() as u32))))
+}
+
+/// What to say of a clock time, such as 06:30.
+fn clock(hours: &str, behind: &[char]) -> Option<String> {
+    let minutes: String = behind.iter().skip(1).take_while(|c| c.is_ascii_digit()).collect();
+    if behind.first() != Some(&':') || minutes.len() != 2 {
+        return None;
+    }
+    let [whole, part] = [hours, &minutes].map(|digits| digits.parse::<i64>().ok());
+    let sum = whole.filter(|hours| *hours < 100)? * 60 + part?;
+    Some(format!("{hours}:{minutes} is a clock time: write minutes, {sum}"))
+}
