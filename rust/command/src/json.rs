@@ -40,7 +40,7 @@ pub fn line(line: Option<usize>) -> String {
     line.map_or("null".to_string(), |line| line.to_string())
 }
 
-/// The lines that are comments and read as limits.
+/// The lines with a comment whose end reads as a limit.
 pub fn left_out(text: Option<&str>) -> String {
     list(text.map(::text::left_out).unwrap_or_default().iter().map(usize::to_string))
 }

@@ -1,6 +1,6 @@
-//! Texts with one slip each: none that is in a name, and no unit, is answered
-//! with another meaning. Of other slips the share that is answered is printed,
-//! and docs/formats/text.md tells it.
+//! Texts with one slip each: none that is in a name, no unit, and no sign of
+//! another key is answered with another meaning. Of other slips the share that is
+//! answered is printed, and docs/formats/text.md tells it.
 
 use problems::limits::Family;
 use problems::random::{seed, Random};
@@ -17,6 +17,11 @@ const TEXTS: u64 = 6_000;
 /// The seed of the table in the page.
 const TOLD: u64 = 1;
 
+/// Slips that are never answered with another meaning.
+const TOLD_ALWAYS: [&str; 3] = ["a letter of a name", "a sign with another key", "a unit"];
+/// Slips of which an answer names the line.
+const NAMED_ALWAYS: [&str; 2] = ["a line behind #", "a line feed that is missing"];
+
 /// What a slip comes to.
 #[derive(Debug, Default, Clone, Copy, PartialEq, Eq)]
 struct Count {
@@ -30,7 +35,13 @@ const NAMES: [&str; 8] = ["zone1", "zone2", "zone3", "inlet", "outlet", "heater"
 const UNITS: [&str; 12] =
     ["degC", "C", "K", "min", "minutes", "s", "kW", "\u{b0}C", "%", "deg", "mm", "Pa"];
 
-/// A text of limits or of time rows, with a comment in it.
+/// Signs that are typed in the place of others.
+const SIGNS: [&str; 14] = [
+    ">-", "<-", ">+", "<+", "=>", "=<", "> =", "< =", "==", ">>", "=-", "=~", "\u{2264}",
+    "\u{2265}",
+];
+
+/// A text of limits or of time rows, with comments in it.
 fn text(random: &mut Random) -> String {
     let text = if random.percent(70) {
         let families = [Family::Tiny, Family::Oven, Family::Medium, Family::Strict];
@@ -50,8 +61,12 @@ fn text(random: &mut Random) -> String {
             .collect();
         rows.text()
     };
-    let last = text.trim_end().len();
-    format!("# An oven.\n\n{}   # as agreed\n", &text[..last])
+    let mut said = "# An oven.\n\n".to_string();
+    for line in text.lines() {
+        said += line;
+        said += if random.percent(30) { "   # as agreed\n" } else { "\n" };
+    }
+    said
 }
 
 /// The words of a text that is read, and the names of its variables.
@@ -99,18 +114,22 @@ fn slip(random: &mut Random, text: &str) -> Option<(&'static str, String)> {
         |&(from, to): &(usize, usize)| text[from..to].bytes().all(|c| c.is_ascii_digit());
     let names: Vec<(usize, usize)> = words.iter().copied().filter(is_name).collect();
     let numbers: Vec<(usize, usize)> = words.iter().copied().filter(is_number).collect();
-    let first = text.split('\n').take(3).map(|line| line.len() + 1).sum::<usize>();
-    let lines: Vec<(usize, usize)> = pieces(&text[first..], |c| c != '\n')
-        .into_iter()
-        .map(|(from, to)| (from + first, to + first))
-        .collect();
+    let mut at = text.split('\n').take(3).map(|line| line.len() + 1).sum::<usize>();
+    let mut lines: Vec<(usize, usize)> = Vec::new();
+    for line in text[at..].lines() {
+        lines.push((at, at + line.len()));
+        at += line.len() + 1;
+    }
     if numbers.is_empty() || lines.is_empty() {
         return None;
     }
     let (name, number, line) = (random.pick(&names), random.pick(&numbers), random.pick(&lines));
     let at = |random: &mut Random, (from, to): (usize, usize)| from + random.below(to - from);
     let in_name = at(random, name);
-    Some(match random.below(12) {
+    // A row without limits: nothing is lost without it.
+    let is_bare = |at: usize| text[at..].starts_with("free row");
+    let signs = pieces(text, |c| matches!(c, '<' | '>' | '='));
+    Some(match random.below(14) {
         0 => {
             let letter = random.pick(&["a", "e", "o", "x", "7", "_", "Z"]);
             ("a letter of a name", with(text, (in_name, in_name + 1), letter))
@@ -140,13 +159,18 @@ fn slip(random: &mut Random, text: &str) -> Option<(&'static str, String)> {
             ("a sign that is missing", with(text, (sign, sign + 1), ""))
         }
         8 => ("a line that is missing", with(text, (line.0, line.1 + 1), "")),
+        9 if is_bare(line.0) => return None,
         9 => ("a line behind #", with(text, (line.0, line.0), "# ")),
         // A line with `row` says the same as often as it comes.
-        10 if text[line.0..].starts_with("row") => return None,
+        10 if is_bare(line.0) || text[line.0..].starts_with("row") => return None,
         10 => {
             let other = random.pick(&lines);
             ("a line again", with(text, (other.0, other.0), &text[line.0..=line.1]))
         }
+        11 if signs.is_empty() => return None,
+        11 => ("a sign with another key", with(text, random.pick(&signs), random.pick(&SIGNS))),
+        12 if line.1 + 1 == text.len() || is_bare(line.1 + 1) => return None,
+        12 => ("a line feed that is missing", with(text, (line.1, line.1 + 1), "")),
         _ => {
             let end = line.0 + random.below(line.1 - line.0 + 1);
             ("a text that is cut", text[..end].to_string())
@@ -184,9 +208,11 @@ fn counted(seed: u64) -> BTreeMap<&'static str, Count> {
             1 | 2 => count.cannot += 1,
             _ => count.fault += 1,
         }
-        let has_to_be_told = ["a letter of a name", "a unit"].contains(&kind);
         let is_answered = status == 0 && read.as_ref() != Some(&meant);
-        assert!(!has_to_be_told || !is_answered, "SEED={seed}:\n{text}\n{slipped}");
+        assert!(!TOLD_ALWAYS.contains(&kind) || !is_answered, "SEED={seed}:\n{text}\n{slipped}");
+        let is_named = !text::left_out(&slipped).is_empty();
+        let is_hidden = is_answered && NAMED_ALWAYS.contains(&kind);
+        assert!(!is_hidden || is_named, "SEED={seed}:\n{text}\n{slipped}");
     }
     counts
 }
@@ -210,7 +236,7 @@ fn no_slip_in_a_name_and_no_unit_is_answered() {
     println!("SEED={seed}");
     let counts = counted(seed);
     println!("{}", rows(&counts).join("\n"));
-    for kind in ["a letter of a name", "a unit"] {
+    for kind in TOLD_ALWAYS {
         let Count { fault, cannot, can, .. } = counts[kind];
         assert!(fault > 100 && [cannot, can] == [0; 2], "{kind}: {:?}", counts[kind]);
     }

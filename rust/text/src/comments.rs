@@ -1,29 +1,53 @@
 //! Comments that read as a limit.
 
+use crate::names::Names;
 use crate::opening::{self, Holds};
 use crate::statement::statement;
 use crate::tokens::lines;
 
-/// The lines of a text that are comments, and read as a limit or a time row of its
-/// names: somebody may have left them out for a while, and forgotten it.
+/// How many places of a comment are looked at, from its end: more than a limit has
+/// words.
+const MOST_PLACES: usize = 64;
+
+/// The lines of a text with a comment whose end reads as a limit or a time row of
+/// its names: somebody may have left it out for a while and forgotten it, or a line
+/// feed is missing behind a comment.
 #[must_use]
 pub fn left_out(text: &str) -> Vec<usize> {
     let Some(holds) = Holds::of(text) else { return vec![] };
     let mut all = lines(text).peekable();
     let Ok(names) = opening::names(text, &mut all, holds, usize::MAX) else { return vec![] };
-    let reads_as_limit = |comment: &str| {
-        let line = lines(comment).next()?.ok()?;
-        let said = statement(&line, usize::from(line.begins_with("row"))).ok()?;
-        let is_limit = said.lower.is_some() || said.upper.is_some();
-        let known = said.terms.iter().all(|term| names.list.contains(&term.name));
-        (is_limit && known).then_some(())
-    };
     let comments = text.split('\n').enumerate().filter_map(|(place, line)| {
-        let comment = line.trim_start().strip_prefix('#')?;
-        reads_as_limit(comment.trim_start_matches(['#', ' ', '\t']))?;
-        Some(place + 1)
+        let mut comments = line.split('#').skip(1);
+        comments.any(|comment| ends_in_limit(comment, &names)).then_some(place + 1)
     });
     comments.collect()
+}
+
+/// Whether a comment reads as a limit from one of its words on, or from a name
+/// that its last word is glued to.
+fn ends_in_limit(comment: &str, names: &Names) -> bool {
+    if !comment.contains(['<', '>', '=']) {
+        return false;
+    }
+    let is_part = |c: char| c.is_alphanumeric() || c == '_' || c == '.';
+    let mut before = ' ';
+    let starts = comment.char_indices().filter(|&(at, c)| {
+        let is_word = !c.is_whitespace() && !(is_part(before) && is_part(c));
+        before = c;
+        is_word || names.list.iter().any(|name| comment[at..].starts_with(name))
+    });
+    let starts: Vec<usize> = starts.map(|(at, _)| at).collect();
+    let mut last = starts.iter().rev().take(MOST_PLACES);
+    last.any(|&at| reads_as_limit(&comment[at..], names).is_some())
+}
+
+fn reads_as_limit(text: &str, names: &Names) -> Option<()> {
+    let line = lines(text).next()?.ok()?;
+    let said = statement(&line, usize::from(line.begins_with("row"))).ok()?;
+    let is_limit = said.lower.is_some() || said.upper.is_some();
+    let known = said.terms.iter().all(|term| names.list.contains(&term.name));
+    (is_limit && known).then_some(())
 }
 
 #[cfg(test)]
@@ -33,9 +57,12 @@ mod tests {
     #[test]
     fn comments_that_read_as_limits() {
         let text = "# zone1 = 3\nnames zone1 zone2\nzone1 >= 1 # zone2 <= 4\n#zone2 >= 20\n\
-                    # zone2 <= 40 was too cold\n## row zone1 - zone2 < 4 # a step\n# zone3 = 4\n#\n";
-        assert_eq!(left_out(text), [1, 4, 6]);
+                    # zone2 <= 40 was too cold\n## row zone1 - zone2 < 4 # a step\n# zone3 = 4\n#\n\
+                    zone2 <= 9 # 75 at most\nzone1 < 9 # warmzone1 <= 4 # or so\n\
+                    zone1 > 0 # warm20 <= zone1 <= 40\n";
+        assert_eq!(left_out(text), [1, 3, 4, 6, 10, 11]);
         assert_eq!(left_out("times a b\na - b <= 1\n  # b < a\n"), [3]);
+        assert_eq!(left_out("times a b\na - b <= 1 # as agreedb - a < 3\n"), [2]);
         assert_eq!(left_out("# x >= 1\n"), []);
     }
 }

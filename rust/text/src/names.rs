@@ -1,5 +1,6 @@
 //! The names of a text: those that its first lines declare, and no others.
 
+use crate::answer::SMALL;
 use crate::fault::Fault;
 use crate::near::nearest;
 use crate::tokens::{Kind, Line};
@@ -34,12 +35,20 @@ impl Names {
                 let what = format!("{name} is no name: {word} begins a line of its own kind");
                 return Err(line.fault(column, what));
             }
+            if name.eq_ignore_ascii_case(SMALL) {
+                let what = format!("{name} is no name: answers call an amount so");
+                return Err(line.fault(column, what));
+            }
             if let Some(before) = self.list.iter().position(|other| other == name) {
                 let what = format!("{name} is declared already, in line {}", self.places[before].0);
                 return Err(line.fault(column, what));
             }
             if let Some(other) = self.list.iter().find(|other| other.eq_ignore_ascii_case(name)) {
                 let what = format!("{name} and {other} differ in small and capital letters alone");
+                return Err(line.fault(column, what));
+            }
+            if let Some(other) = self.list.iter().find(|other| outline(other) == outline(name)) {
+                let what = format!("{name} and {other} look alike");
                 return Err(line.fault(column, what));
             }
             if self.list.len() == self.most {
@@ -95,6 +104,16 @@ impl Names {
 /// The word that this is, but for small and capital letters.
 fn reserved(name: &str) -> Option<&'static str> {
     RESERVED.into_iter().find(|word| word.eq_ignore_ascii_case(name))
+}
+
+/// A name, but for letters that are taken for digits.
+fn outline(name: &str) -> String {
+    let taken = |c: char| match c {
+        'o' | 'O' => '0',
+        'l' | 'I' => '1',
+        c => c,
+    };
+    name.chars().map(taken).collect()
 }
 
 /// The names behind a line's first word, with their columns.

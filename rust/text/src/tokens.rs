@@ -8,7 +8,7 @@ mod strange;
 
 use crate::fault::Fault;
 use number::number;
-use strange::{is_other_end, no_meaning};
+use strange::{is_space, is_unseen, no_meaning, unseen};
 
 #[derive(Debug, Clone, Copy, PartialEq, Eq)]
 pub enum Sign {
@@ -85,16 +85,21 @@ pub fn lines(text: &str) -> impl Iterator<Item = Result<Line, Fault>> + '_ {
 
 fn tokens(number: usize, text: &str) -> Result<Line, Fault> {
     let text = text.strip_suffix('\r').unwrap_or(text);
-    if let Some(at) = text.chars().position(is_other_end) {
-        let what = "this character looks like the end of a line, or turns its order round";
-        return Err(Fault::new(number, at + 1, what));
+    if let Some((at, c)) = text.chars().enumerate().find(|&(_, c)| is_unseen(c)) {
+        return Err(Fault::new(number, at + 1, unseen(c)));
     }
-    let chars: Vec<char> = text.split('#').next().unwrap_or("").chars().collect();
-    let end = chars.iter().rposition(|c| !c.is_whitespace()).map_or(1, |last| last + 2);
+    let (said, comment) = text.split_once('#').unwrap_or((text, ""));
+    let chars: Vec<char> = said.chars().collect();
+    let is_cut = chars.last().is_some_and(|c| c.is_ascii_alphanumeric());
+    if is_cut && comment.starts_with(|c: char| c.is_ascii_digit()) {
+        let what = "a # between digits: leave a space before a comment";
+        return Err(Fault::new(number, chars.len() + 1, what));
+    }
+    let end = chars.iter().rposition(|&c| !is_space(c)).map_or(1, |last| last + 2);
     let mut tokens = Vec::new();
     let mut at = 0;
     while at < chars.len() {
-        if chars[at].is_whitespace() {
+        if is_space(chars[at]) {
             at += 1;
             continue;
         }
@@ -135,6 +140,10 @@ fn token(chars: &[char]) -> Result<(Kind, usize), String> {
         ('=', '<') => Err("write <= in place of =<".to_string()),
         ('=', '>') => Err("write >= in place of =>".to_string()),
         ('=', '=') => Err("write = in place of ==".to_string()),
+        ('<' | '>', '-' | '+') => {
+            let meant = if second == '-' { "minus" } else { "plus" };
+            Err(format!("{first}{second}: is it {first}=? Leave a space where {meant} is meant"))
+        }
         ('<', '>') | ('!', '=') => Err("there is no sign for \"other than\"".to_string()),
         ('<', _) => Ok((Kind::Sign(Sign::Below), 1)),
         ('>', _) => Ok((Kind::Sign(Sign::Above), 1)),

@@ -19,7 +19,7 @@ fn limits_switched_by_line() {
     );
     assert_eq!((said, status), (expected, 4));
     let path = PathBuf::from(env!("CARGO_TARGET_TMPDIR")).join("edited.txt");
-    fs::write(&path, "names x y\nx >= 0.5\ny = 1\n-0.5 x - y >= -1.125\nx >= 0.5 y\n").unwrap();
+    fs::write(&path, "names x y\nx >= 0.5\ny = 1\n-0.5 x - y >= -1.1250\nx >= 0.5 y\n").unwrap();
     let file = path.to_str().unwrap();
     let script = b"off 3 lower\non 3 lower\noff 2\nwhy\n";
     let (said, _, status) = ran(&["edit", file], script);

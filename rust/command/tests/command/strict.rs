@@ -29,7 +29,7 @@ fn strict_limits() {
             "#   line 2   x > 0   a small amount to spare\n#   line 2   x < 1   1 - small to",
         ),
         (
-            "names x\n0 < x < 1\nrow 3 x",
+            "names x\n0 < x < 1\nfree row 3 x",
             "#   3 x = 0 + 3 small, just above 0\n# Put any amount above 0 and below 1 ",
         ),
         ("names x y\nx > 0\ny < 3\nx + y > 3", "x = 3 + small   # just above 3\ny = 0"),

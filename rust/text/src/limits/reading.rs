@@ -13,7 +13,7 @@ use crate::labels::Labels;
 use crate::names::Names;
 use crate::opening::{self, Holds};
 use crate::statement::{self, statement, Statement};
-use crate::tokens::{lines, Line};
+use crate::tokens::{lines, Kind, Line};
 use given::{limited, Limited};
 use whole::{cleared, Cleared};
 
@@ -52,26 +52,38 @@ pub fn read(text: &str) -> Result<Limits, Fault> {
         reading.labels.take(&line, &reading.names)?;
         if let Some(fault) = opening::late(&line, Holds::Limits) {
             return Err(fault);
-        } else if line.begins_with("free") {
+        }
+        let (is_free, is_alone) = opened_by(&line);
+        if is_free && !is_alone {
             reading.free(&line)?;
-        } else if line.begins_with("row") {
-            if line.tokens.len() == 1 {
-                return Err(line.fault(line.end, "a sum is missing after row"));
-            }
-            let said = statement(&line, 1)?;
-            reading.say(&line, said, true)?;
-        } else {
-            let said = statement(&line, 0)?;
-            reading.names_of(&line, &said)?;
-            if said.lower.is_none() && said.upper.is_none() {
+            continue;
+        }
+        let skipped = usize::from(is_free) + usize::from(is_alone);
+        if skipped > 0 && line.tokens.len() == skipped {
+            return Err(line.fault(line.end, "a sum is missing after row"));
+        }
+        let said = statement(&line, skipped)?;
+        reading.names_of(&line, &said)?;
+        match (is_free, said.lower.or(said.upper)) {
+            (false, None) => {
                 let what = "a sign is missing: <=, <, >=, > or = says what the limit is";
                 return Err(line.fault(line.end, what));
             }
-            reading.say(&line, said, false)?;
+            (true, Some(limit)) => {
+                return Err(line.fault(limit.column, "a row that is free has no limit"));
+            }
+            _ => reading.say(&line, said, is_alone)?,
         }
     }
     let found = reading.whole()?;
     reading.unlimited(&found).map_or(Ok(found), Err)
+}
+
+/// Whether a line begins with `free`, and whether `row` comes next, or first.
+fn opened_by(line: &Line) -> (bool, bool) {
+    let is_free = line.begins_with("free");
+    let next = line.tokens.get(usize::from(is_free)).map(|token| &token.kind);
+    (is_free, matches!(next, Some(Kind::Name(name)) if name == "row"))
 }
 
 impl Reading {

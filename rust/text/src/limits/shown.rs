@@ -74,8 +74,12 @@ impl Limits {
                 [None, None] if variable >= n => left,
                 [None, None] => continue,
             };
-            let is_alone = variable >= n && self.is_alone(variable - n);
-            lines += &format!("{}{said}\n", if is_alone { "row " } else { "" });
+            let start = match variable.checked_sub(n) {
+                Some(_) if *limits == [None; 2] => "free row ",
+                Some(row) if self.is_alone(row) => "row ",
+                _ => "",
+            };
+            lines += &format!("{start}{said}\n");
         }
         lines
     }
@@ -90,7 +94,6 @@ impl Limits {
             || (n..n + place)
                 .map(|other| self.coefficients(other))
                 .any(|other| [row, &turned].contains(&&other))
-            || self.limits[n + place] == [None; 2]
     }
 }
 

@@ -3,8 +3,8 @@
 use crate::fault::Fault;
 use crate::tokens::{Kind, Line, Sign, Token};
 
-/// The fault of an item of a list, of two limits, of a sign in two pieces, or of
-/// a range.
+/// The fault of an item of a list, of a minus with nothing before it, of two
+/// limits, of a sign in two pieces, or of a range.
 pub fn misleading(line: &Line, tokens: &[Token]) -> Option<Fault> {
     if let [Token { kind: first @ (Kind::Plus | Kind::Minus), column }, next, ..] = tokens {
         if next.column > column + 1 {
@@ -12,6 +12,17 @@ pub fn misleading(line: &Line, tokens: &[Token]) -> Option<Fault> {
             let what =
                 format!("a line is no item of a list; where {sign} is meant, leave no space");
             return Some(line.fault(*column, what));
+        }
+    }
+    for three in tokens.windows(3) {
+        let (Kind::Sign(_), Kind::Plus | Kind::Minus) = (&three[0].kind, &three[1].kind) else {
+            continue;
+        };
+        if three[2].column > three[1].column + 1 {
+            let sign = if three[1].kind == Kind::Minus { "minus" } else { "plus" };
+            let what =
+                format!("something is missing before this; where {sign} is meant, leave no space");
+            return Some(line.fault(three[1].column, what));
         }
     }
     for three in tokens.windows(3) {

@@ -38,10 +38,14 @@ fn decimal(text: &str) -> Result<Option<Kind>, String> {
     if !are_digits(whole) || !are_digits(part) {
         return Ok(None);
     }
-    if part.len() == 3 && part.ends_with('0') && !whole.trim_start_matches('0').is_empty() {
-        let less = part.trim_end_matches('0');
-        let point = if less.is_empty() { "" } else { "." };
-        return Err(format!("{}: is it {whole}{part}, or {whole}{point}{less}?", short(text)));
+    let is_above_0 = whole.chars().any(|c| c != '0');
+    if part.len() == 3 && whole.len() <= 3 && is_above_0 {
+        let decimal = match part.trim_end_matches('0') {
+            "" => whole.to_string(),
+            less if less.len() < 3 => format!("{whole}.{less}"),
+            _ => format!("{text}0"),
+        };
+        return Err(format!("{text}: is it {whole}{part}, or {decimal}?"));
     }
     let part = part.trim_end_matches('0');
     if part.len() > MOST_DIGITS {

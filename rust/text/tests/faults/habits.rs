@@ -68,6 +68,10 @@ fn of_what_others_write() {
              to 9"
                 .to_string(),
         ),
+        ("x\u{feff} >= 1", "2: the character \\u{feff} has no meaning here".to_string()),
+        ("x\u{ad} >= 1", "2: the character \\u{ad} has no meaning here".to_string()),
+        ("x\u{301} >= 1", "2: the character \\u{301} has no meaning here".to_string()),
+        ("x >= 20 \u{2103}", format!("9: the character \u{2103} {unit}")),
         ("x\u{200b} >= 1", "2: the character \\u{200b} has no meaning here".to_string()),
         (
             "\"x\" >= 1",

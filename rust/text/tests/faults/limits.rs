@@ -7,6 +7,7 @@ use text::{limits, times};
 fn of_limits() {
     let missing = "a number or a name is missing here";
     let item = "a line is no item of a list; where";
+    let before = "something is missing before this; where";
     let range = "a range is written 20 <= x <= 40; for a difference write the number";
     let glued = "is no number; between a number and a name stands a space or *";
     for (text, fault) in [
@@ -14,6 +15,8 @@ fn of_limits() {
         ("x >= 2.5551", "1:6: 2.5551 has more than 3 digits behind the point".to_string()),
         ("x >= 1.500", "1:6: 1.500: is it 1500, or 1.5?".to_string()),
         ("x >= 30.000", "1:6: 30.000: is it 30000, or 30?".to_string()),
+        ("x >= 1.255", "1:6: 1.255: is it 1255, or 1.2550?".to_string()),
+        ("x >= 100.050 y", "1:6: 100.050: is it 100050, or 100.05?".to_string()),
         (
             "x >= 1/1001",
             "1:6: that is too fine: thousandths are the smallest parts of a number".into(),
@@ -30,11 +33,11 @@ fn of_limits() {
                 .to_string(),
         ),
         (
-            "x + y >= 100.001\nfree x y",
+            "x + y >= 100.0010\nfree x y",
             "1:7: with whole numbers this limit is 100001, and 30000 is the most".to_string(),
         ),
         (
-            "3 x + y >= 1.001\nfree x y",
+            "3 x + y >= 1.0010\nfree x y",
             "1:3: with whole numbers this line has 3000: a coefficient is from -1000 to 1000"
                 .into(),
         ),
@@ -93,7 +96,12 @@ fn of_limits() {
             "1:8: the character % has no meaning here: a unit is left out, or stands in a comment"
                 .to_string(),
         ),
-        ("x >= 5\u{7}", "1:7: the character \\u{7} has no meaning here".to_string()),
+        ("x >= \u{1680}5", "1:6: the character \\u{1680} has no meaning here".to_string()),
+        ("x >= 2#0", "1:7: a # between digits: leave a space before a comment".to_string()),
+        ("x >= y#2", "1:7: a # between digits: leave a space before a comment".to_string()),
+        ("x >- 20", "1:3: >-: is it >=? Leave a space where minus is meant".to_string()),
+        ("x <-20", "1:3: <-: is it <=? Leave a space where minus is meant".to_string()),
+        ("x >+ 20", "1:3: >+: is it >=? Leave a space where plus is meant".to_string()),
         ("3 >= 2", "1:1: there is no name in this line".to_string()),
         ("x", "1:2: a sign is missing: <=, <, >=, > or = says what the limit is".to_string()),
         ("1 <= x <= 5 <= y", "1:13: a line has one sign or two: 20 <= x <= 40".to_string()),
@@ -136,6 +144,16 @@ fn of_limits() {
         ("free x + y", "1:8: after free stand names alone: free x y".to_string()),
         ("x + row >= 1", "1:5: row is no name: it begins a line of its own kind".to_string()),
         (
+            "row x + y",
+            "1:10: a sign is missing: <=, <, >=, > or = says what the limit is".to_string(),
+        ),
+        ("free row x + y <= 3", "1:16: a row that is free has no limit".to_string()),
+        ("free row", "1:9: a sum is missing after row".to_string()),
+        (
+            "free row x + 3",
+            "1:15: a sign is missing here: a sum without limits has names alone".to_string(),
+        ),
+        (
             "row x + 3",
             "1:10: a sign is missing here: a sum without limits has names alone".to_string(),
         ),
@@ -143,6 +161,9 @@ fn of_limits() {
         ("x + 0 y >= 1\ny = 2", "1:7: 0 y says nothing: leave it out".to_string()),
         ("- x >= 20", format!("1:1: {item} minus is meant, leave no space")),
         ("row + x >= 20", format!("1:5: {item} plus is meant, leave no space")),
+        ("x >= - 20", format!("1:6: {before} minus is meant, leave no space")),
+        ("x =- 20", format!("1:4: {before} minus is meant, leave no space")),
+        ("20 <= + x", format!("1:7: {before} plus is meant, leave no space")),
         ("x > = 20", "1:3: write >= in one piece".to_string()),
         ("x < = 20", "1:3: write <= in one piece".to_string()),
         ("x = 20-40", format!("1:5: {range}")),
@@ -181,8 +202,14 @@ fn of_too_many() {
 
 #[test]
 fn of_ends_of_lines() {
-    let what = "this character looks like the end of a line, or turns its order round";
-    for c in ['\r', '\u{c}', '\u{85}', '\u{2028}', '\u{202e}', '\u{2066}'] {
-        assert_eq!(below("names x", &format!("x >= 1 # a{c}x <= 4")), format!("1:11: {what}"));
+    for c in [
+        '\r', '\u{c}', '\u{85}', '\u{2028}', '\u{202e}', '\u{2066}', '\u{7}', '\u{8}', '\u{1b}',
+        '\u{61c}', '\u{200f}',
+    ] {
+        let what = format!(
+            "1:11: the character {} changes what a screen shows of a line: leave it out",
+            c.escape_unicode()
+        );
+        assert_eq!(below("names x", &format!("x >= 1 # a{c}x <= 4")), what);
     }
 }

@@ -33,6 +33,9 @@ fn of_openings() {
         ("names x 2", "1:9: after names stand names alone: names x y"),
         ("names x\nnames y x", "2:9: x is declared already, in line 1"),
         ("names x X", "1:9: X and x differ in small and capital letters alone"),
+        ("names x1 xl", "1:10: xl and x1 look alike"),
+        ("names xO x0", "1:10: x0 and xO look alike"),
+        ("names x Small", "1:9: Small is no name: answers call an amount so"),
         ("names x Row", "1:9: Row is no name: row begins a line of its own kind"),
         ("names x", "1:7: nothing limits x; a line free x says that this is meant"),
     ] {
@@ -82,7 +85,7 @@ fn of_names() {
             ),
         ),
         (
-            "zone1 = 1\nzone2 = 2\nrow zone3 + zone2",
+            "zone1 = 1\nzone2 = 2\nfree row zone3 + zone2",
             format!("0:19: nothing limits zone3; a line free zone3 {free}"),
         ),
     ] {

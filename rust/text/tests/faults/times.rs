@@ -7,7 +7,7 @@ fn of_time_rows() {
     for (text, fault) in [
         ("a - b <= 2.5.1", "1:10: 2.5.1 is no number"),
         (
-            "a - b <= 0.001\nc - a <= 30.001",
+            "a - b <= 0.001\nc - a <= 30.0010",
             "2:7: this is 30001 times 1/1000 of a minute, and 30000 times is the most",
         ),
         ("0.5 a - 0.5 b <= 5", "1:5: names of time rows are taken once, not more often"),
