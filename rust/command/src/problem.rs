@@ -65,6 +65,13 @@ pub fn left_out(text: Option<&str>, what: &str) -> String {
     }
 }
 
+/// What the line of a limit is called in a column of lines: its name, or its
+/// number. It is empty where there is no line.
+pub fn called(problem: &Limits, variable: usize, side: Side) -> String {
+    let place = place(problem, variable, side).unwrap_or_default();
+    place.strip_prefix("line ").map_or(place.clone(), str::to_string)
+}
+
 /// `line 3`, where there is one, or what the line is called.
 pub fn place(problem: &Limits, variable: usize, side: Side) -> Option<String> {
     let line = problem.limits[variable][side as usize]?.line?;

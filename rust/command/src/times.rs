@@ -112,6 +112,12 @@ fn is_cycle(rows: &Times, cycle: &[usize]) -> bool {
     leads_round && sum < i64::from(is_strict)
 }
 
+/// What the line of a row is called in a column of lines: its name, or its number.
+fn called(rows: &Times, row: &Row) -> String {
+    let place = place(rows, row).unwrap_or_default();
+    place.strip_prefix("line ").map_or(place.clone(), str::to_string)
+}
+
 /// `line 3`, where there is one, or what the line is called.
 fn place(rows: &Times, row: &Row) -> Option<String> {
     let line = row.line?;

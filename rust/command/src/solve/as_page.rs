@@ -1,11 +1,12 @@
 //! An answer as a page.
 
+use super::as_text::pivots;
 use super::Shown;
 use crate::clash::{added_up, loosened, reference, Counted};
 use crate::page::bars::{bars, Part};
 use crate::page::scale::{scale, Dot};
 use crate::page::{cells, drawn, numbered, page, safe};
-use crate::problem::{all_limits, left_out, Values};
+use crate::problem::{all_limits, called, left_out, Values};
 use crate::{Ended, CAN, CANNOT, RANGE};
 use text::limits::Side;
 use text::Exact;
@@ -22,8 +23,8 @@ impl Shown {
             said => format!("<p>{said}</p>\n"),
         };
         format!(
-            "<p>The proved checker has accepted this answer. It took {} pivots.</p>\n{left_out}",
-            self.answer.pivots
+            "<p>The proved checker has accepted this answer. It took {}.</p>\n{left_out}",
+            pivots(self.answer.pivots)
         )
     }
 
@@ -94,7 +95,7 @@ impl Shown {
                     times => format!("{times}\u{b7}{value}"),
                 };
             }
-            let line = limit.line.map_or(String::new(), |line| line.to_string());
+            let line = called(&self.problem, variable, side);
             let is = format!("{} {} {number}", values.at(variable), limit.sign(side));
             Some(vec![line, said, put, is])
         });
@@ -114,9 +115,9 @@ impl Shown {
             Part { label, place, amount: at_least.right }
         });
         let rows = counted.iter().zip(&each).map(|(&(variable, side, times), at_least)| {
-            let number = line(variable, side).map_or(String::new(), |line| line.to_string());
+            let name = called(&self.problem, variable, side);
             let right = format!("{} {}", at_least.sign, at_least.right);
-            vec![number, said(variable, side), times.to_string(), at_least.left.clone(), right]
+            vec![name, said(variable, side), times.to_string(), at_least.left.clone(), right]
         });
         let last = format!("{} {}", sum.sign, sum.right);
         let last = [String::new(), "added up".into(), String::new(), sum.left.clone(), last];
@@ -128,10 +129,10 @@ impl Shown {
                 (decimal, true) => decimal,
                 (decimal, false) => format!("{to}, about {decimal}"),
             };
-            let number = line(variable, side).map_or(String::new(), |line| line.to_string());
+            let name = called(&self.problem, variable, side);
             let sign = if side == Side::Lower { ">=" } else { "<=" };
             let new = format!("{} {sign} {to}", self.problem.left(variable));
-            vec![number, said(variable, side), new]
+            vec![name, said(variable, side), new]
         });
         let loose = cells(&["#line", "limit", "loosened to"], &loose.collect::<Vec<_>>(), false);
         let beyond = match sum.sign {

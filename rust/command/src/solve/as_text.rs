@@ -188,7 +188,8 @@ impl Shown {
     }
 }
 
-fn pivots(count: u64) -> String {
+/// How many pivots, in words.
+pub(super) fn pivots(count: u64) -> String {
     match count {
         1 => "1 pivot".to_string(),
         count => format!("{count} pivots"),

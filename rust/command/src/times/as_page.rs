@@ -1,6 +1,6 @@
 //! Times, or rows that go round, as a page.
 
-use super::{minutes, place, sign, spare, sum, Asked};
+use super::{called, minutes, place, sign, spare, sum, Asked};
 use crate::page::bars::{bars, Part};
 use crate::page::timeline::{timeline, Point, Tie};
 use crate::page::{cells, drawn, numbered, page};
@@ -29,10 +29,6 @@ fn rows_page(asked: &Asked, is_named: impl Fn(usize) -> bool) -> (&'static str, 
     ("The rows", numbered(&text, is_named))
 }
 
-fn line(row: &Row) -> String {
-    row.line.map_or(String::new(), |line| line.to_string())
-}
-
 pub fn can(asked: &Asked, times: &Fractions) -> Ended {
     let rows = &asked.rows;
     let points = rows.names.iter().zip(&times.numerators).map(|(name, &numerator)| {
@@ -49,7 +45,7 @@ pub fn can(asked: &Asked, times: &Fractions) -> Ended {
     });
     let far = rows.rows.iter().map(|row| {
         let spare = minutes(rows, spare(row, times), times).to_string();
-        vec![line(row), rows.row_text(row), spare]
+        vec![called(rows, row), rows.row_text(row), spare]
     });
     let far: Vec<Vec<String>> = far.collect();
     let picture = timeline(&points.collect::<Vec<_>>(), &ties.collect::<Vec<_>>());
@@ -76,7 +72,7 @@ pub fn cannot(asked: &Asked, cycle: &[usize]) -> Ended {
     let added = listed.iter().map(|row| {
         let left = format!("{} - {}", rows.names[row.x], rows.names[row.y]);
         let right = format!("{} {}", sign(row.is_strict), shown(row.c.into()));
-        vec![line(row), rows.row_text(row), left, right]
+        vec![called(rows, row), rows.row_text(row), left, right]
     });
     let last = format!("{} {}", sign(is_strict), shown(sum));
     let last = vec![String::new(), "added up".to_string(), "0".to_string(), last];

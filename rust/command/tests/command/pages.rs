@@ -45,6 +45,17 @@ fn pages() {
             assert_eq!(count, page.matches(&closed).count(), "{tag}: {page}");
         }
     }
+    // A line that has a name is called by it in each table.
+    for (action, text, cell, count) in [
+        ("solve", "names x y\nsoak: x >= 2\ny >= 2\nx + y <= 3\n", "soak", 2),
+        ("solve", "names x y\nsoak: x >= 2\ny >= 2\nx + y <= 5\n", "soak", 1),
+        ("times", "times a b\nshift: a + 30 <= b\nb - a <= 20\n", "shift", 1),
+        ("times", "times a b\nshift: a + 30 <= b\nb - a <= 40\n", "shift", 1),
+    ] {
+        let (page, _, _) = ran(&["--page", action, "-"], text.as_bytes());
+        let cells = |name: &str| page.matches(&format!("<td class=\"n\">{name}</td>")).count();
+        assert_eq!((cells(cell), cells("3") > 0, cells("2")), (count, true, 0), "{page}");
+    }
     let (_, errors, status) = ran(&["--page", "check", "a", "b"], b"");
     assert!(status == 4 && errors.contains("--page is an option of solve and times"), "{errors}");
 }
