@@ -53,7 +53,7 @@ class _Continued(Structure):
 
 def _installed(variable, *place):
     """What a variable of the environment names, or what was installed with this file, or the bare name."""
-    there = Path(__file__).resolve().parents[3].joinpath(*place)
+    there = Path(__file__).resolve().parent.joinpath("../../..", *place)
     return os.environ.get(variable) or (str(there) if there.exists() else place[-1])
 
 
@@ -92,6 +92,13 @@ def _words(words):
         if not -(2**31) <= word < 2**31:
             raise OverflowError(f"{word} is no 32-bit word")
     return (c_int32 * max(1, len(words)))(*words), len(words)
+
+
+def _count(number, bits):
+    # likewise
+    if not 0 <= number < 2**bits:
+        raise OverflowError(f"{number} is no count of {bits} bits")
+    return number
 
 
 def _longs(words):
@@ -155,14 +162,17 @@ class Session:
         self._state, self._count = opened.session, words[0] + words[1]
 
     def switch(self, variable, upper, on):
-        done = _library.scatterflock_session_switch(self._state, variable, upper, on)
+        done = _library.scatterflock_session_switch(self._state, _count(variable, 32), upper, on)
         if done.refused:
             raise Refused(done.refused)
         self._state = done.session
 
     def check(self):
         out = (c_int64 * MOST_ANSWER)()
-        self._state = _library.scatterflock_session_check(self._state, out, MOST_ANSWER).session
+        done = _library.scatterflock_session_check(self._state, out, MOST_ANSWER)
+        if done.refused:
+            raise Refused(done.refused)
+        self._state = done.session
         return list(out[: 3 + 2 * self._count])
 
 
@@ -175,7 +185,9 @@ class Slice:
 
     def go_on(self, pivots):
         out = (c_int64 * MOST_ANSWER)()
-        done = _library.scatterflock_slice_continue(self._state, pivots, out, MOST_ANSWER)
+        done = _library.scatterflock_slice_continue(self._state, _count(pivots, 32), out, MOST_ANSWER)
+        if done.refused:
+            raise Refused(done.refused)
         self._state = done.slice
         return list(out[: 3 + 2 * self._count]) if done.answered else None
 
@@ -218,6 +230,8 @@ class Answer:
 class Problem:
     def __init__(self, names):
         self.names = names.split() if isinstance(names, str) else list(names)
+        if twice := [name for at, name in enumerate(self.names) if name in self.names[:at]]:
+            raise ValueError(f"{twice[0]} is declared twice")
         self.rows, self.limits, self._labels = [], [[0, 0, 0] for _ in self.names], {}
 
     def label(self, at):
@@ -226,6 +240,8 @@ class Problem:
     def limit(self, terms, at_least=None, at_most=None, above=None, below=None, name=None):
         """A limit on a sum: {"zone2": 1, "zone1": -1} is zone2 - zone1."""
         row = [terms.get(one, 0) for one in self.names]
+        if all(number is None for number in (at_least, at_most, above, below)):
+            raise ValueError("a limit is missing: at_least, at_most, above or below")
         if unknown := set(terms) - set(self.names):
             raise KeyError(f"{sorted(unknown)[0]} is no name of the problem")
         if sorted(map(abs, row)) == [0] * (len(row) - 1) + [1] and max(row) == 1:

@@ -71,7 +71,16 @@ fn a_browser_shows_the_page() {
     let (html, picture) = (room.join("page.html"), room.join("page.png"));
     fs::write(&html, page).unwrap();
     let browser = |words: &[String]| {
-        let fixed = ["--headless", "--no-sandbox", "--disable-gpu", "--window-size=900,1100"];
+        let fixed = [
+            "--headless",
+            "--no-sandbox",
+            "--disable-gpu",
+            "--window-size=900,1100",
+            "--no-first-run",
+            "--disable-background-networking",
+            "--disable-component-update",
+            "--host-resolver-rules=MAP * ~NOTFOUND",
+        ];
         let room = format!("--user-data-dir={}", room.join("browser").display());
         let address = format!("file://{}", html.display());
         Command::new("chromium").args(fixed).arg(room).args(words).arg(address).output()
