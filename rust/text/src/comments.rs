@@ -33,7 +33,8 @@ fn ends_in_limit(comment: &str, names: &Names) -> bool {
     let is_part = |c: char| c.is_alphanumeric() || c == '_' || c == '.';
     let mut before = ' ';
     let starts = comment.char_indices().filter(|&(at, c)| {
-        let is_word = !c.is_whitespace() && !(is_part(before) && is_part(c));
+        let is_inside = is_part(before) && is_part(c);
+        let is_word = !c.is_whitespace() && !is_inside;
         before = c;
         is_word || names.list.iter().any(|name| comment[at..].starts_with(name))
     });
