@@ -61,10 +61,24 @@ fn text(random: &mut Random) -> String {
             .collect();
         rows.text()
     };
+    let text = if text.starts_with("times") { with_clock(random, &text) } else { text };
     let mut said = "# An oven.\n\n".to_string();
     for line in text.lines() {
         said += line;
         said += if random.percent(30) { "   # as agreed\n" } else { "\n" };
+    }
+    said
+}
+
+/// The same text with some of its numbers as clock times.
+fn with_clock(random: &mut Random, text: &str) -> String {
+    let mut said = text.to_string();
+    let words = pieces(text, |c| c.is_ascii_alphanumeric() || c == '_');
+    for &place in words.iter().rev() {
+        let minutes = text[place.0..place.1].parse().ok().filter(|minutes| *minutes < 1_440);
+        if let Some(minutes) = minutes.filter(|_: &u32| random.percent(30)) {
+            said = with(&said, place, &format!("{:02}:{:02}", minutes / 60, minutes % 60));
+        }
     }
     said
 }

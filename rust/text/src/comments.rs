@@ -44,7 +44,7 @@ fn ends_in_limit(comment: &str, names: &Names) -> bool {
 }
 
 fn reads_as_limit(text: &str, names: &Names) -> Option<()> {
-    let line = lines(text).next()?.ok()?;
+    let line = lines(text).next()?.ok()?.with_minutes();
     let said = statement(&line, usize::from(line.begins_with("row"))).ok()?;
     let is_limit = said.lower.is_some() || said.upper.is_some();
     let known = said.terms.iter().all(|term| names.list.contains(&term.name));

@@ -57,7 +57,7 @@ pub fn read(text: &str) -> Result<Times, Fault> {
     let mut free = vec![false; names.list.len()];
     let (mut found, mut labels) = (Vec::new(), Labels::default());
     for line in lines {
-        let line = line?;
+        let line = line?.with_minutes();
         labels.take(&line, &names)?;
         if let Some(fault) = opening::late(&line, Holds::Times) {
             return Err(fault);

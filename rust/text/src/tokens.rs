@@ -25,6 +25,8 @@ pub enum Kind {
     Number(i64),
     /// A decimal: its digits, and the power of ten that they are over.
     Decimal(i64, i64),
+    /// A clock time, in minutes.
+    Clock(i64),
     Name(String),
     Plus,
     Minus,
@@ -43,7 +45,7 @@ pub struct Token {
 impl Kind {
     /// Whether it is a number, whole or not.
     pub fn is_number(&self) -> bool {
-        matches!(self, Kind::Number(_) | Kind::Decimal(..))
+        matches!(self, Kind::Number(_) | Kind::Decimal(..) | Kind::Clock(_))
     }
 }
 
@@ -67,6 +69,27 @@ impl Line {
             Some(Token { kind: Kind::Name(name), .. }) => Some(name),
             _ => None,
         }
+    }
+
+    /// The same with clock times as minutes.
+    pub fn with_minutes(mut self) -> Line {
+        for token in &mut self.tokens {
+            if let Kind::Clock(minutes) = token.kind {
+                token.kind = Kind::Number(minutes);
+            }
+        }
+        self
+    }
+
+    /// The fault of a clock time, where none has a meaning.
+    pub fn without_clock(self) -> Result<Line, Fault> {
+        let found = self.tokens.iter().find_map(|token| match token.kind {
+            Kind::Clock(minutes) => Some((token.column, minutes)),
+            _ => None,
+        });
+        let Some((column, minutes)) = found else { return Ok(self) };
+        let what = format!("a clock time stands in time rows alone; in minutes it is {minutes}");
+        Err(self.fault(column, what))
     }
 
     /// Whether the first token is this name.

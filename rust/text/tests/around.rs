@@ -91,6 +91,8 @@ fn lines_and_their_words() {
         ("x", "row x - x < 0", vec![1, 1, 0, 0, 1, 0]),
         ("a b", "a - b <= 2.5\nb - a <= 1/3", vec![2, 2, 0, 1, 0, 15, 1, 0, 0, 2]),
         ("a b c", "free c\nb - a <= 1", vec![3, 1, 1, 0, 0, 1]),
+        ("a b", "06:30 <= a - b < 23:59", vec![2, 2, 1, 0, 0, -390, 0, 1, 1, 1439]),
+        ("a b", "a - b = 00:30 + 0.5", vec![2, 2, 1, 0, 0, -61, 0, 1, 0, 61]),
     ] {
         let text = format!("times {names}\n{lines}");
         assert_eq!(time_text::read(&text).unwrap().words(), expected, "{text}");

@@ -48,7 +48,7 @@ pub fn read(text: &str) -> Result<Limits, Fault> {
     let mut reading =
         Reading { names, own, rows: Vec::new(), said: Vec::new(), labels: Labels::default() };
     for line in lines {
-        let line = line?;
+        let line = line?.without_clock()?;
         reading.labels.take(&line, &reading.names)?;
         if let Some(fault) = opening::late(&line, Holds::Limits) {
             return Err(fault);

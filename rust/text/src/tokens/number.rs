@@ -6,8 +6,8 @@ use super::{short, Kind};
 pub fn number(chars: &[char]) -> Result<(Kind, usize), String> {
     let is_part = |c: &char| c.is_alphanumeric() || matches!(c, '_' | '.' | ',');
     let text: String = chars.iter().take_while(|c| is_part(c)).collect();
-    if let Some(minutes) = clock(&text, &chars[text.chars().count()..]) {
-        return Err(minutes);
+    if let Some(minutes) = clock(&text, &chars[text.chars().count()..])? {
+        return Ok((Kind::Clock(minutes), CLOCK.len()));
     }
     if text.chars().all(|c| c.is_ascii_digit()) {
         let number = text.parse().map_err(|_| format!("{} is out of range", short(&text)))?;
@@ -56,13 +56,23 @@ fn decimal(text: &str) -> Result<Option<Kind>, String> {
     Ok(Some(Kind::Decimal(digits, 10_i64.pow(part.len() as u32))))
 }
 
-/// What to say of a clock time, such as 06:30.
-fn clock(hours: &str, behind: &[char]) -> Option<String> {
-    let minutes: String = behind.iter().skip(1).take_while(|c| c.is_ascii_digit()).collect();
-    if behind.first() != Some(&':') || minutes.len() != 2 {
-        return None;
+/// How a clock time is written: hours and minutes, two digits each.
+const CLOCK: &str = "06:30";
+
+/// The minutes of a clock time that begins with these hours, if it is one.
+fn clock(hours: &str, behind: &[char]) -> Result<Option<i64>, String> {
+    let is_part = |c: &char| c.is_alphanumeric() || matches!(c, '_' | '.' | ',' | ':');
+    let behind: String = behind.iter().take_while(|c| is_part(c)).collect();
+    let begins = |rest: &&str| rest.starts_with(|c: char| c.is_ascii_digit());
+    let Some(minutes) = behind.strip_prefix(':').filter(begins) else { return Ok(None) };
+    let told = short(&format!("{hours}{behind}"));
+    let [whole, part] = [hours, minutes].map(|digits| {
+        let are_two = digits.len() == 2 && digits.bytes().all(|c| c.is_ascii_digit());
+        digits.parse::<i64>().ok().filter(|_| are_two)
+    });
+    match (whole, part) {
+        (Some(hours @ 0..24), Some(minutes @ 0..60)) => Ok(Some(60 * hours + minutes)),
+        (Some(_), Some(_)) => Err(format!("{told}: a clock time is from 00:00 to 23:59")),
+        _ => Err(format!("{told}: a clock time has hours and minutes, two digits each: {CLOCK}")),
     }
-    let [whole, part] = [hours, &minutes].map(|digits| digits.parse::<i64>().ok());
-    let sum = whole.filter(|hours| *hours < 100)? * 60 + part?;
-    Some(format!("{hours}:{minutes} is a clock time: write minutes, {sum}"))
 }

@@ -35,7 +35,7 @@ fn of_what_others_write() {
             "x >= 20;",
             "8: the character ; has no meaning here: the end of a line ends a limit".into(),
         ),
-        ("x >= 06:30", "6: 06:30 is a clock time: write minutes, 390".to_string()),
+        ("x >= 06:30", "6: a clock time stands in time rows alone; in minutes it is 390".into()),
         ("x >= 20 \u{b0}C", format!("9: the character \u{b0} {unit}")),
         ("x >= 5 %", format!("8: the character % {unit}")),
         (

@@ -20,6 +20,14 @@ fn of_time_rows() {
         ("a - b", "1:6: a sign is missing: <=, <, >=, > or = says how far they are apart"),
         ("a - a <= 30", "1:5: a - a is 0; begin the line with row if that is meant"),
         ("a - b <= 5\nb >= a - 5", "2:3: line 2 says the same; begin with row to have both"),
+        ("a - b <= 6:30", TWO_DIGITS),
+        ("a - b <= 24:00", "1:10: 24:00: a clock time is from 00:00 to 23:59"),
+        ("a - b <= 06:60", "1:10: 06:60: a clock time is from 00:00 to 23:59"),
+        ("06:30:15 <= a - b", THREE_PARTS),
+        (
+            "a - b = 06:30-08:00",
+            "1:9: a range is written 20 <= x <= 40; for a difference write the number",
+        ),
         ("row", "1:4: a difference is missing after row"),
         ("a - b <= 30 min", MINUTES),
         ("a - bb <= 30", "1:5: bb is not among the names: a b c"),
@@ -28,6 +36,10 @@ fn of_time_rows() {
         assert_eq!(below("times a b c", text), fault, "{text}");
     }
 }
+
+const TWO_DIGITS: &str = "1:10: 6:30: a clock time has hours and minutes, two digits each: 06:30";
+const THREE_PARTS: &str =
+    "1:1: 06:30:15: a clock time has hours and minutes, two digits each: 06:30";
 
 const ONE_NAME: &str = "1:1: a time row has two names: end - start <= 30; \
      give the beginning of the day one too, and write a - day";
