@@ -4,7 +4,7 @@
 --   written-long                        the output holds all of the answer
 --   program-refused, program-replied    the same for bytes
 --   words-few, words-front              how many words there are, and where they stand
---   printed-same                        a text that is another is printed as it
+--   put-as                              a text that is another is put as it
 --   vars-few                            as many variables as the writer takes
 use mathlib.Core.List.{List, [], _∷_, _++_}
 use mathlib.Core.Logic.{_≢_}
@@ -25,13 +25,12 @@ use Rattle.rules.proofs.Answer.Shape.{answer-shaped}
 use Rattle.rules.proofs.Program.Counts.{count-fine}
 use Rattle.rules.proofs.Program.Words.{words-length}
 use Rattle.rules.proofs.Program.Same.{answer-text-same}
-use Rattle.lines.specs.Printed.{Printed}
-use Rattle.lines.specs.declared.Written.{Written}
+use Rattle.put.specs.Put.{PutShort}
 use Rattle.solver.proofs.Laws.Refusals.{accepted-of, refusal-none, refusal-problem}
 
-pub printed-same : {text other before after : List ℕ} {r : Written} → text ≡ other → Printed text before after r →
-    Printed other before after r
-printed-same e p = record { short = rw (← e) (p .short); answer = rw (← e) (p .answer); bytes = rw (← e) (p .bytes) }
+pub put-as : {text other before after : List ℕ} {most at next : ℕ} → text ≡ other →
+    PutShort most before at text after next → PutShort most before at other after next
+put-as e p = rw e at p
 
 module _ (ws : List ℤ) where
   pub vars-few : problemRefusal ws ≡ 0 → varsOf ws ≤ mostVariables

@@ -1,7 +1,8 @@
 -- Lines put one behind the other, and whole texts.
 --   text-lines-start, -room, -more   the lines of the variables below a number: none, room for one more, one more
---   printed-none, -all, -only   a whole text in a slice, or none of it; bytes-fit, that it is there
---   short-clash                 a slice of `mostText` bytes is not too short
+--   printed-none, -all, -as, -same, -only   a whole text in a slice, or none of it; bytes-fit, that it is there
+--   front-size, printed-from         a text that is put into another slice first, and is written from there
+--   short-clash                 a slice of as many bytes as the longest text has is not too short
 use mathlib.Core.Path.{_≡_, refl, sym, _∙_, ap}
 use mathlib.Core.Bool.{Bool, true, false, cond}
 use mathlib.Core.List.{List, _++_}
@@ -11,13 +12,12 @@ use native.Mathlib.Numerals.{add-one}
 use native.Mathlib.Omega.{arith}
 use borrow.Author.Tests.{le-leb, lt-leb}
 use lib.Dec.{leb}
-use lib.ListN.{length, drop, length-append}
+use lib.ListN.{length, drop, take, length-append}
 use Rattle.whole.proofs.Lists.Stores.{sets-front}
-use Rattle.rules.specs.Sizes.{mostMultiplierLines, mostText, mostVariables}
 use Rattle.rules.specs.Program.Text.{linesBelow, printed}
 use Rattle.rules.proofs.Program.Lengths.{lines-longer}
 use Rattle.put.specs.Put.{Put, PutShort}
-use Rattle.put.proofs.Texts.{put-none, put-then}
+use Rattle.put.proofs.Texts.{put-front, put-none, put-then}
 use Rattle.lines.specs.Printed.{Printed, bytesTold}
 use Rattle.lines.specs.declared.Written.{Written}
 use Rattle.lines.specs.declared.Written.the-variants.{Bytes, TooShort}
@@ -30,9 +30,10 @@ module _ (f : ℕ → List ℕ) (b : ℕ) where
   text-lines-start l i = record { put = put-none l i; short = omega arith }
 
   pub lines-room :
-      {l m : List ℕ} {i j : ℕ} (v : ℕ) → PutShort (b * v) l i (linesBelow v f) m j → b ≤ mostMultiplierLines
-      → v ≤ mostVariables → i ≤ mostText → j + b < 2 ^ 64
-  lines-room v p h k l = omega (arith, p .put .place, p .short, mul-le-mul h k)
+      {l m : List ℕ} {i j : ℕ} (v most : ℕ) → PutShort (b * v) l i (linesBelow v f) m j → v < most
+      → i + b * most < 2 ^ 64 → j + b < 2 ^ 64
+  lines-room v most p h l =
+      omega (arith, p .put .place, p .short, mul-suc b v, mul-le-mul (let z : b ≤ b = omega arith in z) h)
 
   pub text-lines-more :
       {l m n : List ℕ} {i j k : ℕ} (v : ℕ) → PutShort (b * v) l i (linesBelow v f) m j → PutShort b m j (f v) n k
@@ -43,38 +44,56 @@ module _ (f : ℕ → List ℕ) (b : ℕ) where
     short = omega (arith, lines-longer v f, add-one v, mul-suc b v, p .short, q .short);
   }
 
--- ---- a whole text, once it is measured by putting it into another slice
+-- ---- a whole text
 
-module _ {text before l m : List ℕ} {n : ℕ} (measured : PutShort mostText l 0 text m n) where
-  pub printed-none : length before < n → Printed text before before TooShort
+module _ {text before : List ℕ} where
+  pub printed-none : length before < length text → Printed (length text) text before before TooShort
   unfolding printed bytesTold
   printed-none h =
-      let e : leb (length text) (length before) ≡ false =
-      lt-leb (length text) (length before) (omega (arith, measured .put .place)) in
-      record { short = measured .short; answer = rw e refl; bytes = rw e refl }
+      let e : leb (length text) (length before) ≡ false = lt-leb (length text) (length before) h in
+      record { short = omega arith; answer = rw e refl; bytes = rw e refl }
 
-  pub printed-all :
-      {after : List ℕ} {k : ℕ} → n ≤ length before → Put before 0 text after k → Printed text before after (Bytes n)
+  pub printed-all : {after : List ℕ} {k : ℕ} → length text ≤ length before → Put before 0 text after k →
+      Printed (length text) text before after (Bytes (length text))
   unfolding printed bytesTold
-  printed-all h p =
-      let fits : length text ≤ length before = omega (arith, measured .put .place) in
-      let size : n ≡ length text = omega (arith, measured .put .place) in
-      record {
-        short = measured .short;
-        answer = rw (le-leb (length text) (length before) fits) (ap Bytes size);
-        bytes = rw (le-leb (length text) (length before) fits) (p .bytes ∙ sets-front text before fits);
-      }
+  printed-all h p = record {
+    short = omega arith;
+    answer = rw (le-leb (length text) (length before) h) refl;
+    bytes = rw (le-leb (length text) (length before) h) (p .bytes ∙ sets-front text before h);
+  }
+
+-- another name for the text, and another bound
+pub printed-as : {text other before after : List ℕ} {n : ℕ} {r : Written} (most : ℕ) → text ≡ other →
+    length other ≤ most → Printed n text before after r → Printed most other before after r
+printed-as most e h p = record { short = h; answer = rw (← e) (p .answer); bytes = rw (← e) (p .bytes) }
+
+pub printed-same : {text other before after : List ℕ} {most : ℕ} {r : Written} → text ≡ other →
+    Printed most text before after r → Printed most other before after r
+printed-same {most} e p = printed-as most e (rw (← e) (p .short)) p
+
+-- a text that was put into a slice with room for it, and is written from there
+module _ {text l m : List ℕ} {most n : ℕ} (p : PutShort most l 0 text m n) (room : most ≤ length l) where
+  front : take n m ≡ text
+  front = put-front (p .put) (omega (arith, p .short))
+
+  pub front-size : n ≡ length (take n m)
+  front-size = omega (arith, p .put .place, ap length front)
+
+  pub printed-from : {before after : List ℕ} {k : ℕ} {r : Written} → Printed k (take n m) before after r →
+      Printed most text before after r
+  printed-from q = printed-as most front (p .short) q
 
 -- the text and the slice leave nothing open
 pub printed-only :
-    {text before a b : List ℕ} {r s : Written} → Printed text before a r → Printed text before b s → (a ≡ b) × (r ≡ s)
+    {text before a b : List ℕ} {most : ℕ} {r s : Written} → Printed most text before a r →
+    Printed most text before b s → (a ≡ b) × (r ≡ s)
 printed-only p q = (p .bytes ∙ sym (q .bytes), p .answer ∙ sym (q .answer))
 
 -- the bytes that are said to be there are there
-pub bytes-fit : {text before after : List ℕ} {r : Written} {n : ℕ} →
-    Printed text before after r → r ≡ Bytes n → n ≤ length after
+pub bytes-fit : {text before after : List ℕ} {r : Written} {most n : ℕ} →
+    Printed most text before after r → r ≡ Bytes n → n ≤ length after
 unfolding bytesTold printed
-bytes-fit {text} {before} {after} {r} {n} p e = go (leb (length text) (length before)) refl
+bytes-fit {text} {before} {after} {r} {most} {n} p e = go (leb (length text) (length before)) refl
   where
     zero-one : _≡_ {A = ℕ} 0 1 → n ≤ length after
     zero-one z = let y : ⊥ = omega arith in absurd y
@@ -93,7 +112,7 @@ bytes-fit {text} {before} {after} {r} {n} p e = go (leb (length text) (length be
 
 -- a slice of as many bytes as the longest text has is not too short
 pub short-clash :
-    {text before after : List ℕ} {r : Written} → Printed text before after r → mostText ≤ length before →
+    {text before after : List ℕ} {most : ℕ} {r : Written} → Printed most text before after r → most ≤ length before →
     r ≡ TooShort → ⊥
 unfolding bytesTold
 short-clash {text} {before} p room e =

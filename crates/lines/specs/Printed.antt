@@ -5,7 +5,6 @@ use mathlib.Core.List.{List}
 use Prim.Native.Nat.{ℕ, _≤_}
 use lib.Dec.{leb}
 use lib.ListN.{length}
-use Rattle.rules.specs.Sizes.{mostText}
 use Rattle.rules.specs.Program.Text.{printed}
 use Rattle.lines.specs.declared.Written.{Written}
 use Rattle.lines.specs.declared.Written.the-variants.{Bytes, TooShort}
@@ -14,8 +13,8 @@ use Rattle.lines.specs.declared.Written.the-variants.{Bytes, TooShort}
 unfoldable pub bytesTold : List ℕ → ℕ → Written
 bytesTold text room = cond (leb (length text) room) (Bytes (length text)) TooShort
 
--- the answer and the slice afterwards; a text has at most `mostText` bytes, so a slice of so many is never too short
-pub record Printed (text before after : List ℕ) (r : Written) : Type 0 where
-  pub short : length text ≤ mostText
+-- the answer and the slice afterwards; the text has at most so many bytes, so a slice of so many is never too short
+pub record Printed (most : ℕ) (text before after : List ℕ) (r : Written) : Type 0 where
+  pub short : length text ≤ most
   pub answer : r ≡ bytesTold text (length before)
   pub bytes : after ≡ printed text before

@@ -1,15 +1,16 @@
 -- Texts put one behind the other.
 --   put-none, put-then       no text; two texts are one
 --   put-length               the slice is as long as before
+--   put-front                a text put at the front is the front, where it fits
 --   room-left, room-right    where there is room for both, there is room for each
 --   put-only                 slice, place and text leave nothing open
 use mathlib.Core.Path.{_≡_, refl, sym, _∙_, ap, ap₂}
 use mathlib.Core.List.{List, [], _++_}
-use Prim.Native.Nat.{ℕ}
+use Prim.Native.Nat.{ℕ, _≤_}
 use native.Mathlib.Omega.{arith}
-use lib.ListN.{length, length-append}
-use lib.Seq.{sets, length-sets}
-use Rattle.whole.proofs.Lists.Stores.{sets-then}
+use lib.ListN.{drop, length, take, length-append}
+use lib.Seq.{sets, length-sets, take-append-seam}
+use Rattle.whole.proofs.Lists.Stores.{sets-front, sets-then}
 use Rattle.put.specs.Put.{Put, Room}
 
 pub put-none : (before : List ℕ) (at : ℕ) → Put before at [] before at
@@ -24,6 +25,11 @@ module _ {l m n s t : List ℕ} {i j k : ℕ} where
 
 pub put-length : {l m s : List ℕ} {i j : ℕ} → Put l i s m j → length m ≡ length l
 put-length {l} {m} {s} {i} p = ap length (p .bytes) ∙ length-sets l i s
+
+pub put-front : {l m s : List ℕ} {n : ℕ} → Put l 0 s m n → length s ≤ length l → take n m ≡ s
+put-front {l} {m} {s} {n} p h =
+    ap₂ take (let z : n ≡ length s = omega (arith, p .place) in z) (p .bytes ∙ sets-front s l h)
+    ∙ take-append-seam s (drop (length s) l)
 
 module _ (s t : List ℕ) {i : ℕ} (r : Room i (s ++ t)) where
   pub room-left : Room i s

@@ -5,9 +5,6 @@ use lines::respond::respond;
 // One word more than the largest problem has, so that a longer input is seen to be too long and is not read on.
 const MOST_INPUT: usize = 4 * rules::MOST_WORDS + 4;
 
-// No text has more bytes.
-const MOST_TEXT: usize = 1475;
-
 // Stands where no run comes: every text fits.
 fn unreached()
     requires { ⌜ ⊥ ⌝ }
@@ -16,7 +13,7 @@ fn unreached()
 fn main() {
     let mut input = [0u8; MOST_INPUT];
     let count = io::read_full(0, &mut input);
-    let mut out = [0u8; MOST_TEXT];
+    let mut out = [0u8; lines::respond::MOST_TEXT];
     let written = respond(&input[..count], &mut out);
     match written {
         Written::Bytes(length) => {

@@ -31,7 +31,8 @@ module _ (c : tie.After-put-head) where
   fit : SFits w64 (word (start .args .answer .now) 2)
   fit = sfits-of (c .before .before .before .common .given)
 
-  first : PutShort (4 + mostPivotsLine) (start .args .out .now) 0 head (c .put-head .last .0) (c .put-head .result)
+  first : PutShort (4 + mostPivotsLine) (start .args .out .now) (start .args .at) head
+      (c .put-head .last .0) (c .put-head .result)
   unfolding ascii
   first = c .put-head .ensures
 
@@ -44,7 +45,8 @@ module _ (c : tie.After-put-line) where
   abbrev once : tie.After-put-head
   once = c .before .before .before .before .before
 
-  second : Put (start once .args .out .now) 0 (head once ++ over once) (c .put-line .last .0) (c .put-line .result)
+  second : Put (start once .args .out .now) (start once .args .at) (head once ++ over once)
+      (c .put-line .last .0) (c .put-line .result)
   unfolding ascii
   second = put-then (first once .put) (rw (toZ-ofZ (fit once)) at (c .put-line .ensures))
 

@@ -19,7 +19,8 @@ module _ (c : tie.After-put-head) where
   abbrev head : List ℕ
   head = headLines (ascii "cannot\n") (start .args .answer .now)
 
-  first : PutShort (7 + mostPivotsLine) (start .args .out .now) 0 head (c .put-head .last .0) (c .put-head .result)
+  first : PutShort (7 + mostPivotsLine) (start .args .out .now) (start .args .at) head
+      (c .put-head .last .0) (c .put-head .result)
   unfolding ascii
   first = c .put-head .ensures
 
@@ -33,7 +34,8 @@ module _ (c : tie.After-put-evidence) where
       linesBelow (start once .args .variables)
       (multiplierLines (start once .args .answer .now) (start once .args .variables))
 
-  both : Put (start once .args .out .now) 0 (head once ++ rest) (c .put-evidence .last .0) (c .put-evidence .result)
+  both : Put (start once .args .out .now) (start once .args .at) (head once ++ rest)
+      (c .put-evidence .last .0) (c .put-evidence .result)
   both = put-then (first once .put) (c .put-evidence .ensures .put)
 
 slice-aggregate-put-head : tie.Need-slice-aggregate-put-head

@@ -4,7 +4,7 @@ use mathlib.Core.List.{List}
 use mathlib.Core.Path.{_≡_}
 use Prim.Native.Nat.{ℕ, _-_, _*_, _≤_}
 use native.Mathlib.Omega.{arith}
-use Rattle.rules.specs.Sizes.{mostMultiplierLines}
+use Rattle.rules.specs.Sizes.{mostMultiplierLines, mostVariables}
 use Rattle.rules.specs.Program.Text.{linesBelow, multiplierLines}
 use Rattle.put.specs.Put.{PutShort}
 use Rattle.put.proofs.Texts.{put-length}
@@ -33,8 +33,8 @@ loop-holds c =
 put-multipliers-requires : tie.Need-put-multipliers-requires Inv-loop μ-loop
 put-multipliers-requires c κs =
     let at = c .before .before in
-    let room = lines-room _ mostMultiplierLines (at .loop .v) (at .loop .inv .1)
-    (omega arith) (omega arith) (omega arith) in
+    let room = lines-room _ mostMultiplierLines (at .loop .v) mostVariables (at .loop .inv .1)
+    (omega arith) (omega arith) in
     (omega arith, omega arith, room)
 
 add-v : tie.Need-add-v Inv-loop μ-loop

@@ -33,7 +33,7 @@ module _ (c : tie.After-put-text) where
   short : length (headLines verdict (start .args .answer .now)) ≤ length verdict + mostPivotsLine
   short = head-short verdict (start .args .answer .now) fit
 
-  room : Room 0 (verdict ++ pivots)
+  room : Room (start .args .at) (verdict ++ pivots)
   unfolding headLines
   room = record { room = omega (arith, short) }
 
@@ -42,7 +42,8 @@ module _ (c : tie.After-put-line) where
   abbrev once : tie.After-put-text
   once = c .before .before .before .before .before
 
-  both : Put (start once .args .out .now) 0 (verdict once ++ pivots once) (c .put-line .last .0) (c .put-line .result)
+  both : Put (start once .args .out .now) (start once .args .at) (verdict once ++ pivots once)
+      (c .put-line .last .0) (c .put-line .result)
   unfolding ascii
   both = put-then (once .put-text .ensures) (rw (toZ-ofZ (fit once)) at (c .put-line .ensures))
 

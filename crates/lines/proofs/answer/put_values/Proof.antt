@@ -4,7 +4,7 @@ use mathlib.Core.List.{List}
 use mathlib.Core.Path.{_≡_}
 use Prim.Native.Nat.{ℕ, _-_, _*_, _≤_}
 use native.Mathlib.Omega.{arith}
-use Rattle.rules.specs.Sizes.{mostValueLine}
+use Rattle.rules.specs.Sizes.{mostValueLine, mostVariables}
 use Rattle.rules.specs.Program.Text.{linesBelow, valueLine}
 use Rattle.put.specs.Put.{PutShort}
 use Rattle.put.proofs.Texts.{put-length}
@@ -32,7 +32,7 @@ loop-holds c =
 put-value-requires : tie.Need-put-value-requires Inv-loop μ-loop
 put-value-requires c κs =
     let at = c .before .before in
-    let room = lines-room _ mostValueLine (at .loop .v) (at .loop .inv .1) (omega arith) (omega arith) (omega arith) in
+    let room = lines-room _ mostValueLine (at .loop .v) mostVariables (at .loop .inv .1) (omega arith) (omega arith) in
     (omega arith, omega arith, room)
 
 add-v : tie.Need-add-v Inv-loop μ-loop

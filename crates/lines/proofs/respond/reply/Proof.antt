@@ -1,109 +1,41 @@
--- `lines::respond::reply` meets its contract: the solver's number and output give the text that the rules ask for.
--- Assumes nothing.
-use mathlib.Core.List.{List}
-use mathlib.Core.Path.{_≡_, ap, ap₂, _∙_}
-use Prim.Native.Nat.{ℕ, _*_, _+_, _≤_}
-use native.Mathlib.Omega.{arith}
+-- `lines::respond::reply` meets its contract: the text has room in a slice of the most bytes, and is written from
+-- there. Assumes nothing.
 use borrow.Author.Needs.{needs}
-use lib.IntN.{ℤ, pos}
-use lib.ListN.{length, replicate}
-use Rattle.whole.proofs.Numbers.Order.{≤ℤ-trans}
-use Rattle.rules.specs.Answer.{written}
-use Rattle.rules.specs.Problem.{varsOf}
-use Rattle.rules.specs.Refusal.{Accepted, problemRefusal, refusal}
-use Rattle.rules.specs.Sizes.{mostRows, mostVariables}
-use Rattle.rules.specs.Program.Text.{answerText}
-use Rattle.solver.proofs.Laws.Refusals.{accepted-of}
-use Rattle.lines.proofs.Replies.{fine-words, printed-same, replied-answered, replied-refused, vars-few}
-use Rattle.lines.proofs.Replies.{written-long}
+use native.Mathlib.Omega.{arith}
+use Rattle.lines.proofs.Texts.{front-size, printed-from}
 use Rattle.lines.proofs.respond.reply.Statement.{statement}
 use Rattle.lines.proofs.respond.reply.Tie as tie
 
-abbrev words : tie.Start → List ℤ
-words s = s .args .words .now
+slice-aggregate-put-reply : tie.Need-slice-aggregate-put-reply
+slice-aggregate-put-reply c = search needs
 
-slice-aggregate-solve : tie.Need-slice-aggregate-solve
-slice-aggregate-solve c = search needs
+put-reply-requires : tie.Need-put-reply-requires
+put-reply-requires c κs = search needs
 
-solve-requires : tie.Need-solve-requires
-solve-requires c κs = search needs
+array-share-prefix-text : tie.Need-array-share-prefix-text
+array-share-prefix-text c = search needs
 
-write-refusal-requires : tie.Need-write-refusal-requires
-write-refusal-requires c κs = search needs
+slice-aggregate-write-text : tie.Need-slice-aggregate-write-text
+slice-aggregate-write-text c = front-size (c .before .before .put-reply .ensures) (omega arith)
+
+write-text-requires : tie.Need-write-text-requires
+write-text-requires c κs = search needs
 
 same-length : tie.Need-same-length
 same-length c = search needs
 
-number-is : (c : tie.After-solve) → c .solve .result ≡ refusal (words (c .before .before .before)) 51
-number-is c = c .solve .ensures .0
-
 returns : tie.Need-returns
-returns c =
-    let t = c .before .before .before .before in let s = t .before .before in
-    printed-same (replied-refused (words (s .before .before .before)) (s .solve .result) (number-is s) (t .if1 .taken))
-    (c .before .before .write-refusal .ensures)
-
-fine : (c : tie.Else1) → problemRefusal (words (c .before .before .before .before .before)) ≡ 0
-fine c = let s = c .before .before in
-    fine-words (words (s .before .before .before)) (s .solve .result) (number-is s) (c .if1 .left)
-
-accepted : (c : tie.Else1) → Accepted mostRows (words (c .before .before .before .before .before))
-accepted c = accepted-of (words (c .before .before .before .before .before)) (fine c)
-
-count-at-requires : tie.Need-count-at-requires
-count-at-requires c κs = let a = accepted c in (omega (arith, a .enough), ≤ℤ-trans (record { le = tt }) (a .n-least))
-
-count-at-requires-2 : tie.Need-count-at-requires-2
-count-at-requires-2 c κs = let a = accepted (c .before) in (omega (arith, a .enough), a .m-least)
-
-many : (c : tie.After-count-at2) → let s = c .before .before .before .before .before .before .before in
-    c .before .count-at .result + c .count-at2 .result ≡ varsOf (words s)
-many c = ap₂ (λ (a b : ℕ). a + b) (c .before .count-at .ensures) (c .count-at2 .ensures)
-
-few : (c : tie.After-count-at2) → c .before .count-at .result + c .count-at2 .result ≤ mostVariables
-few c = let e = c .before .before in rw (many c) (vars-few (words (e .before .before .before .before .before)) (fine e))
-
-add-variables : tie.Need-add-variables
-add-variables c = let h = few c in omega arith
-
-slice-aggregate-write-answer : tie.Need-slice-aggregate-write-answer
-slice-aggregate-write-answer c = search needs
-
-write-answer-requires : tie.Need-write-answer-requires
-write-answer-requires c κs = let k = c .before .before in (few k, long k)
-  where
-    long : (k : tie.After-count-at2) → let s = k .before .before .before .before in
-        3 + 2 * (k .before .count-at .result + k .count-at2 .result) ≤ length (s .solve .last .1 .0)
-    long k = let s = k .before .before .before .before in
-        rw (many k, s .solve .ensures .1, k .before .before .if1 .left)
-        (written-long (words (s .before .before .before)) (replicate 51 (pos 0)))
-
-same-length-2 : tie.Need-same-length-2
-same-length-2 c = search needs
-
-returns-2 : tie.Need-returns-2
-returns-2 c =
-    let a = c .before .before in let k = a .before .before .before in let s = k .before .before .before .before in
-    printed-same
-    (ap₂ answerText
-    (s .solve .ensures .1 ∙ ap (λ (j : ℕ). written j (words (s .before .before .before)) (replicate 51 (pos 0)))
-    (k .before .before .if1 .left)) (many k)
-    ∙ replied-answered (words (s .before .before .before)) (replicate 51 (pos 0)) (fine (k .before .before)))
-    (a .write-answer .ensures)
+returns c = let a = c .before .before in
+    printed-from (a .before .before .before .before .put-reply .ensures) (omega arith) (a .write-text .ensures)
 
 pub reply-spec : {M : Type 1} → statement M
 reply-spec =
     tie.close
     (tie.spec
-    slice-aggregate-solve
-    solve-requires
-    write-refusal-requires
+    slice-aggregate-put-reply
+    put-reply-requires
+    array-share-prefix-text
+    slice-aggregate-write-text
+    write-text-requires
     same-length
-    returns
-    count-at-requires
-    count-at-requires-2
-    add-variables
-    slice-aggregate-write-answer
-    write-answer-requires
-    same-length-2
-    returns-2)
+    returns)

@@ -11,7 +11,8 @@ use Rattle.rules.specs.Program.Bytes.{countRefusal, wordsFrom}
 use Rattle.rules.specs.Program.Reply.{replyTo}
 use Rattle.rules.specs.Refusal.{problemRefusal}
 use Rattle.rules.proofs.Program.Words.{words-length}
-use Rattle.lines.proofs.Replies.{printed-same, program-refused, program-replied, words-few, words-front}
+use Rattle.lines.proofs.Texts.{printed-same}
+use Rattle.lines.proofs.Replies.{program-refused, program-replied, words-few, words-front}
 use Rattle.lines.proofs.respond.respond.Statement.{statement}
 use Rattle.lines.proofs.respond.respond.Tie as tie
 
@@ -21,8 +22,8 @@ bytes s = s .args .input .now
 count-refusal-requires : tie.Need-count-refusal-requires
 count-refusal-requires c κs = search needs
 
-write-refusal-requires : tie.Need-write-refusal-requires
-write-refusal-requires c κs = search needs
+refuse-requires : tie.Need-refuse-requires
+refuse-requires c κs = search needs
 
 same-length : tie.Need-same-length
 same-length c = search needs
@@ -33,7 +34,7 @@ returns c =
     printed-same
     (program-refused (bytes (k .before .before .before)) (k .count-refusal .result)
     (k .count-refusal .ensures) (t .if1 .taken))
-    (c .before .before .write-refusal .ensures)
+    (c .before .before .refuse .ensures)
 
 slice-aggregate-words-of : tie.Need-slice-aggregate-words-of
 slice-aggregate-words-of c = search needs
@@ -81,7 +82,7 @@ respond-spec =
     tie.close
     (tie.spec
     count-refusal-requires
-    write-refusal-requires
+    refuse-requires
     same-length
     returns
     slice-aggregate-words-of
