@@ -11,6 +11,7 @@
 --   Session      sessions: what holds of each handed back, what an operation changes, the demands of each check
 --   Times        time rows: refusals exactly, times or a bad cycle and never both, and what each means
 --   Program      the program's bytes and text
+--   Bundle       a day's file: refusals exactly, both round trips over bytes, its bodies, its text
 --   Worked       every worked case and edge is right, by computing
 --   Demands      the demands of docs/RULES.md, at the level of words
 pub mod Refusal
@@ -25,5 +26,6 @@ pub mod Plain
 pub mod Session
 pub mod Times
 pub mod Program
+pub mod Bundle
 pub mod Worked
 pub mod Demands

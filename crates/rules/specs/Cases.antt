@@ -7,6 +7,7 @@
 --   Times     cases J to L, strict rows
 --   All       limit problems, evidence and time rows as one list
 --   Program   what is printed on them
+--   Bundle    files of many problems
 pub mod Expected
 pub mod Limits
 pub mod Evidence
@@ -15,3 +16,4 @@ pub mod Sessions
 pub mod Times
 pub mod All
 pub mod Program
+pub mod Bundle

@@ -16,6 +16,7 @@
 --   Keeping   a problem with some of its limits alone
 --   Times     time rows
 --   Program   bytes and text
+--   Bundle    a day's problems in one file
 --   Facts     what theorems speak of, in plain facts
 --   Cases     cases worked by hand
 pub mod Sizes
@@ -33,5 +34,6 @@ pub mod Evidence
 pub mod Keeping
 pub mod Times
 pub mod Program
+pub mod Bundle
 pub mod Facts
 pub mod Cases

@@ -73,3 +73,17 @@ mostMultiplierLines = 2 * (2 + 7 + mostDecimal + 1)
 -- a whole text: "cannot", the pivots, and two lines for each variable: 1,475
 abbrev pub mostText : ℕ
 mostText = 7 + mostPivotsLine + mostVariables * mostMultiplierLines
+
+-- ---- a day's file
+
+-- of the whole file, and so four times as many bytes
+abbrev pub mostFileWords : ℕ
+mostFileWords = 16384
+
+-- bodies, in any edition
+abbrev pub mostBodies : ℕ
+mostBodies = 64
+
+-- the text of a day: 94,400
+abbrev pub mostDayText : ℕ
+mostDayText = mostBodies * mostText

@@ -71,7 +71,7 @@ pub words-length : (bs : List ℕ) → length (wordsFrom bs) ≡ length bs / 4
 unfolding wordsFrom
 words-length bs = table-length (length bs / 4) (λ i. wordAt bs (4 * i))
 
-bytes-length : (ws : List ℤ) → length (bytesFrom ws) ≡ 4 * length ws
+pub bytes-length : (ws : List ℤ) → length (bytesFrom ws) ≡ 4 * length ws
 unfolding bytesFrom
 bytes-length ws = table-length (4 * length ws) (λ i. byteOf (unsigned (word ws (i / 4))) (i % 4))
 

@@ -57,7 +57,7 @@ caseB = gives
     (pos 1 ∷ pos 2 ∷ pos 3 ∷ minus 2 ∷ pos 2 ∷ pos 0 ∷ pos 6 ∷ pos 22 ∷ zeros 5)
 
 -- x+y>=0, -x-2y>=2, -x+y>=1: cannot, 2, row lowers 3 2 1
-abbrev caseC : Case
+abbrev pub caseC : Case
 caseC = gives
     (two (pos 2) (pos 3) ++ two (pos 1) (pos 1) ++ two (minus 1) (minus 2) ++ two (minus 1) (pos 1)
     ++ free ++ free ++ lowerOnly (pos 0) ++ lowerOnly (pos 2) ++ lowerOnly (pos 1))
@@ -80,7 +80,7 @@ caseE = gives
     (pos 1 ∷ pos 2 ∷ pos 4 ∷ pos 13 ∷ pos 11 ∷ minus 2 ∷ pos 11 ∷ minus 24 ∷ pos 28 ∷ zeros 6)
 
 -- x>=2, y>=2 as limits, row x+y<=3: cannot, 0, lowers of x and y 1, upper of the row 1
-abbrev caseF : Case
+abbrev pub caseF : Case
 caseF = gives
     (two (pos 2) (pos 1) ++ two (pos 1) (pos 1) ++ lowerOnly (pos 2) ++ lowerOnly (pos 2) ++ upperOnly (pos 3))
     (pos 2 ∷ pos 0 ∷ pos 0 ∷ pos 1 ∷ pos 1 ∷ pos 0 ∷ pos 0 ∷ pos 0 ∷ pos 1 ∷ [])
