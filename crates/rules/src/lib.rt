@@ -17,3 +17,8 @@ pub const LARGEST_COEFFICIENT: i32 = 1000;
 pub const LARGEST_LIMIT: i32 = 30000;
 
 pub const LARGEST_NUMBER: i64 = 2147483647;
+
+// The words of a day's file, and its bodies.
+pub const MOST_FILE_WORDS: usize = 16384;
+
+pub const MOST_BODIES: usize = 64;

@@ -1,2 +1,3 @@
--- Two allowed results are equal. Assumes nothing.
+-- Words stored as bytes; and that two allowed results are equal. Assumes nothing.
+pub mod Stores
 pub mod Only

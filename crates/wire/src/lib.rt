@@ -1,10 +1,12 @@
-// Bytes as words of 32 bits, signed, little-endian, and the judging of a byte count. A word is put together by
-// arithmetic, and no cast loses a bit.
+// Bytes as words of 32 bits, signed, little-endian, words as bytes, and the judging of a byte count. A word is put
+// together and taken apart by arithmetic, and no cast loses a bit.
 ghost use mathlib.Core.Path.{_≡_};
-ghost use mathlib.Core.List.{_++_};
-ghost use Prim.Native.Nat.{_+_, _/_, _^_, _≤_, _<_};
+ghost use mathlib.Core.List.{[], _∷_, _++_};
+ghost use Prim.Native.Nat.{_+_, _*_, _/_, _^_, _≤_, _<_};
 ghost use lib.ListN.{length, drop};
-ghost use Rattle.rules.specs.Program.Bytes.{joined, signed, wordAt, wordsFrom, countRefusal};
+ghost use lib.Seq.{sets};
+ghost use Rattle.rules.specs.Program.Bytes.{byteOf, bytesFrom, joined, signed, unsigned, wordAt, wordsFrom};
+ghost use Rattle.rules.specs.Program.Bytes.{countRefusal};
 
 // The most bytes that a problem has.
 const MOST_BYTES: usize = 4 * rules::MOST_WORDS;
@@ -41,7 +43,7 @@ pub fn words_of(bytes: &[u8], words: &mut [i32]) -> usize
 }
 
 // The word whose four bytes start at `at`.
-fn word_at(bytes: &[u8], at: usize) -> i32
+pub fn word_at(bytes: &[u8], at: usize) -> i32
     requires { ⌜ at + 3 < length (now bytes) ⌝ }
     ensures { λ r. ⌜ r ≡ wordAt (now (bytes .entry)) at ⌝ }
 {
@@ -65,4 +67,37 @@ fn sign(u: u64) -> i32
         return wide as i32;
     }
     (wide - 4294967296) as i32
+}
+
+// Puts the bytes of the words at `at`, four for each, and keeps all other bytes.
+pub fn bytes_of(words: &[i32], bytes: &mut [u8], at: usize)
+    requires { ⌜ at + 4 * length (now words) ≤ length (now bytes) ⌝ }
+    ensures { λ r. ⌜ now (bytes .exit) ≡ sets (now (bytes .entry)) at (bytesFrom (now (words .entry))) ⌝ }
+{
+    for i in 0..words.len() {
+        let number = unsign(words[i]);
+        put_word(bytes, at + 4 * i, number);
+    }
+}
+
+// A word's 32 bits as a number.
+fn unsign(word: i32) -> u64
+    ensures { λ r. ⌜ r ≡ unsigned word ⌝ }
+{
+    if word < 0 {
+        return (word as i64 + 4294967296) as u64;
+    }
+    word as u64
+}
+
+// The four bytes of a number, the lowest first.
+fn put_word(bytes: &mut [u8], at: usize, number: u64)
+    requires { ⌜ at + 3 < length (now bytes) ⌝ }
+    ensures { λ r. ⌜ now (bytes .exit)
+        ≡ sets (now (bytes .entry)) at (byteOf number 0 ∷ byteOf number 1 ∷ byteOf number 2 ∷ byteOf number 3 ∷ []) ⌝ }
+{
+    bytes[at] = (number % 256) as u8;
+    bytes[at + 1] = (number / 256 % 256) as u8;
+    bytes[at + 2] = (number / 65536 % 256) as u8;
+    bytes[at + 3] = (number / 16777216 % 256) as u8;
 }

@@ -31,7 +31,7 @@ use Rattle.rules.proofs.Refusal.First.{Tested, Upto, first-exactly, fir
 
 -- ---- each test, where it applies and where it does not
 
-bytes-tells : (count : ℕ) → Tests (badCount count) (bytesLine count)
+pub bytes-tells : (count : ℕ) → Tests (badCount count) (bytesLine count)
 unfolding badCount
 bytes-tells count =
     tells-or (tells-not (tells-eq (count % 4) 0)) (tells-or (tells-lt count 8) (tells-lt (4 * mostFileWords) count))
@@ -45,7 +45,7 @@ module _ (ws : List ℤ) where
   unfolding badBodies
   bodies-tells = tells-outside 0 (bodiesMost (editionIn ws)) (word ws 1)
 
-  table-tells : Tests (shortTable ws) (tableLine ws)
+  pub table-tells : Tests (shortTable ws) (tableLine ws)
   unfolding shortTable
   table-tells = tells-lt (length ws) (headSize (countIn ws))
 
@@ -59,7 +59,7 @@ module _ (ws : List ℤ) where
   unfolding badTotal
   total-tells = tells-not (tells-eqZ (startFor (countIn ws) (pairLength ws) (countIn ws)) (pos (length ws)))
 
-  read-room-tells : (lengthRoom wordRoom : ℕ) →
+  pub read-room-tells : (lengthRoom wordRoom : ℕ) →
       Tests (shortRoom ws lengthRoom wordRoom) (readLine ws lengthRoom wordRoom)
   unfolding shortRoom
   read-room-tells lengthRoom wordRoom =

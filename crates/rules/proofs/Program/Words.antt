@@ -4,18 +4,21 @@
 --   words-length, bytes-length         how many words, how many bytes
 --   words-back   words that fit 32 bits, written as bytes and read again
 --   bytes-back   bytes, as many as whole words have, read as words and written again
+--   bytes-then, bytes-one       words one behind the other as bytes; one word
+--   word-from, words-behind     word i of bytes; the words behind some of them
 use mathlib.Core.Path.{_≡_, refl, sym, _∙_, ap, ap₂}
-use mathlib.Core.List.{List}
+use mathlib.Core.List.{List, [], _∷_, _++_}
 use Prim.Native.Nat.{ℕ, zero, suc, _+_, _-_, _*_, _/_, _%_, _^_, _≤_, _<_}
 use native.Mathlib.Omega.{arith}
 use native.Mathlib.Decide.{decLt}
 use native.Mathlib.Nat.{add-zero, div-one, mod-eq-of-lt, div-div-eq-div-mul}
 use borrow.Author.Tests.{lt-ltb, le-ltb}
 use lib.IntN.{ℤ, pos, negsuc}
-use lib.ListN.{length}
+use lib.ListN.{drop, length, length-append, length-drop, List·getD-append}
+use lib.Seq.{ext-getD, getD-append-add, getD-drop}
 use mir.Syntax.{w32}
 use mir.Val.{SFits}
-use Rattle.whole.specs.Tables.{table}
+use Rattle.whole.specs.Tables.{table, tableFrom}
 use Rattle.whole.proofs.Lists.Tables.{table-at, table-length, table-same, table-all}
 use Rattle.rules.specs.Problem.{word}
 use Rattle.rules.specs.Program.Bytes.{byte, joined, signed, wordAt, wordsFrom, unsigned, byteOf, bytesFrom}
@@ -135,3 +138,78 @@ module _ (bs : List ℕ) (whole : length bs % 4 ≡ 0) (small : (i : ℕ) → by
       (let z : 4 * length (wordsFrom bs) ≡ length bs = omega (arith, words-length bs) in z)
       ∙ table-same (length bs) (written (wordsFrom bs)) (byte bs) byte-back
       ∙ table-all bs 0
+
+-- ---- parts of them
+
+byte-is : (ws : List ℤ) (i : ℕ) → i < 4 * length ws → byte (bytesFrom ws) i ≡ written ws i
+unfolding bytesFrom
+byte-is ws i h = table-at (4 * length ws) (written ws) 0 i h
+
+pub bytes-then : (a b : List ℤ) → bytesFrom (a ++ b) ≡ bytesFrom a ++ bytesFrom b
+bytes-then a b = ext-getD 0 (bytesFrom (a ++ b)) (bytesFrom a ++ bytesFrom b) as-long same
+  where
+    both : length (bytesFrom (a ++ b)) ≡ 4 * length a + 4 * length b
+    both = omega (arith, bytes-length (a ++ b), length-append a b)
+
+    as-long : length (bytesFrom (a ++ b)) ≡ length (bytesFrom a ++ bytesFrom b)
+    as-long = omega (arith, both, length-append (bytesFrom a) (bytesFrom b), bytes-length a, bytes-length b)
+
+    whole : (i : ℕ) → i < length (bytesFrom (a ++ b)) → byte (bytesFrom (a ++ b)) i ≡ written (a ++ b) i
+    whole i h = byte-is (a ++ b) i (omega (arith, both, length-append a b))
+
+    front : (i : ℕ) → i < length (bytesFrom (a ++ b)) → i < 4 * length a →
+        byte (bytesFrom (a ++ b)) i ≡ byte (bytesFrom a ++ bytesFrom b) i
+    front i h l =
+        whole i h
+        ∙ ap (λ z. byteOf (unsigned z) (i % 4)) (List·getD-append a b (pos 0) (i / 4) (omega arith))
+        ∙ sym (byte-is a i l)
+        ∙ sym (List·getD-append (bytesFrom a) (bytesFrom b) 0 i (omega (arith, bytes-length a)))
+
+    back : (i : ℕ) → i < length (bytesFrom (a ++ b)) → 4 * length a ≤ i →
+        byte (bytesFrom (a ++ b)) i ≡ byte (bytesFrom a ++ bytesFrom b) i
+    back i h l =
+        let j = i - 4 * length a in
+        whole i h
+        ∙ ap₂ (λ q r. byteOf (unsigned (word (a ++ b) q)) r)
+        (let z : i / 4 ≡ length a + j / 4 = omega arith in z) (let z : i % 4 ≡ j % 4 = omega arith in z)
+        ∙ ap (λ z. byteOf (unsigned z) (j % 4)) (getD-append-add a b (j / 4) (pos 0))
+        ∙ sym (byte-is b j (omega (arith, both)))
+        ∙ sym (getD-append-add (bytesFrom a) (bytesFrom b) j 0)
+        ∙ ap (byte (bytesFrom a ++ bytesFrom b))
+        (let z : length (bytesFrom a) + j ≡ i = omega (arith, bytes-length a) in z)
+
+    same : (i : ℕ) → i < length (bytesFrom (a ++ b)) → byte (bytesFrom (a ++ b)) i ≡ byte (bytesFrom a ++ bytesFrom b) i
+    same i h = elim (decLt i (4 * length a)) [ yes l ↦ front i h l | no l ↦ back i h (omega arith) ]
+
+pub bytes-one : (z : ℤ) → bytesFrom (z ∷ [])
+    ≡ byteOf (unsigned z) 0 ∷ byteOf (unsigned z) 1 ∷ byteOf (unsigned z) 2 ∷ byteOf (unsigned z) 3 ∷ []
+unfolding bytesFrom tableFrom
+bytes-one z = refl
+
+pub word-from : (bs : List ℕ) (i : ℕ) → i < length bs / 4 → word (wordsFrom bs) i ≡ wordAt bs (4 * i)
+unfolding wordsFrom
+word-from bs i h = table-at (length bs / 4) (λ i. wordAt bs (4 * i)) (pos 0) i h
+
+pub words-behind : (bs : List ℕ) (j : ℕ) → wordsFrom (drop (4 * j) bs) ≡ drop j (wordsFrom bs)
+unfolding wordAt
+words-behind bs j = ext-getD (pos 0) (wordsFrom rest) (drop j (wordsFrom bs)) as-long same
+  where
+    rest : List ℕ
+    rest = drop (4 * j) bs
+
+    as-long : length (wordsFrom rest) ≡ length (drop j (wordsFrom bs))
+    as-long = omega (arith, words-length rest, length-drop (4 * j) bs, length-drop j (wordsFrom bs), words-length bs)
+
+    at : (i t : ℕ) → byte rest (4 * i + t) ≡ byte bs (4 * (j + i) + t)
+    at i t = getD-drop (4 * j) bs (4 * i + t) 0
+        ∙ ap (byte bs) (let z : 4 * j + (4 * i + t) ≡ 4 * (j + i) + t = omega arith in z)
+
+    at-first : (i : ℕ) → byte rest (4 * i) ≡ byte bs (4 * (j + i))
+    at-first i = getD-drop (4 * j) bs (4 * i) 0 ∙ ap (byte bs) (let z : 4 * j + 4 * i ≡ 4 * (j + i) = omega arith in z)
+
+    same : (i : ℕ) → i < length (wordsFrom rest) → word (wordsFrom rest) i ≡ word (drop j (wordsFrom bs)) i
+    same i h =
+        word-from rest i (omega (arith, words-length rest))
+        ∙ rw (at-first i, at i 1, at i 2, at i 3) refl
+        ∙ sym (word-from bs (j + i) (omega (arith, words-length rest, length-drop (4 * j) bs)))
+        ∙ sym (getD-drop j (wordsFrom bs) i (pos 0))
