@@ -1,0 +1,13 @@
+-- Laws of `bundle`. Nothing is assumed.
+--   Pairs    the pairs of a file, one after the other
+--   Files    the refusal of a file, test after test, and of a reader
+--   Heads    the head of a file, filled word by word
+--   Told     what a reader hands back
+--   Writers  the refusal of a writer, test after test
+--   Only     two allowed results are equal
+pub mod Pairs
+pub mod Files
+pub mod Heads
+pub mod Told
+pub mod Writers
+pub mod Only

@@ -1,0 +1,41 @@
+-- Two results that a promise of this crate's public functions allows are equal: NAME-only for each.
+-- The contracts themselves are compared: κs are lifetimes, x the arguments, e what lent words hold at the exit.
+--   read-only     what is told, and every word of both outputs
+--   write-only    the number, and every byte of the output
+use mathlib.Core.Path.{_≡_, ap, sym, _∙_}
+use Rattle.rules.specs.Program.Bytes.{wordsFrom}
+use Rattle.rules.specs.Bundle.File.{lengthsLeft, wordsLeft}
+use Rattle.rules.specs.Bundle.Writer.{fileLeft}
+use Rattle.bundle.proofs.judge.count_of.Reads as count-of
+use Rattle.bundle.proofs.judge.file_refusal.Reads as file-refusal
+use Rattle.bundle.proofs.judge.read_refusal.Reads as read-refusal
+use Rattle.bundle.proofs.read.Reads as read
+use Rattle.bundle.proofs.write.Reads as write
+
+pub count-of-only : (κs : _) (x : _) (a b : _) (e : _) → count-of.Post κs x a e → count-of.Post κs x b e → a ≡ b
+count-of-only κs x a b e h k = h ∙ sym k
+
+pub file-refusal-only : (κs : _) (x : _) (a b : _) (e f : _) → file-refusal.Post κs x a e →
+    file-refusal.Post κs x b f → a ≡ b
+file-refusal-only κs x a b e f h k = h ∙ sym k
+
+pub read-refusal-only : (κs : _) (x : _) (a b : _) (e f : _) → read-refusal.Post κs x a e →
+    read-refusal.Post κs x b f → a ≡ b
+read-refusal-only κs x a b e f h k = h ∙ sym k
+
+pub read-only : (κs : _) (x : _) (a b : _) (e f : _) → read.Post κs x a e → read.Post κs x b f →
+    (a ≡ b) × ((e .1 .0 .now ≡ f .1 .0 .now) × (e .1 .1 .0 .now ≡ f .1 .1 .0 .now))
+read-only κs x a b e f h k =
+    let n : a ≡ b = h .0 ∙ sym (k .0) in (
+      n,
+      (
+        h .1 .0 ∙ ap (λ c. lengthsLeft (c .refused) (wordsFrom (x .0 .now)) (x .1 .0 .now)) n ∙ sym (k .1 .0),
+        h .1 .1 ∙ ap (λ c. wordsLeft (c .refused) (wordsFrom (x .0 .now)) (x .1 .1 .0 .now)) n ∙ sym (k .1 .1),
+      ),
+    )
+
+pub write-only : (κs : _) (x : _) (a b : _) (e f : _) → write.Post κs x a e → write.Post κs x b f →
+    (a ≡ b) × (e .1 .1 .0 .now ≡ f .1 .1 .0 .now)
+write-only κs x a b e f h k =
+    let n : a ≡ b = h .0 ∙ sym (k .0) in
+    (n, h .1 ∙ ap (λ j. fileLeft j 1 (x .0 .now) (x .1 .0 .now) (x .1 .1 .0 .now)) n ∙ sym (k .1))
