@@ -4,10 +4,12 @@
 --   Heads    the head of a file, filled word by word
 --   Told     what a reader hands back
 --   Writers  the refusal of a writer, test after test
+--   Trips    what was written is read again, over the promises
 --   Only     two allowed results are equal
 pub mod Pairs
 pub mod Files
 pub mod Heads
 pub mod Told
 pub mod Writers
+pub mod Trips
 pub mod Only

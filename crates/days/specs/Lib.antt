@@ -1,0 +1,2 @@
+-- What the contracts of `days` say.
+pub mod Opened
