@@ -6,14 +6,21 @@
 --   scatterflock-slice-continue-only    the number, whether there is an answer, the state, and every word of the output
 --   scatterflock-session-open-only, scatterflock-session-switch-only    the number and the session
 --   scatterflock-session-check-only     the number, the session, and every word of the output
+--   scatterflock-bundle-read-only      what is told, and every word of both outputs
+--   scatterflock-bundle-write-only     the number, and every byte of the file
+--   scatterflock-day-only     the length of the text, and every byte of the slice
 --   scatterflock-times-only    the number, and every word of the output; or both name a bad cycle
 use mathlib.Core.Logic.{_⊎_}
 use mathlib.Core.Path.{_≡_, ap, sym, _∙_}
 use Rattle.rules.specs.Answer.{written}
 use Rattle.rules.specs.Times.Answer.{BothNamed}
 use Rattle.rules.proofs.Times.Told.{told-only}
+use Rattle.bundle.proofs.Only.{read-only, write-only}
 use Rattle.scatterflock.proofs.scatterflock_solve.Reads as solve
 use Rattle.scatterflock.proofs.scatterflock_check.Reads as check
+use Rattle.scatterflock.proofs.scatterflock_bundle_read.Reads as bundle-read
+use Rattle.scatterflock.proofs.scatterflock_bundle_write.Reads as bundle-write
+use Rattle.scatterflock.proofs.scatterflock_day.Reads as day
 use Rattle.scatterflock.proofs.scatterflock_session_check.Reads as session-check
 use Rattle.scatterflock.proofs.scatterflock_session_open.Reads as session-open
 use Rattle.scatterflock.proofs.scatterflock_session_switch.Reads as session-switch
@@ -54,3 +61,16 @@ pub scatterflock-times-only : (κs : _) (x : _) (a b : _) (e f : _) → times.Po
     (a ≡ b) × ((e .1 .0 .now ≡ f .1 .0 .now) ⊎ BothNamed (x .0 .now) a (e .1 .0 .now) (f .1 .0 .now))
 scatterflock-times-only κs x a b e f h k =
     told-only (x .0 .now) (x .1 .0 .now) a b (e .1 .0 .now) (f .1 .0 .now) h k
+
+pub scatterflock-bundle-read-only : (κs : _) (x : _) (a b : _) (e f : _) →
+    bundle-read.Post κs x a e → bundle-read.Post κs x b f →
+    (a ≡ b) × ((e .1 .0 .now ≡ f .1 .0 .now) × (e .1 .1 .0 .now ≡ f .1 .1 .0 .now))
+scatterflock-bundle-read-only κs x a b e f h k = read-only κs x a b e f h k
+
+pub scatterflock-bundle-write-only : (κs : _) (x : _) (a b : _) (e f : _) →
+    bundle-write.Post κs x a e → bundle-write.Post κs x b f → (a ≡ b) × (e .1 .1 .0 .now ≡ f .1 .1 .0 .now)
+scatterflock-bundle-write-only κs x a b e f h k = write-only κs x a b e f h k
+
+pub scatterflock-day-only : (κs : _) (x : _) (a b : _) (e f : _) → day.Post κs x a e → day.Post κs x b f →
+    (a ≡ b) × (e .1 .0 .now ≡ f .1 .0 .now)
+scatterflock-day-only κs x a b e f h k = (h .0 ∙ sym (k .0), h .1 ∙ sym (k .1))

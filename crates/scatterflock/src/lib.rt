@@ -6,9 +6,16 @@ ghost use Rattle.rules.specs.Answer.{written};
 ghost use Rattle.rules.specs.Evidence.{checked};
 ghost use Rattle.rules.specs.Refusal.{refusal};
 ghost use Rattle.rules.specs.Times.Answer.{Timed};
+ghost use Rattle.rules.specs.Program.Bytes.{wordsFrom};
+ghost use Rattle.rules.specs.Program.Text.{printed};
+ghost use Rattle.rules.specs.Bundle.File.{lengthsLeft, readRefusal, wordsLeft};
+ghost use Rattle.rules.specs.Bundle.Writer.{fileLeft, writerRefusal};
+ghost use Rattle.rules.specs.Bundle.Day.{dayText};
+ghost use Rattle.bundle.specs.Contents.{contentsTold};
 ghost use Rattle.slices.specs.Slices.{GoesOnAs, SliceStanding, StartsAs, begunAt, sliceOutputAt, wentOnAt};
 ghost use Rattle.session.specs.Sessions as sessions;
 ghost use Rattle.session.specs.Sessions.{ChecksAs, OpensAs, SwitchesAs, checkedAt, openedAt, switchedAt};
+use bundle::Contents;
 use session::Checked;
 use session::Opened;
 use session::Session;
@@ -99,4 +106,42 @@ pub extern "C" fn scatterflock_session_check(session: Session, out: &mut [i64]) 
     ensures meaning { λ r. ⌜ ChecksAs session (now (out .entry)) r (now (out .exit)) ⌝ }
 {
     session.check(out)
+}
+
+// Reads a day's file.
+#[no_mangle]
+pub extern "C" fn scatterflock_bundle_read(
+    file: &[u8],
+    lengths: &mut [i32],
+    words: &mut [i32],
+) -> Contents
+    ensures told { λ r. ⌜ r ≡ contentsTold
+        (readRefusal (now (file .entry)) (length (now (lengths .entry))) (length (now (words .entry))))
+        (wordsFrom (now (file .entry))) ⌝ }
+    ensures lengths { λ r. ⌜ now (lengths .exit)
+        ≡ lengthsLeft (r .refused) (wordsFrom (now (file .entry))) (now (lengths .entry)) ⌝ }
+    ensures words { λ r. ⌜ now (words .exit)
+        ≡ wordsLeft (r .refused) (wordsFrom (now (file .entry))) (now (words .entry)) ⌝ }
+{
+    bundle::read(file, lengths, words)
+}
+
+// Writes a day's file.
+#[no_mangle]
+pub extern "C" fn scatterflock_bundle_write(lengths: &[i32], words: &[i32], file: &mut [u8]) -> u32
+    ensures number { λ r. ⌜ r ≡ writerRefusal 1 (now (lengths .entry)) (now (words .entry))
+        (length (now (file .entry))) ⌝ }
+    ensures output { λ r. ⌜ now (file .exit)
+        ≡ fileLeft r 1 (now (lengths .entry)) (now (words .entry)) (now (file .entry)) ⌝ }
+{
+    bundle::write(lengths, words, file)
+}
+
+// Prints a day's file, and answers how long its text is.
+#[no_mangle]
+pub extern "C" fn scatterflock_day(file: &[u8], text: &mut [u8]) -> usize
+    ensures size { λ r. ⌜ r ≡ length (dayText (now (file .entry))) ⌝ }
+    ensures output { λ r. ⌜ now (text .exit) ≡ printed (dayText (now (file .entry))) (now (text .entry)) ⌝ }
+{
+    days::day(file, text)
 }
