@@ -8,7 +8,6 @@ use Rattle.rules.specs.Bundle.File.{lengthsLeft, wordsLeft}
 use Rattle.rules.specs.Bundle.Writer.{fileLeft}
 use Rattle.bundle.proofs.judge.count_of.Reads as count-of
 use Rattle.bundle.proofs.judge.file_refusal.Reads as file-refusal
-use Rattle.bundle.proofs.judge.read_refusal.Reads as read-refusal
 use Rattle.bundle.proofs.read.Reads as read
 use Rattle.bundle.proofs.write.Reads as write
 
@@ -18,10 +17,6 @@ count-of-only κs x a b e h k = h ∙ sym k
 pub file-refusal-only : (κs : _) (x : _) (a b : _) (e f : _) → file-refusal.Post κs x a e →
     file-refusal.Post κs x b f → a ≡ b
 file-refusal-only κs x a b e f h k = h ∙ sym k
-
-pub read-refusal-only : (κs : _) (x : _) (a b : _) (e f : _) → read-refusal.Post κs x a e →
-    read-refusal.Post κs x b f → a ≡ b
-read-refusal-only κs x a b e f h k = h ∙ sym k
 
 pub read-only : (κs : _) (x : _) (a b : _) (e f : _) → read.Post κs x a e → read.Post κs x b f →
     (a ≡ b) × ((e .1 .0 .now ≡ f .1 .0 .now) × (e .1 .1 .0 .now ≡ f .1 .1 .0 .now))

@@ -12,7 +12,7 @@ ghost use Rattle.whole.specs.Numbers.{eqZ, isNeg, outside};
 ghost use Rattle.rules.specs.Sizes.{mostBodies};
 ghost use Rattle.rules.specs.Refusal.{first};
 ghost use Rattle.rules.specs.Program.Bytes.{wordsFrom};
-ghost use Rattle.rules.specs.Bundle.File.{badCount, badTable, badTotal, countIn, fileRefusal, headSize, readRefusal};
+ghost use Rattle.rules.specs.Bundle.File.{badCount, badTable, badTotal, countIn, fileRefusal, headSize};
 
 // The last edition there is.
 const EDITIONS: u32 = 1;
@@ -94,22 +94,4 @@ pub fn file_refusal(file: &[u8]) -> u32
         return 33;
     }
     table_refusal(file, bodies)
-}
-
-// The refusal of a reader that is lent room for so many lengths and so many words, or 0.
-pub fn read_refusal(file: &[u8], sizes: usize, words: usize) -> u32
-    ensures { λ r. ⌜ r ≡ readRefusal (now (file .entry)) sizes words ⌝ }
-{
-    let refused = file_refusal(file);
-    if refused != 0 {
-        return refused;
-    }
-    let bodies = count_of(word_at(file, 4));
-    if sizes < bodies {
-        return 36;
-    }
-    if words < file.len() / 4 - (2 + 2 * bodies) {
-        return 36;
-    }
-    0
 }

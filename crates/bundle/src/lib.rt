@@ -4,7 +4,7 @@ pub mod judge;
 mod writer;
 
 use judge::count_of;
-use judge::read_refusal;
+use judge::file_refusal;
 use wire::word_at;
 use writer::writer_refusal;
 ghost use mathlib.Core.List.{_++_};
@@ -23,6 +23,24 @@ pub struct Contents {
     pub refused: u32,
     pub edition: u32,
     pub bodies: usize,
+}
+
+// The refusal of a reader that is lent room for so many lengths and so many words, or 0.
+fn read_refusal(file: &[u8], sizes: usize, words: usize) -> u32
+    ensures { λ r. ⌜ r ≡ readRefusal (now (file .entry)) sizes words ⌝ }
+{
+    let refused = file_refusal(file);
+    if refused != 0 {
+        return refused;
+    }
+    let bodies = count_of(word_at(file, 4));
+    if sizes < bodies {
+        return 36;
+    }
+    if words < file.len() / 4 - (2 + 2 * bodies) {
+        return 36;
+    }
+    0
 }
 
 // The lengths of the bodies, at the front of `lengths`, whose later words stay.

@@ -1,8 +1,8 @@
 // The text of a day's file: each body as the program `ramp` prints a problem, one behind the other.
 use bundle::judge::count_of;
 use bundle::judge::file_refusal;
-use lines::answer::put_refusal;
 use lines::respond::MOST_TEXT;
+use lines::respond::put_refusal;
 use lines::respond::put_reply;
 use lines::write_text;
 ghost use mathlib.Core.Path.{_≡_};

@@ -4,8 +4,7 @@
 use mathlib.Core.Path.{_≡_}
 use Rattle.put.proofs.Texts.{put-only}
 use Rattle.lines.proofs.Texts.{printed-only}
-use Rattle.lines.proofs.answer.put_answer.Reads as put-answer
-use Rattle.lines.proofs.answer.put_refusal.Reads as put-refusal
+use Rattle.lines.proofs.respond.put_refusal.Reads as put-refusal
 use Rattle.lines.proofs.write_text.Reads as write-text
 use Rattle.lines.proofs.respond.put_reply.Reads as put-reply
 use Rattle.lines.proofs.respond.respond.Reads as respond
@@ -21,10 +20,6 @@ write-text-only κs x a b e f h k = printed-only h k
 pub put-reply-only : (κs : _) (x : _) (a b : _) (e f : _) → put-reply.Post κs x a e → put-reply.Post κs x b f →
     (e .0 .now ≡ f .0 .now) × (a ≡ b)
 put-reply-only κs x a b e f h k = put-only (h .put) (k .put)
-
-pub put-answer-only : (κs : _) (x : _) (a b : _) (e f : _) → put-answer.Post κs x a e → put-answer.Post κs x b f →
-    (e .0 .now ≡ f .0 .now) × (a ≡ b)
-put-answer-only κs x a b e f h k = put-only (h .put) (k .put)
 
 pub put-refusal-only : (κs : _) (x : _) (a b : _) (e f : _) → put-refusal.Post κs x a e → put-refusal.Post κs x b f →
     (e .0 .now ≡ f .0 .now) × (a ≡ b)

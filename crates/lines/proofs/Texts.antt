@@ -63,7 +63,7 @@ module _ {text before : List ℕ} where
   }
 
 -- another name for the text, and another bound
-pub printed-as : {text other before after : List ℕ} {n : ℕ} {r : Written} (most : ℕ) → text ≡ other →
+printed-as : {text other before after : List ℕ} {n : ℕ} {r : Written} (most : ℕ) → text ≡ other →
     length other ≤ most → Printed n text before after r → Printed most other before after r
 printed-as most e h p = record { short = h; answer = rw (← e) (p .answer); bytes = rw (← e) (p .bytes) }
 

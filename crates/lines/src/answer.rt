@@ -1,4 +1,4 @@
-// The whole text of an answer or of a refusal, put at a place of a lent slice. Each function answers the place behind
+// The whole text of an answer, put at a place of a lent slice. Each function answers the place behind
 // what it put.
 use crate::line::put_line;
 use crate::line::put_multipliers;
@@ -8,7 +8,7 @@ ghost use Prim.Native.Nat.{_+_, _*_, _^_, _≤_, _<_};
 ghost use lib.ListN.{length};
 ghost use Rattle.rules.specs.Sizes.{mostVariables, mostPivotsLine, mostValueLine, mostMultiplierLines, mostText};
 ghost use Rattle.rules.specs.Program.Text.{linesBelow, headLines, valueLine, multiplierLines};
-ghost use Rattle.rules.specs.Program.Text.{canText, cannotText, answerText, refusalText};
+ghost use Rattle.rules.specs.Program.Text.{canText, cannotText, answerText};
 ghost use Rattle.put.specs.Put.{PutShort};
 
 // The numerators, by variable.
@@ -89,12 +89,4 @@ pub fn put_answer(out: &mut [u8], at: usize, answer: &[i64], variables: usize) -
         return put_cannot(out, at, answer, variables);
     }
     put_head(out, at, b"range\n", answer)
-}
-
-// The line of a refusal.
-pub fn put_refusal(out: &mut [u8], at: usize, number: u32) -> usize
-    requires { ⌜ at + mostText < 2 ^ 64 ⌝ }
-    ensures { λ r. ⌜ PutShort mostText (now (out .entry)) at (refusalText number) (now (out .exit)) r ⌝ }
-{
-    put_line(out, at, b"refused ", number as i64)
 }

@@ -1,5 +1,5 @@
 // Answers and refusals as text, byte for byte as the program prints them, into a lent slice.
-pub mod answer;
+mod answer;
 mod line;
 pub mod respond;
 

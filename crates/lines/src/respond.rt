@@ -9,12 +9,20 @@ ghost use Rattle.put.specs.Put.{PutShort};
 ghost use Rattle.lines.specs.Printed.{Printed};
 use crate::Written;
 use crate::answer::put_answer;
-use crate::answer::put_refusal;
+use crate::line::put_line;
 use crate::write_text;
 use words::count_at;
 
 // No text of an answer or of a refusal has more bytes.
 pub const MOST_TEXT: usize = 1475;
+
+// The line of a refusal.
+pub fn put_refusal(out: &mut [u8], at: usize, number: u32) -> usize
+    requires { ⌜ at + mostText < 2 ^ 64 ⌝ }
+    ensures { λ r. ⌜ PutShort mostText (now (out .entry)) at (refusalText number) (now (out .exit)) r ⌝ }
+{
+    put_line(out, at, b"refused ", number as i64)
+}
 
 // What the program prints for these words, put at a place. An answer always has room, so the refusal is the problem's
 // own.

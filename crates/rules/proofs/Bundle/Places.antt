@@ -1,7 +1,7 @@
 -- Where the bodies of a file stand, as counts.
 --   countBefore, sum-counts, counts-rise    a sum of numbers that are not negative is a count, and rises
 --   bodies-few, editions-few     what an edition allows is within the sizes; there are few editions
---   edition-own, count-own, bodies-counted, first-own, length-own    words of an accepted file as counts
+--   edition-own, count-own, bodies-counted, first-own    words of an accepted file as counts
 --   place, place-end, place-within                  where body i starts, and that it ends within the file
 use mathlib.Core.List.{List}
 use mathlib.Core.Path.{_≡_, ap, ap₂, refl, sym, _∙_}
@@ -99,6 +99,3 @@ module _ {bs : List ℕ} {ws : List ℤ} (A : FileAccepted bs ws) where
 
   pub first-own : (i : ℕ) → i < k → pairFirst ws i ≡ pos (place i)
   first-own i h = A .starts i h ∙ start-is i (omega arith)
-
-  pub length-own : (i : ℕ) → i < k → pairLength ws i ≡ pos (natAbs (pairLength ws i))
-  length-own i h = own-size 0 (pairLength ws i) (A .lengths i h)

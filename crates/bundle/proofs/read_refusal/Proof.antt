@@ -1,4 +1,4 @@
--- `bundle::judge::read_refusal` meets its contract: the file's own refusal, or the room. Assumes nothing.
+-- `bundle::read_refusal` meets its contract: the file's own refusal, or the room. Assumes nothing.
 use borrow.Author.Needs.{needs}
 use mathlib.Core.List.{List}
 use mathlib.Core.Logic.{inl, inr}
@@ -18,8 +18,8 @@ use Rattle.rules.proofs.Program.Words.{word-from, words-length}
 use Rattle.rules.proofs.Bundle.Exactly.{file-accepted-exactly}
 use Rattle.rules.proofs.Bundle.Places.{bodies-counted}
 use Rattle.bundle.proofs.Files.{read-fine, read-kept, read-short}
-use Rattle.bundle.proofs.judge.read_refusal.Statement.{statement}
-use Rattle.bundle.proofs.judge.read_refusal.Tie as tie
+use Rattle.bundle.proofs.read_refusal.Statement.{statement}
+use Rattle.bundle.proofs.read_refusal.Tie as tie
 
 abbrev file : tie.Start → List ℕ
 file s = s .args .file .now

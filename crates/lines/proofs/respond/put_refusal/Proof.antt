@@ -1,4 +1,4 @@
--- `lines::answer::put_refusal` meets its contract: one line, which is short. Assumes nothing.
+-- `lines::respond::put_refusal` meets its contract: one line, which is short. Assumes nothing.
 use borrow.Author.Needs.{needs}
 use mathlib.Core.Path.{_≡_}
 use Prim.Native.Nat.{ℕ, _≤_}
@@ -12,8 +12,8 @@ use Rattle.rules.specs.Sizes.{mostText}
 use Rattle.rules.specs.Program.Text.{ascii, refusalText}
 use Rattle.rules.proofs.Program.Lengths.{refusal-text-short}
 use Rattle.put.proofs.Texts.{put-length}
-use Rattle.lines.proofs.answer.put_refusal.Statement.{statement}
-use Rattle.lines.proofs.answer.put_refusal.Tie as tie
+use Rattle.lines.proofs.respond.put_refusal.Statement.{statement}
+use Rattle.lines.proofs.respond.put_refusal.Tie as tie
 
 module _ (c : tie.Start) where
   abbrev number : ℕ
