@@ -12,7 +12,9 @@
 //! - `evidence`: answers that are nearly right
 //! - `times`: random time rows, by family
 //! - `sessions`: scripts of switches and checks
+//! - `bundles`: days' files, and calls of their writer
 
+pub mod bundles;
 pub mod damage;
 pub mod division;
 pub mod draft;

@@ -20,9 +20,11 @@
 //! - `idle`: whether a "cannot" names a limit for nothing
 //! - `times`: time rows, and a judge of anybody's answer to them
 //! - `program`: the text that the program prints
+//! - `bundle`: a day's file, read, written and printed
 
 mod actual;
 mod answer;
+mod bundle;
 mod decision;
 mod evidence;
 mod fraction;
@@ -38,6 +40,7 @@ mod times;
 mod wide;
 
 pub use actual::meets;
+pub use bundle::{bundle_read, bundle_write, day, day_text, Contents};
 pub use decision::can_be_met;
 pub use evidence::check;
 pub use idle::{idle, named, Named};

@@ -11,7 +11,17 @@ const MOST_BYTES: usize = 808;
 
 /// Everything that the program prints for these bytes on standard input.
 pub fn respond(input: &[u8]) -> Vec<u8> {
-    let lines = match read(input) {
+    text(read(input))
+}
+
+/// What is printed for a body of a day's file: it is judged by its words, and its
+/// number of bytes is not.
+pub fn body_text(words: &[i32]) -> Vec<u8> {
+    text(Problem::read(words))
+}
+
+fn text(read: Result<Problem, u32>) -> Vec<u8> {
+    let lines = match read {
         Ok(problem) => answer_lines(&run(&problem)),
         Err(refusal) => vec![format!("refused {refusal}")],
     };
