@@ -29,7 +29,8 @@
  *   - the words that may be written do not overlap the words that are read,
  *     and nobody else writes any of them, or reads what may be written, until
  *     the call returns;
- *   - there is room on the stack: 64 KiB is more than any function uses;
+ *   - there is room on the stack: 64 KiB is more than any function uses but
+ *     scatterflock_day, for which 192 KiB is more than it uses;
  *   - the state of a run in slices, and a session, is handed in as it was
  *     handed back.
  *
@@ -69,7 +70,10 @@ enum {
     SCATTERFLOCK_MOST_TIME_WORDS = 1026,
     SCATTERFLOCK_MOST_TIMES = 130,  /* words of an answer to time rows */
     SCATTERFLOCK_SLICE_WORDS = 135, /* of 64 bits, beside the count, in the state of a run */
-    SCATTERFLOCK_SESSION_WORDS = 135 /* of 64 bits, in a session */
+    SCATTERFLOCK_SESSION_WORDS = 135, /* of 64 bits, in a session */
+    SCATTERFLOCK_MOST_BODIES = 64,  /* of a day's file */
+    SCATTERFLOCK_MOST_FILE_WORDS = 16384, /* of a day's file, four bytes each */
+    SCATTERFLOCK_MOST_DAY_TEXT = 94400 /* bytes that are printed for a day's file */
 };
 #define SCATTERFLOCK_LARGEST_SMALL INT64_C(17179869176) /* small part of a numerator */
 
@@ -122,6 +126,13 @@ enum {
     SCATTERFLOCK_TIMES_STRICT = 15,
     SCATTERFLOCK_TIMES_BOUND = 16,
     SCATTERFLOCK_TIMES_SHORT = 17,
+    SCATTERFLOCK_BUNDLE_SIZE = 30,
+    SCATTERFLOCK_BUNDLE_EDITION = 31,
+    SCATTERFLOCK_BUNDLE_BODIES = 32,
+    SCATTERFLOCK_BUNDLE_TABLE = 33,
+    SCATTERFLOCK_BUNDLE_PAIR = 34,
+    SCATTERFLOCK_BUNDLE_TOTAL = 35,
+    SCATTERFLOCK_BUNDLE_SHORT = 36,
     SCATTERFLOCK_SWITCH_NO_VARIABLE = 41,
     SCATTERFLOCK_SWITCH_NO_LIMIT = 42,
     SCATTERFLOCK_SWITCH_ALREADY_ON = 43,
@@ -333,6 +344,76 @@ struct scatterflock_switched scatterflock_session_switch(struct scatterflock_ses
  */
 struct scatterflock_checked scatterflock_session_check(struct scatterflock_session session,
                                                        int64_t *out, size_t out_count);
+
+/*
+ * A day's file is bytes: words of 32 bits, signed, the lowest byte first. Word
+ * 0 is its edition, which is 1, word 1 is k, how many bodies it has, from 0 to
+ * 64. Then come k pairs of words, for each body where it starts and how many
+ * words it has, and then the bodies in that order: the first at word 2 + 2 k,
+ * each other one right behind the one before it, and nothing behind the last.
+ * A body is the words of a limit problem, or any others: reader and writer do
+ * not judge it.
+ */
+
+/* What scatterflock_bundle_read tells of a file. */
+struct scatterflock_contents {
+    uint32_t refused;
+    uint32_t edition; /* 0 where it is refused */
+    size_t bodies;    /* 0 where it is refused */
+};
+
+/*
+ * Reads a day's file of file_count bytes.
+ *
+ * In refused is 0, or the first of these that applies, each asked of the whole
+ * file before the next: 30 file_count is no multiple of 4, is below 8 or is
+ * above 65,536; 31 word 0 is not 1; 32 word 1, k, is not from 0 to 64; 33 there
+ * are fewer than 2 + 2 k words; 34 some length is negative, or some body does
+ * not start where the one before it ends, the first at 2 + 2 k, in whole numbers
+ * that do not wrap; 35 the last body does not end where the file does; 36
+ * length_room is below k, or word_room is below the words of all bodies.
+ *
+ * Where it is 0, the first k words of lengths are the lengths of the bodies, the
+ * first words of words are those of all bodies, one body behind the other, and
+ * words past these keep what they had. Else both keep every word.
+ *
+ * scatterflock_bundle_write makes the same bytes of what was read.
+ */
+struct scatterflock_contents scatterflock_bundle_read(const uint8_t *file, size_t file_count,
+                                                      int32_t *lengths, size_t length_room,
+                                                      int32_t *words, size_t word_room);
+
+/*
+ * Writes a day's file of edition 1, of so many bodies: lengths has their
+ * lengths, and words the words of all of them, one body behind the other.
+ *
+ * Returns 0 when it is written: 4 (2 + 2 bodies + word_count) bytes at the
+ * start of file. Bytes past those keep what they had. Else it returns the first
+ * of these that applies, and file keeps every byte: 32 bodies is above 64; 34
+ * some length is negative; 35 the lengths do not add up to word_count; 30 the
+ * file would have more than 16,384 words; 36 file_room, which counts bytes, is
+ * too short for it.
+ *
+ * scatterflock_bundle_read gives the same lengths and words of what was
+ * written.
+ */
+uint32_t scatterflock_bundle_write(const int32_t *lengths, size_t bodies,
+                                   const int32_t *words, size_t word_count,
+                                   uint8_t *file, size_t file_room);
+
+/*
+ * Prints a day's file of file_count bytes: for each body, in their order, what
+ * the program ramp prints for it, and nothing between them. A body is judged as
+ * scatterflock_solve judges words, and one that is refused has its line as the
+ * others have theirs. For a file that scatterflock_bundle_read would refuse with
+ * 30 to 35 it is one line, "refused 30" and so on.
+ *
+ * Returns how many bytes the text has, which is at most 94,400. Where text_room
+ * is at least that, the text stands at the start of text, and bytes past it keep
+ * what they had; no byte with 0 is put behind it. Else text keeps every byte.
+ */
+size_t scatterflock_day(const uint8_t *file, size_t file_count,
+                        uint8_t *text, size_t text_room);
 
 #ifdef __cplusplus
 }

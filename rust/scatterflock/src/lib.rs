@@ -54,8 +54,9 @@
 //! - [`Slice`]: a run that is made some pivots at a time
 //! - [`Session`]: limits that are switched on and off, and checked again
 //! - [`TimeRows`], [`times()`]: time rows
-//! - [`Refusal`], [`TimesRefusal`], [`SwitchRefusal`]: why words or switches
-//!   are refused
+//! - [`Bundle`], [`day()`]: a day's problems in one file
+//! - [`Refusal`], [`TimesRefusal`], [`SwitchRefusal`], [`BundleRefusal`]: why
+//!   words, switches or files are refused
 //! - [`sizes`]: how large everything may be
 //! - [`raw`]: the archive's functions as they are, over lent words
 //!
@@ -64,6 +65,8 @@
 
 mod answer;
 mod build_error;
+mod bundle;
+mod bundle_refusal;
 mod fractions;
 mod problem;
 pub mod raw;
@@ -76,6 +79,8 @@ mod times;
 
 pub use answer::{check, solve, Answer, Judgement, Verdict};
 pub use build_error::BuildError;
+pub use bundle::{day, Bundle};
+pub use bundle_refusal::BundleRefusal;
 pub use fractions::Fractions;
 pub use problem::{Limit, Problem, Side};
 pub use refusal::{Refusal, SwitchRefusal, TimesRefusal};

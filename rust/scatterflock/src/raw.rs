@@ -1,6 +1,10 @@
 //! The archive's functions over lent words, with the numbers that they return.
 //! Nothing is allocated.
 
+mod bundle;
+
+pub use bundle::{bundle_read, bundle_write, day, Contents};
+
 mod archive {
     use super::{Begun, Checked, Continued, Opened, Session, Slice, Switched};
 

@@ -25,3 +25,9 @@ pub const MOST_TIME_ROWS: usize = 256;
 pub const LARGEST_LENGTH: i32 = 30_000;
 /// The most words of an answer to time rows.
 pub const MOST_TIMES: usize = 2 + 2 * MOST_VERTICES;
+/// The most bodies of a day's file.
+pub const MOST_BODIES: usize = 64;
+/// The most words of a day's file; each has four bytes.
+pub const MOST_FILE_WORDS: usize = 16_384;
+/// The most bytes of the text of a day: 1,475 for each body.
+pub const MOST_DAY_TEXT: usize = MOST_BODIES * 1_475;

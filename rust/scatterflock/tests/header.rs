@@ -1,9 +1,10 @@
-//! include/scatterflock.h, compiled as C and as C++: `header.c` calls the
-//! archive through it and compares what it gives, and `examples/planner.c` is
-//! run. Where the machine is not x86-64 that is done twice: with the archive
-//! that is linked here, and with the code for x86-64 under an emulator.
+//! include/scatterflock.h, compiled as C and as C++: `header.c` and `bundle.c`
+//! call the archive through it and compare what it gives, and
+//! `examples/planner.c` is run. Where the machine is not x86-64 that is done
+//! twice: with the archive that is linked here, and with the code for x86-64
+//! under an emulator.
 
-use scatterflock::{raw, sizes, Refusal, SwitchRefusal, TimesRefusal};
+use scatterflock::{raw, sizes, BundleRefusal, Refusal, SwitchRefusal, TimesRefusal};
 use std::collections::BTreeMap;
 use std::fs;
 use std::path::{Path, PathBuf};
@@ -68,6 +69,10 @@ fn the_names_of_the_header_are_those_of_the_crate() {
         let name = format!("SWITCH_{}", camel(format!("{refusal:?}")));
         assert_eq!(named[&name[..]], refusal.number());
     }
+    for refusal in BundleRefusal::ALL {
+        let name = format!("BUNDLE_{}", camel(format!("{refusal:?}")));
+        assert_eq!(named[&name[..]], refusal.number());
+    }
     for (name, size) in [
         ("MOST_VARIABLES", sizes::MOST_VARIABLES),
         ("MOST_ROWS", sizes::MOST_ROWS),
@@ -83,6 +88,9 @@ fn the_names_of_the_header_are_those_of_the_crate() {
         ("MOST_TIMES", sizes::MOST_TIMES),
         ("SLICE_WORDS", size_of::<raw::Slice>() / 8 - 1),
         ("SESSION_WORDS", size_of::<raw::Session>() / 8),
+        ("MOST_BODIES", sizes::MOST_BODIES),
+        ("MOST_FILE_WORDS", sizes::MOST_FILE_WORDS),
+        ("MOST_DAY_TEXT", sizes::MOST_DAY_TEXT),
     ] {
         assert_eq!(named[name] as usize, size, "{name}");
     }
@@ -121,6 +129,8 @@ fn calls_through(compiler: &str, language: &str, standard: &str) {
         let standard = format!("-std={standard}");
         let name = format!("header-{language}");
         machine.runs(compiler, &["-x", language, &standard], "tests/header.c", &name);
+        let name = format!("bundle-{language}");
+        machine.runs(compiler, &["-x", language, &standard], "tests/bundle.c", &name);
     }
 }
 

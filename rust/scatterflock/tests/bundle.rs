@@ -1,0 +1,91 @@
+//! The typed face of a day's file: every refusal, every text, both round trips.
+
+use problems::bundles::{bytes, file, file_words, ten_bodies, Family};
+use problems::random::{seed, Random};
+use scatterflock::sizes::{MOST_BODIES, MOST_DAY_TEXT, MOST_FILE_WORDS};
+use scatterflock::{day, raw, solve, Bundle, BundleRefusal, Problem, Refusal};
+
+fn refusal(words: &[i32]) -> Option<BundleRefusal> {
+    Bundle::read(&bytes(words)).err()
+}
+
+#[test]
+fn ten_bodies_and_back() {
+    let bodies = ten_bodies();
+    let bundle = Bundle::of(&bodies).unwrap();
+    assert_eq!(bundle.write(), file(&bodies));
+    let read = Bundle::read(&file(&bodies)).unwrap();
+    assert_eq!(read, bundle);
+    assert_eq!(read.edition(), 1);
+    assert!(read.bodies().eq(bodies.iter().map(Vec::as_slice)));
+    let refused: Vec<Option<Refusal>> = read.problems().map(Result::err).collect();
+    let [few, length, coefficient] = [Refusal::FewWords, Refusal::Length, Refusal::Coefficient];
+    let mut expected = [None; 10];
+    expected[2..5].copy_from_slice(&[Some(few), Some(few), Some(length)]);
+    expected[7] = Some(coefficient);
+    assert_eq!(refused[..], expected);
+    let problem = read.problems().next().unwrap().unwrap();
+    assert_eq!(problem, Problem::from_words(&bodies[0]).unwrap());
+}
+
+#[test]
+fn every_refusal() {
+    use BundleRefusal::{Bodies, Edition, Pair, Size, Table, Total};
+    assert_eq!(Bundle::read(&[1, 0, 0]).err(), Some(Size));
+    assert_eq!(Bundle::read(&vec![0; 4 * MOST_FILE_WORDS + 4]).err(), Some(Size));
+    assert_eq!(refusal(&[0, 0]), Some(Edition));
+    assert_eq!(refusal(&[1, 65]), Some(Bodies));
+    assert_eq!(refusal(&[1, 1, 4]), Some(Table));
+    assert_eq!(refusal(&[1, 1, 4, -1]), Some(Pair));
+    assert_eq!(refusal(&[1, 0, 0]), Some(Total));
+    let none: &[i32] = &[];
+    assert!(Bundle::of(&[none; MOST_BODIES]).is_ok());
+    assert_eq!(Bundle::of(&[none; MOST_BODIES + 1]), Err(Bodies));
+    assert!(Bundle::of(&[vec![0; MOST_FILE_WORDS - 4]]).is_ok());
+    assert_eq!(Bundle::of(&[vec![0; MOST_FILE_WORDS - 3]]), Err(Size));
+    assert_eq!(Bundle::of(&[vec![0; 5 * MOST_FILE_WORDS]]), Err(Size));
+    let short = raw::bundle_write(&[], &[], &mut [0; 7]);
+    assert_eq!(BundleRefusal::try_from(short), Ok(BundleRefusal::Short));
+}
+
+#[test]
+fn numbers_and_texts_of_refusals() {
+    let numbers: Vec<u32> = BundleRefusal::ALL.iter().map(|refusal| refusal.number()).collect();
+    assert_eq!(numbers, [30, 31, 32, 33, 34, 35, 36]);
+    for &refusal in BundleRefusal::ALL {
+        assert_eq!(BundleRefusal::try_from(refusal.number()), Ok(refusal));
+        assert!(refusal.to_string().starts_with(|c: char| c.is_lowercase()));
+    }
+    assert_eq!(BundleRefusal::try_from(37), Err(37));
+}
+
+#[test]
+fn a_day_of_the_most_bodies() {
+    assert_eq!(Bundle::of::<Vec<i32>>(&[]).unwrap().day(), "");
+    assert_eq!(day(&[]), "refused 30\n");
+    let full = [&[1, 0, 3, 7, 7], &[0; 0][..]].concat();
+    let bundle = Bundle::of(&vec![full; MOST_BODIES]).unwrap();
+    assert_eq!(bundle.day(), "can\npivots 0\nover 1\n0 7\n".repeat(MOST_BODIES));
+    assert_eq!(MOST_DAY_TEXT, 94_400);
+}
+
+#[test]
+fn random_files() {
+    let seed = seed();
+    println!("SEED={seed}");
+    let mut accepted = 0;
+    for number in 0..2_000 {
+        let mut random = Random::of_problem(seed, number);
+        let file = random.pick(&Family::ALL).file(&mut random);
+        let Ok(bundle) = Bundle::read(&file) else { continue };
+        assert_eq!(bundle.write(), file, "SEED={seed}, {number}");
+        let bodies: Vec<Vec<i32>> = bundle.bodies().map(<[i32]>::to_vec).collect();
+        assert_eq!(bytes(&file_words(&bodies)), file, "SEED={seed}, {number}");
+        assert_eq!(Bundle::of(&bodies), Ok(bundle.clone()), "SEED={seed}, {number}");
+        for (body, problem) in bodies.iter().zip(bundle.problems()) {
+            assert_eq!(problem.err(), solve(body).err(), "SEED={seed}, {number}");
+        }
+        accepted += 1;
+    }
+    assert!(accepted > 600, "{accepted}, SEED={seed}");
+}
