@@ -12,14 +12,14 @@
  * come those words. The reply is four numbers of 64 bits: what the function
  * returned, and of slices and sessions whether it answered, the number of the
  * one that came back and its count; and then all words of the output. Numbers
- * are little-endian, as the machine's own.
+ * are little-endian, as the machine's own. Requests with 8 to 10 are bundle.c's.
  *
  * Slices and sessions are kept here, the last so many of them.
  *
  * Both slices lie between guard words. A function that changes a guard, or a
  * word that it was lent to read, ends the program with a message.
  */
-#include "../../include/scatterflock.h"
+#include "served.h"
 
 #include <stdio.h>
 #include <stdlib.h>
@@ -42,19 +42,19 @@ static uint64_t slices;
 static struct scatterflock_session sessions_kept[SESSIONS_KEPT];
 static uint64_t sessions;
 
-static void stop(const char *what)
+void stop(const char *what)
 {
     fprintf(stderr, "served: %s\n", what);
     exit(1);
 }
 
-static void take(void *to, size_t size)
+void take(void *to, size_t size)
 {
     if (size != 0 && fread(to, size, 1, stdin) != 1)
         stop("a request ends early");
 }
 
-static void give(const void *from, size_t size)
+void give(const void *from, size_t size)
 {
     if (size != 0 && fwrite(from, size, 1, stdout) != 1)
         stop("a reply cannot be written");
@@ -168,6 +168,12 @@ int main(void)
     while (fread(request, sizeof request, 1, stdin) == 1) {
         uint64_t reply[4] = { 0 }, word_count = request[1], out_count = request[2];
 
+        if (request[0] >= 8 && request[0] <= 10) {
+            serve_bundle(request);
+            if (fflush(stdout) != 0)
+                stop("a reply cannot be written");
+            continue;
+        }
         if (word_count > MOST_WORDS || out_count > MOST_WORDS)
             stop("a request is too long");
         put_guards(word_count, out_count);

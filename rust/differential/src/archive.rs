@@ -6,6 +6,7 @@ use scatterflock::raw;
 #[cfg(feature = "served")]
 use served as raw;
 
+pub use raw::{bundle_read, bundle_write, day, Contents};
 pub use raw::{check, solve, times};
 pub use raw::{session_check, session_open, session_switch, Session};
 pub use raw::{slice_continue, slice_start, Slice};

@@ -41,3 +41,39 @@ pub fn length(random: &mut Random, needed: usize) -> usize {
         _ => needed + random.size(1, 9),
     }
 }
+
+/// A list with guards on both sides, to be lent.
+pub struct Lent<T> {
+    all: Vec<T>,
+    guard: T,
+}
+
+impl<T: Copy + PartialEq> Lent<T> {
+    /// The list as it is before it is lent.
+    pub fn new(list: &[T], guard: T) -> Lent<T> {
+        let guards = [guard; GUARD];
+        Lent { all: [&guards, list, &guards].concat(), guard }
+    }
+
+    /// The list, to be read.
+    pub fn lent(&self) -> &[T] {
+        &self.all[GUARD..self.all.len() - GUARD]
+    }
+
+    /// The list, to be written.
+    pub fn lent_mut(&mut self) -> &mut [T] {
+        let end = self.all.len() - GUARD;
+        &mut self.all[GUARD..end]
+    }
+
+    /// The list afterwards. An error says that something beside it was written.
+    pub fn back(self) -> Result<Vec<T>, &'static str> {
+        let list = self.lent().to_vec();
+        let (first, rest) = self.all.split_at(GUARD);
+        let last = &rest[rest.len() - GUARD..];
+        if first.iter().chain(last).any(|&guard| guard != self.guard) {
+            return Err("something beside a list that was lent has changed");
+        }
+        Ok(list)
+    }
+}

@@ -1,5 +1,5 @@
-//! The archive against `reference`: solver, checker, slices, sessions and time
-//! rows, on random problems of every family, every word compared.
+//! The archive against `reference`: solver, checker, slices, sessions, time rows
+//! and days' files, on random problems of every family, every word compared.
 //!
 //! - [`archive`]: the archive's functions, linked or served
 //! - `lent`: lends an output with guards around it and looks at all of it
@@ -8,9 +8,11 @@
 //! - `slices`: one limit problem through a start and continues
 //! - `sessions`: one limit problem through a script of switches and checks
 //! - `times`: time rows through the time solver
+//! - `bundles`: a day's file through its reader, its writer and its text
 //! - `report`: many of them, counted
 
 pub mod archive;
+pub mod bundles;
 mod lent;
 pub mod limits;
 pub mod report;

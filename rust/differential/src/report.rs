@@ -1,6 +1,6 @@
 //! Many problems, counted.
 
-use crate::{limits, sessions, slices, times};
+use crate::{bundles, limits, sessions, slices, times};
 use problems::random::Random;
 use std::collections::BTreeMap;
 use std::fmt;
@@ -12,8 +12,8 @@ pub struct Report {
     pub problems: u64,
     /// By verdict or refusal.
     pub outcomes: BTreeMap<String, u64>,
-    /// By what further calls returned: the checker, continues, or switches and
-    /// checks of sessions.
+    /// By what further calls returned: the checker, continues, switches and checks
+    /// of sessions, or the writer of a day's file.
     pub calls: BTreeMap<u32, u64>,
     /// How many answers have small parts.
     pub with_small: u64,
@@ -73,6 +73,25 @@ pub fn times(seed: u64, problems: u64) -> Result<Report, String> {
         let outcome = times::compare(&mut Random::of_problem(seed, problem), family)
             .map_err(|what| format!("SEED={seed}, problem {problem}, {family:?}: {what}"))?;
         report.count(outcome.number, ["", "times", "cycle", ""], outcome.verdict);
+    }
+    Ok(report)
+}
+
+/// Compares so many days' files and calls of their writer, the families in turn.
+/// What is counted is each file that is read, each refused one, each body, and
+/// each body with the line of a refusal.
+pub fn bundles(seed: u64, files: u64) -> Result<Report, String> {
+    let mut report = Report::default();
+    for file in 0..files {
+        let family = in_turn(&problems::bundles::Family::ALL, file);
+        let outcome = bundles::compare(&mut Random::of_problem(seed, file), family)
+            .map_err(|what| format!("SEED={seed}, file {file}, {family:?}: {what}"))?;
+        report.count(outcome.number, ["read", "", "", ""], 0);
+        if outcome.number == 0 {
+            report.count_outcome("bodies", outcome.bodies as u64);
+            report.count_outcome("refused bodies", outcome.refused as u64);
+        }
+        report.count_calls(&outcome.writes);
     }
     Ok(report)
 }

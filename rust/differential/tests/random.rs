@@ -1,6 +1,6 @@
-//! Random problems, with a seed that is printed and can be given again: 420,000
-//! and 10,000 sessions a run where the archive is linked, 85,000 and 2,000 under
-//! an emulator.
+//! Random problems, with a seed that is printed and can be given again: 420,000,
+//! 10,000 sessions and 7,000 days' files a run where the archive is linked, 85,000,
+//! 2,000 and 1,400 under an emulator.
 
 use differential::archive::LINKED;
 use differential::report;
@@ -10,6 +10,7 @@ const LIMIT_PROBLEMS: u64 = if LINKED { 300_000 } else { 60_000 };
 const SLICED_PROBLEMS: u64 = if LINKED { 60_000 } else { 10_000 };
 const SESSIONS: u64 = if LINKED { 10_000 } else { 2_000 };
 const TIME_PROBLEMS: u64 = if LINKED { 60_000 } else { 15_000 };
+const FILES: u64 = if LINKED { 7_000 } else { 1_400 };
 
 #[test]
 fn limit_problems() {
@@ -88,5 +89,37 @@ fn time_rows() {
     for number in 11..=17 {
         let refused = report.of(&format!("refused {number}"));
         assert!(refused > TIME_PROBLEMS / 1_000, "{number}, SEED={seed}");
+    }
+}
+
+/// A least share is four standard deviations below what is expected, or lower.
+#[test]
+fn days() {
+    let seed = seed();
+    println!("SEED={seed}");
+    let report = report::bundles(seed, FILES).unwrap_or_else(|what| panic!("{what}"));
+    println!("{report}");
+    for (outcome, least) in [
+        ("read", FILES / 3),
+        ("refused 30", FILES / 13),
+        ("refused 31", FILES / 60),
+        ("refused 32", FILES / 75),
+        ("refused 33", FILES / 200),
+        ("refused 34", FILES / 6),
+        ("refused 35", FILES / 10),
+        ("bodies", 8 * FILES),
+        ("refused bodies", 3 * FILES),
+    ] {
+        assert!(report.of(outcome) > least, "{outcome}, SEED={seed}");
+    }
+    for (number, least) in [
+        (0, FILES / 2),
+        (30, FILES / 40),
+        (32, FILES / 20),
+        (34, FILES / 20),
+        (35, FILES / 8),
+        (36, FILES / 3),
+    ] {
+        assert!(report.calls[&number] > least, "the writer's {number}, SEED={seed}");
     }
 }

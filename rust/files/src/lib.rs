@@ -3,10 +3,14 @@
 //! - `shown`: the example problems, `problems/*.words` and the same as text
 //! - `vectors`: what the test program `vectors` is asked, on its standard
 //!   input, and what `reference` answers, in its file `stdout`
+//!
+//! And the day's file of docs/formats/bundle.md, which the program `day` is run
+//! on, with what `reference` prints for it.
 
 pub mod shown;
 pub mod vectors;
 
+use problems::bundles::{file, ten_bodies};
 use std::path::PathBuf;
 
 /// A file and what stands in it.
@@ -47,5 +51,9 @@ pub fn made() -> Vec<Made> {
         path: "crates/vectors/stdout".to_string(),
         bytes: vectors::answered(&vectors).into_bytes(),
     });
+    let day = file(&ten_bodies());
+    let printed = reference::day_text(&day);
+    made.push(Made { path: "crates/day/stdin".to_string(), bytes: day });
+    made.push(Made { path: "crates/day/stdout".to_string(), bytes: printed });
     made
 }

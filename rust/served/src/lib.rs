@@ -5,6 +5,10 @@
 //!
 //! The functions are those of `scatterflock::raw`.
 
+mod bundle;
+
+pub use bundle::{bundle_read, bundle_write, day, Contents};
+
 use std::cell::RefCell;
 use std::io::{Read, Result, Write};
 use std::process::{Child, ChildStdin, ChildStdout, Command, Stdio};
@@ -166,8 +170,12 @@ fn ask(function: Function, words: &[i32], out: &mut [i64]) -> u32 {
 }
 
 fn reply(function: Function, words: &[i32], out: &mut [i64], more: [u64; 4]) -> Reply {
+    with_server(|server| server.ask(function, words, out, more))
+}
+
+fn with_server<T>(asked: impl FnOnce(&mut Server) -> Result<T>) -> T {
     SERVER.with_borrow_mut(|server| {
-        server.ask(function, words, out, more).unwrap_or_else(|error| {
+        asked(server).unwrap_or_else(|error| {
             panic!("the archive's program has ended: {error}; its message stands above")
         })
     })
@@ -207,6 +215,12 @@ impl Server {
         Server { child, requests, replies }
     }
 
+    /// Sends a request and reads what comes back into `reply`.
+    fn send(&mut self, request: &[u8], reply: &mut [u8]) -> Result<()> {
+        self.requests.as_mut().expect("it is piped").write_all(request)?;
+        self.replies.read_exact(reply)
+    }
+
     fn ask(
         &mut self,
         function: Function,
@@ -219,10 +233,8 @@ impl Server {
         request.extend(head.iter().chain(&more).flat_map(|number| number.to_le_bytes()));
         request.extend(words.iter().flat_map(|word| word.to_le_bytes()));
         request.extend(out.iter().flat_map(|word| word.to_le_bytes()));
-        self.requests.as_mut().expect("it is piped").write_all(&request)?;
-
         let mut reply = vec![0; 32 + 8 * out.len()];
-        self.replies.read_exact(&mut reply)?;
+        self.send(&request, &mut reply)?;
         let mut numbers = reply
             .chunks_exact(8)
             .map(|bytes| i64::from_le_bytes(bytes.try_into().expect("a chunk has eight bytes")));
