@@ -62,7 +62,8 @@ pub fn any_text(file: &OsStr, stdin: &mut dyn Read) -> Result<(String, String), 
     Ok((name, text))
 }
 
-fn bytes(file: &OsStr, stdin: &mut dyn Read) -> Result<(String, Vec<u8>), Failure> {
+/// The name of a file, to tell, and its bytes.
+pub fn bytes(file: &OsStr, stdin: &mut dyn Read) -> Result<(String, Vec<u8>), Failure> {
     let mut bytes = Vec::new();
     let is_stdin = file == "-";
     let name = if is_stdin { "standard input".into() } else { file.to_string_lossy().into_owned() };

@@ -12,9 +12,11 @@
 //!   fault
 //! - `page`, `digest`: an answer as a page of HTML, and the digest that it has
 //! - `solve`, `check`, `times`, `words`, `edit`: what the command does
+//! - `day`, `pack`: the same of days' files
 
 mod check;
 mod clash;
+mod day;
 mod digest;
 mod edit;
 mod excerpt;
@@ -23,6 +25,7 @@ mod input;
 mod json;
 mod options;
 mod own;
+mod pack;
 mod page;
 mod problem;
 mod solve;
@@ -108,6 +111,9 @@ pub fn run_writing(words: &[OsString], stdin: &mut dyn Read, out: &mut dyn Write
         Action::Times(file) => times::run(file, &options, stdin),
         Action::Words(file) => words::run(file, &options, stdin),
         Action::Edit(file) => edit::run(file, &mut BufReader::new(stdin), out),
+        Action::Day(file) => day::run(file, &options, stdin),
+        Action::Pack(file, files) => pack::pack(file, files, stdin),
+        Action::Unpack(file, folder) => pack::unpack(file, folder, &options, stdin),
     };
     done.unwrap_or_else(|failure| failure.told(options.json))
 }

@@ -8,12 +8,18 @@ usage: scatterflock [--json | --page | --words] solve [--each] FILE
        scatterflock [--json | --page] times FILE
        scatterflock words [--times] [--bytes] FILE
        scatterflock edit FILE
+       scatterflock [--json | --bare] day DAY
+       scatterflock pack DAY FILE..
+       scatterflock unpack [--bytes] DAY FOLDER
 
   solve   can all limits of FILE be met at once? With values, or with the limits that clash
   check   is ANSWER right for the limits of FILE? Asks the proved checker
   times   can all time rows of FILE be met? With times, or with the rows that go round
   words   a text as words, or words as a text
   edit    limits of FILE switched off and on, with an answer each time: off 4, on 4, back, list, why
+  day     the answers to all bodies of DAY, a day's file: limits of many files in one
+  pack    writes DAY, with a body for each FILE; a text's names are lost
+  unpack  writes each body of DAY into FOLDER: body-00.txt and so on, or .words where it is refused
 
   --json    the answer as one line of JSON
   --page    the answer as a page of HTML, with pictures, to look at or to print
@@ -21,6 +27,7 @@ usage: scatterflock [--json | --page | --words] solve [--each] FILE
   --each    for each limit of a clash, what the others come to without it
   --times   the words of FILE are time rows, not limits
   --bytes   words as bytes, four each, as a file .words has them
+  --bare    the proved text of a day as it is
 
 A FILE is a text that declares its names and has one limit a line,
 
@@ -38,7 +45,7 @@ or, of time rows,
 or a file .words, or a text of bare numbers; - is standard input.
 
 Status: 0 can, or accepted; 1 cannot, or not accepted; 2 out of range; 3 refused; 4 a bad text or
-command; 5 a file cannot be read, or the output not be written.
+command; 5 a file cannot be read, or the output not be written. Of day the greatest of its bodies'.
 ";
 
 #[derive(Debug, PartialEq, Eq)]
@@ -50,6 +57,9 @@ pub enum Action {
     Times(OsString),
     Words(OsString),
     Edit(OsString),
+    Day(OsString),
+    Pack(OsString, Vec<OsString>),
+    Unpack(OsString, OsString),
 }
 
 #[derive(Debug, PartialEq, Eq)]
@@ -61,11 +71,21 @@ pub struct Options {
     pub each: bool,
     pub times: bool,
     pub bytes: bool,
+    pub bare: bool,
 }
 
-const COMMANDS: [&str; 5] = ["solve", "check", "times", "words", "edit"];
-const OPTIONS: [&str; 8] =
-    ["--json", "--page", "--words", "--each", "--times", "--bytes", "--help", "--version"];
+const COMMANDS: [&str; 8] = ["solve", "check", "times", "words", "edit", "day", "pack", "unpack"];
+const OPTIONS: [&str; 9] = [
+    "--json",
+    "--page",
+    "--words",
+    "--each",
+    "--times",
+    "--bytes",
+    "--bare",
+    "--help",
+    "--version",
+];
 
 /// The question whether another word was meant.
 fn near(word: &str, among: &[&'static str]) -> String {
@@ -75,7 +95,8 @@ fn near(word: &str, among: &[&'static str]) -> String {
 
 impl Options {
     pub fn read(words: &[OsString]) -> Result<Options, String> {
-        let [mut json, mut page, mut words_too, mut each, mut times, mut bytes] = [false; 6];
+        let [mut json, mut page, mut words_too, mut each] = [false; 4];
+        let [mut times, mut bytes, mut bare] = [false; 3];
         let mut is_over = false;
         let mut files = Vec::new();
         let mut asked = None;
@@ -90,6 +111,7 @@ impl Options {
                 Some("--each") if !is_over => each = true,
                 Some("--times") if !is_over => times = true,
                 Some("--bytes") if !is_over => bytes = true,
+                Some("--bare") if !is_over => bare = true,
                 Some(option) if !is_over && option.starts_with('-') && option != "-" => {
                     return Err(format!("there is no option {option}{}", near(option, &OPTIONS)));
                 }
@@ -97,7 +119,7 @@ impl Options {
             }
         }
         if let Some(action) = asked {
-            return Ok(Options { action, json, page, words: words_too, each, times, bytes });
+            return Ok(Options { action, json, page, words: words_too, each, times, bytes, bare });
         }
         if files.is_empty() {
             return Err("there is no command".to_string());
@@ -113,12 +135,21 @@ impl Options {
                 )
             }
             ("edit", Ok([file])) => Action::Edit(file),
+            ("day", Ok([file])) => Action::Day(file),
             ("check", Err(files)) if files.len() == 2 => {
                 Action::Check(files[0].clone(), files[1].clone())
             }
-            ("solve" | "times" | "words" | "edit", _) => {
+            ("unpack", Err(files)) if files.len() == 2 => {
+                Action::Unpack(files[0].clone(), files[1].clone())
+            }
+            ("pack", Err(files)) if files.len() >= 2 => {
+                Action::Pack(files[0].clone(), files[1..].to_vec())
+            }
+            ("solve" | "times" | "words" | "edit" | "day", _) => {
                 return Err(format!("{name} takes one file"))
             }
+            ("pack", _) => return Err("pack takes the file to write, and then files".to_string()),
+            ("unpack", _) => return Err("unpack takes a file and a folder".to_string()),
             ("check", _) => return Err("check takes two files".to_string()),
             ("help", _) => Action::Help,
             _ => return Err(format!("there is no command {name}{}", near(&name, &COMMANDS))),
@@ -135,8 +166,17 @@ impl Options {
         if each && !matches!(action, Action::Solve(_)) {
             return Err("--each is an option of solve".to_string());
         }
-        if (times || bytes) && !matches!(action, Action::Words(_)) {
-            return Err("--times and --bytes are options of words".to_string());
+        let is_words = matches!(action, Action::Words(_));
+        if (times || bytes) && !is_words && (times || !matches!(action, Action::Unpack(..))) {
+            return Err(
+                "--times and --bytes are options of words, --bytes of unpack too".to_string()
+            );
+        }
+        if bare && (json || !matches!(action, Action::Day(_))) {
+            return Err("--bare is an option of day, and not beside --json".to_string());
+        }
+        if json && matches!(action, Action::Pack(..) | Action::Unpack(..)) {
+            return Err("--json is no option of pack and unpack".to_string());
         }
         if json && matches!(action, Action::Words(_)) {
             return Err("--json is no option of words".to_string());
@@ -147,6 +187,10 @@ impl Options {
         if matches!(&action, Action::Check(a, b) if a == "-" && b == "-") {
             return Err("one of the two files can be standard input, not both".to_string());
         }
-        Ok(Options { action, json, page, words: words_too, each, times, bytes })
+        let is_stdin = |file: &&OsString| *file == "-";
+        if matches!(&action, Action::Pack(_, files) if files.iter().filter(is_stdin).count() > 1) {
+            return Err("one of the files can be standard input, not more".to_string());
+        }
+        Ok(Options { action, json, page, words: words_too, each, times, bytes, bare })
     }
 }

@@ -6,6 +6,7 @@ mod as_text;
 
 use crate::clash::{self, Counted};
 use crate::fraction::Fraction;
+use crate::input::Input;
 use crate::options::Options;
 use crate::problem::{all_limits, problem, refused_words, Values};
 use crate::{input, own, Ended, Failure, CAN, CANNOT, RANGE};
@@ -15,7 +16,11 @@ use std::io::Read;
 use text::limits::{Limits, Side};
 
 pub fn run(file: &OsStr, options: &Options, stdin: &mut dyn Read) -> Result<Ended, Failure> {
-    let input = input::problem(file, stdin)?;
+    answer(input::problem(file, stdin)?, options)
+}
+
+/// The answer to what a file holds.
+pub fn answer(input: Input, options: &Options) -> Result<Ended, Failure> {
     let (text, digest) = (input.text(), input.digest.clone());
     let (file, problem) = problem(input)?;
     let answer = solved(&problem)?;
