@@ -9,11 +9,12 @@
 //! not. The checker is measured on the answers of the first contender.
 //!
 //! Then scripts of edits, in a session and with each problem solved anew
-//! (`edits`).
+//! (`edits`), and days' files, as one call and problem by problem (`days`).
 //!
 //! `SEED=.. make bench` measures other problems.
 
 mod contenders;
+mod days;
 mod edits;
 mod measure;
 mod sets;
@@ -53,6 +54,10 @@ fn print(to: &mut impl Write) -> io::Result<()> {
     }
     writeln!(to, "\n{}", edits::heading())?;
     for set in edits::sets(seed) {
+        writeln!(to, "{}", set.line())?;
+    }
+    writeln!(to, "\n{}", days::heading())?;
+    for set in days::sets(seed) {
         writeln!(to, "{}", set.line())?;
     }
     Ok(())
