@@ -29,8 +29,8 @@
  *   - the words that may be written do not overlap the words that are read,
  *     and nobody else writes any of them, or reads what may be written, until
  *     the call returns;
- *   - there is room on the stack: 64 KiB is more than any function uses but
- *     scatterflock_day, for which 192 KiB is more than it uses;
+ *   - there is room on the stack: 192 KiB for scatterflock_day, which uses
+ *     171,000 bytes; 64 KiB is more than any other function uses;
  *   - the state of a run in slices, and a session, is handed in as it was
  *     handed back.
  *

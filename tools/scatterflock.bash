@@ -2,12 +2,12 @@
 _scatterflock() {
     local word=${COMP_WORDS[COMP_CWORD]}
     case $word in
-        -*) COMPREPLY=($(compgen -W '--json --page --words --each --times --bytes --help --version' -- "$word")) ;;
+        -*) COMPREPLY=($(compgen -W '--json --page --words --each --times --bytes --bare --help --version' -- "$word")) ;;
         *)
-            if [[ " ${COMP_WORDS[*]:1:COMP_CWORD-1} " =~ \ (solve|check|times|words|edit)\  ]]; then
+            if [[ " ${COMP_WORDS[*]:1:COMP_CWORD-1} " =~ \ (solve|check|times|words|edit|day|pack|unpack)\  ]]; then
                 COMPREPLY=($(compgen -f -- "$word"))
             else
-                COMPREPLY=($(compgen -W 'solve check times words edit help' -- "$word"))
+                COMPREPLY=($(compgen -W 'solve check times words edit day pack unpack help' -- "$word"))
             fi ;;
     esac
 }
