@@ -72,9 +72,14 @@ fn refusal_text(words: &[i32]) -> Option<String> {
     Some(format!("refused {}: {refusal}", refusal.number()))
 }
 
-/// A file that is there and is no day's file is not written over.
+/// A file that is there and is no day's file is not written over. What is no file,
+/// as a pipe, is not looked at.
 fn look_before_writing(out: &OsStr) -> Result<(), Failure> {
-    let Ok(there) = fs::read(out) else { return Ok(()) };
+    let is_file = fs::metadata(out).is_ok_and(|there| there.is_file());
+    if !is_file {
+        return Ok(());
+    }
+    let (_, there) = input::bytes(out, &mut std::io::empty())?;
     if there.is_empty() || Bundle::read(&there).is_ok() {
         return Ok(());
     }

@@ -4,12 +4,18 @@ use crate::fraction::Pair;
 use crate::input::{self, bad, Content, Input};
 use crate::Failure;
 use scatterflock::sizes::MOST_WORDS;
-use scatterflock::{Refusal, Verdict};
+use scatterflock::{Bundle, Refusal, Verdict};
 use text::limits::{self, Limits, Side};
 
 /// The problem of a file. Its words are not refused, but for a row of zeros.
 pub fn problem(input: Input) -> Result<(String, Limits), Failure> {
     let Input { file, content, .. } = input;
+    let notes = match &content {
+        Content::Bytes(bytes) if Bundle::read(bytes).is_ok() => {
+            vec!["this is a day's file: scatterflock day answers its bodies".to_string()]
+        }
+        _ => vec![],
+    };
     let words = match content {
         Content::Text(text) => {
             let problem = limits::read(&text).map_err(|fault| bad(&file, &text, fault))?;
@@ -17,9 +23,9 @@ pub fn problem(input: Input) -> Result<(String, Limits), Failure> {
         }
         Content::Words(words) => words,
         Content::Bytes(bytes) => match bytes.len() {
-            0..8 => return Err(refused(Refusal::FewWords, vec![])),
+            0..8 => return Err(refused(Refusal::FewWords, notes)),
             count if count > 4 * MOST_WORDS || count % 4 != 0 => {
-                return Err(refused(Refusal::Length, vec![]))
+                return Err(refused(Refusal::Length, notes))
             }
             _ => input::words(&bytes),
         },
@@ -27,7 +33,7 @@ pub fn problem(input: Input) -> Result<(String, Limits), Failure> {
     // A blank row is told later, with its number. Other words that are refused may have no text.
     match (scatterflock::Problem::from_words(&words), Limits::from_words(&words)) {
         (Ok(_) | Err(Refusal::BlankRow), Some(problem)) => Ok((file, problem)),
-        (Err(refusal), _) => Err(refused(refusal, vec![])),
+        (Err(refusal), _) => Err(refused(refusal, notes)),
         (Ok(_), None) => panic!("words that are not refused have a text"),
     }
 }

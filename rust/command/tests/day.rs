@@ -152,6 +152,10 @@ fn refused_files_are_told_in_words() {
         }
     }
     assert!(!Path::new("nowhere").exists());
+    for bodies in [ten_bodies(), vec![vec![7; 300]]] {
+        let (said, _, status) = ran(&["solve", "-"], &file(&bodies));
+        assert!(said.contains("#   this is a day's file: scatterflock day answers") && status == 3);
+    }
     let (said, _, _) = ran(&["day", "-"], b"names x\nx >= 5\n ");
     assert!(said.contains("#   this file is a text: scatterflock pack makes"), "{said}");
 }
@@ -207,6 +211,7 @@ fn what_is_not_packed() {
         (&["pack", &out, "not-there.txt"], 5, "not-there.txt: it cannot be read"),
         (&["pack", &text, &text], 5, "text.txt: it is there and is no day's file"),
         (&["pack", &path(&room, "no/such"), &text], 5, "such: it cannot be written"),
+        (&["pack", "/dev/full", &text], 5, "/dev/full: it cannot be written"),
         (&many, 3, "refused 32"),
         (&["pack", &out, &long], 3, "refused 30"),
         (&["pack", &out], 4, "pack takes the file to write, and then files"),
