@@ -9,10 +9,6 @@ use Rattle.whole.specs.Below.{foldBelow}
 use Rattle.whole.specs.Divisors.{gcd}
 use Rattle.whole.specs.Tables.{table}
 
--- how many cells the array has
-abbrev pub mostCells : ℕ
-mostCells = 128
-
 -- the largest size of a signed number of 64 bits whose opposite is one too
 abbrev pub largestSize : ℕ
 largestSize = 9223372036854775807

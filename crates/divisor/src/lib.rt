@@ -6,11 +6,12 @@ ghost use lib.IntN.{natAbs};
 ghost use lib.ListN.{length};
 ghost use Rattle.whole.specs.Divisors.{gcd};
 ghost use Rattle.whole.specs.Numbers.{Within, AllWithin};
-ghost use Rattle.divisor.specs.Cells.{mostCells, largestSize, Divides, divisorBelow, dividedCells};
+ghost use Rattle.rules.specs.Sizes.{mostCells};
+ghost use Rattle.divisor.specs.Cells.{largestSize, Divides, divisorBelow, dividedCells};
 ghost use Rattle.divisor.specs.Signs.{signedBy};
 
 // How many cells an array has; the first of them are live, the others are not looked at.
-pub const MOST_CELLS: usize = 128;
+pub const MOST_CELLS: usize = rules::MOST_CELLS;
 
 // The size of a number that is not the least one.
 pub fn size(a: i64) -> u64

@@ -6,7 +6,7 @@ use mathlib.Core.List.{List}
 use lib.IntN.{ℤ, pos}
 use lib.ListN.{getD}
 use Rattle.rules.specs.Sizes.{mostColumns, mostRows}
-use Rattle.divisor.specs.Cells.{mostCells}
+use Rattle.rules.specs.Sizes.{mostCells}
 use Rattle.layout.specs.declared.RowPlace.{RowPlace}
 use Rattle.layout.specs.declared.ColumnPlace.{ColumnPlace}
 use Rattle.layout.specs.declared.Spot.{Spot}

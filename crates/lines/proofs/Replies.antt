@@ -1,4 +1,4 @@
--- What the program prints for words, from what the solver answers with room for 51 words: no problem wants more.
+-- What the program prints for words, from what the solver answers with room for the most words of an answer.
 --   room-enough, fine-words             an accepted problem has room; the solver's 0 is the problem's 0
 --   replied-refused, replied-answered       the text by the solver's number
 --   written-long                        the output holds all of the answer
@@ -18,7 +18,7 @@ use Rattle.rules.specs.Problem.{answerLength, varsOf}
 use Rattle.rules.specs.Program.Bytes.{countRefusal, wordsFrom}
 use Rattle.rules.specs.Program.Reply.{programText, replyAfter, replyTo}
 use Rattle.rules.specs.Refusal.{problemRefusal, refusal}
-use Rattle.rules.specs.Sizes.{mostVariables}
+use Rattle.rules.specs.Sizes.{mostAnswer, mostVariables, mostWords}
 use Rattle.rules.specs.Program.Text.{answerText, refusalText}
 use Rattle.rules.proofs.Refusal.Accepted.{m-few, n-few}
 use Rattle.rules.proofs.Answer.Shape.{answer-shaped}
@@ -36,26 +36,26 @@ module _ (ws : List ℤ) where
   pub vars-few : problemRefusal ws ≡ 0 → varsOf ws ≤ mostVariables
   vars-few e = let n = n-few (accepted-of ws e) in let m = m-few (accepted-of ws e) in omega arith
 
-  room-enough : problemRefusal ws ≡ 0 → answerLength ws ≤ 51
+  room-enough : problemRefusal ws ≡ 0 → answerLength ws ≤ mostAnswer
   room-enough e = let h = vars-few e in omega arith
 
-  pub fine-words : (r : ℕ) → r ≡ refusal ws 51 → r ≡ 0 → problemRefusal ws ≡ 0
+  pub fine-words : (r : ℕ) → r ≡ refusal ws mostAnswer → r ≡ 0 → problemRefusal ws ≡ 0
   fine-words r e z = go (problemRefusal ws) refl
     where
       go : (k : ℕ) → problemRefusal ws ≡ k → problemRefusal ws ≡ 0
       go zero q = q
       go (suc k) q = let n : problemRefusal ws ≢ 0 = λ f. let y : suc k ≡ 0 = sym q ∙ f in omega arith in
-          refusal-problem ws 51 n ∙ sym e ∙ z
+          refusal-problem ws mostAnswer n ∙ sym e ∙ z
 
-  pub replied-refused : (r : ℕ) → r ≡ refusal ws 51 → r ≢ 0 → refusalText r ≡ replyTo (problemRefusal ws) ws
+  pub replied-refused : (r : ℕ) → r ≡ refusal ws mostAnswer → r ≢ 0 → refusalText r ≡ replyTo (problemRefusal ws) ws
   unfolding replyTo
   replied-refused r e n = go (problemRefusal ws) refl
     where
       go : (k : ℕ) → problemRefusal ws ≡ k → refusalText r ≡ replyTo (problemRefusal ws) ws
-      go zero q = absurd (n (e ∙ sym (refusal-none ws 51 q (room-enough q))))
+      go zero q = absurd (n (e ∙ sym (refusal-none ws mostAnswer q (room-enough q))))
       go (suc k) q =
           let f : problemRefusal ws ≢ 0 = λ f. let y : suc k ≡ 0 = sym q ∙ f in omega arith in
-          ap refusalText (e ∙ sym (refusal-problem ws 51 f) ∙ q) ∙ sym (ap (λ j. replyTo j ws) q)
+          ap refusalText (e ∙ sym (refusal-problem ws mostAnswer f) ∙ q) ∙ sym (ap (λ j. replyTo j ws) q)
 
   -- ---- the answer
 
@@ -82,7 +82,7 @@ module _ (bs : List ℕ) where
       go zero q = absurd (n (e ∙ q))
       go (suc k) q = ap refusalText (e ∙ q) ∙ sym (ap (λ j. replyAfter j (wordsFrom bs)) q)
 
-  pub words-few : countRefusal (length bs) ≡ 0 → length bs / 4 ≤ 202
+  pub words-few : countRefusal (length bs) ≡ 0 → length bs / 4 ≤ mostWords
   words-few e = let h = count-fine (length bs) .0 e in omega arith
 
   pub program-replied : countRefusal (length bs) ≡ 0 →

@@ -14,7 +14,7 @@ use crate::write_text;
 use words::count_at;
 
 // No text of an answer or of a refusal has more bytes.
-pub const MOST_TEXT: usize = 1475;
+pub const MOST_TEXT: usize = 7 + 28 + 60 * rules::MOST_VARIABLES;
 
 // The line of a refusal.
 pub fn put_refusal(out: &mut [u8], at: usize, number: u32) -> usize

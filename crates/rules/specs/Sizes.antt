@@ -12,7 +12,19 @@ abbrev pub mostRows : ℕ
 mostRows = 16
 
 abbrev pub mostVariables : ℕ
-mostVariables = 24
+mostVariables = mostColumns + mostRows
+
+-- coefficients of a problem, and entries of a tableau
+abbrev pub mostCells : ℕ
+mostCells = mostRows * mostColumns
+
+-- words of a problem: n and m, the rows, and three for each variable
+abbrev pub mostWords : ℕ
+mostWords = 2 + mostCells + 3 * mostVariables
+
+-- words of an answer: three, and two for each variable
+abbrev pub mostAnswer : ℕ
+mostAnswer = 3 + 2 * mostVariables
 
 abbrev pub largestCoefficient : ℕ
 largestCoefficient = 1000
@@ -50,9 +62,9 @@ largestLength = 30000
 
 -- ---- the program, in bytes
 
--- of input: 202 words, the most that a problem has, are four bytes each
+-- of input: four for each word
 abbrev pub mostBytes : ℕ
-mostBytes = 808
+mostBytes = 4 * mostWords
 
 -- a number of 64 bits: a sign and 19 digits
 abbrev pub mostDecimal : ℕ
@@ -70,7 +82,7 @@ mostValueLine = 2 + 1 + mostDecimal + 1 + mostDecimal + 1
 abbrev pub mostMultiplierLines : ℕ
 mostMultiplierLines = 2 * (2 + 7 + mostDecimal + 1)
 
--- a whole text: "cannot", the pivots, and two lines for each variable: 1,475
+-- a whole text: "cannot", the pivots, and two lines for each variable
 abbrev pub mostText : ℕ
 mostText = 7 + mostPivotsLine + mostVariables * mostMultiplierLines
 

@@ -6,8 +6,11 @@ pub const MOST_ROWS: usize = 16;
 
 pub const MOST_VARIABLES: usize = MOST_COLUMNS + MOST_ROWS;
 
+// The coefficients of a problem, and the entries of a tableau.
+pub const MOST_CELLS: usize = MOST_ROWS * MOST_COLUMNS;
+
 // The words of a problem: n and m, the rows, and three for each variable.
-pub const MOST_WORDS: usize = 2 + MOST_ROWS * MOST_COLUMNS + 3 * MOST_VARIABLES;
+pub const MOST_WORDS: usize = 2 + MOST_CELLS + 3 * MOST_VARIABLES;
 
 // The words of an answer: three, and two for each variable.
 pub const MOST_ANSWER: usize = 3 + 2 * MOST_VARIABLES;

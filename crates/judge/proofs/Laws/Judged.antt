@@ -16,7 +16,7 @@ use lib.Signed.{remZ}
 use mir.Syntax.{w32}
 use mir.Val.{SFits, ofZ}
 use Rattle.whole.specs.Numbers.{eqZ}
-use Rattle.rules.specs.Sizes.{mostRows}
+use Rattle.rules.specs.Sizes.{mostCells, mostRows}
 use Rattle.rules.specs.Problem.{mOf, nOf, varsOf, kindPlace}
 use Rattle.rules.specs.Refusal.{Accepted}
 use Rattle.rules.proofs.Refusal.Accepted.{m-few, n-few}
@@ -45,7 +45,7 @@ zero-bits (negsuc a) f = let h : a < 2 ^ 31 = f .sfits in ne-eqb (2 ^ 32 - suc a
 -- ---- places
 
 module _ {ws : List ℤ} {n m : ℕ} (F : Framed ws n m) where
-  pub few-words : m * n ≤ 128
+  pub few-words : m * n ≤ mostCells
   few-words = mul-le-mul (F .few-rows) (F .few-columns)
 
   pub size-product : m * n ≡ mOf ws * nOf ws

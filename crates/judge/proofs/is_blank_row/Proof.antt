@@ -19,6 +19,7 @@ use Rattle.whole.specs.Numbers.{eqZ}
 use Rattle.whole.proofs.Lists.Below.{all-more, all-not, all-start}
 use Rattle.rules.specs.Problem.{word}
 use Rattle.rules.specs.Refusal.{blankRow}
+use Rattle.rules.specs.Sizes.{mostCells}
 use Rattle.judge.proofs.Laws.Judged.{few-words, zero-bits}
 use Rattle.judge.proofs.is_blank_row.Statement.{statement}
 use Rattle.judge.proofs.is_blank_row.Tie as tie
@@ -43,7 +44,7 @@ module _ (s : tie.Start Inv-loop μ-loop) where
   abbrev i : ℕ
   i = s .args .row
 
-  few : i * n ≤ 128
+  few : i * n ≤ mostCells
   few = let h : i * n ≤ s .args .rows * n = mul-le-mul (le-of-lt (s .pre .1)) (le-refl n) in
       omega (arith, few-words (s .pre .0))
 

@@ -13,7 +13,7 @@ use lib.Signed.{leZ-yes}
 use Rattle.whole.proofs.Numbers.Order.{≤ℤ-trans}
 use Rattle.whole.proofs.Tells.{tells-false, tells-true}
 use Rattle.whole.proofs.Numbers.Tests.{under-size}
-use Rattle.rules.specs.Sizes.{mostColumns, mostRows}
+use Rattle.rules.specs.Sizes.{mostCells, mostColumns, mostRows}
 use Rattle.rules.specs.Problem.{mOf, nOf, varsOf, word}
 use Rattle.rules.specs.Refusal.{badCoefficient, badKind, badSize, first, problemRefusal, problemTests}
 use Rattle.rules.proofs.Refusal.First.{first-hit, first-skip}
@@ -94,7 +94,7 @@ module _ (c : tie.After-count-at2) where
   few-rows : rows ≤ mostRows
   few-rows = rw (c .count-at2 .ensures) (under-size mostRows 0 _ (sizes from-2 .1 .0) (sizes from-2 .1 .1))
 
-  few : rows * columns ≤ 128
+  few : rows * columns ≤ mostCells
   few = mul-le-mul few-rows few-columns
 
   -- the exact length, by the two counts and by the words

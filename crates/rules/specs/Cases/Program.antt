@@ -3,12 +3,13 @@
 use Prim.Native.String
 use Prim.Native.String.{String}
 use mathlib.Core.List.{List, [], map, _++_, _∷_}
-use Prim.Native.Nat.{ℕ}
+use Prim.Native.Nat.{ℕ, _+_}
 use lib.IntN.{pos, ℤ}
 use lib.ListN.{replicate}
 use Rattle.rules.specs.Program.Bytes.{bytesFrom}
 use Rattle.rules.specs.Cases.Expected.{minus}
 use Rattle.rules.specs.Cases.Limits.{limitCases}
+use Rattle.rules.specs.Sizes.{mostBytes}
 
 -- the limits of a variable that is 0 or more, and then others
 abbrev zeroOrMore : List ℤ → List ℤ
@@ -32,7 +33,7 @@ inputs =
     -- the last byte count that is refused 1, and the first that is not
     ∷ replicate 7 0 ∷ replicate 8 0
     -- no whole number of words; the most bytes, and one word more, which is judged before the words are
-    ∷ replicate 9 0 ∷ replicate 808 0 ∷ replicate 812 0 ∷ [])
+    ∷ replicate 9 0 ∷ replicate mostBytes 0 ∷ replicate (mostBytes + 4) 0 ∷ [])
 
 unfoldable pub outputs : List String
 outputs =

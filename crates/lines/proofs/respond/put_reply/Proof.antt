@@ -11,7 +11,7 @@ use Rattle.whole.proofs.Numbers.Order.{≤ℤ-trans}
 use Rattle.rules.specs.Answer.{written}
 use Rattle.rules.specs.Problem.{varsOf}
 use Rattle.rules.specs.Refusal.{Accepted, problemRefusal, refusal}
-use Rattle.rules.specs.Sizes.{mostRows, mostVariables}
+use Rattle.rules.specs.Sizes.{mostAnswer, mostRows, mostVariables}
 use Rattle.rules.specs.Program.Text.{answerText}
 use Rattle.solver.proofs.Laws.Refusals.{accepted-of}
 use Rattle.lines.proofs.Replies.{fine-words, put-as, replied-answered, replied-refused, vars-few}
@@ -34,7 +34,7 @@ put-refusal-requires c κs = search needs
 same-length : tie.Need-same-length
 same-length c = search needs
 
-number-is : (c : tie.After-solve) → c .solve .result ≡ refusal (words (c .before .before .before)) 51
+number-is : (c : tie.After-solve) → c .solve .result ≡ refusal (words (c .before .before .before)) mostAnswer
 number-is c = c .solve .ensures .0
 
 returns : tie.Need-returns
@@ -76,7 +76,7 @@ put-answer-requires c κs = let k = c .before .before in (few k, long k, omega a
         3 + 2 * (k .before .count-at .result + k .count-at2 .result) ≤ length (s .solve .last .1 .0)
     long k = let s = k .before .before .before .before in
         rw (many k, s .solve .ensures .1, k .before .before .if1 .left)
-        (written-long (words (s .before .before .before)) (replicate 51 (pos 0)))
+        (written-long (words (s .before .before .before)) (replicate mostAnswer (pos 0)))
 
 same-length-2 : tie.Need-same-length-2
 same-length-2 c = search needs
@@ -86,9 +86,9 @@ returns-2 c =
     let a = c .before .before in let k = a .before .before .before in let s = k .before .before .before .before in
     put-as
     (ap₂ answerText
-    (s .solve .ensures .1 ∙ ap (λ (j : ℕ). written j (words (s .before .before .before)) (replicate 51 (pos 0)))
+    (s .solve .ensures .1 ∙ ap (λ (j : ℕ). written j (words (s .before .before .before)) (replicate mostAnswer (pos 0)))
     (k .before .before .if1 .left)) (many k)
-    ∙ replied-answered (words (s .before .before .before)) (replicate 51 (pos 0)) (fine (k .before .before)))
+    ∙ replied-answered (words (s .before .before .before)) (replicate mostAnswer (pos 0)) (fine (k .before .before)))
     (a .put-answer .ensures)
 
 pub put-reply-spec : {M : Type 1} → statement M

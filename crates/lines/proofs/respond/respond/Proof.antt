@@ -11,6 +11,7 @@ use Rattle.rules.specs.Program.Bytes.{countRefusal, wordsFrom}
 use Rattle.rules.specs.Program.Reply.{replyTo}
 use Rattle.rules.specs.Refusal.{problemRefusal}
 use Rattle.rules.proofs.Program.Words.{words-length}
+use Rattle.rules.specs.Sizes.{mostWords}
 use Rattle.lines.proofs.Texts.{printed-same}
 use Rattle.lines.proofs.Replies.{program-refused, program-replied, words-few, words-front}
 use Rattle.lines.proofs.respond.respond.Statement.{statement}
@@ -51,7 +52,7 @@ module _ (c : tie.After-words-of) where
 
   front : take (c .words-of .result) (c .words-of .last .1 .0) ≡ wordsFrom (bytes start)
   front = ap (take (c .words-of .result)) (c .words-of .ensures .1)
-      ∙ words-front (bytes start) (drop (c .words-of .result) (replicate 202 (pos 0)))
+      ∙ words-front (bytes start) (drop (c .words-of .result) (replicate mostWords (pos 0)))
       (c .words-of .result) (c .words-of .ensures .0)
 
   taken : c .words-of .result ≡ length (take (c .words-of .result) (c .words-of .last .1 .0))

@@ -34,7 +34,7 @@ mul-halves : tie.Need-mul-halves Inv-loop μ-loop
 mul-halves c = omega arith
 
 element-copy-out-halves : tie.Need-element-copy-out-halves Inv-loop μ-loop
-element-copy-out-halves c = let h : c .before .loop .k < 128 = omega arith in h
+element-copy-out-halves c = let h : c .before .loop .k < mostEntries = omega arith in h
 
 module _ (c : tie.After-halves Inv-loop μ-loop) where
   abbrev start : tie.Start Inv-loop μ-loop
@@ -56,7 +56,7 @@ mul-halves-2 : tie.Need-mul-halves-2 Inv-loop μ-loop
 mul-halves-2 c = omega arith
 
 array-set-from-halves : tie.Need-array-set-from-halves Inv-loop μ-loop
-array-set-from-halves c = let h : place c < 128 = omega arith in h
+array-set-from-halves c = let h : place c < mostEntries = omega arith in h
 
 add-k : tie.Need-add-k Inv-loop μ-loop
 add-k c = omega arith

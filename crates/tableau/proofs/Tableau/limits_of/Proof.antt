@@ -16,7 +16,7 @@ use Rattle.whole.specs.Below.{someBelow}
 use Rattle.whole.specs.Tables.{filled}
 use Rattle.whole.proofs.Lists.Below.{some-more, some-start}
 use Rattle.whole.proofs.Lists.Prefix.{filled-start, filled-more}
-use Rattle.rules.specs.Sizes.{mostVariables}
+use Rattle.rules.specs.Sizes.{mostVariables, mostWords}
 use Rattle.rules.specs.Limit.{Limit, bit}
 use Rattle.rules.specs.Problem.{Problem, problem, vars, word}
 use Rattle.rules.proofs.Refusal.Accepted.{problem-vars}
@@ -89,7 +89,7 @@ module _ (c : tie.In-loop Inv-loop μ-loop) where
   abbrev place : ℕ
   place = 2 + start .args .rows * start .args .columns + 3 * v
 
-  few : place ≤ 202
+  few : place ≤ mostWords
   few = omega (arith, few-words (start .pre .0))
 
   v-in : v < start .args .columns + start .args .rows

@@ -9,6 +9,7 @@ use mir.Facts.{toZ-ofZ}
 use mir.Syntax.{w32}
 use mir.Val.{SFits}
 use Rattle.rules.specs.Problem.{word}
+use Rattle.rules.specs.Sizes.{mostWords}
 use Rattle.judge.proofs.Laws.Judged.{few-words}
 use Rattle.tableau.proofs.Laws.Read.{coefficient-in, coefficient-is}
 use Rattle.tableau.proofs.read.coefficient_at.Statement.{statement}
@@ -25,7 +26,7 @@ module _ (s : tie.Start) where
   in-words : 2 + place < length ws
   in-words = coefficient-in (s .pre .0) (s .args .row .0) (s .args .column .0) (s .pre .1 .0) (s .pre .1 .1)
 
-  few : length ws ≤ 202
+  few : length ws ≤ mostWords
   few = omega (arith, few-words (s .pre .0), s .pre .0 .exact)
 
 cast-at : tie.Need-cast-at
