@@ -9,7 +9,7 @@ mostColumns = 8
 
 -- rows, m; the least is 0
 abbrev pub mostRows : ℕ
-mostRows = 16
+mostRows = 24
 
 abbrev pub mostVariables : ℕ
 mostVariables = mostColumns + mostRows

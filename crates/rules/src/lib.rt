@@ -2,7 +2,7 @@
 // laws.
 pub const MOST_COLUMNS: usize = 8;
 
-pub const MOST_ROWS: usize = 16;
+pub const MOST_ROWS: usize = 24;
 
 pub const MOST_VARIABLES: usize = MOST_COLUMNS + MOST_ROWS;
 

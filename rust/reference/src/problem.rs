@@ -9,7 +9,7 @@ use std::ops::RangeInclusive;
 /// The number of problem variables, n.
 const VARIABLES: RangeInclusive<i32> = 1..=8;
 /// The number of rows, m.
-const ROWS: RangeInclusive<i32> = 0..=16;
+const ROWS: RangeInclusive<i32> = 0..=24;
 const COEFFICIENTS: RangeInclusive<i32> = -1_000..=1_000;
 /// 1 is for a lower limit and 2 for an upper one, 4 and 8 make them strict. A
 /// sum that makes a missing limit strict is not among them.

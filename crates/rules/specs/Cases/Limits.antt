@@ -147,8 +147,10 @@ edges =
     -- n 9, n 0
     ∷ turnedAway (two (pos 9) (pos 0) ++ zeros 27) 2
     ∷ turnedAway (two (pos 0) (pos 0)) 2
-    -- m 16 passes
+    -- m 16 passes, and m 24; m 25 does not
     ∷ gives (two (pos 1) (pos 16) ++ replicate 16 (pos 1) ++ zeros 51) (pos 1 ∷ pos 0 ∷ pos 1 ∷ zeros 34)
+    ∷ gives (two (pos 1) (pos 24) ++ replicate 24 (pos 1) ++ zeros 75) (pos 1 ∷ pos 0 ∷ pos 1 ∷ zeros 50)
+    ∷ turnedAway (two (pos 1) (pos 25) ++ replicate 25 (pos 1) ++ zeros 78) 2
     -- kind 1 with an upper word; kind 7 together with a coefficient of 1,001
     ∷ turnedAway (oneRow (pos 1) (pos 1 ∷ pos 0 ∷ pos 5 ∷ [])) 6
     ∷ turnedAway (oneRow (pos 1001) (pos 7 ∷ pos 0 ∷ pos 0 ∷ [])) 4

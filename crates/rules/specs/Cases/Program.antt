@@ -35,6 +35,10 @@ inputs =
     -- no whole number of words; the most bytes, and one word more, which is judged before the words are
     ∷ replicate 9 0 ∷ replicate mostBytes 0 ∷ replicate (mostBytes + 4) 0 ∷ [])
 
+-- the values 0 of variables 0 to 16
+abbrev toSixteen : String
+toSixteen = "0 0\n1 0\n2 0\n3 0\n4 0\n5 0\n6 0\n7 0\n8 0\n9 0\n10 0\n11 0\n12 0\n13 0\n14 0\n15 0\n16 0\n"
+
 unfoldable pub outputs : List String
 outputs =
     -- A to I
@@ -56,8 +60,10 @@ outputs =
     ∷ "can\npivots 0\nover 1\n0 0 -1\n1 0\n2 0 -4\n"
     -- the edges
     ∷ "can\npivots 0\nover 1\n0 0\n1 0\n" ∷ "refused 4\n" ∷ "refused 6\n" ∷ "refused 2\n" ∷ "refused 2\n"
+    ∷ String._++_ "can\npivots 0\nover 1\n" toSixteen
     ∷ String._++_ "can\npivots 0\nover 1\n"
-    "0 0\n1 0\n2 0\n3 0\n4 0\n5 0\n6 0\n7 0\n8 0\n9 0\n10 0\n11 0\n12 0\n13 0\n14 0\n15 0\n16 0\n"
+    (String._++_ toSixteen "17 0\n18 0\n19 0\n20 0\n21 0\n22 0\n23 0\n24 0\n")
+    ∷ "refused 2\n"
     ∷ "refused 6\n" ∷ "refused 4\n"
     ∷ "refused 5\n" ∷ "refused 5\n" ∷ "refused 5\n" ∷ "refused 5\n"
     -- out of range, and byte counts
