@@ -2,13 +2,14 @@
 ghost use mathlib.Core.Path.{_≡_};
 ghost use mathlib.Core.Bool.{_||_};
 ghost use mathlib.Core.List.{[], _∷_};
-ghost use Prim.Native.Nat.{_/_, _%_, _<_};
+ghost use Prim.Native.Nat.{_/_, _%_, _<_, _≤_};
 ghost use lib.Dec.{eqb};
 ghost use lib.IntN.{pos, natAbs};
 ghost use lib.Signed.{_<ℤ_};
 ghost use Rattle.whole.specs.Numbers.{within};
 ghost use Rattle.rules.specs.Limit.{hasLower, hasUpper, strictLower, strictUpper, badKindWord, badLimitWord};
-ghost use Rattle.rules.specs.Refusal.{badCoefficient, blankRow, first, problemRefusal, someBlank};
+ghost use Rattle.rules.specs.Refusal.{badCoefficient, blankRow, first, problemRefusal, problemRefusalWithin, someBlank};
+ghost use Rattle.rules.specs.Sizes.{mostRows};
 ghost use Rattle.judge.specs.Words.{Framed, badBy, badVariable};
 use words::count_at;
 use words::is_bad_size;
@@ -175,14 +176,15 @@ fn word_refusal(coefficient: bool, kind: bool, limit: bool, blank: bool) -> u32
     0
 }
 
-// The number of the first of refusals 1 to 6 and 10 that applies, or 0.
-pub fn judge(words: &[i32]) -> u32
-    ensures { λ r. ⌜ r ≡ problemRefusal (now (words .entry)) ⌝ }
+// The number of the first of refusals 1 to 6 and 10 that applies within so many rows, or 0.
+pub fn judge_within(most: u32, words: &[i32]) -> u32
+    requires { ⌜ most ≤ mostRows ⌝ }
+    ensures { λ r. ⌜ r ≡ problemRefusalWithin most (now (words .entry)) ⌝ }
 {
     if words.len() < 2 {
         return 1;
     }
-    if is_bad_size(words, rules::MOST_COLUMNS as u32, rules::MOST_ROWS as u32) {
+    if is_bad_size(words, rules::MOST_COLUMNS as u32, most) {
         return 2;
     }
     let columns = count_at(words, 0);
@@ -196,4 +198,11 @@ pub fn judge(words: &[i32]) -> u32
         some_bad_variable(words, columns, rows, false),
         some_blank_row(words, columns, rows),
     )
+}
+
+// .. within the most rows.
+pub fn judge(words: &[i32]) -> u32
+    ensures { λ r. ⌜ r ≡ problemRefusal (now (words .entry)) ⌝ }
+{
+    judge_within(rules::MOST_ROWS as u32, words)
 }

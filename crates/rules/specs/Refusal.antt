@@ -4,7 +4,7 @@ use mathlib.Core.Path.{_≡_}
 use mathlib.Core.Logic.{_≢_}
 use mathlib.Core.Bool.{Bool, true, false, _||_, not}
 use mathlib.Core.List.{List, [], _∷_, _++_}
-use Prim.Native.Nat.{ℕ, _+_, _*_, _≤_, _<_}
+use Prim.Native.Nat.{ℕ, min, _+_, _*_, _≤_, _<_}
 use lib.IntN.{ℤ, pos}
 use lib.Dec.{ltb, eqb}
 use lib.ListN.{length}
@@ -58,11 +58,23 @@ problemTests rows ws =
     (badCoefficient ws, 4) ∷ (badKind ws, 5) ∷ (badLimit ws, 6)
     ∷ (someBlank ws, 10) ∷ []
 
+-- within so many rows
+abbrev pub problemRefusalWithin : ℕ → List ℤ → ℕ
+problemRefusalWithin rows ws = first (problemTests rows ws)
+
+abbrev pub refusalWithin : ℕ → List ℤ → ℕ → ℕ
+refusalWithin rows ws room = first (problemTests rows ws ++ ((tooShort ws room, 7) ∷ []))
+
+-- within the most
 unfoldable pub problemRefusal : List ℤ → ℕ
-problemRefusal ws = first (problemTests mostRows ws)
+problemRefusal ws = problemRefusalWithin mostRows ws
 
 unfoldable pub refusal : List ℤ → ℕ → ℕ
-refusal ws room = first (problemTests mostRows ws ++ ((tooShort ws room, 7) ∷ []))
+refusal ws room = refusalWithin mostRows ws room
+
+-- as many rows as are asked for, and no more than the most
+abbrev pub rowsWithin : ℕ → ℕ
+rowsWithin rows = min rows mostRows
 
 -- ---- all ranges together: what refusals 1 to 6 and 10 leave
 

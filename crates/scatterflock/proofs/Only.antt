@@ -1,6 +1,7 @@
 -- Two results that the promise of an entry point allows are equal, but for which bad cycle `scatterflock_times` names.
 -- The contracts themselves are compared: κs are lifetimes, x the arguments, e what lent words hold at the exit.
 --   scatterflock-solve-only    the number, and every word of the output
+--   scatterflock-solve-within-only    the same within fewer rows
 --   scatterflock-check-only    the number
 --   scatterflock-slice-start-only       the number and the state
 --   scatterflock-slice-continue-only    the number, whether there is an answer, the state, and every word of the output
@@ -17,6 +18,7 @@ use Rattle.rules.specs.Times.Answer.{BothNamed}
 use Rattle.rules.proofs.Times.Told.{told-only}
 use Rattle.bundle.proofs.Only.{read-only, write-only}
 use Rattle.scatterflock.proofs.scatterflock_solve.Reads as solve
+use Rattle.scatterflock.proofs.scatterflock_solve_within.Reads as solve-within
 use Rattle.scatterflock.proofs.scatterflock_check.Reads as check
 use Rattle.scatterflock.proofs.scatterflock_bundle_read.Reads as bundle-read
 use Rattle.scatterflock.proofs.scatterflock_bundle_write.Reads as bundle-write
@@ -33,6 +35,12 @@ pub scatterflock-solve-only : (κs : _) (x : _) (a b : _) (e f : _) → solve.Po
 scatterflock-solve-only κs x a b e f h k =
     let n : a ≡ b = h .0 ∙ sym (k .0) in
     (n, h .1 ∙ ap (λ j. written j (x .0 .now) (x .1 .0 .now)) n ∙ sym (k .1))
+
+pub scatterflock-solve-within-only : (κs : _) (x : _) (a b : _) (e f : _) →
+    solve-within.Post κs x a e → solve-within.Post κs x b f → (a ≡ b) × (e .1 .1 .0 .now ≡ f .1 .1 .0 .now)
+scatterflock-solve-within-only κs x a b e f h k =
+    let n : a ≡ b = h .0 ∙ sym (k .0) in
+    (n, h .1 ∙ ap (λ j. written j (x .1 .0 .now) (x .1 .1 .0 .now)) n ∙ sym (k .1))
 
 pub scatterflock-check-only : (κs : _) (x : _) (a b : _) (e : _) → check.Post κs x a e → check.Post κs x b e → a ≡ b
 scatterflock-check-only κs x a b e h k = h ∙ sym k

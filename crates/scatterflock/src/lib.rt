@@ -4,7 +4,7 @@ ghost use mathlib.Core.Path.{_≡_};
 ghost use lib.ListN.{length};
 ghost use Rattle.rules.specs.Answer.{written};
 ghost use Rattle.rules.specs.Evidence.{checked};
-ghost use Rattle.rules.specs.Refusal.{refusal};
+ghost use Rattle.rules.specs.Refusal.{refusal, refusalWithin, rowsWithin};
 ghost use Rattle.rules.specs.Times.Answer.{Timed};
 ghost use Rattle.rules.specs.Program.Bytes.{wordsFrom};
 ghost use Rattle.rules.specs.Program.Text.{printed};
@@ -31,6 +31,15 @@ pub extern "C" fn scatterflock_solve(words: &[i32], out: &mut [i64]) -> u32
     ensures output { λ r. ⌜ now (out .exit) ≡ written r (now (words .entry)) (now (out .entry)) ⌝ }
 {
     solver::solve(words, out)
+}
+
+// Answers a limit problem of at most so many rows.
+#[no_mangle]
+pub extern "C" fn scatterflock_solve_within(most: u32, words: &[i32], out: &mut [i64]) -> u32
+    ensures number { λ r. ⌜ r ≡ refusalWithin (rowsWithin most) (now (words .entry)) (length (now (out .entry))) ⌝ }
+    ensures output { λ r. ⌜ now (out .exit) ≡ written r (now (words .entry)) (now (out .entry)) ⌝ }
+{
+    solver::solve_within(most, words, out)
 }
 
 // Judges an answer to a limit problem.

@@ -82,7 +82,7 @@ module _ (ws a : List ℤ) where
   unfolding checked problemRefusal
   checked-by-answer e =
       first-passed 10 (problemTests mostRows ws)
-      ((tooShort ws (length a), 7) ∷ (accepted (problem ws) a, 8) ∷ (true, 9) ∷ []) (numbered ws) e
+      ((tooShort ws (length a), 7) ∷ (accepted (problem ws) a, 8) ∷ (true, 9) ∷ []) (numbered mostRows ws) e
       ∙ first-three (tooShort ws (length a)) (accepted (problem ws) a)
 
   own : (k : ℕ) → problemRefusal ws ≡ suc k → Own k

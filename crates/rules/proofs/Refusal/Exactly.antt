@@ -2,12 +2,14 @@
 -- line of specs/Facts/Refusal applies, and the refusal is the first that applies.
 --   refusal-exactly              the refusal is k exactly where no earlier line's meaning holds and line k's does, and
 --                                0 where none does
+--   within-exactly               .. within any most rows
 --   problem-refusal-exactly      the same of refusals 1 to 6 and 10
 --   few-tells, .., room-tells    each test, and its line
 --   problem-tested               all of them
 --   numbered                     the numbers of refusals 1 to 6 and 10
 --   accepted-exactly             refusals 1 to 6 and 10 give 0 exactly for accepted words, with any most rows
 --   answered-exactly             the refusal is 0 exactly for accepted words with room enough
+--   accepted-more, fine-more     what is accepted within fewer rows is accepted within more, and so not refused
 use mathlib.Core.Bool.{Bool, false, not, true, _&&_}
 use mathlib.Core.List.{List, [], _++_, _∷_}
 use mathlib.Core.Logic.{_↔_}
@@ -16,6 +18,9 @@ use Prim.Native.Nat.{ℕ, _*_, _+_, _≤_}
 use native.Mathlib.Omega.{arith}
 use lib.IntN.{pos, ℤ}
 use lib.ListN.{length}
+use lib.Dec.{le→leb}
+use lib.Signed.{leZ-yes}
+use Rattle.whole.proofs.Numbers.Order.{≤ℤ-trans}
 use Rattle.whole.specs.Tells.{Tells}
 use Rattle.whole.proofs.Tells.{tells-all, tells-eq, tells-eqZ, tells-lt, tells-not, tells-or, tells-outside, tells-some}
 use Rattle.whole.proofs.Tells.{tells-within}
@@ -25,17 +30,17 @@ use Rattle.rules.specs.Limit.{badLimitWord, hasLower, hasUpper, badKindW
 use Rattle.rules.specs.Facts.Refusal.{AllFine, BadKind, BadLimit, FineKind, First, Tests, blankLine}
 use Rattle.rules.specs.Facts.Refusal.{coefficientLine}
 use Rattle.rules.specs.Facts.Refusal.{fewLine, kindLine, lengthLine, limitLine, problemTable, roomLine, sizeLine}
-use Rattle.rules.specs.Facts.Refusal.{solverTable}
+use Rattle.rules.specs.Facts.Refusal.{solverTable, solverTableWithin}
 use Rattle.rules.specs.Problem.{answerLength, coefficientWord, kind, lowerWord, mOf, nOf, upperWord, varsOf, word}
 use Rattle.rules.specs.Refusal.{Accepted, FineLimit, badCoefficient, badKind, badLength, badLimit, badSize}
-use Rattle.rules.specs.Refusal.{blankRow, first, problemRefusal, problemTests, refusal, someBlank, tooFew}
-use Rattle.rules.specs.Refusal.{tooShort}
+use Rattle.rules.specs.Refusal.{blankRow, first, problemRefusal, problemRefusalWithin, problemTests, refusal}
+use Rattle.rules.specs.Refusal.{refusalWithin, someBlank, tooFew, tooShort}
 use Rattle.rules.specs.Sizes.{largestCoefficient, largestLimit, mostColumns, mostRows}
 
 -- the numbers of the problem's tests
-pub numbered : (ws : List ℤ) → Upto 10 (problemTests mostRows ws)
+pub numbered : (rows : ℕ) (ws : List ℤ) → Upto 10 (problemTests rows ws)
 unfolding problemTests
-numbered ws = omega arith
+numbered rows ws = omega arith
 
 -- a strict mark on a missing limit
 stray-tells : (s p : Bool) → Tells (s && not p) ((s ≡ true) × (p ≡ false)) (s ≡ true → p ≡ true)
@@ -111,15 +116,19 @@ problem-tested rows ws =
     tested (few-tells ws) (tested (size-tells ws rows) (tested (length-tells ws) (tested (coefficient-tells ws)
     (tested (kind-tells ws) (tested (limits-tell ws) (tested (blank-tells ws) no-test))))))
 
-solver-tested : (ws : List ℤ) (room : ℕ) →
-    Tested (problemTests mostRows ws ++ ((tooShort ws room, 7) ∷ [])) (solverTable ws room)
-solver-tested ws room = tested-then (problem-tested mostRows ws) (tested (room-tells ws room) no-test)
+solver-tested : (rows : ℕ) (ws : List ℤ) (room : ℕ) →
+    Tested (problemTests rows ws ++ ((tooShort ws room, 7) ∷ [])) (solverTableWithin rows ws room)
+solver-tested rows ws room = tested-then (problem-tested rows ws) (tested (room-tells ws room) no-test)
 
 -- ---- exactly
 
+pub within-exactly : (rows : ℕ) (ws : List ℤ) (room k : ℕ) →
+    (refusalWithin rows ws room ≡ k) ↔ First (solverTableWithin rows ws room) k
+within-exactly rows ws room k = first-exactly (solver-tested rows ws room) k
+
 pub refusal-exactly : (ws : List ℤ) (room k : ℕ) → (refusal ws room ≡ k) ↔ First (solverTable ws room) k
 unfolding refusal
-refusal-exactly ws room k = first-exactly (solver-tested ws room) k
+refusal-exactly ws room k = within-exactly mostRows ws room k
 
 pub problem-refusal-exactly : (ws : List ℤ) (k : ℕ) → (problemRefusal ws ≡ k) ↔ First (problemTable mostRows ws) k
 unfolding problemRefusal
@@ -171,7 +180,7 @@ accepted-exactly rows ws = let r = first-fine (problem-tested rows ws) (omega ar
 pub answered-exactly : (ws : List ℤ) (room : ℕ) →
     (refusal ws room ≡ 0) ↔ (Accepted mostRows ws × (answerLength ws ≤ room))
 unfolding refusal problemTests
-answered-exactly ws room = let r = first-fine (solver-tested ws room) (omega arith) in
+answered-exactly ws room = let r = first-fine (solver-tested mostRows ws room) (omega arith) in
     (λ e. split (r .0 e), λ A. r .1 (join (accepted-fine mostRows ws (A .0)) (A .1)))
   where
     split : AllFine (solverTable ws room) → Accepted mostRows ws × (answerLength ws ≤ room)
@@ -181,3 +190,27 @@ answered-exactly ws room = let r = first-fine (solver-tested ws room) (omega ari
     join : AllFine (problemTable mostRows ws) → answerLength ws ≤ room → AllFine (solverTable ws room)
     join (few, (size, (exact, (coefficients, (kinds, (limits, (blank, end))))))) fits =
         (few, (size, (exact, (coefficients, (kinds, (limits, (blank, (fits, tt))))))))
+
+-- ---- within fewer rows
+
+pub accepted-more : {fewer more : ℕ} {ws : List ℤ} → fewer ≤ more → Accepted fewer ws → Accepted more ws
+accepted-more h A = record {
+  enough = A .enough;
+  n-least = A .n-least;
+  n-most = A .n-most;
+  m-least = A .m-least;
+  m-most = ≤ℤ-trans (A .m-most) (leZ-yes (le→leb _ _ h));
+  exact = A .exact;
+  coefficients = A .coefficients;
+  kind-least = A .kind-least;
+  kind-most = A .kind-most;
+  lower-marked = A .lower-marked;
+  upper-marked = A .upper-marked;
+  lowers = A .lowers;
+  uppers = A .uppers;
+  no-blank = A .no-blank;
+}
+
+pub fine-more : {fewer more : ℕ} (ws : List ℤ) → fewer ≤ more → problemRefusalWithin fewer ws ≡ 0 →
+    problemRefusalWithin more ws ≡ 0
+fine-more {fewer} {more} ws h e = accepted-exactly more ws .1 (accepted-more h (accepted-exactly fewer ws .0 e))

@@ -3,7 +3,7 @@
 --   First       which number a table gives: that of its first line that applies, or 0
 --   AllFine     no line applies
 --   Tests       a test is true exactly where a line applies, and false exactly where it does not
---   problemTable, solverTable    the lines of the page
+--   problemTable, solverTable    the lines of the page; solverTableWithin, within any most rows
 -- specs/Refusal has the tests that compute; they give what these lines say (`refusal-exactly`).
 use mathlib.Core.Bool.{Bool, false, true}
 use mathlib.Core.List.{List, [], _++_, _∷_}
@@ -106,5 +106,8 @@ abbrev pub problemTable : ℕ → List ℤ → List Line
 problemTable rows ws =
     fewLine ws ∷ sizeLine rows ws ∷ lengthLine ws ∷ coefficientLine ws ∷ kindLine ws ∷ limitLine ws ∷ blankLine ws ∷ []
 
+abbrev pub solverTableWithin : ℕ → List ℤ → ℕ → List Line
+solverTableWithin rows ws room = problemTable rows ws ++ (roomLine ws room ∷ [])
+
 abbrev pub solverTable : List ℤ → ℕ → List Line
-solverTable ws room = problemTable mostRows ws ++ (roomLine ws room ∷ [])
+solverTable ws room = solverTableWithin mostRows ws room

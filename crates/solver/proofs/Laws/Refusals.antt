@@ -1,5 +1,6 @@
 -- The solver's refusal: that of the problem where there is one, else 7 where the output is too short, else none.
---   refusal-problem, refusal-short, refusal-none
+--   within-problem, within-short, within-none    within so many rows; refusal-problem, refusal-none within the most
+--   fine-within        what is fine within fewer rows is fine
 --   written-refused    a refusal keeps the output
 --   begun-start, holds-start   accepted words are a tableau from which a check may start, a state with no pivots yet
 --   start-many, answered-is    as many variables as the words say, and the output that the rules ask for
@@ -16,13 +17,14 @@ use Rattle.whole.specs.Values.{pairs}
 use Rattle.whole.proofs.Values.Beside.{pairs-laws}
 use Rattle.rules.specs.Answer.{written}
 use Rattle.rules.specs.Problem.{answerLength, inner, mOf, nOf, problem, varsOf}
-use Rattle.rules.specs.Refusal.{Accepted, first, problemRefusal, problemTests, refusal, tooShort}
+use Rattle.rules.specs.Refusal.{Accepted, first, problemRefusal, problemRefusalWithin, problemTests, refusal}
+use Rattle.rules.specs.Refusal.{refusalWithin, tooShort}
 use Rattle.rules.specs.Sizes.{mostRows}
 use Rattle.rules.specs.Slices.{begun, continuedBy, sliceOutput}
 use Rattle.rules.specs.Step.{start}
 use Rattle.rules.proofs.Termination.Ends.{ready-start}
 use Rattle.rules.proofs.Refusal.First.{first-hit, first-kept, first-passed, first-skip}
-use Rattle.rules.proofs.Refusal.Exactly.{accepted-exactly, numbered}
+use Rattle.rules.proofs.Refusal.Exactly.{accepted-exactly, fine-more, numbered}
 use Rattle.rules.proofs.Run.Slices.{cut-answer, on-way-start, sliced-words}
 use Rattle.tableau.specs.declared.Tableau.{Tableau}
 use Rattle.tableau.specs.Stands.{Ranged, Stands}
@@ -35,26 +37,38 @@ use Rattle.solver.specs.Spend.{Holds, outAt}
 use Rattle.solver.proofs.Laws.Stands.Run.{bound-small}
 use Rattle.solver.proofs.Laws.Stands.Slices.{out-is}
 
+module _ (rows : ℕ) (ws : List ℤ) (room : ℕ) where
+  pub within-problem : problemRefusalWithin rows ws ≢ 0 → problemRefusalWithin rows ws ≡ refusalWithin rows ws room
+  within-problem n = go (problemRefusalWithin rows ws) refl
+    where
+      go : (k : ℕ) → problemRefusalWithin rows ws ≡ k → problemRefusalWithin rows ws ≡ refusalWithin rows ws room
+      go zero e = absurd (n e)
+      go (suc k) e = e ∙ sym (first-kept (problemTests rows ws) ((tooShort ws room, 7) ∷ []) k e)
+
+  after-problem : problemRefusalWithin rows ws ≡ 0 → refusalWithin rows ws room ≡ first ((tooShort ws room, 7) ∷ [])
+  after-problem e = first-passed 10 (problemTests rows ws) ((tooShort ws room, 7) ∷ []) (numbered rows ws) e
+
+  pub within-short : problemRefusalWithin rows ws ≡ 0 → isShort room (varsOf ws) ≡ true → 7 ≡ refusalWithin rows ws room
+  unfolding tooShort
+  within-short e h = sym (after-problem e ∙ first-hit 7 [] h)
+
+  pub within-none : problemRefusalWithin rows ws ≡ 0 → answerLength ws ≤ room → 0 ≡ refusalWithin rows ws room
+  unfolding tooShort first
+  within-none e h = sym (after-problem e ∙ first-skip 7 [] (le-ltb room (answerLength ws) h))
+
 module _ (ws : List ℤ) (room : ℕ) where
   pub refusal-problem : problemRefusal ws ≢ 0 → problemRefusal ws ≡ refusal ws room
   unfolding refusal problemRefusal
-  refusal-problem n = go (problemRefusal ws) refl
-    where
-      go : (k : ℕ) → problemRefusal ws ≡ k → problemRefusal ws ≡ refusal ws room
-      go zero e = absurd (n e)
-      go (suc k) e = e ∙ sym (first-kept (problemTests mostRows ws) ((tooShort ws room, 7) ∷ []) k e)
-
-  after-problem : problemRefusal ws ≡ 0 → refusal ws room ≡ first ((tooShort ws room, 7) ∷ [])
-  unfolding refusal problemRefusal
-  after-problem e = first-passed 10 (problemTests mostRows ws) ((tooShort ws room, 7) ∷ []) (numbered ws) e
-
-  pub refusal-short : problemRefusal ws ≡ 0 → isShort room (varsOf ws) ≡ true → 7 ≡ refusal ws room
-  unfolding tooShort
-  refusal-short e h = sym (after-problem e ∙ first-hit 7 [] h)
+  refusal-problem n = within-problem mostRows ws room n
 
   pub refusal-none : problemRefusal ws ≡ 0 → answerLength ws ≤ room → 0 ≡ refusal ws room
-  unfolding tooShort first
-  refusal-none e h = sym (after-problem e ∙ first-skip 7 [] (le-ltb room (answerLength ws) h))
+  unfolding refusal problemRefusal
+  refusal-none e h = within-none mostRows ws room e h
+
+-- what is fine within fewer rows is fine
+pub fine-within : (rows : ℕ) (ws : List ℤ) → rows ≤ mostRows → problemRefusalWithin rows ws ≡ 0 → problemRefusal ws ≡ 0
+unfolding problemRefusal
+fine-within rows ws h e = fine-more ws h e
 
 pub written-refused : (k : ℕ) (ws before : List ℤ) → k ≢ 0 → before ≡ written k ws before
 unfolding written

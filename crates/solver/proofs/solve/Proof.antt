@@ -1,132 +1,21 @@
--- `solver::solve` meets its contract: the refusal of the problem, or 7, or the answer of the rules. Assumes nothing.
-use mathlib.Core.List.{List}
-use mathlib.Core.Path.{_≡_, ap₂, sym, _∙_}
-use Prim.Native.Nat.{_+_, _≤_}
-use native.Mathlib.Omega.{arith}
+-- `solver::solve` meets its contract: it asks within the most rows. Assumes nothing.
 use borrow.Author.Needs.{needs}
-use borrow.Author.Tests.{ltb-false}
-use lib.IntN.{ℤ}
-use lib.ListN.{length}
-use Rattle.whole.proofs.Numbers.Order.{≤ℤ-trans}
-use Rattle.rules.specs.Problem.{answerLength, mOf, nOf, varsOf}
-use Rattle.rules.specs.Refusal.{Accepted, problemRefusal}
-use Rattle.rules.specs.Sizes.{mostColumns, mostRows}
-use Rattle.rules.proofs.Refusal.Accepted.{m-few, n-few}
-use Rattle.answers.specs.Answer.{isShort}
-use Rattle.solver.proofs.Laws.Refusals.{accepted-of, answered-is, holds-start, refusal-none, refusal-problem}
-use Rattle.solver.proofs.Laws.Refusals.{refusal-short, start-many, written-refused}
+use Rattle.rules.specs.Refusal.{refusal}
 use Rattle.solver.proofs.solve.Statement.{statement}
 use Rattle.solver.proofs.solve.Tie as tie
 
-judge-requires : tie.Need-judge-requires
-judge-requires c κs = search needs
+cast-solve-within : tie.Need-cast-solve-within
+cast-solve-within c = search needs
 
-returns : tie.Need-returns
-returns c = let s = c .before .before .args in let k = c .before .judge .result in
-    let e : k ≡ problemRefusal (s .words .now) = c .before .judge .ensures in (
-      e ∙ refusal-problem (s .words .now) (length (s .out .now)) (λ z. c .if1 .taken (e ∙ z)),
-      written-refused k (s .words .now) (s .out .now) (c .if1 .taken),
-    )
-
--- the words are a problem
-module _ (c : tie.Else1) where
-  abbrev words-at : List ℤ
-  words-at = c .before .before .args .words .now
-
-  not-refused : problemRefusal words-at ≡ 0
-  not-refused = sym (c .before .judge .ensures) ∙ c .if1 .left
-
-  fine : Accepted mostRows words-at
-  fine = accepted-of words-at not-refused
-
-count-at-requires : tie.Need-count-at-requires
-count-at-requires c κs = (let z = fine c .enough in omega arith, ≤ℤ-trans (record { le = tt }) (fine c .n-least))
-
-count-at-requires-2 : tie.Need-count-at-requires-2
-count-at-requires-2 c κs = let a = fine (c .before) in (let z = a .enough in omega arith, a .m-least)
-
--- n and m
-module _ (c : tie.After-count-at2) where
-  abbrev accepted : tie.Else1
-  accepted = c .before .before
-
-  columns-are : c .before .count-at .result ≡ nOf (words-at accepted)
-  columns-are = c .before .count-at .ensures
-
-  rows-are : c .count-at2 .result ≡ mOf (words-at accepted)
-  rows-are = c .count-at2 .ensures
-
-  few-columns : c .before .count-at .result ≤ mostColumns
-  few-columns = rw columns-are (n-few (fine accepted))
-
-  few-rows : c .count-at2 .result ≤ mostRows
-  few-rows = rw rows-are (m-few (fine accepted))
-
-add-variables : tie.Need-add-variables
-add-variables c = let a = few-columns c in let b = few-rows c in omega arith
-
-is-short-requires : tie.Need-is-short-requires
-is-short-requires c κs = let a = few-columns c in let b = few-rows c in omega arith
-
--- the output, and whether it is too short
-module _ (c : tie.After-is-short) where
-  abbrev counted : tie.After-count-at2
-  counted = c .before
-
-  abbrev ws : List ℤ
-  ws = words-at (accepted counted)
-
-  abbrev output : List ℤ
-  output = counted .before .before .before .before .args .out .now
-
-  short-is : c .is-short .result ≡ isShort (length output) (varsOf ws)
-  short-is = c .is-short .ensures
-      ∙ ap₂ (λ n m. isShort (length output) (n + m)) (columns-are counted) (rows-are counted)
-
-returns-2 : tie.Need-returns-2
-returns-2 c = let o = c .before in (
-  refusal-short (ws o) (length (output o)) (not-refused (accepted (counted o))) (sym (short-is o) ∙ c .if2 .taken),
-  written-refused 7 (ws o) (output o) (λ z. omega arith),
-)
-
-new-requires : tie.Need-new-requires
-new-requires c κs = not-refused (accepted (counted (c .before)))
-
--- the answer fits
-module _ (c : tie.Else2) where
-  room : let o = c .before in answerLength (ws o) ≤ length (output o)
-  room = let o = c .before in
-      ltb-false (length (output o)) (answerLength (ws o)) (sym (short-is o) ∙ c .if2 .left)
-
-spend-requires : tie.Need-spend-requires
-spend-requires c κs = let o = c .before in let d = o .before .before in let f = not-refused (accepted (counted d)) in (
-  record { slice = _; holds = holds-start (ws d) (o .new .result) (o .new .ensures) f },
-  (let a = room (o .before) in let b = start-many (ws d) (o .new .result) (o .new .ensures) f in omega arith),
-)
+solve-within-requires : tie.Need-solve-within-requires
+solve-within-requires c κs = search needs
 
 same-length : tie.Need-same-length
 same-length c = search needs
 
-returns-3 : tie.Need-returns-3
-returns-3 c = let o = c .before .before .before in let d = o .before .before in
-    let f = not-refused (accepted (counted d)) in (
-      refusal-none (ws d) (length (output d)) f (room (o .before)),
-      c .before .spend .ensures .1
-          ∙ answered-is (ws d) (o .new .result) (o .new .ensures) f 18446744073709551615 (omega arith) (output d),
-    )
+returns : tie.Need-returns
+unfolding refusal
+returns c = search needs
 
 pub solve-spec : {M : Type 1} → statement M
-solve-spec =
-    tie.close
-    (tie.spec
-    judge-requires
-    returns
-    count-at-requires
-    count-at-requires-2
-    add-variables
-    is-short-requires
-    returns-2
-    new-requires
-    spend-requires
-    same-length
-    returns-3)
+solve-spec = tie.close (tie.spec cast-solve-within solve-within-requires same-length returns)
