@@ -2,35 +2,28 @@
 --   count-hit, edition-hit, bodies-hit, table-hit    a test applies, and none before it does
 --   all-skipped                                      none of the first four applies
 --   read-kept, read-short, read-fine                 the reader's refusal, from the file's
---   count-enough, bodies-tested, bodies-least, bodies-most    what a test that does not apply leaves
+--   count-enough, edition-least, edition-few, bodies-least, bodies-most    what a test that does not apply leaves
 use mathlib.Core.Bool.{Bool, false, true}
 use mathlib.Core.List.{List, [], _∷_}
 use mathlib.Core.Logic.{_≢_, _⊎_}
-use mathlib.Core.Path.{_≡_, ap, refl, sym, _∙_}
+use mathlib.Core.Path.{_≡_, refl, sym, _∙_}
 use Prim.Native.Nat.{ℕ, zero, suc, _-_, _≤_, _<_}
 use native.Mathlib.Omega.{arith}
 use lib.IntN.{ℤ, pos}
 use lib.ListN.{length}
 use lib.Signed.{_≤ℤ_}
-use Rattle.whole.specs.Numbers.{outside}
-use Rattle.whole.proofs.Numbers.Tests.{above, under-size}
+use Rattle.whole.proofs.Numbers.Tests.{under-size}
 use Rattle.whole.proofs.Tells.{tells-false, tells-outside, tells-true}
 use Rattle.rules.specs.Problem.{word}
 use Rattle.rules.specs.Refusal.{first}
 use Rattle.rules.specs.Sizes.{mostBodies}
 use Rattle.rules.specs.Program.Bytes.{wordsFrom}
-use Rattle.rules.specs.Bundle.File.{badBodies, badCount, badEdition, badTable, badTotal, bodiesMost, countIn, edition}
+use Rattle.rules.specs.Bundle.File.{badBodies, badCount, badEdition, badTable, badTotal, bodiesMost, countIn}
 use Rattle.rules.specs.Bundle.File.{editionIn, editions, fileRefusal, fileTests, headSize, readRefusal, shortRoom}
 use Rattle.rules.specs.Bundle.File.{shortTable}
+use Rattle.rules.proofs.Bundle.Places.{bodies-few, editions-few}
 use Rattle.rules.proofs.Bundle.Exactly.{bytes-tells, file-numbered, read-room-tells}
 use Rattle.rules.proofs.Refusal.First.{first-hit, first-kept, first-passed, first-skip}
-
--- the only edition
-edition-one : (e : ℕ) → 1 ≤ e → e ≤ 1 → bodiesMost e ≡ mostBodies
-unfolding edition editions
-edition-one zero h l = absurd (omega arith)
-edition-one (suc zero) h l = refl
-edition-one (suc (suc e)) h l = absurd (omega arith)
 
 module _ (bs : List ℕ) where
   abbrev ws : List ℤ
@@ -67,23 +60,35 @@ module _ (bs : List ℕ) where
       edition-skip : fileRefusal bs ≡ first tests-32
       edition-skip = count-skip ∙ first-skip 31 tests-32 e
 
-      -- so the most bodies are those of that edition
-      pub bodies-tested : badBodies ws ≡ outside 0 mostBodies (word ws 1)
-      unfolding badBodies badEdition editions
-      bodies-tested = let t = tells-outside 1 1 (word ws 0) .if-false e in
-          ap (λ n. outside 0 n (word ws 1))
-          (edition-one (editionIn ws) (above 1 (word ws 0) (t .0)) (under-size 1 1 (word ws 0) (t .0) (t .1)))
+      pub edition-least : pos 1 ≤ℤ word ws 0
+      unfolding badEdition
+      edition-least = tells-outside 1 (length editions) (word ws 0) .if-false e .0
+
+      pub edition-few : editionIn ws ≤ mostBodies
+      unfolding badEdition
+      edition-few = omega (
+        arith,
+        editions-few,
+        under-size (length editions) 1 (word ws 0) edition-least
+            (tells-outside 1 (length editions) (word ws 0) .if-false e .1),
+      )
 
       pub bodies-hit : badBodies ws ≡ true → 32 ≡ fileRefusal bs
       bodies-hit h = sym (edition-skip ∙ first-hit 32 tests-33 h)
 
       module _ (b : badBodies ws ≡ false) where
         pub bodies-least : pos 0 ≤ℤ word ws 1
-        bodies-least = tells-outside 0 mostBodies (word ws 1) .if-false (sym bodies-tested ∙ b) .0
+        unfolding badBodies
+        bodies-least = tells-outside 0 (bodiesMost (editionIn ws)) (word ws 1) .if-false b .0
 
         pub bodies-most : countIn ws ≤ mostBodies
-        bodies-most = under-size mostBodies 0 (word ws 1) bodies-least
-            (tells-outside 0 mostBodies (word ws 1) .if-false (sym bodies-tested ∙ b) .1)
+        unfolding badBodies
+        bodies-most = omega (
+          arith,
+          bodies-few (editionIn ws),
+          under-size (bodiesMost (editionIn ws)) 0 (word ws 1) bodies-least
+              (tells-outside 0 (bodiesMost (editionIn ws)) (word ws 1) .if-false b .1),
+        )
 
         pub table-hit : shortTable ws ≡ true → 33 ≡ fileRefusal bs
         table-hit h = sym (edition-skip ∙ first-skip 32 tests-33 b ∙ first-hit 33 tests-34 h)

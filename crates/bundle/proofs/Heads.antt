@@ -27,28 +27,28 @@ use Rattle.rules.proofs.Bundle.Head.{count-word, edition-word, file-length, fir
 use Rattle.rules.proofs.Bundle.Places.{countBefore, counts-rise, sum-counts}
 use Rattle.bundle.specs.Lengths.{Counts, Fillable}
 
-module _ (lengths : List ℤ) where
+module _ (e : ℕ) (lengths : List ℤ) where
   abbrev k : ℕ
   k = length lengths
 
   abbrev pub headWord : ℕ → ℤ
-  headWord p = word (fileWords 1 lengths []) p
+  headWord p = word (fileWords e lengths []) p
 
   -- the first words of the head over other words
   abbrev pub headOver : ℕ → List ℤ → List ℤ
   headOver p before = table p headWord ++ drop p before
 
-  word-edition : headWord 0 ≡ pos 1
-  word-edition = edition-word 1 lengths []
+  word-edition : headWord 0 ≡ pos e
+  word-edition = edition-word e lengths []
 
   word-count : headWord 1 ≡ pos k
-  word-count = count-word 1 lengths []
+  word-count = count-word e lengths []
 
   pub word-size : (i : ℕ) → i < k → headWord (3 + 2 * i) ≡ word lengths i
-  word-size i h = length-word 1 lengths [] i h
+  word-size i h = length-word e lengths [] i h
 
   module _ (before : List ℤ) where
-    pub head-begun : 2 ≤ length before → (a b : ℤ) → a ≡ pos 1 → b ≡ pos k →
+    pub head-begun : 2 ≤ length before → (a b : ℤ) → a ≡ pos e → b ≡ pos k →
         set (set before 0 a) 1 b ≡ headOver 2 before
     unfolding tableFrom
     head-begun h a b p q =
@@ -72,49 +72,53 @@ module _ (lengths : List ℤ) where
         ∙ set-table headWord (pos 0) before (2 + 2 * i + 1) (omega arith)
         ∙ ap (λ n. headOver n before) (let z : 2 + 2 * i + 1 + 1 ≡ 2 + 2 * (i + 1) = omega arith in z)
 
-    pub head-done : headOver (headSize k) before ≡ fileWords 1 lengths [] ++ drop (headSize k) before
+    pub head-done : headOver (headSize k) before ≡ fileWords e lengths [] ++ drop (headSize k) before
     head-done = ap (λ l. l ++ drop (headSize k) before)
-        (ap (λ n. table n headWord) (let z : headSize k ≡ length (fileWords 1 lengths []) =
-        omega (arith, file-length 1 lengths []) in z) ∙ table-all (fileWords 1 lengths []) (pos 0))
+        (ap (λ n. table n headWord) (let z : headSize k ≡ length (fileWords e lengths []) =
+        omega (arith, file-length e lengths []) in z) ∙ table-all (fileWords e lengths []) (pos 0))
 
   module _ (C : Counts lengths) where
     pub word-first : (i : ℕ) → i < k → headWord (2 + 2 * i) ≡ pos (headSize k + countBefore i (word lengths))
-    word-first i h = first-word 1 lengths [] i h
+    word-first i h = first-word e lengths [] i h
         ∙ ap (λ z. pos (headSize k) +ℤ z) (sum-counts k (word lengths) (C .least) i (omega arith))
 
-  total-few : (C : Fillable lengths) → countBefore k (word lengths) ≤ mostFileWords
-  total-few C = leb→le (countBefore k (word lengths)) mostFileWords
-      (rw (sum-counts k (word lengths) (C .counts .least) k (omega arith)) at (C .total) .le)
+-- ---- the place of a body
 
-  pub place-few : Fillable lengths → (i : ℕ) → i ≤ k → countBefore i (word lengths) ≤ mostFileWords
-  place-few C i h = omega (arith, total-few C, counts-rise k (word lengths) i h)
+module _ (lengths : List ℤ) (C : Fillable lengths) where
+  total-few : countBefore (length lengths) (word lengths) ≤ mostFileWords
+  total-few = leb→le (countBefore (length lengths) (word lengths)) mostFileWords
+      (rw (sum-counts (length lengths) (word lengths) (C .counts .least) (length lengths) (omega arith))
+      at (C .total) .le)
+
+  pub place-few : (i : ℕ) → i ≤ length lengths → countBefore i (word lengths) ≤ mostFileWords
+  place-few i h = omega (arith, total-few, counts-rise (length lengths) (word lengths) i h)
 
 -- ---- the whole file, as bytes: the head, and the words behind it
 
-head-then : (lengths ws : List ℤ) → fileWords 1 lengths [] ++ ws ≡ fileWords 1 lengths ws
+head-then : (e : ℕ) (lengths ws : List ℤ) → fileWords e lengths [] ++ ws ≡ fileWords e lengths ws
 unfolding fileWords
-head-then lengths ws = ap (λ l. l ++ ws) (append-nil (headWords 1 lengths))
+head-then e lengths ws = ap (λ l. l ++ ws) (append-nil (headWords e lengths))
 
-pub head-length : (lengths : List ℤ) → length (fileWords 1 lengths []) ≡ headSize (length lengths)
-head-length lengths = omega (arith, file-length 1 lengths [])
+pub head-length : (e : ℕ) (lengths : List ℤ) → length (fileWords e lengths []) ≡ headSize (length lengths)
+head-length e lengths = omega (arith, file-length e lengths [])
 
-pub file-put : (lengths ws : List ℤ) (file : List ℕ) → 4 * fileSize lengths ws ≤ length file → (r : ℕ) →
+pub file-put : (e : ℕ) (lengths ws : List ℤ) (file : List ℕ) → 4 * fileSize lengths ws ≤ length file → (r : ℕ) →
     r ≡ headSize (length lengths) →
-    sets (sets file 0 (bytesFrom (fileWords 1 lengths []))) (4 * r) (bytesFrom ws) ≡ fileLeft 0 1 lengths ws file
+    sets (sets file 0 (bytesFrom (fileWords e lengths []))) (4 * r) (bytesFrom ws) ≡ fileLeft 0 e lengths ws file
 unfolding fileLeft
-file-put lengths ws file h r e =
+file-put e lengths ws file h r q =
     ap (λ n. sets (sets file 0 (bytesFrom head)) n (bytesFrom ws))
-    (let z : 4 * r ≡ 0 + length (bytesFrom head) = omega (arith, bytes-length head, head-length lengths) in z)
+    (let z : 4 * r ≡ 0 + length (bytesFrom head) = omega (arith, bytes-length head, head-length e lengths) in z)
     ∙ sym (sets-then (bytesFrom head) (bytesFrom ws) file 0)
-    ∙ ap (sets file 0) (sym (bytes-then head ws) ∙ ap bytesFrom (head-then lengths ws))
+    ∙ ap (sets file 0) (sym (bytes-then head ws) ∙ ap bytesFrom (head-then e lengths ws))
     ∙ sets-front (bytesFrom all) file (omega (arith, long))
     ∙ ap (λ n. bytesFrom all ++ drop n file) long
   where
     head : List ℤ
-    head = fileWords 1 lengths []
+    head = fileWords e lengths []
 
     all : List ℤ
-    all = fileWords 1 lengths ws
+    all = fileWords e lengths ws
 
     long : length (bytesFrom all) ≡ 4 * fileSize lengths ws
-    long = omega (arith, bytes-length all, file-length 1 lengths ws)
+    long = omega (arith, bytes-length all, file-length e lengths ws)

@@ -30,7 +30,7 @@ read-only κs x a b e f h k =
     )
 
 pub write-only : (κs : _) (x : _) (a b : _) (e f : _) → write.Post κs x a e → write.Post κs x b f →
-    (a ≡ b) × (e .1 .1 .0 .now ≡ f .1 .1 .0 .now)
+    (a ≡ b) × (e .1 .1 .1 .0 .now ≡ f .1 .1 .1 .0 .now)
 write-only κs x a b e f h k =
     let n : a ≡ b = h .0 ∙ sym (k .0) in
-    (n, h .1 ∙ ap (λ j. fileLeft j 1 (x .0 .now) (x .1 .0 .now) (x .1 .1 .0 .now)) n ∙ sym (k .1))
+    (n, h .1 ∙ ap (λ j. fileLeft j (x .0) (x .1 .0 .now) (x .1 .1 .0 .now) (x .1 .1 .1 .0 .now)) n ∙ sym (k .1))

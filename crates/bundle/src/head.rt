@@ -1,8 +1,8 @@
-// The head of a file: edition 1, the count of bodies, and their pairs.
+// The head of a file: its edition, the count of bodies, and their pairs.
 use crate::judge::count_of;
 ghost use mathlib.Core.List.{[], _++_};
 ghost use mathlib.Core.Path.{_≡_};
-ghost use Prim.Native.Nat.{_≤_};
+ghost use Prim.Native.Nat.{_^_, _≤_, _<_};
 ghost use lib.ListN.{drop, length};
 ghost use Rattle.rules.specs.Bundle.File.{headSize};
 ghost use Rattle.rules.specs.Bundle.Writer.{fileWords};
@@ -13,14 +13,15 @@ pub const MOST_HEAD: usize = 2 + 2 * rules::MOST_BODIES;
 
 // Puts the head at the front of `front`, whose later words stay, and answers how many words it has. It is a file
 // with no word behind its pairs.
-pub fn fill(lengths: &[i32], front: &mut [i32]) -> usize
-    requires { ⌜ Fillable (now lengths) × (headSize (length (now lengths)) ≤ length (now front)) ⌝ }
+pub fn fill(edition: u32, lengths: &[i32], front: &mut [i32]) -> usize
+    requires { ⌜ Fillable (now lengths) × (headSize (length (now lengths)) ≤ length (now front))
+        × (edition < 2 ^ 31) ⌝ }
     ensures size { λ r. ⌜ r ≡ headSize (length (now (lengths .entry))) ⌝ }
     ensures content { λ r. ⌜ now (front .exit)
-        ≡ fileWords 1 (now (lengths .entry)) [] ++ drop r (now (front .entry)) ⌝ }
+        ≡ fileWords edition (now (lengths .entry)) [] ++ drop r (now (front .entry)) ⌝ }
 {
     let bodies = lengths.len();
-    front[0] = 1;
+    front[0] = edition as i32;
     front[1] = bodies as i32;
     let mut at = 2 + 2 * bodies;
     for i in 0..bodies {

@@ -1,4 +1,6 @@
 // Whether bytes are a day's file: refusals 30 to 35, each over the whole file before the next.
+use editions::EDITIONS;
+use editions::bodies_in;
 use wire::word_at;
 use words::is_outside;
 ghost use mathlib.Core.Bool.{_||_, not};
@@ -13,9 +15,6 @@ ghost use Rattle.rules.specs.Sizes.{mostBodies};
 ghost use Rattle.rules.specs.Refusal.{first};
 ghost use Rattle.rules.specs.Program.Bytes.{wordsFrom};
 ghost use Rattle.rules.specs.Bundle.File.{badCount, badTable, badTotal, countIn, fileRefusal, headSize};
-
-// The last edition there is.
-const EDITIONS: u32 = 1;
 
 // Not a whole number of words, fewer than two, or too many.
 fn is_bad_count(count: usize) -> bool
@@ -82,11 +81,13 @@ pub fn file_refusal(file: &[u8]) -> u32
     if is_bad_count(file.len()) {
         return 30;
     }
-    if is_bad_word(word_at(file, 0), 1, EDITIONS) {
+    let edition = word_at(file, 0);
+    if is_bad_word(edition, 1, EDITIONS) {
         return 31;
     }
+    let most = bodies_in(count_of(edition) as u32);
     let number = word_at(file, 4);
-    if is_bad_word(number, 0, rules::MOST_BODIES as u32) {
+    if is_bad_word(number, 0, most as u32) {
         return 32;
     }
     let bodies = count_of(number);

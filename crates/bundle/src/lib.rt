@@ -85,19 +85,19 @@ pub fn read(file: &[u8], lengths: &mut [i32], words: &mut [i32]) -> Contents
     }
 }
 
-// Writes a file of edition 1 from the lengths of its bodies and all their words back to back. A refusal keeps `file`.
-pub fn write(lengths: &[i32], words: &[i32], file: &mut [u8]) -> u32
-    ensures number { λ r. ⌜ r ≡ writerRefusal 1 (now (lengths .entry)) (now (words .entry))
+// Writes a file of an edition from the lengths of its bodies and all their words back to back. A refusal keeps `file`.
+pub fn write(edition: u32, lengths: &[i32], words: &[i32], file: &mut [u8]) -> u32
+    ensures number { λ r. ⌜ r ≡ writerRefusal edition (now (lengths .entry)) (now (words .entry))
         (length (now (file .entry))) ⌝ }
     ensures output { λ r. ⌜ now (file .exit)
-        ≡ fileLeft r 1 (now (lengths .entry)) (now (words .entry)) (now (file .entry)) ⌝ }
+        ≡ fileLeft r edition (now (lengths .entry)) (now (words .entry)) (now (file .entry)) ⌝ }
 {
-    let refused = writer_refusal(lengths, words, file.len());
+    let refused = writer_refusal(edition, lengths, words, file.len());
     if refused != 0 {
         return refused;
     }
     let mut front = [0i32; head::MOST_HEAD];
-    let size = head::fill(lengths, &mut front);
+    let size = head::fill(edition, lengths, &mut front);
     wire::bytes_of(&front[..size], file, 0);
     wire::bytes_of(words, file, 4 * size);
     0

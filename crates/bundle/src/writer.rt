@@ -1,4 +1,4 @@
-// Whether lengths and words make a file: refusals 32, 34, 35, 30 and 36.
+// Whether lengths and words make a file of an edition: refusals 31, 32, 34, 35, 30 and 36.
 use crate::judge::count_of;
 ghost use mathlib.Core.Path.{_≡_};
 ghost use lib.IntN.{pos};
@@ -33,11 +33,14 @@ fn total_of(lengths: &[i32]) -> usize
 }
 
 // The refusal of what is to be written, or 0; room is in bytes.
-pub fn writer_refusal(lengths: &[i32], words: &[i32], room: usize) -> u32
-    ensures { λ r. ⌜ r ≡ writerRefusal 1 (now (lengths .entry)) (now (words .entry)) room ⌝ }
+pub fn writer_refusal(edition: u32, lengths: &[i32], words: &[i32], room: usize) -> u32
+    ensures { λ r. ⌜ r ≡ writerRefusal edition (now (lengths .entry)) (now (words .entry)) room ⌝ }
 {
+    if editions::is_unknown(edition) {
+        return 31;
+    }
     let bodies = lengths.len();
-    if rules::MOST_BODIES < bodies {
+    if editions::bodies_in(edition) < bodies {
         return 32;
     }
     if has_negative(lengths) {

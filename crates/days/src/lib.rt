@@ -1,6 +1,7 @@
 // The text of a day's file: each body as the program `ramp` prints a problem, one behind the other.
 use bundle::judge::count_of;
 use bundle::judge::file_refusal;
+use editions::rows_in;
 use lines::respond::MOST_TEXT;
 use lines::respond::put_refusal;
 use lines::respond::put_reply;
@@ -10,7 +11,7 @@ ghost use Prim.Native.Nat.{_+_, _^_, _≤_, _<_};
 ghost use lib.ListN.{length};
 ghost use Rattle.rules.specs.Sizes.{mostDayText, mostText};
 ghost use Rattle.rules.specs.Program.Text.{linesBelow, printed};
-ghost use Rattle.rules.specs.Bundle.File.{bodyIn, countIn, editionIn};
+ghost use Rattle.rules.specs.Bundle.File.{bodyIn, countIn, editionIn, rowsIn};
 ghost use Rattle.rules.specs.Bundle.Day.{bodyText, dayText};
 ghost use Rattle.put.specs.Put.{PutShort};
 ghost use Rattle.days.specs.Opened.{Opened};
@@ -18,15 +19,16 @@ ghost use Rattle.days.specs.Opened.{Opened};
 // No text of a day has more bytes.
 pub const MOST_DAY_TEXT: usize = rules::MOST_BODIES * MOST_TEXT;
 
-// The text of body `i`, put at a place.
-fn put_body(out: &mut [u8], at: usize, words: &[i32], i: usize) -> usize
-    requires { ⌜ Opened (now words) × (i < countIn (now words)) × (at + mostText < 2 ^ 64) ⌝ }
+// The text of body `i`, with the rows of the file's edition, put at a place.
+fn put_body(out: &mut [u8], at: usize, rows: u32, words: &[i32], i: usize) -> usize
+    requires { ⌜ Opened (now words) × (i < countIn (now words)) × (at + mostText < 2 ^ 64)
+        × (rows ≡ rowsIn (editionIn (now words))) ⌝ }
     ensures { λ r. ⌜ PutShort mostText (now (out .entry)) at
         (bodyText (editionIn (now (words .entry))) (bodyIn (now (words .entry)) i)) (now (out .exit)) r ⌝ }
 {
     let first = count_of(words[2 + 2 * i]);
     let end = first + count_of(words[3 + 2 * i]);
-    put_reply(out, at, &words[first..end])
+    put_reply(out, at, rows, &words[first..end])
 }
 
 // The texts of all bodies, at the front.
@@ -35,10 +37,11 @@ fn put_bodies(out: &mut [u8], words: &[i32]) -> usize
     ensures { λ r. ⌜ PutShort mostDayText (now (out .entry)) 0 (linesBelow (countIn (now (words .entry)))
         (λ i. bodyText (editionIn (now (words .entry))) (bodyIn (now (words .entry)) i))) (now (out .exit)) r ⌝ }
 {
+    let rows = rows_in(count_of(words[0]) as u32);
     let bodies = count_of(words[1]);
     let mut next = 0usize;
     for i in 0..bodies {
-        next = put_body(out, next, words, i);
+        next = put_body(out, next, rows, words, i);
     }
     next
 }

@@ -1,4 +1,5 @@
--- What the program prints for words, from what the solver answers with room for the most words of an answer.
+-- What the program prints for words, from what the solver answers with room for the most words of an answer, within any
+-- most rows.
 --   room-enough, fine-words             an accepted problem has room; the solver's 0 is the problem's 0
 --   replied-refused, replied-answered       the text by the solver's number
 --   written-long                        the output holds all of the answer
@@ -17,8 +18,8 @@ use Rattle.rules.specs.Answer.{answer, written}
 use Rattle.rules.specs.Problem.{answerLength, varsOf}
 use Rattle.rules.specs.Program.Bytes.{countRefusal, wordsFrom}
 use Rattle.rules.specs.Program.Reply.{programText, replyAfter, replyTo}
-use Rattle.rules.specs.Refusal.{problemRefusal, refusal}
-use Rattle.rules.specs.Sizes.{mostAnswer, mostVariables, mostWords}
+use Rattle.rules.specs.Refusal.{problemRefusal, problemRefusalWithin, refusalWithin}
+use Rattle.rules.specs.Sizes.{mostAnswer, mostRows, mostVariables, mostWords}
 use Rattle.rules.specs.Program.Text.{answerText, refusalText}
 use Rattle.rules.proofs.Refusal.Accepted.{m-few, n-few}
 use Rattle.rules.proofs.Answer.Shape.{answer-shaped}
@@ -26,36 +27,42 @@ use Rattle.rules.proofs.Program.Counts.{count-fine}
 use Rattle.rules.proofs.Program.Words.{words-length}
 use Rattle.rules.proofs.Program.Same.{answer-text-same}
 use Rattle.put.specs.Put.{PutShort}
-use Rattle.solver.proofs.Laws.Refusals.{accepted-of, refusal-none, refusal-problem}
+use Rattle.solver.proofs.Laws.Refusals.{accepted-of, fine-within, within-none, within-problem}
 
 pub put-as : {text other before after : List ℕ} {most at next : ℕ} → text ≡ other →
     PutShort most before at text after next → PutShort most before at other after next
 put-as e p = rw e at p
 
-module _ (ws : List ℤ) where
-  pub vars-few : problemRefusal ws ≡ 0 → varsOf ws ≤ mostVariables
-  vars-few e = let n = n-few (accepted-of ws e) in let m = m-few (accepted-of ws e) in omega arith
+module _ (rows : ℕ) (few : rows ≤ mostRows) (ws : List ℤ) where
+  abbrev own : ℕ
+  own = problemRefusalWithin rows ws
 
-  room-enough : problemRefusal ws ≡ 0 → answerLength ws ≤ mostAnswer
+  fine : own ≡ 0 → problemRefusal ws ≡ 0
+  fine = fine-within rows ws few
+
+  pub vars-few : own ≡ 0 → varsOf ws ≤ mostVariables
+  vars-few e = let n = n-few (accepted-of ws (fine e)) in let m = m-few (accepted-of ws (fine e)) in omega arith
+
+  room-enough : own ≡ 0 → answerLength ws ≤ mostAnswer
   room-enough e = let h = vars-few e in omega arith
 
-  pub fine-words : (r : ℕ) → r ≡ refusal ws mostAnswer → r ≡ 0 → problemRefusal ws ≡ 0
-  fine-words r e z = go (problemRefusal ws) refl
+  pub fine-words : (r : ℕ) → r ≡ refusalWithin rows ws mostAnswer → r ≡ 0 → own ≡ 0
+  fine-words r e z = go own refl
     where
-      go : (k : ℕ) → problemRefusal ws ≡ k → problemRefusal ws ≡ 0
+      go : (k : ℕ) → own ≡ k → own ≡ 0
       go zero q = q
-      go (suc k) q = let n : problemRefusal ws ≢ 0 = λ f. let y : suc k ≡ 0 = sym q ∙ f in omega arith in
-          refusal-problem ws mostAnswer n ∙ sym e ∙ z
+      go (suc k) q = let n : own ≢ 0 = λ f. let y : suc k ≡ 0 = sym q ∙ f in omega arith in
+          within-problem rows ws mostAnswer n ∙ sym e ∙ z
 
-  pub replied-refused : (r : ℕ) → r ≡ refusal ws mostAnswer → r ≢ 0 → refusalText r ≡ replyTo (problemRefusal ws) ws
+  pub replied-refused : (r : ℕ) → r ≡ refusalWithin rows ws mostAnswer → r ≢ 0 → refusalText r ≡ replyTo own ws
   unfolding replyTo
-  replied-refused r e n = go (problemRefusal ws) refl
+  replied-refused r e n = go own refl
     where
-      go : (k : ℕ) → problemRefusal ws ≡ k → refusalText r ≡ replyTo (problemRefusal ws) ws
-      go zero q = absurd (n (e ∙ sym (refusal-none ws mostAnswer q (room-enough q))))
+      go : (k : ℕ) → own ≡ k → refusalText r ≡ replyTo own ws
+      go zero q = absurd (n (e ∙ sym (within-none rows ws mostAnswer q (room-enough q))))
       go (suc k) q =
-          let f : problemRefusal ws ≢ 0 = λ f. let y : suc k ≡ 0 = sym q ∙ f in omega arith in
-          ap refusalText (e ∙ sym (refusal-problem ws mostAnswer f) ∙ q) ∙ sym (ap (λ j. replyTo j ws) q)
+          let f : own ≢ 0 = λ f. let y : suc k ≡ 0 = sym q ∙ f in omega arith in
+          ap refusalText (e ∙ sym (within-problem rows ws mostAnswer f) ∙ q) ∙ sym (ap (λ j. replyTo j ws) q)
 
   -- ---- the answer
 
@@ -63,8 +70,7 @@ module _ (ws : List ℤ) where
   unfolding written
   written-long before = simp length-append (let h = answer-shaped ws .many in omega arith)
 
-  pub replied-answered : (before : List ℤ) → problemRefusal ws ≡ 0 →
-      answerText (written 0 ws before) (varsOf ws) ≡ replyTo (problemRefusal ws) ws
+  pub replied-answered : (before : List ℤ) → own ≡ 0 → answerText (written 0 ws before) (varsOf ws) ≡ replyTo own ws
   unfolding written replyTo
   replied-answered before e =
       answer-text-same (answer ws ++ drop (answerLength ws) before) (answer ws) (varsOf ws)

@@ -1,7 +1,7 @@
 // The whole program as one function: bytes of standard input in, bytes to print out. A text is put into a slice that
 // has room for every text, and is written where it fits.
 ghost use Prim.Native.Nat.{_+_, _^_, _<_};
-ghost use Rattle.rules.specs.Refusal.{problemRefusal};
+ghost use Rattle.rules.specs.Refusal.{problemRefusal, problemRefusalWithin, rowsWithin};
 ghost use Rattle.rules.specs.Sizes.{mostText};
 ghost use Rattle.rules.specs.Program.Reply.{programText, replyTo};
 ghost use Rattle.rules.specs.Program.Text.{refusalText};
@@ -24,15 +24,16 @@ pub fn put_refusal(out: &mut [u8], at: usize, number: u32) -> usize
     put_line(out, at, b"refused ", number as i64)
 }
 
-// What the program prints for these words, put at a place. An answer always has room, so the refusal is the problem's
-// own.
-pub fn put_reply(out: &mut [u8], at: usize, words: &[i32]) -> usize
+// What the program prints for these words, with at most so many rows, put at a place. An answer always has room, so the
+// refusal is the problem's own.
+pub fn put_reply(out: &mut [u8], at: usize, most: u32, words: &[i32]) -> usize
     requires { ⌜ at + mostText < 2 ^ 64 ⌝ }
     ensures { λ r. ⌜ PutShort mostText (now (out .entry)) at
-        (replyTo (problemRefusal (now (words .entry))) (now (words .entry))) (now (out .exit)) r ⌝ }
+        (replyTo (problemRefusalWithin (rowsWithin most) (now (words .entry))) (now (words .entry)))
+        (now (out .exit)) r ⌝ }
 {
     let mut answer = [0i64; rules::MOST_ANSWER];
-    let number = solver::solve(words, &mut answer);
+    let number = solver::solve_within(most, words, &mut answer);
     if number != 0 {
         return put_refusal(out, at, number);
     }
@@ -46,7 +47,7 @@ fn reply(words: &[i32], out: &mut [u8]) -> Written
         (now (out .entry)) (now (out .exit)) r ⌝ }
 {
     let mut text = [0u8; MOST_TEXT];
-    let size = put_reply(&mut text, 0, words);
+    let size = put_reply(&mut text, 0, rules::MOST_ROWS as u32, words);
     write_text(&text[..size], out)
 }
 

@@ -92,10 +92,21 @@ mostText = 7 + mostPivotsLine + mostVariables * mostMultiplierLines
 abbrev pub mostFileWords : ℕ
 mostFileWords = 16384
 
+-- of edition 1: bodies, and rows of a body
+abbrev pub firstBodies : ℕ
+firstBodies = 64
+
+abbrev pub firstRows : ℕ
+firstRows = 16
+
+-- of edition 2: bodies; a body has the rows of any problem
+abbrev pub secondBodies : ℕ
+secondBodies = 48
+
 -- bodies, in any edition
 abbrev pub mostBodies : ℕ
-mostBodies = 64
+mostBodies = firstBodies
 
--- the text of a day: 94,400
+-- the text of a day
 abbrev pub mostDayText : ℕ
 mostDayText = mostBodies * mostText

@@ -21,7 +21,16 @@ pub const LARGEST_LIMIT: i32 = 30000;
 
 pub const LARGEST_NUMBER: i64 = 2147483647;
 
-// The words of a day's file, and its bodies.
+// The words of a day's file.
 pub const MOST_FILE_WORDS: usize = 16384;
 
-pub const MOST_BODIES: usize = 64;
+// Of edition 1: bodies of a file, and rows of a body.
+pub const FIRST_BODIES: usize = 64;
+
+pub const FIRST_ROWS: usize = 16;
+
+// Of edition 2: bodies of a file; theirs have the rows of any problem.
+pub const SECOND_BODIES: usize = 48;
+
+// Bodies, in any edition.
+pub const MOST_BODIES: usize = FIRST_BODIES;

@@ -76,7 +76,7 @@ pub scatterflock-bundle-read-only : (κs : _) (x : _) (a b : _) (e f : _) →
 scatterflock-bundle-read-only κs x a b e f h k = read-only κs x a b e f h k
 
 pub scatterflock-bundle-write-only : (κs : _) (x : _) (a b : _) (e f : _) →
-    bundle-write.Post κs x a e → bundle-write.Post κs x b f → (a ≡ b) × (e .1 .1 .0 .now ≡ f .1 .1 .0 .now)
+    bundle-write.Post κs x a e → bundle-write.Post κs x b f → (a ≡ b) × (e .1 .1 .1 .0 .now ≡ f .1 .1 .1 .0 .now)
 scatterflock-bundle-write-only κs x a b e f h k = write-only κs x a b e f h k
 
 pub scatterflock-day-only : (κs : _) (x : _) (a b : _) (e f : _) → day.Post κs x a e → day.Post κs x b f →

@@ -135,15 +135,20 @@ pub extern "C" fn scatterflock_bundle_read(
     bundle::read(file, lengths, words)
 }
 
-// Writes a day's file.
+// Writes a day's file of an edition.
 #[no_mangle]
-pub extern "C" fn scatterflock_bundle_write(lengths: &[i32], words: &[i32], file: &mut [u8]) -> u32
-    ensures number { λ r. ⌜ r ≡ writerRefusal 1 (now (lengths .entry)) (now (words .entry))
+pub extern "C" fn scatterflock_bundle_write(
+    edition: u32,
+    lengths: &[i32],
+    words: &[i32],
+    file: &mut [u8],
+) -> u32
+    ensures number { λ r. ⌜ r ≡ writerRefusal edition (now (lengths .entry)) (now (words .entry))
         (length (now (file .entry))) ⌝ }
     ensures output { λ r. ⌜ now (file .exit)
-        ≡ fileLeft r 1 (now (lengths .entry)) (now (words .entry)) (now (file .entry)) ⌝ }
+        ≡ fileLeft r edition (now (lengths .entry)) (now (words .entry)) (now (file .entry)) ⌝ }
 {
-    bundle::write(lengths, words, file)
+    bundle::write(edition, lengths, words, file)
 }
 
 // Prints a day's file, and answers how long its text is.

@@ -9,33 +9,36 @@ use lib.Dec.{le→leb}
 use lib.IntN.{ℤ, pos}
 use lib.ListN.{drop, length, length-take, replicate, take}
 use lib.Seq.{length-sets, sets, take-at}
-use Rattle.rules.specs.Sizes.{mostFileWords}
+use Rattle.rules.specs.Sizes.{mostBodies, mostFileWords}
 use Rattle.rules.specs.Program.Bytes.{bytesFrom}
-use Rattle.rules.specs.Bundle.File.{edition, editions, headSize}
+use Rattle.rules.specs.Bundle.File.{headSize}
 use Rattle.rules.specs.Bundle.Writer.{fileLeft, fileWords, writerRefusal}
 use Rattle.rules.specs.Bundle.Facts.{WriterAccepted}
 use Rattle.rules.proofs.Bundle.Exactly.{writer-accepted-exactly}
+use Rattle.rules.proofs.Bundle.Places.{bodies-few, editions-few}
 use Rattle.bundle.specs.Lengths.{Fillable}
 use Rattle.bundle.proofs.Heads.{file-put, head-length}
 use Rattle.bundle.proofs.write.Statement.{statement}
 use Rattle.bundle.proofs.write.Tie as tie
 
 -- what is written without a refusal
-placed-of : {lengths ws : List ℤ} {room : ℕ} → WriterAccepted 1 lengths ws room → Fillable lengths
-unfolding edition editions
-placed-of {lengths} {ws} A = record {
-  counts = record { few = A .count-most; least = A .lengths-least };
+placed-of : {e : ℕ} {lengths ws : List ℤ} {room : ℕ} → WriterAccepted e lengths ws room → Fillable lengths
+placed-of {e} {lengths} {ws} A = record {
+  counts = record { few = omega (arith, A .count-most, bodies-few e); least = A .lengths-least };
   total = rw (A .total) (record { le = le→leb (length ws) mostFileWords (omega (arith, A .few)) });
 }
 
-kept : (k : ℕ) (lengths ws : List ℤ) (file : List ℕ) → (k ≡ 0 → ⊥) → file ≡ fileLeft k 1 lengths ws file
+kept : (k e : ℕ) (lengths ws : List ℤ) (file : List ℕ) → (k ≡ 0 → ⊥) → file ≡ fileLeft k e lengths ws file
 unfolding fileLeft
-kept zero lengths ws file n = absurd (n refl)
-kept (suc k) lengths ws file n = refl
+kept zero e lengths ws file n = absurd (n refl)
+kept (suc k) e lengths ws file n = refl
 
 module _ (c : tie.Else1) where
   abbrev start : tie.Start
   start = c .before .before .before
+
+  abbrev e : ℕ
+  e = start .args .edition
 
   abbrev lengths : List ℤ
   lengths = start .args .lengths .now
@@ -46,11 +49,11 @@ module _ (c : tie.Else1) where
   abbrev file : List ℕ
   file = start .args .file .now
 
-  fine : 0 ≡ writerRefusal 1 lengths words (length file)
+  fine : 0 ≡ writerRefusal e lengths words (length file)
   fine = sym (c .if1 .left) ∙ c .before .writer-refusal .ensures
 
-  accepted : WriterAccepted 1 lengths words (length file)
-  accepted = writer-accepted-exactly 1 lengths words (length file) .0 (sym fine)
+  accepted : WriterAccepted e lengths words (length file)
+  accepted = writer-accepted-exactly e lengths words (length file) .0 (sym fine)
 
   placed : Fillable lengths
   placed = placed-of accepted
@@ -62,13 +65,14 @@ module _ (c : tie.After-fill) where
   size-is : c .fill .result ≡ headSize (length (lengths passed))
   size-is = c .fill .ensures .0
 
-  front-is : take (c .fill .result) (c .fill .last .1 .0) ≡ fileWords 1 (lengths passed) []
+  front-is : take (c .fill .result) (c .fill .last .1 .1 .0) ≡ fileWords (e passed) (lengths passed) []
   front-is = ap (take (c .fill .result)) (c .fill .ensures .1)
-      ∙ take-at (fileWords 1 (lengths passed) []) (drop (c .fill .result) (replicate 130 (pos 0))) (c .fill .result)
-      (head-length (lengths passed) ∙ sym size-is)
+      ∙ take-at (fileWords (e passed) (lengths passed) [])
+      (drop (c .fill .result) (replicate (headSize mostBodies) (pos 0))) (c .fill .result)
+      (head-length (e passed) (lengths passed) ∙ sym size-is)
 
-  front-long : length (take (c .fill .result) (c .fill .last .1 .0)) ≡ headSize (length (lengths passed))
-  front-long = ap length front-is ∙ head-length (lengths passed)
+  front-long : length (take (c .fill .result) (c .fill .last .1 .1 .0)) ≡ headSize (length (lengths passed))
+  front-long = ap length front-is ∙ head-length (e passed) (lengths passed)
 
 -- the head is put
 module _ (c : tie.After-bytes-of) where
@@ -76,12 +80,12 @@ module _ (c : tie.After-bytes-of) where
   filled = c .before .before .before .before
 
   first-put : c .bytes-of .last .1 .0
-      ≡ sets (file (passed filled)) 0 (bytesFrom (fileWords 1 (lengths (passed filled)) []))
+      ≡ sets (file (passed filled)) 0 (bytesFrom (fileWords (e (passed filled)) (lengths (passed filled)) []))
   first-put = c .bytes-of .ensures ∙ ap (λ l. sets (file (passed filled)) 0 (bytesFrom l)) (front-is filled)
 
   long : length (c .bytes-of .last .1 .0) ≡ length (file (passed filled))
   long = ap length first-put
-      ∙ length-sets (file (passed filled)) 0 (bytesFrom (fileWords 1 (lengths (passed filled)) []))
+      ∙ length-sets (file (passed filled)) 0 (bytesFrom (fileWords (e (passed filled)) (lengths (passed filled)) []))
 
 writer-refusal-requires : tie.Need-writer-refusal-requires
 writer-refusal-requires c κs = search needs
@@ -89,18 +93,23 @@ writer-refusal-requires c κs = search needs
 returns : tie.Need-returns
 returns c = let a = c .before in let s = a .before .before in (
   a .writer-refusal .ensures,
-  kept (a .writer-refusal .result) (s .args .lengths .now) (s .args .words .now) (s .args .file .now) (c .if1 .taken),
+  kept (a .writer-refusal .result) (s .args .edition) (s .args .lengths .now) (s .args .words .now)
+      (s .args .file .now) (c .if1 .taken),
 )
 
 slice-aggregate-fill : tie.Need-slice-aggregate-fill
 slice-aggregate-fill c = search needs
 
 fill-requires : tie.Need-fill-requires
-fill-requires c κs = let e = c .before in (placed e, omega (arith, placed e .counts .few))
+fill-requires c κs = let p = c .before in (
+  placed p,
+  omega (arith, placed p .counts .few),
+  omega (arith, accepted p .edition-most, editions-few),
+)
 
 array-share-prefix-front : tie.Need-array-share-prefix-front
 array-share-prefix-front c = let k = c .before in
-    omega (arith, size-is k, front-long k, length-take (k .fill .result) (k .fill .last .1 .0))
+    omega (arith, size-is k, front-long k, length-take (k .fill .result) (k .fill .last .1 .1 .0))
 
 slice-aggregate-bytes-of : tie.Need-slice-aggregate-bytes-of
 slice-aggregate-bytes-of c = size-is (c .before .before) ∙ sym (front-long (c .before .before))
@@ -124,7 +133,7 @@ returns-2 c = let b = c .before .before .before .before .before .before in let k
   fine (passed k),
   c .before .before .bytes-of2 .ensures
       ∙ ap (λ l. sets l (4 * k .fill .result) (bytesFrom (words (passed k)))) (first-put b)
-      ∙ file-put (lengths (passed k)) (words (passed k)) (file (passed k)) (accepted (passed k) .roomy)
+      ∙ file-put (e (passed k)) (lengths (passed k)) (words (passed k)) (file (passed k)) (accepted (passed k) .roomy)
       (k .fill .result) (size-is k),
 )
 

@@ -1,7 +1,7 @@
 -- `days::put_body` meets its contract: the body is the part of the words that its pair names. Assumes nothing.
 use borrow.Author.Needs.{needs, sfits-of}
 use mathlib.Core.List.{List}
-use mathlib.Core.Path.{_≡_, ap, sym, _∙_}
+use mathlib.Core.Path.{_≡_, ap, _∙_}
 use Prim.Native.Nat.{ℕ, _+_, _*_, _≤_}
 use native.Mathlib.Omega.{arith}
 use lib.IntN.{ℤ, natAbs}
@@ -9,9 +9,9 @@ use lib.ListN.{length}
 use mir.Facts.{toZ-ofZ}
 use mir.Syntax.{w32}
 use mir.Val.{SFits}
-use Rattle.rules.specs.Refusal.{problemRefusal}
+use Rattle.rules.specs.Refusal.{problemRefusalWithin, rowsWithin}
 use Rattle.rules.specs.Program.Reply.{replyTo}
-use Rattle.rules.specs.Bundle.File.{bodyIn, pairFirst, pairLength}
+use Rattle.rules.specs.Bundle.File.{bodyIn, editionIn, pairFirst, pairLength}
 use Rattle.rules.specs.Bundle.Facts.{FileAccepted}
 use Rattle.lines.proofs.Replies.{put-as}
 use Rattle.days.proofs.Days.{body-part, body-reply, body-within, first-least}
@@ -111,9 +111,9 @@ same-length c = search needs
 returns : tie.Need-returns
 returns c = let k = c .before .before .before .before .before in let s = start k in
     put-as
-    (ap (λ b. replyTo (problemRefusal b) b) (body-part (accepted s) (i s) (s .pre .1)
+    (ap (λ b. replyTo (problemRefusalWithin (rowsWithin (s .args .rows)) b) b) (body-part (accepted s) (i s) (s .pre .1)
     (k .before .before .count-of .result) (k .count-of2 .result) (first-is (k .before .before)) (size-is k))
-    ∙ sym (body-reply (accepted s) (bodyIn (words s) (i s))))
+    ∙ body-reply (editionIn (words s)) (s .args .rows) (s .pre .3) (bodyIn (words s) (i s)))
     (c .before .before .put-reply .ensures)
 
 pub put-body-spec : {M : Type 1} → statement M

@@ -6,6 +6,7 @@ use Prim.Native.Nat.{ℕ}
 use native.Mathlib.Omega.{arith}
 use lib.IntN.{pos}
 use lib.ListN.{drop, length, replicate, take, length-take}
+use Rattle.rules.specs.Sizes.{mostFileWords}
 use Rattle.rules.specs.Program.Bytes.{wordsFrom}
 use Rattle.rules.specs.Program.Text.{linesBelow}
 use Rattle.rules.specs.Bundle.File.{bodyIn, countIn, editionIn, fileRefusal}
@@ -40,7 +41,7 @@ module _ (c : tie.After-words-of) where
 
   front : take (c .words-of .result) (c .words-of .last .1 .0) ≡ wordsFrom (bytes (start passed))
   front = ap (take (c .words-of .result)) (c .words-of .ensures .1)
-      ∙ words-front (bytes (start passed)) (drop (c .words-of .result) (replicate 16384 (pos 0)))
+      ∙ words-front (bytes (start passed)) (drop (c .words-of .result) (replicate mostFileWords (pos 0)))
       (c .words-of .result) (c .words-of .ensures .0)
 
   taken : c .words-of .result ≡ length (take (c .words-of .result) (c .words-of .last .1 .0))

@@ -25,8 +25,8 @@ use Rattle.rules.specs.Program.Bytes.{wordsFrom}
 use Rattle.rules.specs.Bundle.File.{badBodies, badCount, badEdition, badPair, badTable, badTotal, bodiesMost}
 use Rattle.rules.specs.Bundle.File.{countIn, editionIn, editions, fileRefusal, fileTests, pairFirst, headSize}
 use Rattle.rules.specs.Bundle.File.{pairLength, shortRoom, readRefusal, shortTable, startFor}
-use Rattle.rules.specs.Bundle.Writer.{badLengths, badSum, fileRoom, fileSize, tooLong, tooMany, writerRefusal}
-use Rattle.rules.specs.Bundle.Writer.{writerTests}
+use Rattle.rules.specs.Bundle.Writer.{badLengths, badSum, fileRoom, fileSize, noSuchEdition, tooLong, tooMany}
+use Rattle.rules.specs.Bundle.Writer.{writerRefusal, writerTests}
 use Rattle.rules.proofs.Refusal.First.{Tested, Upto, first-exactly, first-fine, no-test, tested, tested-then}
 
 -- ---- each test, where it applies and where it does not
@@ -81,12 +81,14 @@ read-tested count ws lengthRoom wordRoom =
 
 writer-tested : (e : ℕ) (lengths ws : List ℤ) (room : ℕ) →
     Tested (writerTests e lengths ws room) (writerTable e lengths ws room)
-unfolding writerTests tooMany badLengths badSum tooLong fileRoom
+unfolding writerTests noSuchEdition tooMany badLengths badSum tooLong fileRoom
 writer-tested e lengths ws room =
-    tested (tells-lt (bodiesMost e) (length lengths))
+    tested (tells-or (tells-lt e 1) (tells-lt (length editions) e))
+    (tested (tells-lt (bodiesMost e) (length lengths))
     (tested (tells-some (length lengths) _ (λ i h. tells-ltZ (word lengths i) (pos 0)))
     (tested (tells-not (tells-eqZ (sum (length lengths) (word lengths)) (pos (length ws))))
-    (tested (tells-lt mostFileWords (fileSize lengths ws)) (tested (tells-lt room (4 * fileSize lengths ws)) no-test))))
+    (tested (tells-lt mostFileWords (fileSize lengths ws))
+    (tested (tells-lt room (4 * fileSize lengths ws)) no-test)))))
 
 pub file-numbered : (count : ℕ) (ws : List ℤ) → Upto 35 (fileTests count ws)
 unfolding fileTests
@@ -176,8 +178,18 @@ writer-accepted-exactly e lengths ws room =
     (λ q. accepted (r .0 q), λ A. r .1 (fine A))
   where
     accepted : AllFine (writerTable e lengths ws room) → WriterAccepted e lengths ws room
-    accepted (many, (least, (total, (few, (roomy, end))))) =
-        record { count-most = many; lengths-least = least; total = total; few = few; roomy = roomy }
+    accepted (known, (many, (least, (total, (few, (roomy, end)))))) = record {
+      edition-least = known .0;
+      edition-most = known .1;
+      count-most = many;
+      lengths-least = least;
+      total = total;
+      few = few;
+      roomy = roomy;
+    }
 
     fine : WriterAccepted e lengths ws room → AllFine (writerTable e lengths ws room)
-    fine A = (A .count-most, (A .lengths-least, (A .total, (A .few, (A .roomy, tt)))))
+    fine A = (
+      (A .edition-least, A .edition-most),
+      (A .count-most, (A .lengths-least, (A .total, (A .few, (A .roomy, tt))))),
+    )

@@ -1,6 +1,6 @@
 -- Where the bodies of a file stand, as counts.
 --   countBefore, sum-counts, counts-rise    a sum of numbers that are not negative is a count, and rises
---   bodies-few, editions-few     what an edition allows is within the sizes; there are few editions
+--   bodies-few, edition-rows, editions-few    what an edition allows is within the sizes; there are few editions
 --   edition-own, count-own, bodies-counted, first-own    words of an accepted file as counts
 --   place, place-end, place-within                  where body i starts, and that it ends within the file
 use mathlib.Core.List.{List}
@@ -14,9 +14,9 @@ use lib.Signed.{_≤ℤ_}
 use Rattle.whole.specs.Sums.{sum, sumBy}
 use Rattle.whole.proofs.Numbers.Tests.{own-size, under-size}
 use Rattle.rules.specs.Problem.{word}
-use Rattle.rules.specs.Sizes.{mostBodies}
+use Rattle.rules.specs.Sizes.{mostBodies, mostRows}
 use Rattle.rules.specs.Bundle.File.{bodiesMost, countIn, edition, editionIn, editions, pairFirst, headSize}
-use Rattle.rules.specs.Bundle.File.{pairLength, startFor}
+use Rattle.rules.specs.Bundle.File.{pairLength, rowsIn, startFor}
 use Rattle.rules.specs.Bundle.Facts.{FileAccepted}
 
 -- ---- editions
@@ -27,6 +27,13 @@ bodies-few zero = omega arith
 bodies-few (suc zero) = omega arith
 bodies-few (suc (suc zero)) = omega arith
 bodies-few (suc (suc (suc e))) = omega arith
+
+pub edition-rows : (e : ℕ) → rowsIn e ≤ mostRows
+unfolding edition editions
+edition-rows zero = omega arith
+edition-rows (suc zero) = omega arith
+edition-rows (suc (suc zero)) = omega arith
+edition-rows (suc (suc (suc e))) = omega arith
 
 pub editions-few : length editions ≤ mostBodies
 unfolding editions

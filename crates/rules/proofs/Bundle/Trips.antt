@@ -17,7 +17,7 @@ use mir.Val.{SFits}
 use Rattle.whole.specs.Sums.{sum}
 use Rattle.whole.proofs.Numbers.Sizes.{fits-by}
 use Rattle.whole.proofs.Numbers.Sums.{sum-same}
-use Rattle.whole.proofs.Numbers.Tests.{under-size}
+use Rattle.whole.proofs.Numbers.Tests.{above, under-size}
 use Rattle.rules.specs.Problem.{word}
 use Rattle.rules.specs.Sizes.{mostFileWords}
 use Rattle.rules.specs.Program.Bytes.{byte, bytesFrom, wordsFrom}
@@ -40,7 +40,7 @@ count-fits n h = fits-by {n = mostFileWords} (record { within = h }) tt
 
 -- ---- reading what was written
 
-module _ (e : ℕ) (some : 1 ≤ e) (known : e ≤ length editions) (lengths ws : List ℤ) where
+module _ (e : ℕ) (lengths ws : List ℤ) where
   abbrev file : List ℤ
   file = fileWords e lengths ws
 
@@ -69,7 +69,7 @@ module _ (e : ℕ) (some : 1 ≤ e) (known : e ≤ length editions) (lengths ws 
           go (no q) = rw (ne-eqb (p % 2) 0 q) (fit-lengths (p / 2))
 
       file-fits : (i : ℕ) → SFits w32 (word file i)
-      file-fits zero = rw (edition-word e lengths ws) (count-fits e (omega (arith, editions-few)))
+      file-fits zero = rw (edition-word e lengths ws) (count-fits e (omega (arith, A .edition-most, editions-few)))
       file-fits (suc zero) =
           rw (count-word e lengths ws) (count-fits k (omega (arith, A .count-most, bodies-few e)))
       file-fits (suc (suc p)) = elim (decLt p (2 * k)) [
@@ -98,8 +98,8 @@ module _ (e : ℕ) (some : 1 ≤ e) (known : e ≤ length editions) (lengths ws 
       whole = omega (arith, bytes-length file);
       enough = omega (arith, bytes-length file, file-length e lengths ws);
       few = omega (arith, bytes-length file, file-length e lengths ws, A .few);
-      edition-least = rw (edition-word e lengths ws) (count-le some);
-      edition-most = rw (edition-word e lengths ws) (count-le known);
+      edition-least = rw (edition-word e lengths ws) (count-le (A .edition-least));
+      edition-most = rw (edition-word e lengths ws) (count-le (A .edition-most));
       count-least = rw (count-word e lengths ws) (count-le (omega arith));
       count-most = rw (count-word e lengths ws, edition-is) (count-le (A .count-most));
       long = omega (arith, count-is, file-length e lengths ws);
@@ -141,6 +141,8 @@ module _ (bs : List ℕ) (small : (i : ℕ) → byte bs i < 256) (fine : fileRef
 
   writer-accepted : WriterAccepted (editionIn words) (lengthsIn words) (wordsIn words) (length bs)
   writer-accepted = record {
+    edition-least = above 1 (word words 0) (accepted .edition-least);
+    edition-most = under-size (length editions) 1 (word words 0) (accepted .edition-least) (accepted .edition-most);
     count-most = omega (
       arith,
       many,

@@ -2,6 +2,7 @@
 --   ten-written     the pairs and the words of the file of ten bodies
 --   ten-bodies      its bodies
 --   ten-printed     its text: that of each body, the refused ones too
+--   bodies-right    bodies of many rows, in either edition
 --   files-right, counts-right, writers-right    small files, counts of bytes, calls of the writer
 use mathlib.Core.Bool.{false, true}
 use mathlib.Core.List.{[], _++_, flatten, map}
@@ -30,9 +31,9 @@ use Rattle.rules.specs.Bundle.File.{badCount, bodiesIn, fileRefusal}
 use Rattle.rules.specs.Bundle.Writer
 use Rattle.rules.specs.Bundle.Writer.{fileWords, writerRefusal}
 use Rattle.rules.specs.Bundle.Day
-use Rattle.rules.specs.Bundle.Day.{dayText}
-use Rattle.rules.specs.Cases.Bundle.{badCounts, emptyPairs, fileCases, goodCounts, tenBodies, tenHead, tenLengths}
-use Rattle.rules.specs.Cases.Bundle.{tenTexts, writerCases}
+use Rattle.rules.specs.Bundle.Day.{bodyRefusal, dayText}
+use Rattle.rules.specs.Cases.Bundle.{badCounts, bodyCases, emptyPairs, fileCases, goodCounts, manyRows}
+use Rattle.rules.specs.Cases.Bundle.{tenBodies, tenHead, tenLengths, tenTexts, writerCases}
 
 pub ten-written : fileWords 1 tenLengths (flatten tenBodies) ≡ tenHead ++ flatten tenBodies
 unfolding tenLengths tenHead Writer.fileWords Writer.headWords Writer.contents Tables.tableFrom Sums.sumBy
@@ -64,6 +65,13 @@ unfolding tenBodies tenHead tenTexts flatten
     Day.bodyRefusal Day.bodyText Day.dayAfter Day.dayText
 ten-printed = refl
 
+pub bodies-right : map (λ c. bodyRefusal (c .edition) (manyRows (c .rows))) bodyCases ≡ map (λ c. c .number) bodyCases
+unfolding bodyCases Below.someBelow Below.allBelow Numbers.within Numbers.outside
+    Limit.bit Limit.badKindWord Limit.badLimitWord
+    Refusal.first Refusal.tooFew Refusal.badSize Refusal.badLength Refusal.badCoefficient Refusal.badKind
+    Refusal.badLimit Refusal.blankRow Refusal.someBlank Refusal.problemTests File.editions File.edition Day.bodyRefusal
+bodies-right = refl
+
 pub files-right : map (λ c. fileRefusal (bytesFrom (c .words))) fileCases ≡ map (λ c. c .number) fileCases
 unfolding fileCases emptyPairs Below.someBelow Numbers.outside Sums.sumBy Tables.tableFrom Refusal.first
     Bytes.signed Bytes.wordAt Bytes.wordsFrom Bytes.unsigned Bytes.bytesFrom
@@ -75,9 +83,10 @@ pub counts-right : map badCount (badCounts ++ goodCounts) ≡ replicate 7 true +
 unfolding badCounts goodCounts File.badCount
 counts-right = refl
 
-pub writers-right : map (λ c. writerRefusal 1 (c .lengths) (replicate (c .words) (pos 0)) (c .room)) writerCases
+pub writers-right :
+    map (λ c. writerRefusal (c .edition) (c .lengths) (replicate (c .words) (pos 0)) (c .room)) writerCases
     ≡ map (λ c. c .number) writerCases
 unfolding writerCases Below.someBelow Sums.sumBy Refusal.first File.editions File.edition
-    Writer.tooMany Writer.badLengths Writer.badSum Writer.tooLong Writer.fileRoom Writer.writerTests
-    Writer.writerRefusal
+    Writer.noSuchEdition Writer.tooMany Writer.badLengths Writer.badSum Writer.tooLong Writer.fileRoom
+    Writer.writerTests Writer.writerRefusal
 writers-right = refl

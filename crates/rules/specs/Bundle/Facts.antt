@@ -79,7 +79,8 @@ pub record FileAccepted (bs : List ℕ) (ws : List ℤ) : Type 0 where
 
 abbrev pub writerTable : ℕ → List ℤ → List ℤ → ℕ → List Line
 writerTable e lengths ws room =
-    lineOf 32 (bodiesMost e < length lengths) (length lengths ≤ bodiesMost e)
+    lineOf 31 ((e < 1) ⊎ (length editions < e)) ((1 ≤ e) × (e ≤ length editions))
+    ∷ lineOf 32 (bodiesMost e < length lengths) (length lengths ≤ bodiesMost e)
     ∷ lineOf 34 ((i : ℕ) × (i < length lengths) × (word lengths i <ℤ pos 0))
     ((i : ℕ) → i < length lengths → pos 0 ≤ℤ word lengths i)
     ∷ lineOf 35 (sum (length lengths) (word lengths) ≢ pos (length ws))
@@ -88,6 +89,8 @@ writerTable e lengths ws room =
     ∷ lineOf 36 (room < 4 * fileSize lengths ws) (4 * fileSize lengths ws ≤ room) ∷ []
 
 pub record WriterAccepted (e : ℕ) (lengths ws : List ℤ) (room : ℕ) : Type 0 where
+  pub edition-least : 1 ≤ e
+  pub edition-most : e ≤ length editions
   pub count-most : length lengths ≤ bodiesMost e
   pub lengths-least : (i : ℕ) → i < length lengths → pos 0 ≤ℤ word lengths i
   pub total : sum (length lengths) (word lengths) ≡ pos (length ws)

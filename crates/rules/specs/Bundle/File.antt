@@ -11,7 +11,7 @@ use Rattle.whole.specs.Below.{someBelow}
 use Rattle.whole.specs.Numbers.{outside, eqZ, isNeg}
 use Rattle.whole.specs.Sums.{sum}
 use Rattle.whole.specs.Tables.{table}
-use Rattle.rules.specs.Sizes.{mostBodies, mostFileWords, mostRows}
+use Rattle.rules.specs.Sizes.{firstBodies, firstRows, mostFileWords, mostRows, secondBodies}
 use Rattle.rules.specs.Problem.{word}
 use Rattle.rules.specs.Refusal.{first}
 use Rattle.rules.specs.Program.Bytes.{wordsFrom}
@@ -23,9 +23,10 @@ pub record Edition : Type 0 where
   pub bodies : ℕ
   pub rows : ℕ
 
--- edition 1, a line each
+-- editions 1 and 2, a line each
 unfoldable pub editions : List Edition
-editions = record { bodies = mostBodies; rows = mostRows } ∷ []
+editions =
+    record { bodies = firstBodies; rows = firstRows } ∷ record { bodies = secondBodies; rows = mostRows } ∷ []
 
 abbrev noEdition : Edition
 noEdition = record { bodies = 0; rows = 0 }

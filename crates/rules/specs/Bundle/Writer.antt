@@ -1,6 +1,6 @@
--- docs/RULES.md, "A day's file": the file that k lengths and the words of all bodies, back to back, make. No body is
--- judged.
-use mathlib.Core.Bool.{Bool, cond, not}
+-- docs/RULES.md, "A day's file": the file of an edition that k lengths and the words of all bodies, back to back,
+-- make. No body is judged.
+use mathlib.Core.Bool.{Bool, cond, not, _||_}
 use mathlib.Core.List.{List, [], _∷_, _++_}
 use Prim.Native.Nat.{ℕ, zero, suc, _+_, _*_, _/_, _%_}
 use lib.Dec.{ltb, eqb}
@@ -14,7 +14,7 @@ use Rattle.rules.specs.Sizes.{mostFileWords}
 use Rattle.rules.specs.Problem.{word}
 use Rattle.rules.specs.Refusal.{first}
 use Rattle.rules.specs.Program.Bytes.{bytesFrom}
-use Rattle.rules.specs.Bundle.File.{bodiesMost, headSize, startFor}
+use Rattle.rules.specs.Bundle.File.{bodiesMost, editions, headSize, startFor}
 
 -- ---- the file
 
@@ -35,6 +35,9 @@ fileSize lengths ws = headSize (length lengths) + length ws
 
 -- ---- refusals; room is in bytes
 
+unfoldable pub noSuchEdition : ℕ → Bool
+noSuchEdition e = ltb e 1 || ltb (length editions) e
+
 unfoldable pub tooMany : ℕ → List ℤ → Bool
 tooMany e lengths = ltb (bodiesMost e) (length lengths)
 
@@ -52,8 +55,8 @@ fileRoom lengths ws room = ltb room (4 * fileSize lengths ws)
 
 unfoldable pub writerTests : ℕ → List ℤ → List ℤ → ℕ → List (Bool × ℕ)
 writerTests e lengths ws room =
-    (tooMany e lengths, 32) ∷ (badLengths lengths, 34) ∷ (badSum lengths ws, 35) ∷ (tooLong lengths ws, 30)
-    ∷ (fileRoom lengths ws room, 36) ∷ []
+    (noSuchEdition e, 31) ∷ (tooMany e lengths, 32) ∷ (badLengths lengths, 34) ∷ (badSum lengths ws, 35)
+    ∷ (tooLong lengths ws, 30) ∷ (fileRoom lengths ws room, 36) ∷ []
 
 unfoldable pub writerRefusal : ℕ → List ℤ → List ℤ → ℕ → ℕ
 writerRefusal e lengths ws room = first (writerTests e lengths ws room)

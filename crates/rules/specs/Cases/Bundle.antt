@@ -1,10 +1,11 @@
 -- docs/RULES.md, "A day's file": worked files, and what is expected of them. A file of ten bodies with its pairs and
--- its text; small files and the edges, each with its refusal; calls of the writer, each with its own.
+-- its text; bodies of many rows in either edition; small files and the edges, each with its refusal; calls of the
+-- writer, each with its own.
 use Prim.Native.String.{String}
 use mathlib.Core.List.{List, [], _∷_, _++_}
-use Prim.Native.Nat.{ℕ, zero, suc}
+use Prim.Native.Nat.{ℕ, zero, suc, _+_, _*_}
 use lib.IntN.{ℤ, pos}
-use lib.ListN.{take}
+use lib.ListN.{replicate, take}
 use Rattle.rules.specs.Cases.Expected.{minus}
 use Rattle.rules.specs.Cases.Limits.{caseA, caseC, caseF, caseG, caseH, zeros}
 
@@ -46,6 +47,24 @@ tenTexts =
     ∷ "cannot\npivots 0\n0 lower 1\n1 lower 1\n2 upper 1\n"
     ∷ "can\npivots 0\nover 1\n0 0\n" ∷ []
 
+-- ---- rows of a body, by the edition of its file
+
+-- one variable, and so many rows that are the variable itself; no limits
+abbrev pub manyRows : ℕ → List ℤ
+manyRows m = pos 1 ∷ pos m ∷ replicate m (pos 1) ++ zeros (3 * (m + 1))
+
+-- an edition, how many rows, and the refusal of such a body
+pub record BodyCase : Type 0 where
+  pub edition : ℕ
+  pub rows : ℕ
+  pub number : ℕ
+
+abbrev bodyIs : ℕ → ℕ → ℕ → BodyCase
+bodyIs e m k = record { edition = e; rows = m; number = k }
+
+unfoldable pub bodyCases : List BodyCase
+bodyCases = bodyIs 1 16 0 ∷ bodyIs 1 17 2 ∷ bodyIs 2 17 0 ∷ bodyIs 2 24 0 ∷ bodyIs 2 25 2 ∷ []
+
 -- ---- small files
 
 -- words, and the refusal of the file that they are
@@ -69,11 +88,14 @@ fileCases =
     ∷ fileIs (pos 1 ∷ pos 2 ∷ pos 6 ∷ pos 1 ∷ pos 7 ∷ pos 0 ∷ pos 9 ∷ []) 0
     -- one word; other editions
     ∷ fileIs (pos 1 ∷ []) 30
-    ∷ fileIs (pos 0 ∷ pos 0 ∷ []) 31 ∷ fileIs (pos 2 ∷ pos 0 ∷ []) 31 ∷ fileIs (minus 1 ∷ pos 0 ∷ []) 31
-    -- counts: below 0, the most, one more
+    ∷ fileIs (pos 0 ∷ pos 0 ∷ []) 31 ∷ fileIs (pos 3 ∷ pos 0 ∷ []) 31 ∷ fileIs (minus 1 ∷ pos 0 ∷ []) 31
+    ∷ fileIs (pos 2 ∷ pos 0 ∷ []) 0 ∷ fileIs (minus 2 ∷ pos 0 ∷ []) 31
+    -- counts: below 0, the most, one more, of both editions
     ∷ fileIs (pos 1 ∷ minus 1 ∷ []) 32
     ∷ fileIs (pos 1 ∷ pos 64 ∷ emptyPairs 64 (pos 130)) 0
     ∷ fileIs (pos 1 ∷ pos 65 ∷ emptyPairs 65 (pos 132)) 32
+    ∷ fileIs (pos 2 ∷ pos 48 ∷ emptyPairs 48 (pos 98)) 0
+    ∷ fileIs (pos 2 ∷ pos 49 ∷ emptyPairs 49 (pos 100)) 32
     -- shorter than its pairs
     ∷ fileIs (pos 1 ∷ pos 1 ∷ []) 33 ∷ fileIs (pos 1 ∷ pos 1 ∷ pos 4 ∷ []) 33
     -- a negative length, a start too late, a gap, an overlap, a sum that would wrap, a negative length further on
@@ -95,15 +117,20 @@ goodCounts = 8 ∷ 12 ∷ 65536 ∷ []
 
 -- ---- the writer
 
--- lengths, how many words, room in bytes; and the refusal
+-- edition, lengths, how many words, room in bytes; and the refusal
 pub record WriterCase : Type 0 where
+  pub edition : ℕ
   pub lengths : List ℤ
   pub words : ℕ
   pub room : ℕ
   pub number : ℕ
 
+abbrev writingIn : ℕ → List ℤ → ℕ → ℕ → ℕ → WriterCase
+writingIn e lengths words room k =
+    record { edition = e; lengths = lengths; words = words; room = room; number = k }
+
 abbrev writing : List ℤ → ℕ → ℕ → ℕ → WriterCase
-writing lengths words room k = record { lengths = lengths; words = words; room = room; number = k }
+writing = writingIn 1
 
 unfoldable pub writerCases : List WriterCase
 writerCases =
@@ -111,6 +138,10 @@ writerCases =
     writing [] 0 8 0 ∷ writing [] 0 7 36 ∷ writing (pos 5 ∷ []) 5 36 0 ∷ writing (pos 5 ∷ []) 5 35 36
     -- 64 bodies, and one more, whatever else is wrong
     ∷ writing (zeros 64) 0 520 0 ∷ writing (minus 1 ∷ zeros 64) 3 0 32
+    -- the same of edition 2
+    ∷ writingIn 2 (zeros 48) 0 392 0 ∷ writingIn 2 (minus 1 ∷ zeros 48) 3 0 32
+    -- no such edition, whatever else is wrong
+    ∷ writingIn 0 [] 0 8 31 ∷ writingIn 3 (minus 1 ∷ zeros 64) 3 0 31
     -- negative lengths, also where the sum is right
     ∷ writing (minus 1 ∷ pos 1 ∷ []) 0 99 34 ∷ writing (pos 3 ∷ minus 1 ∷ []) 2 99 34
     -- too few words, too many; a sum that would wrap

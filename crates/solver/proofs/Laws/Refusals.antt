@@ -1,5 +1,5 @@
 -- The solver's refusal: that of the problem where there is one, else 7 where the output is too short, else none.
---   within-problem, within-short, within-none    within so many rows; refusal-problem, refusal-none within the most
+--   within-problem, within-short, within-none    within so many rows
 --   fine-within        what is fine within fewer rows is fine
 --   written-refused    a refusal keeps the output
 --   begun-start, holds-start   accepted words are a tableau from which a check may start, a state with no pivots yet
@@ -17,7 +17,7 @@ use Rattle.whole.specs.Values.{pairs}
 use Rattle.whole.proofs.Values.Beside.{pairs-laws}
 use Rattle.rules.specs.Answer.{written}
 use Rattle.rules.specs.Problem.{answerLength, inner, mOf, nOf, problem, varsOf}
-use Rattle.rules.specs.Refusal.{Accepted, first, problemRefusal, problemRefusalWithin, problemTests, refusal}
+use Rattle.rules.specs.Refusal.{Accepted, first, problemRefusal, problemRefusalWithin, problemTests}
 use Rattle.rules.specs.Refusal.{refusalWithin, tooShort}
 use Rattle.rules.specs.Sizes.{mostRows}
 use Rattle.rules.specs.Slices.{begun, continuedBy, sliceOutput}
@@ -55,15 +55,6 @@ module _ (rows : ℕ) (ws : List ℤ) (room : ℕ) where
   pub within-none : problemRefusalWithin rows ws ≡ 0 → answerLength ws ≤ room → 0 ≡ refusalWithin rows ws room
   unfolding tooShort first
   within-none e h = sym (after-problem e ∙ first-skip 7 [] (le-ltb room (answerLength ws) h))
-
-module _ (ws : List ℤ) (room : ℕ) where
-  pub refusal-problem : problemRefusal ws ≢ 0 → problemRefusal ws ≡ refusal ws room
-  unfolding refusal problemRefusal
-  refusal-problem n = within-problem mostRows ws room n
-
-  pub refusal-none : problemRefusal ws ≡ 0 → answerLength ws ≤ room → 0 ≡ refusal ws room
-  unfolding refusal problemRefusal
-  refusal-none e h = within-none mostRows ws room e h
 
 -- what is fine within fewer rows is fine
 pub fine-within : (rows : ℕ) (ws : List ℤ) → rows ≤ mostRows → problemRefusalWithin rows ws ≡ 0 → problemRefusal ws ≡ 0

@@ -3,7 +3,7 @@
 use borrow.Author.Needs.{sfits-of}
 use mathlib.Core.List.{List, [], _++_}
 use mathlib.Core.Path.{_≡_, ap, refl, sym, _∙_}
-use Prim.Native.Nat.{suc, _+_, _*_, _-_, _≤_, _<_}
+use Prim.Native.Nat.{ℕ, suc, _+_, _*_, _-_, _≤_, _<_}
 use native.Mathlib.Numerals.{add-one}
 use native.Mathlib.Omega.{arith}
 use lib.IntN.{ℤ, pos, natAbs}
@@ -12,7 +12,7 @@ use mir.Facts.{toZ-ofZ, toZ-pos}
 use mir.Syntax.{w32}
 use mir.Val.{SFits, ofZ, toZ}
 use Rattle.whole.specs.Tables.{table}
-use Rattle.whole.proofs.Numbers.Sizes.{fits-abs, fits-by}
+use Rattle.whole.proofs.Numbers.Sizes.{fits-abs}
 use Rattle.whole.proofs.Lists.Tables.{table-length}
 use Rattle.rules.specs.Problem.{word}
 use Rattle.rules.specs.Sizes.{mostFileWords}
@@ -25,23 +25,29 @@ use Rattle.bundle.proofs.head.fill.Statement.{statement}
 use Rattle.bundle.proofs.head.fill.Tie as tie
 
 abbrev Inv-loop : tie.InvT-loop
-Inv-loop lengths front₀ bodies at₀ i₀ front at i =
+Inv-loop edition lengths front₀ bodies at₀ i₀ front at i =
     (i ≤ length lengths) × (at ≡ headSize (length lengths) + countBefore i (word lengths))
-    × (front ≡ headOver lengths (2 + 2 * i) front₀)
+    × (front ≡ headOver edition lengths (2 + 2 * i) front₀)
 
 abbrev μ-loop : tie.MeasureT-loop
-μ-loop lengths front₀ bodies at₀ i₀ front at i = length lengths - i
+μ-loop edition lengths front₀ bodies at₀ i₀ front at i = length lengths - i
 
 module _ (c : tie.Start Inv-loop μ-loop) where
   abbrev lengths : List ℤ
   lengths = c .args .lengths .now
+
+  abbrev edition : ℕ
+  edition = c .args .edition
 
   abbrev first : List ℤ
   first = c .args .front .now
 
   -- with edition and count
   abbrev kept : List ℤ
-  kept = set (set first 0 (pos 1)) 1 (toZ w32 (length lengths))
+  kept = set (set first 0 (toZ w32 edition)) 1 (toZ w32 (length lengths))
+
+  edition-is : toZ w32 edition ≡ pos edition
+  edition-is = toZ-pos w32 (omega (arith, c .pre .2))
 
   count-is : toZ w32 (length lengths) ≡ pos (length lengths)
   count-is = toZ-pos w32 (omega (arith, c .pre .0 .counts .few))
@@ -83,14 +89,17 @@ module _ (c : tie.After-count-of Inv-loop μ-loop) where
   next-few : countBefore (suc (place .loop .i)) (word sizes) ≤ mostFileWords
   next-few = place-few sizes (place .before .pre .0) (suc (place .loop .i)) (omega arith)
 
-slice-set-of-front : tie.Need-slice-set-of-front Inv-loop μ-loop
-slice-set-of-front c = omega arith
-
 cast-front : tie.Need-cast-front Inv-loop μ-loop
-cast-front c = fits-by {n = 64} (record { within = c .pre .0 .counts .few }) tt
+cast-front c = fits-abs (omega (arith, c .pre .2))
 
 slice-set-from-front : tie.Need-slice-set-from-front Inv-loop μ-loop
-slice-set-from-front c = rw length-set (omega (arith, c .pre .1))
+slice-set-from-front c = omega (arith, c .pre .1)
+
+cast-front-2 : tie.Need-cast-front-2 Inv-loop μ-loop
+cast-front-2 c = fits-abs (omega (arith, c .pre .0 .counts .few))
+
+slice-set-from-front-2 : tie.Need-slice-set-from-front-2 Inv-loop μ-loop
+slice-set-from-front-2 c = rw length-set (omega (arith, c .pre .1))
 
 mul-at : tie.Need-mul-at Inv-loop μ-loop
 mul-at c = omega arith
@@ -102,13 +111,14 @@ loop-holds : tie.Need-loop-holds Inv-loop μ-loop
 loop-holds c = (
   omega arith,
   omega (arith, counts-none (word (lengths c))),
-  head-begun (lengths c) (first c) (omega (arith, c .pre .1)) (pos 1) (toZ w32 (length (lengths c))) refl (count-is c)
-      ∙ ap (λ l. table 2 (headWord (lengths c)) ++ l) (sym (head-kept (lengths c) (first c) 2 (omega arith) (pos 1)
-      (toZ w32 (length (lengths c))))),
+  head-begun (edition c) (lengths c) (first c) (omega (arith, c .pre .1)) (toZ w32 (edition c))
+      (toZ w32 (length (lengths c))) (edition-is c) (count-is c)
+      ∙ ap (λ l. table 2 (headWord (edition c) (lengths c)) ++ l) (sym (head-kept (edition c) (lengths c) (first c) 2
+      (omega arith) (toZ w32 (edition c)) (toZ w32 (length (lengths c))))),
 )
 
-cast-front-2 : tie.Need-cast-front-2 Inv-loop μ-loop
-cast-front-2 c = place-fits (c .before) (omega arith)
+cast-front-3 : tie.Need-cast-front-3 Inv-loop μ-loop
+cast-front-3 c = place-fits (c .before) (omega arith)
 
 mul-size : tie.Need-mul-size Inv-loop μ-loop
 mul-size c = omega arith
@@ -159,11 +169,11 @@ loop-again c = let p = c .before .before .before in let i = p .loop .i in let s 
   rw add-one (next-is c),
   ap (λ l. set (set l (2 + 2 * i) (toZ w32 (p .loop .at))) (3 + 2 * i) (toZ w32 (ofZ w32 (word (lengths s) i))))
       (p .loop .inv .2)
-      ∙ head-more (lengths s) (kept s) i (rw length-set (rw length-set (omega (arith, s .pre .1))))
+      ∙ head-more (edition s) (lengths s) (kept s) i (rw length-set (rw length-set (omega (arith, s .pre .1))))
       (toZ w32 (p .loop .at)) (toZ w32 (ofZ w32 (word (lengths s) i)))
       (toZ-pos w32 (place-small p (omega arith)) ∙ ap pos (p .loop .inv .1)
-      ∙ sym (word-first (lengths s) (s .pre .0 .counts) i (omega arith)))
-      (toZ-ofZ (fit (c .before)) ∙ sym (word-size (lengths s) i (omega arith))),
+      ∙ sym (word-first (edition s) (lengths s) (s .pre .0 .counts) i (omega arith)))
+      (toZ-ofZ (fit (c .before)) ∙ sym (word-size (edition s) (lengths s) i (omega arith))),
 )
 
 mul-result : tie.Need-mul-result Inv-loop μ-loop
@@ -179,9 +189,10 @@ returns : tie.Need-returns Inv-loop μ-loop
 returns c = let p = c .before in let s = p .before in
     let all : 2 + 2 * p .loop .i ≡ headSize (length (lengths s)) = omega arith in (
       refl,
-      p .loop .inv .2 ∙ ap (λ n. headOver (lengths s) n (kept s)) all ∙ head-done (lengths s) (kept s)
-          ∙ ap (λ l. fileWords 1 (lengths s) [] ++ l) (head-kept (lengths s) (first s) (headSize (length (lengths s)))
-          (omega arith) (pos 1) (toZ w32 (length (lengths s)))),
+      p .loop .inv .2 ∙ ap (λ n. headOver (edition s) (lengths s) n (kept s)) all
+          ∙ head-done (edition s) (lengths s) (kept s)
+          ∙ ap (λ l. fileWords (edition s) (lengths s) [] ++ l) (head-kept (edition s) (lengths s) (first s)
+          (headSize (length (lengths s))) (omega arith) (toZ w32 (edition s)) (toZ w32 (length (lengths s)))),
     )
 
 pub fill-spec : {M : Type 1} → statement M
@@ -190,13 +201,14 @@ fill-spec =
     (tie.spec
     Inv-loop
     μ-loop
-    slice-set-of-front
     cast-front
     slice-set-from-front
+    cast-front-2
+    slice-set-from-front-2
     mul-at
     add-at
     loop-holds
-    cast-front-2
+    cast-front-3
     mul-size
     add-size
     mul-size-2

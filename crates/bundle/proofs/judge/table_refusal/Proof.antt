@@ -13,6 +13,7 @@ use mir.Facts.{toZ-ofZ}
 use mir.Syntax.{w32}
 use mir.Val.{SFits}
 use Rattle.rules.specs.Program.Bytes.{wordAt, wordsFrom}
+use Rattle.rules.specs.Sizes.{mostBodies}
 use Rattle.rules.specs.Bundle.File.{badPair, headSize, pairFirst, pairLength}
 use Rattle.rules.proofs.Program.Words.{word-from, words-length}
 use Rattle.bundle.proofs.Pairs.{PairsPass, behind, behind-more, behind-none, pair-tested, passed-least}
@@ -22,7 +23,8 @@ use Rattle.bundle.proofs.judge.table_refusal.Tie as tie
 
 abbrev Inv-loop : tie.InvT-loop
 Inv-loop file bodies at₀ i₀ at i =
-    (i ≤ bodies) × (at ≡ behind (wordsFrom file) i) × (at ≤ 130 + i * 2147483648) × PairsPass (wordsFrom file) i
+    (i ≤ bodies) × (at ≡ behind (wordsFrom file) i) × (at ≤ headSize mostBodies + i * 2147483648)
+    × PairsPass (wordsFrom file) i
 
 abbrev μ-loop : tie.MeasureT-loop
 μ-loop file bodies at₀ i₀ at i = bodies - i

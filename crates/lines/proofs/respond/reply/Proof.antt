@@ -2,12 +2,16 @@
 -- there. Assumes nothing.
 use borrow.Author.Needs.{needs}
 use native.Mathlib.Omega.{arith}
+use Rattle.rules.specs.Refusal.{problemRefusal}
 use Rattle.lines.proofs.Texts.{front-size, printed-from}
 use Rattle.lines.proofs.respond.reply.Statement.{statement}
 use Rattle.lines.proofs.respond.reply.Tie as tie
 
 slice-aggregate-put-reply : tie.Need-slice-aggregate-put-reply
 slice-aggregate-put-reply c = search needs
+
+cast-put-reply : tie.Need-cast-put-reply
+cast-put-reply c = search needs
 
 put-reply-requires : tie.Need-put-reply-requires
 put-reply-requires c κs = search needs
@@ -25,6 +29,7 @@ same-length : tie.Need-same-length
 same-length c = search needs
 
 returns : tie.Need-returns
+unfolding problemRefusal
 returns c = let a = c .before .before in
     printed-from (a .before .before .before .before .put-reply .ensures) (omega arith) (a .write-text .ensures)
 
@@ -33,6 +38,7 @@ reply-spec =
     tie.close
     (tie.spec
     slice-aggregate-put-reply
+    cast-put-reply
     put-reply-requires
     array-share-prefix-text
     slice-aggregate-write-text
