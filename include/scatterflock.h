@@ -29,8 +29,8 @@
  *   - the words that may be written do not overlap the words that are read,
  *     and nobody else writes any of them, or reads what may be written, until
  *     the call returns;
- *   - there is room on the stack: 192 KiB for scatterflock_day, which uses
- *     171,000 bytes; 64 KiB is more than any other function uses;
+ *   - there is room on the stack: 256 KiB for scatterflock_day, which uses
+ *     206,000 bytes; 64 KiB is more than any other function uses;
  *   - the state of a run in slices, and a session, is handed in as it was
  *     handed back.
  *
@@ -58,22 +58,22 @@ extern "C" {
 /* Sizes and ranges. */
 enum {
     SCATTERFLOCK_MOST_VARIABLES = 8,
-    SCATTERFLOCK_MOST_ROWS = 16,
+    SCATTERFLOCK_MOST_ROWS = 24,
     SCATTERFLOCK_LARGEST_COEFFICIENT = 1000,
     SCATTERFLOCK_LARGEST_LIMIT = 30000,
     SCATTERFLOCK_LARGEST_NUMBER = 2147483647,
-    SCATTERFLOCK_MOST_WORDS = 202,  /* of a limit problem */
-    SCATTERFLOCK_MOST_ANSWER = 51,  /* words of an answer to one */
+    SCATTERFLOCK_MOST_WORDS = 290,  /* of a limit problem */
+    SCATTERFLOCK_MOST_ANSWER = 67,  /* words of an answer to one */
     SCATTERFLOCK_MOST_VERTICES = 64,
     SCATTERFLOCK_MOST_TIME_ROWS = 256,
     SCATTERFLOCK_LARGEST_LENGTH = 30000, /* the c of a time row */
     SCATTERFLOCK_MOST_TIME_WORDS = 1026,
     SCATTERFLOCK_MOST_TIMES = 130,  /* words of an answer to time rows */
-    SCATTERFLOCK_SLICE_WORDS = 135, /* of 64 bits, beside the count, in the state of a run */
-    SCATTERFLOCK_SESSION_WORDS = 135, /* of 64 bits, in a session */
+    SCATTERFLOCK_SLICE_WORDS = 187, /* of 64 bits, beside the count, in the state of a run */
+    SCATTERFLOCK_SESSION_WORDS = 187, /* of 64 bits, in a session */
     SCATTERFLOCK_MOST_BODIES = 64,  /* of a day's file */
     SCATTERFLOCK_MOST_FILE_WORDS = 16384, /* of a day's file, four bytes each */
-    SCATTERFLOCK_MOST_DAY_TEXT = 94400 /* bytes that are printed for a day's file */
+    SCATTERFLOCK_MOST_DAY_TEXT = 125120 /* bytes that are printed for a day's file */
 };
 #define SCATTERFLOCK_LARGEST_SMALL INT64_C(17179869176) /* small part of a numerator */
 
@@ -171,6 +171,16 @@ enum {
  */
 uint32_t scatterflock_solve(const int32_t *words, size_t word_count,
                             int64_t *out, size_t out_count);
+
+/*
+ * The same where a problem may have only so many rows: 2 is returned for an m
+ * above most_rows too, in its place among the refusals, and all else is that of
+ * scatterflock_solve. With 0 no row is allowed. A number above
+ * SCATTERFLOCK_MOST_ROWS stands for that one.
+ */
+uint32_t scatterflock_solve_within(uint32_t most_rows,
+                                   const int32_t *words, size_t word_count,
+                                   int64_t *out, size_t out_count);
 
 /*
  * Judges an answer to a limit problem, whoever gave it. Write N for n + m.
@@ -408,7 +418,7 @@ uint32_t scatterflock_bundle_write(const int32_t *lengths, size_t bodies,
  * others have theirs. For a file that scatterflock_bundle_read would refuse with
  * 30 to 35 it is one line, "refused 30" and so on.
  *
- * Returns how many bytes the text has, which is at most 94,400. Where text_room
+ * Returns how many bytes the text has, which is at most 125,120. Where text_room
  * is at least that, the text stands at the start of text, and bytes past it keep
  * what they had; no byte with 0 is put behind it. Else text keeps every byte.
  */

@@ -27,7 +27,7 @@ from ctypes import POINTER, Structure, c_bool, c_int32, c_int64, c_size_t, c_uin
 from fractions import Fraction
 from pathlib import Path
 
-MOST_ANSWER, MOST_TIMES, STATE_WORDS = 51, 130, 135
+MOST_ROWS, MOST_ANSWER, MOST_TIMES, STATE_WORDS = 24, 67, 130, 187
 CAN, CANNOT, RANGE = 1, 2, 3
 
 
@@ -62,6 +62,7 @@ def _load():
     i32, i64 = POINTER(c_int32), POINTER(c_int64)
     for name, result, arguments in [
         ("solve", c_uint32, [i32, c_size_t, i64, c_size_t]),
+        ("solve_within", c_uint32, [c_uint32, i32, c_size_t, i64, c_size_t]),
         ("check", c_uint32, [i32, c_size_t, i64, c_size_t]),
         ("times", c_uint32, [i32, c_size_t, i64, c_size_t]),
         ("slice_start", _Begun, [i32, c_size_t]),
@@ -108,10 +109,13 @@ def _longs(words):
     return (c_int64 * max(1, len(words)))(*words), len(words)
 
 
-def solve(words):
-    """The words of the answer. Raises Refused."""
+def solve(words, most_rows=MOST_ROWS):
+    """The words of the answer to a problem of up to so many rows. Raises Refused."""
+    if most_rows < 0:
+        raise OverflowError(f"{most_rows} is no number of rows")
     out = (c_int64 * MOST_ANSWER)()
-    number = _library.scatterflock_solve(*_words(words), out, MOST_ANSWER)
+    most_rows = min(most_rows, MOST_ROWS)
+    number = _library.scatterflock_solve_within(most_rows, *_words(words), out, MOST_ANSWER)
     if number:
         raise Refused(number)
     return list(out[: 3 + 2 * (words[0] + words[1])])

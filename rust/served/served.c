@@ -5,11 +5,11 @@
  *
  * A request is seven numbers of 64 bits: the function (0 solve, 1 check,
  * 2 times, 3 slice_start, 4 slice_continue, 5 session_open, 6 session_switch,
- * 7 session_check), how many 32-bit words there are to read, how many 64-bit
- * words the output (of check: the answer) has, and what else the function
- * takes: slice_continue the number of the slice and the pivots, the last two
- * the number of the session, and session_switch variable, upper and on. Then
- * come those words. The reply is four numbers of 64 bits: what the function
+ * 7 session_check, 11 solve_within), how many 32-bit words there are to read, how
+ * many 64-bit words the output (of check: the answer) has, and what else the
+ * function takes: slice_continue the number of the slice and the pivots, 6 and 7
+ * the number of the session, session_switch variable, upper and on, and
+ * solve_within the most rows. Then come those words. The reply is four numbers of 64 bits: what the function
  * returned, and of slices and sessions whether it answered, the number of the
  * one that came back and its count; and then all words of the output. Numbers
  * are little-endian, as the machine's own. Requests with 8 to 10 are bundle.c's.
@@ -197,6 +197,10 @@ int main(void)
             break;
         case 7:
             check_session(request + 3, out_count, reply);
+            break;
+        case 11:
+            reply[0] = scatterflock_solve_within((uint32_t)request[3], words + GUARD, word_count,
+                                                 out + GUARD, out_count);
             break;
         default:
             reply[0] = answer(request[0], word_count, out_count);

@@ -6,7 +6,7 @@ use problems::{limits, times};
 
 const SIZE: u64 = 600;
 /// The most words of an answer to a limit problem.
-pub const ANSWER: usize = 51;
+pub const ANSWER: usize = 67;
 
 /// Limit problems with their answers.
 pub struct LimitSet {
@@ -21,11 +21,11 @@ pub struct TimeSet {
     pub problems: Vec<Vec<i32>>,
 }
 
-/// Tiny, medium, full and oven-like problems, each of mixed verdicts; then the
-/// same problems again, about every other limit strict.
+/// Tiny, medium, full, largest and oven-like problems, each of mixed verdicts;
+/// then the same problems again, about every other limit strict.
 pub fn limits(seed: u64) -> Vec<LimitSet> {
-    use limits::Family::{Full, Medium, Oven, Tiny};
-    let families = [Tiny, Medium, Full, Oven];
+    use limits::Family::{Full, Largest, Medium, Oven, Tiny};
+    let families = [Tiny, Medium, Full, Largest, Oven];
     let unmarked = families.map(|family| {
         LimitSet::new(family.name().to_string(), drawn(seed, |random| family.words(random)))
     });

@@ -7,7 +7,7 @@ use scatterflock::raw;
 use served as raw;
 
 pub use raw::{bundle_read, bundle_write, day, Contents};
-pub use raw::{check, solve, times};
+pub use raw::{check, solve, solve_within, times};
 pub use raw::{session_check, session_open, session_switch, Session};
 pub use raw::{slice_continue, slice_start, Slice};
 

@@ -1,4 +1,4 @@
-//! One limit problem through the solver and the checker.
+//! One limit problem through the solver, also within fewer rows, and the checker.
 
 use crate::archive;
 use crate::lent::{fresh, length, lent};
@@ -18,6 +18,8 @@ pub struct Outcome {
     pub verdict: i64,
     /// Whether the answer is a "can" with a small part that is not 0.
     pub has_small: bool,
+    /// Whether the problem was refused for its rows alone, within fewer of them.
+    pub has_more_rows: bool,
     /// The checker's numbers.
     pub checks: Vec<u32>,
 }
@@ -37,6 +39,9 @@ fn compare_words(random: &mut Random, words: &[i32]) -> Result<Outcome, String> 
         return Err(format!("solve gives {found:?}, the reference {expected:?}"));
     }
     let (number, out) = expected;
+    let most_rows = most_rows(random, words);
+    let has_more_rows =
+        random.percent(25) && compare_within(most_rows, words, &before)? == 2 && number != 2;
     let mut answers = vec![out.clone()];
     if number == 0 {
         answers.extend((0..BENT).map(|_| bent(random, words, &out[..needed(words)])));
@@ -54,7 +59,31 @@ fn compare_words(random: &mut Random, words: &[i32]) -> Result<Outcome, String> 
     }
     let smalls = (verdict == 1).then(|| &out[needed(words) - variables(words)..needed(words)]);
     let has_small = smalls.is_some_and(|smalls| smalls.iter().any(|&small| small != 0));
-    Ok(Outcome { number, verdict, has_small, checks })
+    Ok(Outcome { number, verdict, has_small, has_more_rows, checks })
+}
+
+/// A most rows: one less than there are, just so many, any, or too many. One
+/// problem in four is solved within it too.
+fn most_rows(random: &mut Random, words: &[i32]) -> u32 {
+    let rows = words.get(1).map_or(0, |&rows| rows.clamp(0, 40) as u32);
+    match random.below(4) {
+        0 => rows.saturating_sub(1),
+        1 => rows,
+        2 => random.size(0, 30) as u32,
+        _ => u32::MAX - random.below(3) as u32,
+    }
+}
+
+/// The solver within so many rows: its number. An error says what differs.
+pub fn compare_within(most_rows: u32, words: &[i32], before: &[i64]) -> Result<u32, String> {
+    let expected = lent(|read, out| reference::solve_within(most_rows, read, out), words, before)?;
+    let found = lent(|read, out| archive::solve_within(most_rows, read, out), words, before)?;
+    if found != expected {
+        return Err(format!(
+            "solve within {most_rows} rows gives {found:?}, the reference {expected:?}"
+        ));
+    }
+    Ok(expected.0)
 }
 
 /// The variables of an answered problem, rows' variables included.
@@ -65,8 +94,8 @@ fn variables(words: &[i32]) -> usize {
 /// The words that an answer needs; of words without a meaning, some number.
 pub fn needed(words: &[i32]) -> usize {
     match words {
-        [n @ 1..=8, m @ 0..=16, ..] => 3 + 2 * (n + m) as usize,
-        _ => 51,
+        [n @ 1..=8, m @ 0..=24, ..] => 3 + 2 * (n + m) as usize,
+        _ => 67,
     }
 }
 

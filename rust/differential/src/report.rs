@@ -17,6 +17,8 @@ pub struct Report {
     pub calls: BTreeMap<u32, u64>,
     /// How many answers have small parts.
     pub with_small: u64,
+    /// How many problems were refused for their rows alone, within fewer of them.
+    pub with_more_rows: u64,
 }
 
 /// Compares so many limit problems, the families in turn. An error says which
@@ -30,6 +32,7 @@ pub fn limits(seed: u64, problems: u64) -> Result<Report, String> {
         report.count(outcome.number, ["", "can", "cannot", "range"], outcome.verdict);
         report.count_calls(&outcome.checks);
         report.with_small += u64::from(outcome.has_small);
+        report.with_more_rows += u64::from(outcome.has_more_rows);
     }
     Ok(report)
 }
@@ -136,6 +139,9 @@ impl fmt::Display for Report {
         }
         if self.with_small > 0 {
             write!(to, ", {} with small parts", self.with_small)?;
+        }
+        if self.with_more_rows > 0 {
+            write!(to, ", {} refused within fewer rows", self.with_more_rows)?;
         }
         Ok(())
     }

@@ -1,12 +1,12 @@
-//! Random problems, with a seed that is printed and can be given again: 420,000,
-//! 10,000 sessions and 7,000 days' files a run where the archive is linked, 85,000,
+//! Random problems, with a seed that is printed and can be given again: 320,000,
+//! 10,000 sessions and 7,000 days' files a run where the archive is linked, 65,000,
 //! 2,000 and 1,400 under an emulator.
 
 use differential::archive::LINKED;
 use differential::report;
 use problems::random::seed;
 
-const LIMIT_PROBLEMS: u64 = if LINKED { 300_000 } else { 60_000 };
+const LIMIT_PROBLEMS: u64 = if LINKED { 200_000 } else { 40_000 };
 const SLICED_PROBLEMS: u64 = if LINKED { 60_000 } else { 10_000 };
 const SESSIONS: u64 = if LINKED { 10_000 } else { 2_000 };
 const TIME_PROBLEMS: u64 = if LINKED { 60_000 } else { 15_000 };
@@ -23,6 +23,7 @@ fn limit_problems() {
     }
     assert!(report.of("range") > LIMIT_PROBLEMS / 100, "range, SEED={seed}");
     assert!(report.with_small > LIMIT_PROBLEMS / 50, "small parts, SEED={seed}");
+    assert!(report.with_more_rows > LIMIT_PROBLEMS / 15, "fewer rows, SEED={seed}");
     for number in (1..=7).chain([10]) {
         let refused = report.of(&format!("refused {number}"));
         assert!(refused > LIMIT_PROBLEMS / 1_000, "{number}, SEED={seed}");
@@ -61,7 +62,7 @@ fn sessions() {
         ("can", 2 * SESSIONS),
         ("can after pivots", SESSIONS / 2),
         ("cannot", SESSIONS / 2),
-        ("conflict", SESSIONS / 7),
+        ("conflict", SESSIONS / 9),
         ("range", SESSIONS / 25),
         ("conflict ended", SESSIONS / 50),
         ("values seen", 25 * SESSIONS),
@@ -102,7 +103,7 @@ fn days() {
     for (outcome, least) in [
         ("read", FILES / 3),
         ("refused 30", FILES / 13),
-        ("refused 31", FILES / 60),
+        ("refused 31", FILES / 90),
         ("refused 32", FILES / 75),
         ("refused 33", FILES / 200),
         ("refused 34", FILES / 6),

@@ -4,7 +4,7 @@
 use crate::words::{every, Parts};
 
 pub const MOST_COLUMNS: usize = 8;
-pub const MOST_ROWS: usize = 16;
+pub const MOST_ROWS: usize = 24;
 pub const MOST_VARIABLES: usize = MOST_COLUMNS + MOST_ROWS;
 const MOST_CELLS: usize = MOST_COLUMNS * MOST_ROWS;
 const LARGEST_NUMBER: u64 = 2_147_483_647;

@@ -16,7 +16,7 @@ pub fn judged(words: &[i32]) -> Result<Parts<'_>, u32> {
     let [n, m, rest @ ..] = words else {
         return Err(1);
     };
-    if !(1..=8).contains(n) || !(0..=16).contains(m) {
+    if !(1..=8).contains(n) || !(0..=24).contains(m) {
         return Err(2);
     }
     let (n, m) = (*n as usize, *m as usize);

@@ -66,7 +66,7 @@ fn random_limit_problems() {
         let mut random = Random::of_problem(seed, problem);
         let family = limits::Family::ALL[problem as usize % limits::Family::ALL.len()];
         let words = family.words(&mut random);
-        let length = if random.percent(95) { random.size(51, 60) } else { random.size(0, 51) };
+        let length = if random.percent(95) { random.size(67, 76) } else { random.size(0, 67) };
         let expected = lent(reference::solve, &words, length);
         let solved = lent(plain::solve, &words, length);
         assert_eq!(solved, expected, "SEED={seed}, problem {problem}, {family:?}");

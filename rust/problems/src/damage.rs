@@ -3,7 +3,7 @@
 use crate::random::Random;
 
 /// Words at and beside every edge of the rules, and the extremes of the type.
-const EDGES: [i32; 33] = [
+const EDGES: [i32; 35] = [
     -30_001,
     -30_000,
     30_000,
@@ -30,6 +30,8 @@ const EDGES: [i32; 33] = [
     15,
     16,
     17,
+    24,
+    25,
     64,
     65,
     256,
@@ -64,7 +66,7 @@ pub fn damaged(random: &mut Random, mut words: Vec<i32>) -> Vec<i32> {
 /// Random words of a random length. Some begin with a small n and m, and some
 /// of those have the length that n and m ask for.
 pub fn garbage(random: &mut Random) -> Vec<i32> {
-    let length = random.pick(&[0, 1, 2, 3, 5, 8, 9, 13, 14, 40, 100, 202, 203, 260]);
+    let length = random.pick(&[0, 1, 2, 3, 5, 8, 9, 13, 14, 40, 100, 202, 290, 291, 330]);
     let mut words: Vec<i32> = (0..length).map(|_| garbage_word(random)).collect();
     if random.percent(70) && words.len() >= 2 {
         let (n, m) = (random.size(1, 3), random.size(0, 3));

@@ -20,8 +20,12 @@ pub enum Family {
     Medium,
     /// 8 variables, 16 rows.
     Full,
+    /// 8 variables, 24 rows: as large as a problem gets.
+    Largest,
     /// Zones of an oven: few numbers in a row.
     Oven,
+    /// Three zones of an oven at two points of its ramp, with 17 to 24 rows.
+    Zones,
     /// Any size within the rules.
     AnySize,
     /// Rows that must equal a number.
@@ -50,11 +54,13 @@ pub enum Family {
 
 impl Family {
     /// Every family.
-    pub const ALL: [Family; 15] = [
+    pub const ALL: [Family; 17] = [
         Family::Tiny,
         Family::Medium,
         Family::Full,
+        Family::Largest,
         Family::Oven,
+        Family::Zones,
         Family::AnySize,
         Family::Equalities,
         Family::Degenerate,
@@ -69,11 +75,13 @@ impl Family {
     ];
 
     /// The families whose words are never refused.
-    pub const ACCEPTED: [Family; 12] = [
+    pub const ACCEPTED: [Family; 14] = [
         Family::Tiny,
         Family::Medium,
         Family::Full,
+        Family::Largest,
         Family::Oven,
+        Family::Zones,
         Family::AnySize,
         Family::Equalities,
         Family::Degenerate,
@@ -85,11 +93,13 @@ impl Family {
     ];
 
     /// Those of them in which no limit is strict.
-    pub const UNMARKED: [Family; 10] = [
+    pub const UNMARKED: [Family; 12] = [
         Family::Tiny,
         Family::Medium,
         Family::Full,
+        Family::Largest,
         Family::Oven,
+        Family::Zones,
         Family::AnySize,
         Family::Equalities,
         Family::Degenerate,
@@ -104,7 +114,9 @@ impl Family {
             Family::Tiny => "tiny",
             Family::Medium => "medium",
             Family::Full => "full",
+            Family::Largest => "largest",
             Family::Oven => "oven",
+            Family::Zones => "zones",
             Family::AnySize => "any size",
             Family::Equalities => "equalities",
             Family::Degenerate => "degenerate",
@@ -141,7 +153,11 @@ impl Family {
             Family::Full => {
                 around(random, 8, 16, Make { zeros: 40, largest: 4, slack: 6, moved: 35 })
             }
+            Family::Largest => {
+                around(random, 8, 24, Make { zeros: 40, largest: 4, slack: 6, moved: 25 })
+            }
             Family::Oven => oven::oven(random),
+            Family::Zones => oven::zones(random),
             Family::AnySize => any_size(random),
             Family::Equalities => equalities(random),
             Family::Degenerate => degenerate(random),
@@ -176,7 +192,7 @@ fn tiny(random: &mut Random) -> Draft {
 }
 
 fn any_size(random: &mut Random) -> Draft {
-    let (n, m) = (random.size(1, 8), random.size(0, 16));
+    let (n, m) = (random.size(1, 8), random.size(0, 24));
     let make = Make {
         zeros: random.size(0, 70),
         largest: random.pick(&[1, 2, 5, 20, 1_000]),
@@ -255,7 +271,7 @@ fn equalities(random: &mut Random) -> Draft {
 }
 
 fn degenerate(random: &mut Random) -> Draft {
-    let (n, m) = (random.size(2, 8), random.size(2, 16));
+    let (n, m) = (random.size(2, 8), random.size(2, 24));
     let make = Make { zeros: 45, largest: random.pick(&[1, 1, 2]), slack: 0, moved: 0 };
     let mut rows: Vec<Vec<i32>> = Vec::new();
     while rows.len() < m {
@@ -289,7 +305,7 @@ fn zero_limit(random: &mut Random) -> [i32; 3] {
 }
 
 fn range(random: &mut Random) -> Draft {
-    let (n, m) = (random.size(2, 8), random.size(2, 16));
+    let (n, m) = (random.size(2, 8), random.size(2, 24));
     let largest = random.pick(&[12, 40, 150, 1_000]);
     let make = Make { zeros: random.pick(&[0, 10, 50]), largest, slack: 9, moved: 10 };
     let mut draft = around(random, n, m, make);

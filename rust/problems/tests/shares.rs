@@ -37,7 +37,7 @@ fn limit_shares(family: limits::Family, seed: u64) -> (Shares, Shares) {
     for problem in 0..PROBLEMS {
         let mut random = Random::of_problem(seed, problem);
         let words = family.words(&mut random);
-        let mut out = [0; 51];
+        let mut out = [0; 67];
         let returned = reference::solve(&words, &mut out);
         count(&mut verdicts, verdict(returned, out[0]));
         if returned == 0 {
@@ -57,7 +57,7 @@ fn least_limit_shares(family: limits::Family) -> &'static [(&'static str, usize)
         limits::Family::Edge => &[("can", 20), ("cannot", 20), ("range", 8)],
         limits::Family::AnySize => &[("can", 20), ("cannot", 8), ("range", 1)],
         limits::Family::BlankRows => {
-            &[("can", 4), ("cannot", 4), ("refused 6", 1), ("refused 10", 30)]
+            &[("can", 4), ("cannot", 3), ("refused 6", 1), ("refused 10", 30)]
         }
         limits::Family::Damaged => &[
             ("can", 4),
@@ -118,7 +118,7 @@ fn small_amounts_decide() {
         let [mut small, mut even, mut later] = [0; 3];
         for problem in 0..1_000 {
             let words = family.words(&mut Random::of_problem(seed, problem));
-            let mut out = [0; 51];
+            let mut out = [0; 67];
             assert_eq!(reference::solve(&words, &mut out), 0);
             let half = 3 + (words[0] + words[1]) as usize;
             small += usize::from(out[0] == 1 && out[half..].iter().any(|&word| word != 0));
@@ -141,7 +141,7 @@ fn accepted_families_are_accepted() {
     for problem in 0..2_000 {
         let mut random = Random::of_problem(seed, problem);
         let family = random.pick(&limits::Family::ACCEPTED);
-        let mut out = [0; 51];
+        let mut out = [0; 67];
         assert_eq!(reference::solve(&family.words(&mut random), &mut out), 0, "SEED={seed}");
         let family = random.pick(&times::Family::ACCEPTED);
         let mut out = [0; 130];

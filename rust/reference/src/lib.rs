@@ -45,7 +45,7 @@ pub use decision::can_be_met;
 pub use evidence::check;
 pub use idle::{idle, named, Named};
 pub use program::respond;
-pub use run::{pivots, solve, violations, Violation};
+pub use run::{pivots, solve, solve_within, violations, Violation};
 pub use session::Session;
 pub use slices::{Continued, Slice};
 pub use tableau::Pivot;

@@ -8,8 +8,8 @@ use std::ops::RangeInclusive;
 
 /// The number of problem variables, n.
 const VARIABLES: RangeInclusive<i32> = 1..=8;
-/// The number of rows, m.
-const ROWS: RangeInclusive<i32> = 0..=24;
+/// The most rows there may be, where no fewer are asked for.
+pub const MOST_ROWS: u32 = 24;
 const COEFFICIENTS: RangeInclusive<i32> = -1_000..=1_000;
 /// 1 is for a lower limit and 2 for an upper one, 4 and 8 make them strict. A
 /// sum that makes a missing limit strict is not among them.
@@ -71,10 +71,16 @@ impl Problem {
 
     /// The problem of the words, or the number that refuses them.
     pub fn read(words: &[i32]) -> Result<Problem, u32> {
+        Problem::read_within(MOST_ROWS, words)
+    }
+
+    /// The same where there may be so many rows, and never more than the most.
+    pub fn read_within(most_rows: u32, words: &[i32]) -> Result<Problem, u32> {
         if words.len() < 2 {
             return Err(1);
         }
-        if !VARIABLES.contains(&words[0]) || !ROWS.contains(&words[1]) {
+        let rows = 0..=i64::from(most_rows.min(MOST_ROWS));
+        if !VARIABLES.contains(&words[0]) || !rows.contains(&i64::from(words[1])) {
             return Err(2);
         }
         let n = words[0] as usize;

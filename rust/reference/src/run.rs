@@ -6,14 +6,19 @@ use crate::actual;
 use crate::answer::{Answer, Multipliers, Verdict};
 use crate::fraction::Fraction;
 use crate::pair::Pair;
-use crate::problem::{Limits, Problem, Variable};
+use crate::problem::{Limits, Problem, Variable, MOST_ROWS};
 use crate::tableau::{Pivot, Tableau};
 use std::collections::BTreeMap;
 
 /// Writes the answer to the problem and returns 0, or returns the number of
 /// the refusal and writes nothing. Words past the answer are not touched.
 pub fn solve(words: &[i32], out: &mut [i64]) -> u32 {
-    let problem = match Problem::read(words) {
+    solve_within(MOST_ROWS, words, out)
+}
+
+/// The same of a problem with at most so many rows.
+pub fn solve_within(most_rows: u32, words: &[i32], out: &mut [i64]) -> u32 {
+    let problem = match Problem::read_within(most_rows, words) {
         Ok(problem) => problem,
         Err(refusal) => return refusal,
     };

@@ -70,12 +70,13 @@ fn the_byte_count_is_judged_first() {
     for length in 0..8 {
         assert_eq!(printed(&vec![1; length]), "refused 1\n");
     }
-    for length in [9, 10, 11, 13, 807, 809, 812, 1_000_000] {
+    for length in [9, 10, 11, 13, 807, 1_159, 1_161, 1_164, 1_000_000] {
         assert_eq!(printed(&vec![9; length]), "refused 3\n");
     }
     assert_eq!(printed(&[0; 8]), "refused 2\n");
-    assert_eq!(printed(&[0; 808]), "refused 2\n");
-    assert_eq!(printed(&[0; 812]), "refused 3\n");
+    assert_eq!(printed(&[0; 812]), "refused 2\n");
+    assert_eq!(printed(&[0; 1_160]), "refused 2\n");
+    assert_eq!(printed(&[0; 1_164]), "refused 3\n");
 }
 
 #[test]

@@ -3,18 +3,18 @@
 
 use problems::draft::{above, at_least, at_most, below, between, Draft, FREE};
 use problems::worked;
-use reference::{check, solve};
+use reference::{check, solve, solve_within};
 
 /// What the solver returns. Refused, it keeps the output; answered, it writes
 /// a verdict. The checker refuses the same words by the same number.
 fn returned(words: &[i32]) -> u32 {
-    let mut out = [-5; 60];
+    let mut out = [-5; 70];
     let number = solve(words, &mut out);
     if number == 0 {
         assert!((1..=3).contains(&out[0]));
         assert!(check(words, &out) >= 8);
     } else {
-        assert_eq!(out, [-5; 60]);
+        assert_eq!(out, [-5; 70]);
         assert_eq!(check(words, &out), number);
     }
     number
@@ -39,24 +39,47 @@ fn fewer_than_two_words() {
 
 #[test]
 fn sizes() {
-    for (n, m) in [(1, 0), (1, 16), (8, 0), (8, 16)] {
+    for (n, m) in [(1, 0), (1, 24), (8, 0), (8, 24)] {
         assert_eq!(returned(&free(n, m)), 0);
     }
-    for (n, m) in [(9, 0), (1, 17), (9, 17)] {
+    for (n, m) in [(9, 0), (1, 25), (9, 25)] {
         assert_eq!(returned(&free(n, m)), 2);
     }
-    for start in [[0, 0], [-1, 0], [1, -1], [9, 16], [8, 17], [i32::MIN, 0], [1, i32::MAX]] {
+    for start in [[0, 0], [-1, 0], [1, -1], [9, 24], [8, 25], [i32::MIN, 0], [1, i32::MAX]] {
         assert_eq!(returned(&start), 2);
+    }
+}
+
+/// Within fewer rows the second test alone asks for these, in its place; more
+/// than the most are not to be had.
+#[test]
+fn sizes_within_fewer_rows() {
+    let mut blank = free(2, 17);
+    blank[2..4].fill(0);
+    for most in (0..=30).chain([u32::MAX]) {
+        for m in 0..=26 {
+            let number = if m <= most.min(24) { 0 } else { 2 };
+            let mut out = [-5; 70];
+            assert_eq!(solve_within(most, &free(2, m as usize), &mut out), number, "{m} of {most}");
+            assert_eq!(out == [-5; 70], number != 0);
+        }
+        assert_eq!(solve_within(most, &[1], &mut []), 1);
+        assert_eq!(solve_within(most, &[9, 0], &mut []), 2);
+        assert_eq!(solve_within(most, &[1, -1], &mut []), 2);
+        assert_eq!(solve_within(most, &[1, 0], &mut []), 3);
+        assert_eq!(solve_within(most, &free(2, 0), &mut [0; 6]), 7);
+        let number = if most < 17 { 2 } else { 10 };
+        assert_eq!(solve_within(most, &blank, &mut []), number, "{most}");
     }
 }
 
 #[test]
 fn length() {
-    let mut words = free(8, 16);
-    assert_eq!(words.len(), 202);
+    let mut words = free(8, 24);
+    assert_eq!(words.len(), 290);
     words.push(0);
     assert_eq!(returned(&words), 3);
-    words.truncate(201);
+    words.truncate(289);
     assert_eq!(returned(&words), 3);
 }
 
@@ -68,10 +91,10 @@ fn coefficients() {
     for refused in [1_001, -1_001, i32::MIN, i32::MAX] {
         assert_eq!(one_row(refused, FREE, FREE), 4);
     }
-    let mut last = free(8, 16);
-    last[2 + 8 * 16 - 1] = 1_001;
+    let mut last = free(8, 24);
+    last[2 + 8 * 24 - 1] = 1_001;
     assert_eq!(returned(&last), 4);
-    last[2 + 8 * 16 - 1] = 1_000;
+    last[2 + 8 * 24 - 1] = 1_000;
     assert_eq!(returned(&last), 0);
 }
 
@@ -150,8 +173,8 @@ fn a_row_of_zeros() {
     for coefficient in [1, -1] {
         assert_eq!(one_row(coefficient, FREE, FREE), 0);
     }
-    for row in 0..16 {
-        let mut words = free(8, 16);
+    for row in 0..24 {
+        let mut words = free(8, 24);
         words[2 + 8 * row..2 + 8 * (row + 1)].fill(0);
         assert_eq!(returned(&words), 10);
         for column in 0..8 {

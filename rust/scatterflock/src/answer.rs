@@ -3,7 +3,7 @@
 use crate::fractions::Fractions;
 use crate::raw;
 use crate::refusal::Refusal;
-use crate::sizes::{LARGEST_SMALL, MOST_ANSWER};
+use crate::sizes::{LARGEST_SMALL, MOST_ANSWER, MOST_ROWS};
 use std::fmt;
 
 /// The answer to a limit problem.
@@ -79,12 +79,40 @@ pub enum Judgement {
 /// The refusal of words that are no problem: the first that applies.
 pub fn solve(words: &[i32]) -> Result<Answer, Refusal> {
     let mut out = [0; MOST_ANSWER];
-    match raw::solve(words, &mut out) {
+    answered(raw::solve(words, &mut out), words, &out)
+}
+
+/// Answers the limit problem of these words, which may have so many rows and
+/// never more than [`MOST_ROWS`].
+///
+/// ```
+/// use scatterflock::{solve_within, Refusal};
+///
+/// // 5 times x is at least 3
+/// let words = [1, 1, 5, 0, 0, 0, 1, 3, 0];
+/// assert_eq!(solve_within(1, &words)?.to_string(), "can, after 1 pivot: 3/5, 15/5");
+/// assert_eq!(solve_within(0, &words), Err(Refusal::Sizes));
+/// # Ok::<(), scatterflock::Refusal>(())
+/// ```
+///
+/// # Errors
+///
+/// The refusal of words that are no problem: the first that applies. Of one with
+/// more rows it is [`Refusal::Sizes`].
+pub fn solve_within(most_rows: usize, words: &[i32]) -> Result<Answer, Refusal> {
+    let mut out = [0; MOST_ANSWER];
+    let most_rows = most_rows.min(MOST_ROWS) as u32;
+    answered(raw::solve_within(most_rows, words, &mut out), words, &out)
+}
+
+/// What a solver has returned and written, with room for any answer.
+fn answered(number: u32, words: &[i32], out: &[i64]) -> Result<Answer, Refusal> {
+    match number {
         0 => {
             let variables = (words[0] + words[1]) as usize;
             Ok(Answer::read(&out[..3 + 2 * variables]))
         }
-        number => Err(Refusal::try_from(number).expect("solve returns 0 or a refusal")),
+        number => Err(Refusal::try_from(number).expect("a solver returns 0 or a refusal")),
     }
 }
 

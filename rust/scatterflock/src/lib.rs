@@ -48,8 +48,8 @@
 //! # Ok::<(), scatterflock::Refusal>(())
 //! ```
 //!
-//! - [`Problem`], [`solve()`], [`check`]: limit problems, answers and their
-//!   judgement
+//! - [`Problem`], [`solve()`], [`solve_within`], [`check`]: limit problems, answers
+//!   and their judgement
 //! - [`Fractions`]: values as numbers over one denominator
 //! - [`Slice`]: a run that is made some pivots at a time
 //! - [`Session`]: limits that are switched on and off, and checked again
@@ -77,7 +77,7 @@ pub mod sizes;
 mod slice;
 mod times;
 
-pub use answer::{check, solve, Answer, Judgement, Verdict};
+pub use answer::{check, solve, solve_within, Answer, Judgement, Verdict};
 pub use build_error::BuildError;
 pub use bundle::{day, Bundle};
 pub use bundle_refusal::BundleRefusal;

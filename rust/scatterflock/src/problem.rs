@@ -1,6 +1,6 @@
 //! A limit problem that is built step by step, and checked at each.
 
-use crate::answer::{check, solve, Answer, Judgement, Verdict};
+use crate::answer::{check, solve, solve_within, Answer, Judgement, Verdict};
 use crate::build_error::BuildError;
 use crate::raw;
 use crate::refusal::Refusal;
@@ -89,12 +89,28 @@ impl Problem {
     ///
     /// The refusal of words that are no problem: the archive judges them.
     pub fn from_words(words: &[i32]) -> Result<Problem, Refusal> {
-        // An answer without room is refused last of all.
-        let refusal = Refusal::try_from(raw::solve(words, &mut []));
-        match refusal.expect("an answer has words") {
-            Refusal::Short => Ok(Problem::read(words)),
-            refusal => Err(refusal),
+        Problem::from_words_within(MOST_ROWS, words)
+    }
+
+    /// The problem that these words hold, where it may have only so many rows.
+    ///
+    /// # Errors
+    ///
+    /// As for [`from_words`](Problem::from_words); of one with more rows,
+    /// [`Refusal::Sizes`].
+    pub fn from_words_within(most_rows: usize, words: &[i32]) -> Result<Problem, Refusal> {
+        match Problem::refusal_within(most_rows, words) {
+            None => Ok(Problem::read(words)),
+            Some(refusal) => Err(refusal),
         }
+    }
+
+    /// The refusal of these words, where a problem may have only so many rows.
+    pub(crate) fn refusal_within(most_rows: usize, words: &[i32]) -> Option<Refusal> {
+        // An answer without room is refused last of all.
+        let number = raw::solve_within(most_rows.min(MOST_ROWS) as u32, words, &mut []);
+        let refusal = Refusal::try_from(number).expect("an answer has words");
+        (refusal != Refusal::Short).then_some(refusal)
     }
 
     /// The problem of words that are one.
@@ -115,7 +131,7 @@ impl Problem {
     ///
     /// # Errors
     ///
-    /// There are at most 16 rows, with as many coefficients as the problem has
+    /// There are at most 24 rows, with as many coefficients as the problem has
     /// variables, each from -1,000 to 1,000 and not all of them 0.
     pub fn row(mut self, coefficients: &[i32]) -> Result<Problem, BuildError> {
         if self.rows.len() == MOST_ROWS {
@@ -247,6 +263,15 @@ impl Problem {
     #[must_use]
     pub fn solve(&self) -> Answer {
         solve(&self.words()).expect("a problem that was built is not refused")
+    }
+
+    /// Its answer, where it may have only so many rows.
+    ///
+    /// # Errors
+    ///
+    /// [`Refusal::Sizes`], where it has more.
+    pub fn solve_within(&self, most_rows: usize) -> Result<Answer, Refusal> {
+        solve_within(most_rows, &self.words())
     }
 
     /// Checks an answer's words, anybody's.

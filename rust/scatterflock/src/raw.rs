@@ -16,6 +16,14 @@ mod archive {
             out_count: usize,
         ) -> u32;
 
+        pub fn scatterflock_solve_within(
+            most_rows: u32,
+            words: *const i32,
+            word_count: usize,
+            out: *mut i64,
+            out_count: usize,
+        ) -> u32;
+
         pub fn scatterflock_check(
             words: *const i32,
             word_count: usize,
@@ -66,7 +74,7 @@ pub struct Slice {
 }
 
 /// The words of 64 bits that the archive keeps in a slice, beside the count.
-const SLICE_WORDS: usize = 135;
+const SLICE_WORDS: usize = 187;
 
 impl Slice {
     /// How many pivots are completed.
@@ -157,6 +165,24 @@ pub fn solve(words: &[i32], out: &mut [i64]) -> u32 {
     // SAFETY: both pointers are valid for their lengths, and a lent slice that
     // may be written overlaps no other.
     unsafe { archive::scatterflock_solve(words.as_ptr(), words.len(), out.as_mut_ptr(), out.len()) }
+}
+
+/// The same where a problem may have only so many rows: 2 for one with more. A
+/// number above [`MOST_ROWS`](crate::sizes::MOST_ROWS) stands for that one.
+///
+/// ```
+/// let mut out = [-1; 7];
+/// let words = [1, 1, 5, 0, 0, 0, 0, 0, 0]; // a row of 5 times the variable
+/// assert_eq!(scatterflock::raw::solve_within(0, &words, &mut out), 2);
+/// assert_eq!(out, [-1; 7]);
+/// assert_eq!(scatterflock::raw::solve_within(1, &words, &mut out), 0);
+/// assert_eq!(out, [1, 0, 1, 0, 0, 0, 0]);
+/// ```
+#[must_use = "where it is not 0, nothing was written"]
+pub fn solve_within(most_rows: u32, words: &[i32], out: &mut [i64]) -> u32 {
+    let (read, written) = (words.as_ptr(), out.as_mut_ptr());
+    // SAFETY: as in `solve`.
+    unsafe { archive::scatterflock_solve_within(most_rows, read, words.len(), written, out.len()) }
 }
 
 /// Judges an answer to a limit problem: 8 for accepted, 9 for not, or the

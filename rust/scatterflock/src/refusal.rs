@@ -11,14 +11,17 @@ use std::fmt;
 /// let refusal = solve(&[9, 0]).unwrap_err();
 /// assert_eq!(refusal, Refusal::Sizes);
 /// assert_eq!(refusal.number(), 2);
-/// assert_eq!(refusal.to_string(), "there must be 1 to 8 variables and 0 to 16 rows");
+/// assert_eq!(
+///     refusal.to_string(),
+///     "there must be 1 to 8 variables and 0 to 24 rows, or fewer where fewer are allowed"
+/// );
 /// ```
 #[derive(Debug, Clone, Copy, PartialEq, Eq, Hash)]
 #[non_exhaustive]
 pub enum Refusal {
     /// 1: there are not even n and m.
     FewWords = 1,
-    /// 2: n or m is out of its range.
+    /// 2: n or m is out of its range, or there are more rows than are allowed.
     Sizes = 2,
     /// 3: n and m ask for another number of words.
     Length = 3,
@@ -68,7 +71,9 @@ impl fmt::Display for Refusal {
     fn fmt(&self, to: &mut fmt::Formatter) -> fmt::Result {
         to.write_str(match self {
             Refusal::FewWords => "the words end before both sizes are told",
-            Refusal::Sizes => "there must be 1 to 8 variables and 0 to 16 rows",
+            Refusal::Sizes => {
+                "there must be 1 to 8 variables and 0 to 24 rows, or fewer where fewer are allowed"
+            }
             Refusal::Length => "the sizes ask for another number of words",
             Refusal::Coefficient => "a coefficient is not from -1,000 to 1,000",
             Refusal::Kind => {

@@ -3,7 +3,7 @@
 /// The most variables of a limit problem; there is at least one.
 pub const MOST_VARIABLES: usize = 8;
 /// The most rows of a limit problem.
-pub const MOST_ROWS: usize = 16;
+pub const MOST_ROWS: usize = 24;
 /// The largest coefficient; the least is its opposite.
 pub const LARGEST_COEFFICIENT: i32 = 1_000;
 /// The largest limit; the least is its opposite.
@@ -29,5 +29,5 @@ pub const MOST_TIMES: usize = 2 + 2 * MOST_VERTICES;
 pub const MOST_BODIES: usize = 64;
 /// The most words of a day's file; each has four bytes.
 pub const MOST_FILE_WORDS: usize = 16_384;
-/// The most bytes of the text of a day: 1,475 for each body.
-pub const MOST_DAY_TEXT: usize = MOST_BODIES * 1_475;
+/// The most bytes of the text of a day: 1,955 for each body.
+pub const MOST_DAY_TEXT: usize = MOST_BODIES * 1_955;

@@ -150,6 +150,12 @@ fn what_cannot_be_built() {
     assert_eq!(problem().below(1, 30_001), Err(BuildError::Limit(30_001)));
     let full = (0..MOST_ROWS).fold(problem(), |full, _| full.row(&[1_000, -1_000]).unwrap());
     assert_eq!(full.clone().row(&[1, 1]), Err(BuildError::Rows));
+    for fewer in [0, 16, MOST_ROWS - 1] {
+        assert_eq!(full.solve_within(fewer), Err(Refusal::Sizes));
+    }
+    for most in [MOST_ROWS, MOST_ROWS + 1, usize::MAX] {
+        assert_eq!(full.solve_within(most), Ok(full.solve()));
+    }
     assert_eq!(full.check(&[]), Err(Refusal::Short));
     assert!(matches!(full.solve().verdict, Verdict::Can { .. }));
 

@@ -66,7 +66,7 @@ fn a_day_of_the_most_bodies() {
     let full = [&[1, 0, 3, 7, 7], &[0; 0][..]].concat();
     let bundle = Bundle::of(&vec![full; MOST_BODIES]).unwrap();
     assert_eq!(bundle.day(), "can\npivots 0\nover 1\n0 7\n".repeat(MOST_BODIES));
-    assert_eq!(MOST_DAY_TEXT, 94_400);
+    assert_eq!(MOST_DAY_TEXT, 125_120);
 }
 
 #[test]

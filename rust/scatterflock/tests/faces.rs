@@ -43,7 +43,7 @@ fn worked_cases_and_published_problems() {
 
 #[test]
 fn answers_of_every_length() {
-    for (n, m) in (1..=8).flat_map(|n| (0..=16).map(move |m| (n, m))) {
+    for (n, m) in (1..=8).flat_map(|n| (0..=24).map(move |m| (n, m))) {
         let rows = vec![&[1; 8][..n]; m];
         let answer = solve(&Draft::new(n, &rows, &vec![FREE; n + m]).words()).unwrap();
         let (numerators, small) = (vec![0; n + m], vec![0; n + m]);
@@ -270,7 +270,7 @@ fn fractions_of_worked_cases() {
 #[test]
 fn sizes_are_those_of_the_rules() {
     assert_eq!(LARGEST_SMALL, 17_179_869_176);
-    assert_eq!([MOST_WORDS, MOST_ANSWER, MOST_TIMES], [202, 51, 130]);
+    assert_eq!([MOST_WORDS, MOST_ANSWER, MOST_TIMES], [290, 67, 130]);
 }
 
 #[test]
@@ -310,7 +310,7 @@ fn sessions_refuse() {
     assert_eq!(Session::open(&[9, 0]).unwrap_err(), Refusal::Sizes);
     assert_eq!(Session::open(&worked::case_i().words).unwrap_err(), Refusal::BlankRow);
     let mut session = Session::open(&[1, 0, 1, 5, 0]).unwrap();
-    for wrong in [1, 24, u32::MAX as usize, 1 << 32] {
+    for wrong in [1, 32, u32::MAX as usize, 1 << 32] {
         assert_eq!(session.switch_on(wrong, Side::Lower), Err(SwitchRefusal::NoVariable));
         assert!(!session.is_on(wrong, Side::Lower));
     }

@@ -116,6 +116,23 @@ static void in_slices(void)
     number("continue nine", scatterflock_slice_continue(begun.slice, 1, fresh(), ROOM).answered, 1);
 }
 
+/* Case A, of three rows, within each number of rows. */
+static void within_rows(void)
+{
+    for (uint32_t most = 0; most < SCATTERFLOCK_MOST_ROWS + 6; most++) {
+        int64_t *out = fresh();
+        bool fits = most >= 3;
+
+        number("solve A within", scatterflock_solve_within(most, A, COUNT(A), out, ROOM),
+               fits ? SCATTERFLOCK_ANSWERED : SCATTERFLOCK_SIZES);
+        words("solve A within", out, A_ANSWER, fits ? COUNT(A_ANSWER) : 0);
+        number("solve A within, short",
+               scatterflock_solve_within(most, A, COUNT(A), out, COUNT(A_ANSWER) - 1), fits ? 7 : 2);
+        number("solve nine within",
+               scatterflock_solve_within(most, NINE_VARIABLES, COUNT(NINE_VARIABLES), out, ROOM), 2);
+    }
+}
+
 static struct scatterflock_session switched(struct scatterflock_session session, uint32_t variable,
                                             bool upper, bool on, uint32_t expected)
 {
@@ -221,6 +238,8 @@ int main(void)
     words("solve nine", out, NULL, 0);
     number("solve A short", scatterflock_solve(A, COUNT(A), out, COUNT(A_ANSWER) - 1), 7);
     words("solve A short", out, NULL, 0);
+    within_rows();
+    out = fresh();
 
     number("check A", scatterflock_check(A, COUNT(A), A_ANSWER, COUNT(A_ANSWER)), SCATTERFLOCK_ACCEPTED);
     number("check A wrong", scatterflock_check(A, COUNT(A), A_WRONG, COUNT(A_WRONG)), 9);

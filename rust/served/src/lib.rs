@@ -30,6 +30,7 @@ enum Function {
     SessionOpen = 5,
     SessionSwitch = 6,
     SessionCheck = 7,
+    SolveWithin = 11,
 }
 
 /// A run at some point, that the program keeps.
@@ -122,6 +123,11 @@ thread_local! {
 /// Answers a limit problem.
 pub fn solve(words: &[i32], out: &mut [i64]) -> u32 {
     ask(Function::Solve, words, out)
+}
+
+/// The same where a problem may have only so many rows.
+pub fn solve_within(most_rows: u32, words: &[i32], out: &mut [i64]) -> u32 {
+    reply(Function::SolveWithin, words, out, [most_rows.into(), 0, 0, 0]).number
 }
 
 /// Judges an answer to a limit problem.

@@ -15,7 +15,7 @@ use crate::statement;
 /// The most names.
 pub const MOST_VARIABLES: usize = 8;
 /// The most rows.
-pub const MOST_ROWS: usize = 16;
+pub const MOST_ROWS: usize = 24;
 /// The largest coefficient.
 pub const LARGEST_COEFFICIENT: i32 = statement::LARGEST_COEFFICIENT as i32;
 /// The largest limit.
@@ -113,7 +113,7 @@ impl Limits {
     /// none where the words are refused for anything but a row of zeros.
     #[must_use]
     pub fn from_words(words: &[i32]) -> Option<Limits> {
-        let [n @ 1..=8, m @ 0..=16, rest @ ..] = words else { return None };
+        let [n @ 1..=8, m @ 0..=24, rest @ ..] = words else { return None };
         let (n, m) = (*n as usize, *m as usize);
         if rest.len() != m * n + 3 * (n + m) {
             return None;

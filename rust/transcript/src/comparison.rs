@@ -3,7 +3,7 @@
 use crate::evidence::checked;
 use crate::fractions::met_with;
 use crate::idle::{is_named, named, without};
-use crate::problem::{inner, problem, refusal, vars};
+use crate::problem::{inner, problem, refusal, refusal_within, rows_within, vars};
 use crate::run::{answer, ending, leavings};
 use crate::step::{start, Leaving, Outcome, Side};
 use crate::value::PAIRS;
@@ -41,10 +41,11 @@ pub fn compare(seed: u64, problems: u64) -> Result<Shares, String> {
 
 fn compare_one(random: &mut Random, words: &[i32], shares: &mut Shares) -> Result<(), String> {
     let wide: Vec<i128> = words.iter().map(|&word| i128::from(word)).collect();
-    let length = if random.percent(95) { 51 } else { random.size(0, 51) };
+    let length = if random.percent(95) { 67 } else { random.size(0, 67) };
     let mut out = vec![-1; length];
     let number = reference::solve(words, &mut out);
     same("the refusal", refusal(&wide, length), number)?;
+    compare_within(words, &wide)?;
     if number != 0 {
         *shares.outcomes.entry(format!("refused {number}")).or_default() += 1;
         return compare_check(words, &wide, &out, shares);
@@ -62,6 +63,15 @@ fn compare_one(random: &mut Random, words: &[i32], shares: &mut Shares) -> Resul
     for _ in 0..3 {
         let bent = bent(random, words, &out[..expected.len()]);
         compare_check(words, &wide, &bent, shares)?;
+    }
+    Ok(())
+}
+
+/// The refusal within each number of rows, and a few that are too many.
+fn compare_within(words: &[i32], wide: &[i128]) -> Result<(), String> {
+    for most in (0..=30).chain([u32::MAX]) {
+        let number = reference::solve_within(most, words, &mut []);
+        same("the refusal within", refusal_within(rows_within(most), wide, 0), number)?;
     }
     Ok(())
 }

@@ -2,7 +2,7 @@
 
 use crate::base::{all_below, is_pos, some_below, sum, within};
 use crate::problem::{
-    first, outside, problem, problem_tests, too_short, vars, word, Limit, Problem,
+    first, outside, problem, problem_tests, too_short, vars, word, Limit, Problem, MAX_M,
 };
 use crate::tableau::MAX_NUMBER;
 use crate::value::{total, Values, PAIRS, WHOLE};
@@ -142,7 +142,7 @@ pub fn accepted(p: &Problem<Limit>, a: &[i128]) -> bool {
 }
 
 pub fn checked(ws: &[i128], a: &[i128]) -> u32 {
-    let mut tests = problem_tests(ws);
+    let mut tests = problem_tests(MAX_M, ws);
     tests.push((Box::new(|| too_short(ws, a.len())), 7));
     tests.push((Box::new(|| accepted(&problem(ws), a)), 8));
     tests.push((Box::new(|| true), 9));

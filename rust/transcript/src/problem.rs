@@ -3,7 +3,7 @@
 use crate::base::{all_below, some_below, within};
 
 pub const MAX_N: i128 = 8;
-pub const MAX_M: i128 = 16;
+pub const MAX_M: u32 = 24;
 pub const MAX_COEFFICIENT: u128 = 1_000;
 pub const MAX_LIMIT: u128 = 30_000;
 
@@ -93,8 +93,8 @@ pub fn too_few(ws: &[i128]) -> bool {
     ws.len() < 2
 }
 
-pub fn bad_size(ws: &[i128]) -> bool {
-    outside(word(ws, 0), 1, MAX_N) || outside(word(ws, 1), 0, MAX_M)
+pub fn bad_size(rows: u32, ws: &[i128]) -> bool {
+    outside(word(ws, 0), 1, MAX_N) || outside(word(ws, 1), 0, rows.into())
 }
 
 pub fn bad_length(ws: &[i128]) -> bool {
@@ -137,10 +137,10 @@ pub fn first(tests: &[Test]) -> u32 {
 }
 
 /// Refusals 1 to 6, then 10: the problem alone.
-pub fn problem_tests(ws: &[i128]) -> Vec<Test<'_>> {
+pub fn problem_tests(rows: u32, ws: &[i128]) -> Vec<Test<'_>> {
     vec![
         (Box::new(|| too_few(ws)), 1),
-        (Box::new(|| bad_size(ws)), 2),
+        (Box::new(move || bad_size(rows, ws)), 2),
         (Box::new(|| bad_length(ws)), 3),
         (Box::new(|| bad_coefficient(ws)), 4),
         (Box::new(|| bad_kind(ws)), 5),
@@ -149,10 +149,21 @@ pub fn problem_tests(ws: &[i128]) -> Vec<Test<'_>> {
     ]
 }
 
-pub fn refusal(ws: &[i128], out: usize) -> u32 {
-    let mut tests = problem_tests(ws);
+/// Within so many rows.
+pub fn refusal_within(rows: u32, ws: &[i128], out: usize) -> u32 {
+    let mut tests = problem_tests(rows, ws);
     tests.push((Box::new(|| too_short(ws, out)), 7));
     first(&tests)
+}
+
+/// Within the most.
+pub fn refusal(ws: &[i128], out: usize) -> u32 {
+    refusal_within(MAX_M, ws, out)
+}
+
+/// As many rows as are asked for, and no more than the most.
+pub fn rows_within(rows: u32) -> u32 {
+    rows.min(MAX_M)
 }
 
 /// What the words mean. Limits are values of X.

@@ -69,7 +69,7 @@ fn usage_and_files() {
 
 #[test]
 fn bytes_are_refused_as_the_program_does() {
-    for (length, number) in [(0, 1), (7, 1), (9, 3), (812, 3)] {
+    for (length, number) in [(0, 1), (7, 1), (9, 3), (812, 2), (1_160, 2), (1_164, 3)] {
         let path = PathBuf::from(env!("CARGO_TARGET_TMPDIR")).join("some.words");
         fs::write(&path, vec![0; length]).unwrap();
         let (output, _, status) = ran(&["solve", path.to_str().unwrap()], b"");

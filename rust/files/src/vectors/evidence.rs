@@ -192,7 +192,7 @@ fn refused() -> Vec<Vector> {
         check("no words", &[], &answer),
         check("one word", &[1], &[]),
         check("n 0", &[0, 0], &answer),
-        check("m 17", &[1, 17], &answer),
+        check("m 25", &[1, 25], &answer),
         check("another length", &[1, 1], &answer),
         check("coefficient 1,001", &steep, &answer),
         check("kind 4", &limits(4, 0, 0), &answer),

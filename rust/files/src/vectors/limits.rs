@@ -31,7 +31,7 @@ fn solve(name: impl Into<String>, words: Vec<i32>, room: usize) -> Vector {
 
 /// A call with as much room as any answer needs.
 fn roomy(name: impl Into<String>, words: Vec<i32>) -> Vector {
-    solve(name, words, 52)
+    solve(name, words, 68)
 }
 
 /// The worked cases and the published problems: room exactly enough, one word
@@ -66,16 +66,18 @@ fn sizes() -> Vec<Vector> {
         roomy("one word", vec![1]),
         roomy("two words, the limits missing", vec![1, 0]),
         roomy("n 8, m 16", free(8, 16).words()),
-        solve("n 8, m 16, one word too little", free(8, 16).words(), 50),
+        roomy("n 8, m 17", free(8, 17).words()),
+        roomy("n 8, m 24", free(8, 24).words()),
+        solve("n 8, m 24, one word too little", free(8, 24).words(), 66),
         solve("no room at all", free(1, 0).words(), 0),
     ];
-    for (n, m) in [(0, 0), (9, 0), (-1, 0), (1, 17), (1, -1), (i32::MIN, 0), (8, i32::MAX)] {
+    for (n, m) in [(0, 0), (9, 0), (-1, 0), (1, 25), (1, -1), (i32::MIN, 0), (8, i32::MAX)] {
         let mut words = free(1, 0).words();
         words[..2].copy_from_slice(&[n, m]);
         vectors.push(roomy(format!("n {n}, m {m}"), words));
     }
     vectors.push(roomy("n 9 with its own length", free(9, 1).words()));
-    vectors.push(roomy("m 17 with its own length", free(1, 17).words()));
+    vectors.push(roomy("m 25 with its own length", free(1, 25).words()));
     let whole = free(2, 3).words();
     vectors.push(roomy("one word short", whole[..whole.len() - 1].to_vec()));
     vectors.push(roomy("one word long", [&whole[..], &[0]].concat()));
@@ -165,7 +167,7 @@ fn blank_rows() -> Vec<Vector> {
         draft
     };
     let mut vectors = Vec::new();
-    for (n, m, row) in [(1, 1, 0), (3, 4, 0), (3, 4, 2), (3, 4, 3), (8, 16, 15)] {
+    for (n, m, row) in [(1, 1, 0), (3, 4, 0), (3, 4, 2), (3, 4, 3), (8, 24, 23)] {
         let draft = with_blank(n, m, row);
         vectors.push(roomy(format!("row {row} of {m} is blank, {n} columns"), draft.words()));
         for column in 0..n {
@@ -187,7 +189,7 @@ fn blank_rows() -> Vec<Vector> {
     };
     vectors.extend([
         roomy("a blank row and one word of 2", blank[..1].to_vec()),
-        roomy("a blank row and m 17", with(1, 17)),
+        roomy("a blank row and m 25", with(1, 25)),
         roomy("a blank row and one word short", blank[..blank.len() - 1].to_vec()),
         roomy("a blank row and coefficient 1,001 after it", with(7, 1_001)),
         roomy("a blank row and kind 4", with(20, 4)),
@@ -222,10 +224,10 @@ fn crossed() -> Vec<Vector> {
 /// The first random problems that end so: out of range at the second pivot, at
 /// a later one, and after many pivots that stay just in range.
 fn ranges() -> Vec<Vector> {
-    let found = |name: &str, wanted: &dyn Fn(&[i64; 52]) -> bool| {
+    let found = |name: &str, wanted: &dyn Fn(&[i64; 68]) -> bool| {
         let problem = (0..).map(|number| Family::Range.words(&mut Random::of_problem(1, number)));
         let mut answered = problem.map(|words| {
-            let mut out = [0; 52];
+            let mut out = [0; 68];
             reference::solve(&words, &mut out);
             (words, out)
         });
@@ -249,7 +251,7 @@ fn divided() -> Vec<Vector> {
     let problem = |number| Family::Edge.words(&mut Random::of_problem(1, number));
     let found = |way: Way, verdict: i64| {
         let wanted = |words: &Vec<i32>| {
-            let mut out = [0; 52];
+            let mut out = [0; 68];
             reference::solve(words, &mut out);
             let mut pivots = reference::pivots(words).into_iter();
             out[0] == verdict

@@ -40,7 +40,7 @@ fn session(
     more: isize,
 ) -> Vector {
     let needed = match words[..] {
-        [n @ 1..=8, m @ 0..=16, ..] => 3 + 2 * (n + m) as usize,
+        [n @ 1..=8, m @ 0..=24, ..] => 3 + 2 * (n + m) as usize,
         _ => 5,
     };
     let out = vec![KEPT; needed.saturating_add_signed(more)];

@@ -15,7 +15,7 @@ pub fn all() -> Vec<Vector> {
     let blank = worked::case_i();
     vectors.push(slices(blank.name, blank.words, 7));
     vectors.push(slices("no words", Vec::new(), 7));
-    vectors.push(slices("nine variables", vec![9, 0], 51));
+    vectors.push(slices("nine variables", vec![9, 0], 67));
     vectors
 }
 

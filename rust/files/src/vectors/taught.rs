@@ -12,7 +12,7 @@ pub fn all() -> Vec<Vector> {
             name: name.to_string(),
             entry: Entry::Solve,
             words: draft.words(),
-            out: vec![KEPT; 52],
+            out: vec![KEPT; 68],
         })
         .collect()
 }

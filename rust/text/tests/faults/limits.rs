@@ -182,13 +182,13 @@ fn of_too_many() {
     let eight = format!("names {}\n{}", names[..8].join(" "), &text[..text.len() - 8]);
     assert!(limits::read(&eight).is_ok());
 
-    let rows: Vec<String> = (2..=18).map(|number| format!("{number} x >= 1\n")).collect();
-    let fault = "17:1: one row too many: there are 16 at most";
+    let rows: Vec<String> = (2..=26).map(|number| format!("{number} x >= 1\n")).collect();
+    let fault = "25:1: one row too many: there are 24 at most";
     assert_eq!(below("names x", &rows.concat()), fault);
-    let sixteen = format!("names x\n{}", rows[..16].concat());
-    assert_eq!(limits::read(&sixteen).unwrap().rows.len(), 16);
-    let shared = sixteen + "-2 x >= -5\nx <= 4\n";
-    assert_eq!(limits::read(&shared).unwrap().rows.len(), 16);
+    let most = format!("names x\n{}", rows[..24].concat());
+    assert_eq!(limits::read(&most).unwrap().rows.len(), 24);
+    let shared = most + "-2 x >= -5\nx <= 4\n";
+    assert_eq!(limits::read(&shared).unwrap().rows.len(), 24);
 
     let many: Vec<String> = (0..65).map(|number| format!("t{number}")).collect();
     let fault = "1:253: t64 is one too many: there are 64 names at most";
