@@ -41,18 +41,24 @@ pub fn all() -> Vec<Shown> {
             Shown { name: name.to_lowercase(), words, names }
         });
     let ovens = [
-        ("oven-ramp", "zone", ramp(180)),
-        ("oven-steep", "zone", ramp(260)),
-        ("oven-shares", "heater", shares()),
-        ("oven-eight", "zone", eight()),
-        ("oven-tiny-shares", "heater", tiny_shares()),
+        ("oven-ramp", numbered("zone", 4), ramp(180)),
+        ("oven-steep", numbered("zone", 4), ramp(260)),
+        ("oven-shares", numbered("heater", 3), shares()),
+        ("oven-eight", numbered("zone", 8), eight()),
+        ("oven-three", [numbered("soak", 3), numbered("peak", 3)].concat(), three()),
+        ("oven-tiny-shares", numbered("heater", 4), tiny_shares()),
     ];
-    let ovens = ovens.into_iter().map(|(name, each, draft)| Shown {
+    let ovens = ovens.into_iter().map(|(name, names, draft)| Shown {
         name: name.to_string(),
         words: draft.words(),
-        names: (0..draft.n).map(|number| format!("{each}{number}")).collect(),
+        names,
     });
     cases.chain(ovens).collect()
+}
+
+/// So many names, with a number each.
+fn numbered(each: &str, count: usize) -> Vec<String> {
+    (0..count).map(|number| format!("{each}{number}")).collect()
 }
 
 /// The step from each zone to the next.
@@ -106,6 +112,39 @@ fn bend(zone: usize, other: usize) -> i32 {
         Some(1) => -2,
         _ => 0,
     }
+}
+
+/// Three zones, followed from the soak of a ramp to its peak: 20 rows. Zones are
+/// not far apart and rise nearly alike, and each heater gives what its zone
+/// loses, to the zones beside it too.
+fn three() -> Draft {
+    let mut limits = [[between(140, 180); 3], [between(230, 250); 3]].concat();
+    let mut rows = Vec::new();
+    let mut row = |coefficients: [i32; 6], limit: [i32; 3]| {
+        rows.push(coefficients.to_vec());
+        limits.push(limit);
+    };
+    row([-1, 1, 0, 0, 0, 0], between(0, 8));
+    row([0, -1, 1, 0, 0, 0], between(0, 8));
+    row([-1, 0, 1, 0, 0, 0], at_least(9));
+    row([0, 0, 0, -1, 1, 0], between(-3, 3));
+    row([0, 0, 0, 0, -1, 1], between(-3, 3));
+    row([0, 0, 0, -1, 0, 1], between(-4, 4));
+    row([-1, 0, 0, 1, 0, 0], at_most(80));
+    row([0, -1, 0, 0, 1, 0], at_most(80));
+    row([0, 0, -1, 0, 0, 1], at_most(80));
+    row([1, -1, 0, -1, 1, 0], between(-6, 6));
+    row([0, 1, -1, 0, -1, 1], between(-6, 6));
+    row([1, 0, -1, -1, 0, 1], between(-9, 9));
+    row([5, -2, 0, 0, 0, 0], at_most(500));
+    row([-2, 7, -2, 0, 0, 0], at_most(520));
+    row([0, -2, 5, 0, 0, 0], at_most(540));
+    row([0, 0, 0, 5, -2, 0], between(700, 720));
+    row([0, 0, 0, -2, 7, -2], between(705, 725));
+    row([0, 0, 0, 0, -2, 5], between(715, 735));
+    row([3, 3, 3, 0, 0, 0], at_most(1_420));
+    row([0, 0, 0, 3, 3, 3], at_most(2_130));
+    Draft { n: 6, rows, limits }
 }
 
 /// Each heater gives the next zone a thousandth of what it gives its own. The
