@@ -71,7 +71,10 @@ enum {
     SCATTERFLOCK_MOST_TIMES = 130,  /* words of an answer to time rows */
     SCATTERFLOCK_SLICE_WORDS = 187, /* of 64 bits, beside the count, in the state of a run */
     SCATTERFLOCK_SESSION_WORDS = 187, /* of 64 bits, in a session */
-    SCATTERFLOCK_MOST_BODIES = 64,  /* of a day's file */
+    SCATTERFLOCK_MOST_BODIES = 64,  /* of a day's file, in any edition */
+    SCATTERFLOCK_FIRST_BODIES = 64, /* .. of edition 1 */
+    SCATTERFLOCK_FIRST_ROWS = 16,   /* of a body there */
+    SCATTERFLOCK_SECOND_BODIES = 48, /* of edition 2, whose bodies may have MOST_ROWS */
     SCATTERFLOCK_MOST_FILE_WORDS = 16384, /* of a day's file, four bytes each */
     SCATTERFLOCK_MOST_DAY_TEXT = 125120 /* bytes that are printed for a day's file */
 };
@@ -357,12 +360,13 @@ struct scatterflock_checked scatterflock_session_check(struct scatterflock_sessi
 
 /*
  * A day's file is bytes: words of 32 bits, signed, the lowest byte first. Word
- * 0 is its edition, which is 1, word 1 is k, how many bodies it has, from 0 to
- * 64. Then come k pairs of words, for each body where it starts and how many
- * words it has, and then the bodies in that order: the first at word 2 + 2 k,
- * each other one right behind the one before it, and nothing behind the last.
- * A body is the words of a limit problem, or any others: reader and writer do
- * not judge it.
+ * 0 is its edition, 1 or 2, and word 1 is k, how many bodies it has: from 0 to
+ * 64 in edition 1, from 0 to 48 in edition 2. Then come k pairs of words, for
+ * each body where it starts and how many words it has, and then the bodies in
+ * that order: the first at word 2 + 2 k, each other one right behind the one
+ * before it, and nothing behind the last. A body is the words of a limit
+ * problem, or any others: reader and writer do not judge it. Where it is printed
+ * it may have 16 rows in edition 1, and 24 in edition 2.
  */
 
 /* What scatterflock_bundle_read tells of a file. */
@@ -377,11 +381,12 @@ struct scatterflock_contents {
  *
  * In refused is 0, or the first of these that applies, each asked of the whole
  * file before the next: 30 file_count is no multiple of 4, is below 8 or is
- * above 65,536; 31 word 0 is not 1; 32 word 1, k, is not from 0 to 64; 33 there
- * are fewer than 2 + 2 k words; 34 some length is negative, or some body does
- * not start where the one before it ends, the first at 2 + 2 k, in whole numbers
- * that do not wrap; 35 the last body does not end where the file does; 36
- * length_room is below k, or word_room is below the words of all bodies.
+ * above 65,536; 31 word 0 is neither 1 nor 2; 32 word 1, k, is not from 0 to the
+ * most bodies of that edition; 33 there are fewer than 2 + 2 k words; 34 some
+ * length is negative, or some body does not start where the one before it ends,
+ * the first at 2 + 2 k, in whole numbers that do not wrap; 35 the last body does
+ * not end where the file does; 36 length_room is below k, or word_room is below
+ * the words of all bodies.
  *
  * Where it is 0, the first k words of lengths are the lengths of the bodies, the
  * first words of words are those of all bodies, one body behind the other, and
@@ -394,29 +399,31 @@ struct scatterflock_contents scatterflock_bundle_read(const uint8_t *file, size_
                                                       int32_t *words, size_t word_room);
 
 /*
- * Writes a day's file of edition 1, of so many bodies: lengths has their
+ * Writes a day's file of an edition and of so many bodies: lengths has their
  * lengths, and words the words of all of them, one body behind the other.
  *
  * Returns 0 when it is written: 4 (2 + 2 bodies + word_count) bytes at the
  * start of file. Bytes past those keep what they had. Else it returns the first
- * of these that applies, and file keeps every byte: 32 bodies is above 64; 34
- * some length is negative; 35 the lengths do not add up to word_count; 30 the
- * file would have more than 16,384 words; 36 file_room, which counts bytes, is
- * too short for it.
+ * of these that applies, and file keeps every byte: 31 edition is neither 1 nor
+ * 2; 32 bodies is above the most of that edition; 34 some length is negative; 35
+ * the lengths do not add up to word_count; 30 the file would have more than
+ * 16,384 words; 36 file_room, which counts bytes, is too short for it.
  *
- * scatterflock_bundle_read gives the same lengths and words of what was
+ * scatterflock_bundle_read gives the same edition, lengths and words of what was
  * written.
  */
-uint32_t scatterflock_bundle_write(const int32_t *lengths, size_t bodies,
+uint32_t scatterflock_bundle_write(uint32_t edition,
+                                   const int32_t *lengths, size_t bodies,
                                    const int32_t *words, size_t word_count,
                                    uint8_t *file, size_t file_room);
 
 /*
  * Prints a day's file of file_count bytes: for each body, in their order, what
  * the program ramp prints for it, and nothing between them. A body is judged as
- * scatterflock_solve judges words, and one that is refused has its line as the
- * others have theirs. For a file that scatterflock_bundle_read would refuse with
- * 30 to 35 it is one line, "refused 30" and so on.
+ * scatterflock_solve_within judges words, with 16 rows in edition 1 and with 24
+ * in edition 2, and one that is refused has its line as the others have theirs.
+ * For a file that scatterflock_bundle_read would refuse with 30 to 35 it is one
+ * line, "refused 30" and so on.
  *
  * Returns how many bytes the text has, which is at most 125,120. Where text_room
  * is at least that, the text stands at the start of text, and bytes past it keep

@@ -3,7 +3,7 @@
  *
  * A request of one of them is seven numbers of 64 bits: the function (8
  * bundle_read, 9 bundle_write, 10 day), how many bytes each of three parts has,
- * and three zeros; then those parts. They are what the function takes, in its
+ * for bundle_write the edition, and zeros; then those parts. They are what the function takes, in its
  * order: file, lengths and words; lengths, words and file; file, text and
  * nothing. The reply is four numbers of 64 bits, what the function returned
  * (of bundle_read: refused, edition and bodies), and then all parts again.
@@ -52,7 +52,7 @@ static bool are_guards_whole(size_t part, size_t count)
     return whole == GUARD_BYTES;
 }
 
-static void call(uint64_t function, const size_t *counts, uint64_t *reply)
+static void call(uint64_t function, uint32_t edition, const size_t *counts, uint64_t *reply)
 {
     struct scatterflock_contents told;
 
@@ -64,7 +64,8 @@ static void call(uint64_t function, const size_t *counts, uint64_t *reply)
         reply[2] = told.bodies;
         break;
     case 9:
-        reply[0] = scatterflock_bundle_write(words(0), counts[0] / 4, words(1), counts[1] / 4, bytes(2), counts[2]);
+        reply[0] = scatterflock_bundle_write(edition, words(0), counts[0] / 4, words(1), counts[1] / 4,
+                                             bytes(2), counts[2]);
         break;
     default:
         reply[0] = scatterflock_day(bytes(0), counts[0], bytes(1), counts[1]);
@@ -84,7 +85,7 @@ void serve_bundle(const uint64_t *request)
         take(bytes(part), counts[part]);
         memcpy(before[part], bytes(part), counts[part]);
     }
-    call(request[0], counts, reply);
+    call(request[0], (uint32_t)request[4], counts, reply);
     for (size_t part = 0; part < PARTS; part++) {
         if (!are_guards_whole(part, counts[part]))
             stop("bytes beside a part have changed");

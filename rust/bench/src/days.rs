@@ -1,17 +1,18 @@
-//! Days' files of 64 full-size problems: `scatterflock_day`, beside the 64 solves
-//! with their answers printed by plain Rust, byte for byte the same.
+//! Days' files of as many problems as they hold, 64 with 16 rows in edition 1 and
+//! 48 with 24 in edition 2: `scatterflock_day`, beside the solves with their
+//! answers printed by plain Rust, byte for byte the same.
 //!
 //! The archive shows no function that prints one answer, so the printing that
 //! stands beside it is not its own: it looks at nothing twice, and is a little
 //! quicker.
 
 use crate::sets::ANSWER;
-use problems::bundles::file;
+use problems::bundles::{file, MOST_BODIES};
 use problems::limits::Family;
 use problems::random::Random;
 use problems::strict::with_marks;
 use scatterflock::raw;
-use scatterflock::sizes::{MOST_BODIES, MOST_DAY_TEXT};
+use scatterflock::sizes::MOST_DAY_TEXT;
 use std::hint::black_box;
 use std::time::Instant;
 
@@ -29,29 +30,40 @@ struct Day {
     file: Vec<u8>,
 }
 
-/// Full-size problems, without strict limits and with.
-pub fn sets(seed: u64) -> [DaySet; 2] {
+/// Problems of 16 rows, without strict limits and with, and of 24.
+pub fn sets(seed: u64) -> [DaySet; 3] {
     let full = |random: &mut Random| Family::Full.words(random);
     let strict = |random: &mut Random| {
         let words = Family::Full.words(random);
         with_marks(random, &words)
     };
-    [DaySet::new("full", seed, full), DaySet::new("full, strict", seed, strict)]
+    let largest = |random: &mut Random| Family::Largest.words(random);
+    [
+        DaySet::new("full", seed, 1, full),
+        DaySet::new("full, strict", seed, 1, strict),
+        DaySet::new("largest", seed, 2, largest),
+    ]
 }
 
 pub fn heading() -> String {
     format!(
         "{:15}{:>13}{:>14}{:>14}{:>8}{:>12}",
-        "ns a day", "64 solves", "and printed", "as a day", "ratio", "bytes"
+        "ns a day", "solves alone", "and printed", "as a day", "ratio", "bytes"
     )
 }
 
 impl DaySet {
-    fn new(name: &'static str, seed: u64, words: fn(&mut Random) -> Vec<i32>) -> DaySet {
+    fn new(
+        name: &'static str,
+        seed: u64,
+        edition: u32,
+        words: fn(&mut Random) -> Vec<i32>,
+    ) -> DaySet {
+        let count = MOST_BODIES[edition as usize - 1];
         let day = |day| {
             let mut random = Random::of_problem(seed, day);
-            let bodies: Vec<Vec<i32>> = (0..MOST_BODIES).map(|_| words(&mut random)).collect();
-            let file = file(&bodies);
+            let bodies: Vec<Vec<i32>> = (0..count).map(|_| words(&mut random)).collect();
+            let file = file(edition, &bodies);
             Day { bodies, file }
         };
         DaySet { name, days: (0..DAYS).map(day).collect() }

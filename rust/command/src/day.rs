@@ -2,8 +2,9 @@
 
 use crate::input::{self, Content, Input};
 use crate::options::Options;
+use crate::problem;
 use crate::{json, solve, Ended, Failure, CAN, CANNOT, RANGE, REFUSED};
-use scatterflock::{Bundle, BundleRefusal};
+use scatterflock::{Bundle, BundleRefusal, Problem, Refusal};
 use std::ffi::OsStr;
 use std::io::Read;
 
@@ -13,7 +14,7 @@ pub fn run(file: &OsStr, options: &Options, stdin: &mut dyn Read) -> Result<Ende
         return Ok(bare(&bytes));
     }
     let bundle = read(&bytes)?;
-    let told = bundle.bodies().map(|words| told(&name, words, options));
+    let told = bundle.bodies().map(|words| told(&name, &bundle, words, options));
     let told = told.collect::<Result<Vec<Ended>, Failure>>()?;
     let day = Day { file: name, bundle, told };
     Ok(if options.json { day.as_json() } else { day.as_text() })
@@ -47,10 +48,14 @@ fn bare(bytes: &[u8]) -> Ended {
 }
 
 /// The answer to a body, or its refusal.
-fn told(name: &str, words: &[i32], options: &Options) -> Result<Ended, Failure> {
+fn told(name: &str, bundle: &Bundle, words: &[i32], options: &Options) -> Result<Ended, Failure> {
     let (file, digest) = (name.to_string(), String::new());
     let input = Input { file, digest, content: Content::Words(words.to_vec()) };
-    match solve::answer(input, options) {
+    let answered = match Problem::from_words_within(bundle.most_rows(), words) {
+        Err(Refusal::Sizes) => Err(problem::refused(Refusal::Sizes, vec![])),
+        _ => solve::answer(input, options),
+    };
+    match answered {
         Err(refused @ Failure::Refused { .. }) => Ok(refused.told(options.json)),
         answered => answered,
     }
@@ -83,6 +88,10 @@ impl Day {
         let bodies = match self.told.len() {
             1 => "1 body".to_string(),
             count => format!("{count} bodies"),
+        };
+        let bodies = match self.bundle.edition() {
+            1 => bodies,
+            edition => format!("{bodies} in edition {edition}"),
         };
         let mut said = format!(
             "{bodies}: {can} can, {cannot} cannot, {range} out of range, {refused} refused\n"

@@ -112,7 +112,7 @@ pub fn run_writing(words: &[OsString], stdin: &mut dyn Read, out: &mut dyn Write
         Action::Words(file) => words::run(file, &options, stdin),
         Action::Edit(file) => edit::run(file, &mut BufReader::new(stdin), out),
         Action::Day(file) => day::run(file, &options, stdin),
-        Action::Pack(file, files) => pack::pack(file, files, stdin),
+        Action::Pack(file, files) => pack::pack(file, files, &options, stdin),
         Action::Unpack(file, folder) => pack::unpack(file, folder, &options, stdin),
     };
     done.unwrap_or_else(|failure| failure.told(options.json))

@@ -9,7 +9,7 @@ usage: scatterflock [--json | --page | --words] solve [--each] FILE
        scatterflock words [--times] [--bytes] FILE
        scatterflock edit FILE
        scatterflock [--json | --bare] day DAY
-       scatterflock pack DAY FILE..
+       scatterflock pack [--edition=N] DAY FILE..
        scatterflock unpack [--bytes] DAY FOLDER
 
   solve   can all limits of FILE be met at once? With values, or with the limits that clash
@@ -28,6 +28,7 @@ usage: scatterflock [--json | --page | --words] solve [--each] FILE
   --times   the words of FILE are time rows, not limits
   --bytes   words as bytes, four each, as a file .words has them
   --bare    the proved text of a day as it is
+  --edition=1, --edition=2   the edition of DAY; without it 2 where some body has more than 16 rows
 
 A FILE is a text that declares its names and has one limit a line,
 
@@ -72,10 +73,12 @@ pub struct Options {
     pub times: bool,
     pub bytes: bool,
     pub bare: bool,
+    /// Of the file to pack, where it is told.
+    pub edition: Option<u32>,
 }
 
 const COMMANDS: [&str; 8] = ["solve", "check", "times", "words", "edit", "day", "pack", "unpack"];
-const OPTIONS: [&str; 9] = [
+const OPTIONS: [&str; 10] = [
     "--json",
     "--page",
     "--words",
@@ -83,6 +86,7 @@ const OPTIONS: [&str; 9] = [
     "--times",
     "--bytes",
     "--bare",
+    "--edition",
     "--help",
     "--version",
 ];
@@ -97,6 +101,7 @@ impl Options {
     pub fn read(words: &[OsString]) -> Result<Options, String> {
         let [mut json, mut page, mut words_too, mut each] = [false; 4];
         let [mut times, mut bytes, mut bare] = [false; 3];
+        let mut edition = None;
         let mut is_over = false;
         let mut files = Vec::new();
         let mut asked = None;
@@ -112,6 +117,9 @@ impl Options {
                 Some("--times") if !is_over => times = true,
                 Some("--bytes") if !is_over => bytes = true,
                 Some("--bare") if !is_over => bare = true,
+                Some(option) if !is_over && option.starts_with("--edition") => {
+                    edition = Some(edition_of(option)?);
+                }
                 Some(option) if !is_over && option.starts_with('-') && option != "-" => {
                     return Err(format!("there is no option {option}{}", near(option, &OPTIONS)));
                 }
@@ -119,7 +127,8 @@ impl Options {
             }
         }
         if let Some(action) = asked {
-            return Ok(Options { action, json, page, words: words_too, each, times, bytes, bare });
+            let words = words_too;
+            return Ok(Options { action, json, page, words, each, times, bytes, bare, edition });
         }
         if files.is_empty() {
             return Err("there is no command".to_string());
@@ -191,6 +200,15 @@ impl Options {
         if matches!(&action, Action::Pack(_, files) if files.iter().filter(is_stdin).count() > 1) {
             return Err("one of the files can be standard input, not more".to_string());
         }
-        Ok(Options { action, json, page, words: words_too, each, times, bytes, bare })
+        if edition.is_some() && !matches!(action, Action::Pack(..)) {
+            return Err("--edition is an option of pack".to_string());
+        }
+        Ok(Options { action, json, page, words: words_too, each, times, bytes, bare, edition })
     }
+}
+
+/// The number behind `--edition=`.
+fn edition_of(option: &str) -> Result<u32, String> {
+    let number = option.strip_prefix("--edition=").and_then(|number| number.parse().ok());
+    number.ok_or_else(|| format!("{option}: the edition is --edition=1 or --edition=2"))
 }

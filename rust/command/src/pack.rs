@@ -6,6 +6,7 @@ use crate::options::Options;
 use crate::problem::problem;
 use crate::table::table;
 use crate::{Ended, Failure, CAN};
+use scatterflock::sizes::FIRST_ROWS;
 use scatterflock::{Bundle, Problem, Refusal};
 use std::ffi::{OsStr, OsString};
 use std::fs;
@@ -21,13 +22,22 @@ struct Packed {
     parts: i32,
 }
 
-pub fn pack(out: &OsStr, files: &[OsString], stdin: &mut dyn Read) -> Result<Ended, Failure> {
+pub fn pack(
+    out: &OsStr,
+    files: &[OsString],
+    options: &Options,
+    stdin: &mut dyn Read,
+) -> Result<Ended, Failure> {
     let mut packed = Vec::new();
     for file in files {
         packed.push(read(file, stdin)?);
     }
     let bodies: Vec<&[i32]> = packed.iter().map(|packed| &packed.words[..]).collect();
-    let bundle = Bundle::of(&bodies).map_err(|refusal| day::refused(refusal, vec![]))?;
+    let bundle = match options.edition {
+        Some(edition) => Bundle::of_edition(edition, &bodies),
+        None => Bundle::of(&bodies),
+    };
+    let bundle = bundle.map_err(|refusal| day::refused(refusal, vec![]))?;
     let bytes = bundle.write();
     if out == "-" {
         return Ok(Ended { output: bytes, errors: String::new(), status: CAN });
@@ -39,7 +49,8 @@ pub fn pack(out: &OsStr, files: &[OsString], stdin: &mut dyn Read) -> Result<End
         if packed.parts != 1 {
             notes.push(format!("its values count parts of 1/{}", packed.parts));
         }
-        notes.extend(refusal_text(&packed.words));
+        notes.extend(rows_text(&bundle, &packed.words));
+        notes.extend(refusal_text(&bundle, &packed.words));
         let body = format!("body {number}");
         vec![body, count_text(&packed.words), packed.file.clone(), notes.join("; ")]
     });
@@ -66,9 +77,16 @@ fn read(file: &OsStr, stdin: &mut dyn Read) -> Result<Packed, Failure> {
     Ok(Packed { file, words, parts: 1 })
 }
 
-/// What is told of words that are refused.
-fn refusal_text(words: &[i32]) -> Option<String> {
-    let refusal = Problem::from_words(words).err()?;
+/// What is told of words that edition 1 would refuse for their rows.
+fn rows_text(bundle: &Bundle, words: &[i32]) -> Option<String> {
+    let first = Problem::from_words_within(FIRST_ROWS, words).err();
+    let is_second = bundle.edition() == 2 && first != Problem::from_words(words).err();
+    is_second.then(|| format!("{} rows, which edition 2 allows", words[1]))
+}
+
+/// What is told of words that are refused in this file.
+fn refusal_text(bundle: &Bundle, words: &[i32]) -> Option<String> {
+    let refusal = Problem::from_words_within(bundle.most_rows(), words).err()?;
     Some(format!("refused {}: {refusal}", refusal.number()))
 }
 
@@ -106,7 +124,7 @@ pub fn unpack(
     let folder = Path::new(folder);
     let bodies = bundle.bodies().enumerate();
     let files: Vec<Unpacked> =
-        bodies.map(|(number, words)| Unpacked::new(folder, number, words, options.bytes)).collect();
+        bodies.map(|body| Unpacked::new(folder, &bundle, body, options.bytes)).collect();
     if let Some(there) = files.iter().find(|file| file.path.exists()) {
         let what = "it is there already, so nothing is unpacked";
         return Err(unwritten_because(&there.path, what));
@@ -130,15 +148,21 @@ struct Unpacked {
 impl Unpacked {
     /// A text, where the words have one and bytes are not asked for. Words with a
     /// row of zeros have one, which says the same.
-    fn new(folder: &Path, number: usize, words: &[i32], is_bytes: bool) -> Unpacked {
-        let has_text = matches!(Problem::from_words(words), Ok(_) | Err(Refusal::BlankRow));
+    fn new(
+        folder: &Path,
+        bundle: &Bundle,
+        (number, words): (usize, &[i32]),
+        is_bytes: bool,
+    ) -> Unpacked {
+        let problem = Problem::from_words_within(bundle.most_rows(), words);
+        let has_text = matches!(problem, Ok(_) | Err(Refusal::BlankRow));
         let text = Limits::from_words(words).filter(|_| has_text && !is_bytes);
         let (ending, content) = match text {
             Some(problem) => ("txt", problem.text().into_bytes()),
             None => ("words", words.iter().flat_map(|word| word.to_le_bytes()).collect()),
         };
         let path = folder.join(format!("body-{number:02}.{ending}"));
-        let notes = refusal_text(words).unwrap_or_default();
+        let notes = refusal_text(bundle, words).unwrap_or_default();
         let line = vec![path.display().to_string(), count_text(words), notes];
         Unpacked { path, content, line }
     }

@@ -39,7 +39,7 @@ pub fn problem(input: Input) -> Result<(String, Limits), Failure> {
 }
 
 /// The refusal, with lines that tell where it comes from.
-fn refused(refusal: Refusal, notes: Vec<String>) -> Failure {
+pub fn refused(refusal: Refusal, notes: Vec<String>) -> Failure {
     Failure::Refused { number: refusal.number(), what: refusal.to_string(), notes }
 }
 

@@ -49,7 +49,7 @@ fn files_in(folder: &Path) -> Vec<(String, Vec<u8>)> {
 
 #[test]
 fn a_day_in_the_readers_words() {
-    let (said, errors, status) = ran(&["day", "-"], &file(&ten_bodies()));
+    let (said, errors, status) = ran(&["day", "-"], &file(1, &ten_bodies()));
     assert_eq!((errors.as_str(), status), ("", 3));
     let mut lines = said.lines();
     let counts = "10 bodies: 2 can, 3 cannot, 1 out of range, 4 refused";
@@ -80,7 +80,7 @@ fn a_day_in_the_readers_words() {
 
 #[test]
 fn a_day_in_proved_text() {
-    let day = file(&ten_bodies());
+    let day = file(1, &ten_bodies());
     let proved = fs::read_to_string(files::top().join("crates/day/stdout")).unwrap();
     assert_eq!(ran(&["--bare", "day", "-"], &day), (proved, String::new(), 3));
     assert_eq!(ran(&["--bare", "day", "-"], &day[..7]).0, "refused 30\n");
@@ -97,20 +97,20 @@ fn statuses_are_the_greatest_of_the_bodies() {
         (vec![cannot.clone(), range.clone(), can.clone()], 2),
         (vec![refused, range, cannot, can], 3),
     ] {
-        let day = file(&bodies);
+        let day = file(1, &bodies);
         for words in [&["day", "-"][..], &["--json", "day", "-"], &["--bare", "day", "-"]] {
             assert_eq!(ran(words, &day).2, status, "{words:?} {bodies:?}");
         }
     }
     assert_eq!(
-        ran(&["day", "-"], &file(&[])).0,
+        ran(&["day", "-"], &file(1, &[])).0,
         "0 bodies: 0 can, 0 cannot, 0 out of range, 0 refused\n"
     );
 }
 
 #[test]
 fn a_day_as_json() {
-    let day = file(&ten_bodies());
+    let day = file(1, &ten_bodies());
     let (said, _, status) = ran(&["--json", "day", "-"], &day);
     assert_eq!(status, 3);
     let told = json::read(&said).unwrap();
@@ -128,7 +128,9 @@ fn a_day_as_json() {
         let alone = json::read(&alone).unwrap();
         assert_eq!(body.at("verdict"), alone.at("verdict"), "{place}");
     }
-    let (said, _, status) = ran(&["--json", "day", "-"], &bytes(&[2, 0]));
+    let (said, _, _) = ran(&["--json", "day", "-"], &file(2, &ten_bodies()));
+    assert_eq!(json::read(&said).unwrap().at("edition").number(), 2);
+    let (said, _, status) = ran(&["--json", "day", "-"], &bytes(&[3, 0]));
     let refused = json::read(&said).unwrap();
     assert_eq!((refused.at("number").number(), status), (31, 3));
 }
@@ -139,9 +141,10 @@ fn refused_files_are_told_in_words() {
         (&[0; 7][..], "refused 30\n\n# a day's file has 2 to 16,384 words of four bytes each\n"),
         (
             &bytes(&[3, 0]),
-            "refused 31\n\n# the file does not begin with an edition that there is: 1\n",
+            "refused 31\n\n# there is no such edition: a day's file has edition 1 or 2\n",
         ),
-        (&bytes(&[1, 65]), "refused 32\n\n# there must be 0 to 64 bodies\n"),
+        (&bytes(&[1, 65]), "refused 32\n\n# there must be 0 to 64 bodies in edition 1, 0 to 48 in"),
+        (&bytes(&[2, 49]), "refused 32\n"),
         (&bytes(&[1, 1, 4, -1]), "refused 34\n"),
         (&bytes(&[1, 0, 0]), "refused 35\n"),
     ] {
@@ -153,7 +156,7 @@ fn refused_files_are_told_in_words() {
     }
     assert!(!Path::new("nowhere").exists());
     for bodies in [ten_bodies(), vec![vec![7; 300]]] {
-        let (said, _, status) = ran(&["solve", "-"], &file(&bodies));
+        let (said, _, status) = ran(&["solve", "-"], &file(1, &bodies));
         assert!(said.contains("#   this is a day's file: scatterflock day answers") && status == 3);
     }
     let (said, _, _) = ran(&["day", "-"], b"names x\nx >= 5\n ");
@@ -188,10 +191,10 @@ fn texts_words_and_numbers_are_packed() {
         vec![],
         vec![1, 0, 2, 0, 7],
     ];
-    assert_eq!(fs::read(&out).unwrap(), file(&bodies));
-    assert_eq!(ran_bytes(&["pack", "-", a, b, c, d, "-"], b"1 0 2 0 7").0, file(&bodies));
+    assert_eq!(fs::read(&out).unwrap(), file(1, &bodies));
+    assert_eq!(ran_bytes(&["pack", "-", a, b, c, d, "-"], b"1 0 2 0 7").0, file(1, &bodies));
     assert_eq!(ran(&["pack", &out, a], b"").2, 0);
-    assert_eq!(fs::read(&out).unwrap(), file(&bodies[..1]));
+    assert_eq!(fs::read(&out).unwrap(), file(1, &bodies[..1]));
 }
 
 #[test]
@@ -213,6 +216,12 @@ fn what_is_not_packed() {
         (&["pack", &path(&room, "no/such"), &text], 5, "such: it cannot be written"),
         (&["pack", "/dev/full", &text], 5, "/dev/full: it cannot be written"),
         (&many, 3, "refused 32"),
+        (&[&["--edition=2"], &many[..51]].concat(), 3, "refused 32"),
+        (&["pack", "--edition=3", &out, &text], 3, "refused 31"),
+        (&["pack", "--edition=0", &out, &text], 3, "refused 31"),
+        (&["pack", "--edition=x", &out, &text], 4, "the edition is --edition=1 or --edition=2"),
+        (&["pack", "--edition", "1", &out, &text], 4, "the edition is --edition=1"),
+        (&["--edition=1", "day", "-"], 4, "--edition is an option of pack"),
         (&["pack", &out, &long], 3, "refused 30"),
         (&["pack", &out], 4, "pack takes the file to write, and then files"),
         (&["pack"], 4, "pack takes the file to write"),
@@ -240,7 +249,7 @@ fn what_is_not_packed() {
 #[test]
 fn ten_bodies_unpacked() {
     let room = folder("ten");
-    let day = file(&ten_bodies());
+    let day = file(1, &ten_bodies());
     let texts = path(&room, "a/b");
     let (said, errors, status) = ran(&["unpack", "-", &texts], &day);
     assert_eq!((errors.as_str(), status), ("", 0));
@@ -262,12 +271,13 @@ fn ten_bodies_unpacked() {
     }
 }
 
-/// What is unpacked and packed again is the same file, byte for byte.
+/// What is unpacked and packed again in its edition is the same file, byte for
+/// byte.
 #[test]
 fn there_and_back() {
     let seed = seed();
     println!("SEED={seed}");
-    let [mut days, mut texts] = [0; 2];
+    let (mut days, mut texts) = ([0; 2], 0);
     for number in 0..150 {
         let mut random = Random::of_problem(seed, number);
         let day = random.pick(&[Family::Whole, Family::Many]).file(&mut random);
@@ -282,12 +292,13 @@ fn there_and_back() {
         if files.is_empty() {
             continue;
         }
+        let edition = format!("--edition={}", day[0]);
         let words: Vec<&str> =
-            ["pack", "-"].into_iter().chain(files.iter().map(String::as_str)).collect();
+            ["pack", &edition, "-"].into_iter().chain(files.iter().map(String::as_str)).collect();
         assert!(ran_bytes(&words, b"").0 == day, "SEED={seed}, {number}");
-        days += 1;
+        days[usize::from(day[0]) - 1] += 1;
     }
-    assert!(days > 100 && texts > 500, "{days} {texts}, SEED={seed}");
+    assert!(days.iter().all(|&days| days > 40) && texts > 500, "{days:?} {texts}, SEED={seed}");
 }
 
 /// The night shift's way: the texts in problems/ packed, and the day printed.
@@ -306,10 +317,40 @@ fn the_texts_of_the_problems() {
         ["pack", &out].into_iter().chain(texts.iter().map(String::as_str)).collect();
     assert_eq!(ran(&words, b"").2, 0);
     let bodies: Vec<Vec<i32>> = shown.into_iter().map(|shown| shown.words).collect();
-    assert_eq!(fs::read(&out).unwrap(), file(&bodies));
+    assert_eq!(fs::read(&out).unwrap(), file(2, &bodies));
     let (said, _, status) = ran(&["day", &out], b"");
-    let counts = format!("{} bodies: ", bodies.len());
+    let counts = format!("{} bodies in edition 2: ", bodies.len());
     assert!(said.starts_with(&counts) && said.contains("refused 10") && status == 3, "{said}");
+}
+
+/// A body of twenty rows makes the file edition 2; in edition 1 it is refused, and
+/// the others are answered.
+#[test]
+fn twenty_rows() {
+    let room = folder("rows");
+    let out = path(&room, "rows.day");
+    let [three, small] = ["oven-three", "a"]
+        .map(|name| files::top().join(format!("problems/{name}.txt")).display().to_string());
+    let (said, _, status) = ran(&["pack", &out, &three, &small], b"");
+    assert!(status == 0 && said.contains("20 rows, which edition 2 allows"), "{said}");
+    assert_eq!(fs::read(&out).unwrap()[0], 2);
+    let (said, _, status) = ran(&["day", &out], b"");
+    assert!(status == 0 && said.starts_with("2 bodies in edition 2: 2 can, "), "{said}");
+    assert_eq!(ran(&["pack", &out, &small], b"").2, 0);
+    assert_eq!(fs::read(&out).unwrap()[0], 1);
+
+    let (said, _, status) = ran(&["pack", "--edition=1", &out, &three, &small], b"");
+    assert!(status == 0 && said.contains("refused 2: there must be"), "{said}");
+    assert_eq!(fs::read(&out).unwrap()[0], 1);
+    let (said, _, status) = ran(&["day", &out], b"");
+    assert!(said.starts_with("2 bodies: 1 can, 0 cannot, 0 out of range, 1 refused\n"), "{said}");
+    assert!(said.contains("\n---- body 0, 200 words\nrefused 2\n") && status == 3, "{said}");
+    let (said, _, status) = ran(&["--json", "day", &out], b"");
+    let told = json::read(&said).unwrap();
+    assert_eq!((told.at("bodies").list()[0].at("number").number(), status), (2, 3));
+    assert!(ran(&["--bare", "day", &out], b"").0.starts_with("refused 2\ncan\n"));
+    let (said, _, _) = ran(&["unpack", &out, &path(&room, "bodies")], b"");
+    assert!(said.contains("body-00.words   200 words   refused 2"), "{said}");
 }
 
 /// Nobody reads on: the command says nothing, and its status tells.
@@ -324,7 +365,7 @@ fn a_closed_pipe_is_silent() {
             .spawn()
             .unwrap();
         drop(child.stdout.take());
-        child.stdin.take().unwrap().write_all(&file(&ten_bodies())).unwrap();
+        child.stdin.take().unwrap().write_all(&file(1, &ten_bodies())).unwrap();
         let ran = child.wait_with_output().unwrap();
         assert_eq!((ran.status.code(), ran.stderr.len()), (Some(141), 0), "{options:?}");
     }
@@ -345,7 +386,7 @@ fn the_page_shows_what_is_printed() {
         })
         .collect();
     let shown: Vec<&str> = lines.split("$ scatterflock ").skip(1).collect();
-    assert_eq!(shown.len(), 3);
+    assert_eq!(shown.len(), 4);
     for shown in shown {
         let (words, expected) = shown.split_once('\n').unwrap();
         let expected = expected.split("\ntext\n").next().unwrap();

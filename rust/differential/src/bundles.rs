@@ -18,6 +18,10 @@ pub struct Outcome {
     pub bodies: usize,
     /// How many of these have the line of a refusal in the text.
     pub refused: usize,
+    /// The edition; 0 where it is refused.
+    pub edition: u32,
+    /// How many bodies edition 1 refuses for their rows, and edition 2 does not.
+    pub with_more_rows: usize,
     /// What the writer returned: of what was read, and of the call.
     pub writes: Vec<u32>,
 }
@@ -28,10 +32,11 @@ pub fn compare(random: &mut Random, family: Family) -> Result<Outcome, String> {
     let file = family.file(random);
     let shown = |what: String| format!("{what}, in a file of {} bytes: {}", file.len(), hex(&file));
     let mut outcome = compare_file(random, &file).map_err(shown)?;
-    let (lengths, words) = writing(random);
+    let (edition, lengths, words) = writing(random);
     let room = room(random, 8 + 8 * lengths.len() + 4 * words.len());
-    let write = compare_write(&lengths, &words, room);
-    let shown = |what: String| format!("{what}: {lengths:?} and {} words", words.len());
+    let write = compare_write(edition, &lengths, &words, room);
+    let told = format!("edition {edition}, {lengths:?} and {} words", words.len());
+    let shown = |what: String| format!("{what}: {told}");
     outcome.writes.push(write.map_err(shown)?.0);
     Ok(outcome)
 }
@@ -55,20 +60,27 @@ fn compare_file(random: &mut Random, file: &[u8]) -> Result<Outcome, String> {
     let rooms = [room(random, 3), room(random, words), 64, words];
     compare_read(file, [rooms[0], rooms[1]])?;
     let (told, lengths, words) = compare_read(file, [rooms[2], rooms[3]])?;
-    let mut outcome =
-        Outcome { number: told.refused, bodies: told.bodies, refused: 0, writes: vec![] };
+    let mut outcome = Outcome {
+        number: told.refused,
+        bodies: told.bodies,
+        refused: 0,
+        edition: told.edition,
+        with_more_rows: 0,
+        writes: vec![],
+    };
     if told.refused == 0 {
         let lengths = &lengths[..told.bodies];
         let words = &words[..lengths.iter().sum::<i32>() as usize];
+        outcome.with_more_rows = with_more_rows(lengths, words);
         compare_read(file, [told.bodies, words.len()])?;
         compare_read(file, [told.bodies.saturating_sub(1), words.len()])?;
         compare_read(file, [told.bodies, words.len().saturating_sub(1)])?;
-        let (number, again) = compare_write(lengths, words, file.len())?;
+        let (number, again) = compare_write(told.edition, lengths, words, file.len())?;
         if (number, &again[..]) != (0, file) {
             return Err(format!("writing what was read gives {number} or other bytes"));
         }
         outcome.writes.push(number);
-        outcome.writes.push(compare_write(lengths, words, file.len() - 1)?.0);
+        outcome.writes.push(compare_write(told.edition, lengths, words, file.len() - 1)?.0);
     }
     let text = reference::day_text(file);
     for room in [room(random, text.len()), text.len(), text.len() - usize::from(!text.is_empty())] {
@@ -77,6 +89,16 @@ fn compare_file(random: &mut Random, file: &[u8]) -> Result<Outcome, String> {
     let lines = String::from_utf8_lossy(&text).into_owned();
     outcome.refused = lines.lines().filter(|line| line.starts_with("refused")).count();
     Ok(outcome)
+}
+
+fn with_more_rows(lengths: &[i32], mut words: &[i32]) -> usize {
+    let bodies = lengths.iter().map(|&length| {
+        let (body, others) = words.split_at(length as usize);
+        words = others;
+        body
+    });
+    let refused = |body, most_rows| reference::solve_within(most_rows, body, &mut []) == 2;
+    bodies.filter(|body| refused(body, 16) && !refused(body, 24)).count()
 }
 
 /// The reader with room for so many lengths and words: what it told, and both
@@ -105,19 +127,21 @@ pub fn compare_read(
 
 /// The writer with so many bytes: its number, and the bytes afterwards.
 pub fn compare_write(
+    edition: u32,
     lengths: &[i32],
     words: &[i32],
     room: usize,
 ) -> Result<(u32, Vec<u8>), String> {
     let [read_lengths, read_words] = [lengths, words].map(|list| Lent::new(list, WORD));
     let mut file = Lent::new(&vec![BYTE; room], !BYTE);
-    let number = archive::bundle_write(read_lengths.lent(), read_words.lent(), file.lent_mut());
+    let (sizes, all) = (read_lengths.lent(), read_words.lent());
+    let number = archive::bundle_write(edition, sizes, all, file.lent_mut());
     if read_lengths.back()? != lengths || read_words.back()? != words {
         return Err("the words that were read have changed".to_string());
     }
     let found = (number, file.back()?);
     let mut file = vec![BYTE; room];
-    let number = reference::bundle_write(lengths, words, &mut file);
+    let number = reference::bundle_write(edition, lengths, words, &mut file);
     if found != (number, file) {
         return Err(format!("writing gives {}, the reference {number}", found.0));
     }

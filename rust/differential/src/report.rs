@@ -81,8 +81,8 @@ pub fn times(seed: u64, problems: u64) -> Result<Report, String> {
 }
 
 /// Compares so many days' files and calls of their writer, the families in turn.
-/// What is counted is each file that is read, each refused one, each body, and
-/// each body with the line of a refusal.
+/// What is counted is each file that is read, by its edition too, each refused
+/// one, each body, each with the line of a refusal, and each with more than 16 rows.
 pub fn bundles(seed: u64, files: u64) -> Result<Report, String> {
     let mut report = Report::default();
     for file in 0..files {
@@ -93,6 +93,9 @@ pub fn bundles(seed: u64, files: u64) -> Result<Report, String> {
         if outcome.number == 0 {
             report.count_outcome("bodies", outcome.bodies as u64);
             report.count_outcome("refused bodies", outcome.refused as u64);
+            report.count_outcome(&format!("edition {}", outcome.edition), 1);
+            let more_rows = format!("more than 16 rows, edition {}", outcome.edition);
+            report.count_outcome(&more_rows, outcome.with_more_rows as u64);
         }
         report.count_calls(&outcome.writes);
     }

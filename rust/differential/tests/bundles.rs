@@ -11,7 +11,7 @@ use std::path::Path;
 
 /// Compares reader and text of a file, and gives the refusal.
 fn compared(file: &[u8]) -> u32 {
-    let rooms = [MOST_BODIES, MOST_WORDS];
+    let rooms = [MOST_BODIES[0], MOST_WORDS];
     let read = compare_read(file, rooms).unwrap_or_else(|what| panic!("{what}: {file:?}"));
     let text = reference::day_text(file);
     for room in [text.len(), text.len() + 1, text.len().saturating_sub(1), 0] {
@@ -27,7 +27,7 @@ fn at_top(name: &str) -> Vec<u8> {
 
 #[test]
 fn the_file_of_ten_bodies() {
-    let whole = file(&ten_bodies());
+    let whole = file(1, &ten_bodies());
     assert_eq!(whole, at_top("crates/day/stdin"));
     assert_eq!(reference::day_text(&whole), at_top("crates/day/stdout"));
     assert_eq!(compared(&whole), 0);
@@ -35,7 +35,7 @@ fn the_file_of_ten_bodies() {
 
 #[test]
 fn every_prefix() {
-    let whole = file(&ten_bodies());
+    let whole = file(1, &ten_bodies());
     for count in 0..whole.len() {
         let number = match count {
             _ if count % 4 != 0 || count < 8 => 30,
@@ -52,14 +52,14 @@ fn every_prefix() {
 
 #[test]
 fn every_word_of_the_head_one_more_and_one_less() {
-    let words = file_words(&ten_bodies());
+    let words = file_words(1, &ten_bodies());
     for place in 0..22 {
         for by in [-1, 1, i32::MIN, 1 << 8, 1 << 16] {
             let mut damaged = words.clone();
             damaged[place] = damaged[place].wrapping_add(by);
             let number = compared(&bytes(&damaged));
             let refused = match place {
-                0 => [31, 31],
+                0 => [0, 31],
                 1 => [32, 34],
                 _ => [34, 35],
             };
@@ -84,47 +84,79 @@ fn places_that_would_wrap() {
     for lengths in
         [&[i32::MAX, i32::MAX, 2][..], &[i32::MAX; 64], &[1 << 30, 1 << 30, 1 << 30, 1 << 30]]
     {
-        assert_eq!(compare_write(lengths, &[], 99).unwrap().0, 35, "{lengths:?}");
+        let number = if lengths.len() > MOST_BODIES[1] { 32 } else { 35 };
+        assert_eq!(compare_write(1, lengths, &[], 99).unwrap().0, 35, "{lengths:?}");
+        assert_eq!(compare_write(2, lengths, &[], 99).unwrap().0, number, "{lengths:?}");
     }
 }
 
 #[test]
 fn the_most_bodies_and_one_more() {
-    for count in [0, 1, 63, 64] {
-        assert_eq!(compared(&file(&vec![vec![]; count])), 0, "{count}");
-        let lengths = vec![0; count];
-        assert_eq!(compare_write(&lengths, &[], 8 + 8 * count).unwrap().0, 0, "{count}");
-        assert_eq!(compare_write(&lengths, &[], 7 + 8 * count).unwrap().0, 36, "{count}");
+    for (edition, most) in [1, 2].into_iter().zip(MOST_BODIES) {
+        for count in [0, 1, most - 1, most] {
+            assert_eq!(compared(&file(edition, &vec![vec![]; count])), 0, "{count}");
+            let written = |room| compare_write(edition, &vec![0; count], &[], room).unwrap().0;
+            assert_eq!([written(8 + 8 * count), written(7 + 8 * count)], [0, 36], "{count}");
+        }
+        for count in [most + 1, most + 2, 300] {
+            assert_eq!(compared(&file(edition, &vec![vec![]; count])), 32, "{count}");
+            let written = compare_write(edition, &vec![-1; count], &[5], 0).unwrap();
+            assert_eq!(written.0, 32, "{count}");
+        }
     }
-    for count in [65, 66, 300] {
-        assert_eq!(compared(&file(&vec![vec![]; count])), 32, "{count}");
-        assert_eq!(compare_write(&vec![-1; count], &[5], 0).unwrap().0, 32, "{count}");
+}
+
+/// There are two, and the writer asks for that first of all.
+#[test]
+fn every_edition() {
+    for edition in (0..300).chain([1 << 8, 1 << 16, (1 << 31) - 1, 1 << 31, u32::MAX]) {
+        let is_known = (1..=2).contains(&edition);
+        let number = if is_known { 0 } else { 31 };
+        assert_eq!(compared(&file(edition, &ten_bodies())), number, "{edition}");
+        assert_eq!(compare_write(edition, &[1], &[9], 20).unwrap().0, number, "{edition}");
+        let number = if is_known { 32 } else { 31 };
+        assert_eq!(compare_write(edition, &[-1; 65], &[9], 0).unwrap().0, number, "{edition}");
+    }
+}
+
+/// Case I with more rows: which of both editions answers a body of so many.
+#[test]
+fn rows_of_a_body() {
+    for count in 0..=30 {
+        let limits = vec![0; 3 * (1 + count)];
+        let body = [&[1, count as i32], &vec![1; count][..], &limits].concat();
+        for (edition, most) in [(1, 16), (2, 24)] {
+            let day = file(edition, &[body.clone(), vec![3]]);
+            assert_eq!(compared(&day), 0);
+            let text = reference::day_text(&day);
+            let is_refused = text.starts_with(b"refused 2\n");
+            assert_eq!(is_refused, count > most, "{count} rows in edition {edition}");
+            assert!(text.ends_with(b"\nrefused 1\n"));
+        }
     }
 }
 
 #[test]
 fn the_most_words_and_one_more() {
-    for (bodies, head) in [(1, 4), (2, 6), (64, 130)] {
+    for (edition, bodies, head) in [(1, 1, 4), (1, 2, 6), (1, 64, 130), (2, 1, 4), (2, 48, 98)] {
         for (more, number) in [(0, 0), (1, 30)] {
             let mut lengths = vec![0; bodies];
             lengths[bodies / 2] = MOST_WORDS - head + more;
             let all: Vec<Vec<i32>> = lengths.iter().map(|&length| vec![7; length]).collect();
-            assert_eq!(compared(&file(&all)), number, "{bodies}");
+            assert_eq!(compared(&file(edition, &all)), number, "{bodies}");
             let lengths: Vec<i32> = lengths.iter().map(|&length| length as i32).collect();
             let room = 4 * (MOST_WORDS + more);
-            assert_eq!(compare_write(&lengths, &all.concat(), room).unwrap().0, number);
+            let written = |room| compare_write(edition, &lengths, &all.concat(), room).unwrap().0;
+            assert_eq!(written(room), number);
             let short = if number == 0 { 36 } else { 30 };
-            assert_eq!(
-                compare_write(&lengths, &all.concat(), 4 * MOST_WORDS - 1).unwrap().0,
-                short
-            );
+            assert_eq!(written(4 * MOST_WORDS - 1), short);
         }
     }
 }
 
 #[test]
 fn rooms_too_short_by_one() {
-    let whole = file(&ten_bodies());
+    let whole = file(1, &ten_bodies());
     let [bodies, words] = [10, 130];
     for (rooms, number) in [
         ([bodies, words], 0),
@@ -137,20 +169,27 @@ fn rooms_too_short_by_one() {
     ] {
         assert_eq!(compare_read(&whole, rooms).unwrap().0.refused, number, "{rooms:?}");
     }
-    for refused in [&whole[..7], &whole[..12], &bytes(&[2, 0]), &bytes(&[1, 0, 0])] {
+    for refused in [&whole[..7], &whole[..12], &bytes(&[3, 0]), &bytes(&[1, 0, 0])] {
         let number = bundle_read(refused, &mut [], &mut []).refused;
         assert!((30..36).contains(&number), "{number}");
     }
 }
 
-/// 64 problems of the largest size, each of which is answered.
+/// As many problems as an edition has, of the largest size that it has, each of
+/// which is answered.
 #[test]
 fn days_of_full_bodies() {
     let seed = seed();
     println!("SEED={seed}");
     for day in 0..if LINKED { 20 } else { 3 } {
         let mut random = Random::of_problem(seed, day);
-        let bodies: Vec<Vec<i32>> = (0..64).map(|_| Family::Full.words(&mut random)).collect();
-        assert_eq!(compared(&file(&bodies)), 0, "SEED={seed}, day {day}");
+        for (edition, family) in [(1, Family::Full), (2, Family::Largest)] {
+            let count = MOST_BODIES[edition as usize - 1];
+            let bodies: Vec<Vec<i32>> = (0..count).map(|_| family.words(&mut random)).collect();
+            let day_file = file(edition, &bodies);
+            assert_eq!(compared(&day_file), 0, "SEED={seed}, day {day}");
+            let text = reference::day_text(&day_file);
+            assert!(!text.windows(7).any(|seven| seven == b"refused"), "SEED={seed}, day {day}");
+        }
     }
 }

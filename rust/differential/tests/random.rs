@@ -110,12 +110,17 @@ fn days() {
         ("refused 35", FILES / 10),
         ("bodies", 8 * FILES),
         ("refused bodies", 3 * FILES),
+        ("edition 1", FILES / 6),
+        ("edition 2", FILES / 6),
+        ("more than 16 rows, edition 1", FILES / 70),
+        ("more than 16 rows, edition 2", FILES / 70),
     ] {
         assert!(report.of(outcome) > least, "{outcome}, SEED={seed}");
     }
     for (number, least) in [
         (0, FILES / 2),
         (30, FILES / 40),
+        (31, FILES / 33),
         (32, FILES / 20),
         (34, FILES / 20),
         (35, FILES / 8),

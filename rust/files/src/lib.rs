@@ -51,7 +51,7 @@ pub fn made() -> Vec<Made> {
         path: "crates/vectors/stdout".to_string(),
         bytes: vectors::answered(&vectors).into_bytes(),
     });
-    let day = file(&ten_bodies());
+    let day = file(1, &ten_bodies());
     let printed = reference::day_text(&day);
     made.push(Made { path: "crates/day/stdin".to_string(), bytes: day });
     made.push(Made { path: "crates/day/stdout".to_string(), bytes: printed });

@@ -17,7 +17,7 @@ fn joined(words: &[i32]) -> String {
 fn the_page_has_the_whole_file() {
     let page = fs::read_to_string(files::top().join("docs/formats/bundle.md")).unwrap();
     let bodies = ten_bodies();
-    let (bytes, words) = (file(&bodies), file_words(&bodies));
+    let (bytes, words) = (file(1, &bodies), file_words(1, &bodies));
     let dump = bytes.chunks(32).enumerate().map(|(line, bytes)| {
         let bytes: Vec<String> = bytes.iter().map(|byte| format!("{byte:02x}")).collect();
         format!("{:04}  {}", 32 * line, bytes.join(" "))
@@ -57,5 +57,5 @@ fn the_page_says_what_is_refused() {
             count += 1;
         }
     }
-    assert_eq!(count, 13);
+    assert_eq!(count, 17);
 }

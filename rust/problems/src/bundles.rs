@@ -6,8 +6,8 @@ use crate::published::published;
 use crate::random::Random;
 use crate::worked;
 
-/// The bodies of a file of edition 1.
-pub const MOST_BODIES: usize = 64;
+/// The bodies of a file of each edition, from 1 on.
+pub const MOST_BODIES: [usize; 2] = [64, 48];
 /// The words of a file.
 pub const MOST_WORDS: usize = 16_384;
 
@@ -36,8 +36,8 @@ pub fn ten_bodies() -> Vec<Vec<i32>> {
 }
 
 /// The words of the file that has these bodies, however many and long they are.
-pub fn file_words(bodies: &[Vec<i32>]) -> Vec<i32> {
-    let mut words = vec![1, bodies.len() as i32];
+pub fn file_words(edition: u32, bodies: &[Vec<i32>]) -> Vec<i32> {
+    let mut words = vec![edition as i32, bodies.len() as i32];
     let mut start = 2 + 2 * bodies.len();
     for body in bodies {
         words.extend([start as i32, body.len() as i32]);
@@ -53,8 +53,14 @@ pub fn bytes(words: &[i32]) -> Vec<u8> {
 }
 
 /// The file that has these bodies.
-pub fn file(bodies: &[Vec<i32>]) -> Vec<u8> {
-    bytes(&file_words(bodies))
+pub fn file(edition: u32, bodies: &[Vec<i32>]) -> Vec<u8> {
+    bytes(&file_words(edition, bodies))
+}
+
+/// An edition that there is, and how many bodies its files have.
+fn edition(random: &mut Random) -> (u32, usize) {
+    let edition = random.size(1, 2);
+    (edition as u32, MOST_BODIES[edition - 1])
 }
 
 /// A family of files.
@@ -62,7 +68,7 @@ pub fn file(bodies: &[Vec<i32>]) -> Vec<u8> {
 pub enum Family {
     /// Up to six bodies, problems of every family and what is none.
     Whole,
-    /// Up to 64 bodies with few words.
+    /// Up to the most bodies, with few words.
     Many,
     /// As many words as a file has, or nearly.
     Long,
@@ -90,14 +96,15 @@ impl Family {
 
     /// The bytes of a file of this family.
     pub fn file(self, random: &mut Random) -> Vec<u8> {
+        let (edition, most) = edition(random);
         match self {
-            Family::Whole => file(&bodies(random, 6)),
-            Family::Many => file(&small_bodies(random, MOST_BODIES)),
-            Family::Long => long(random),
-            Family::Head => bytes(&damaged_head(random)),
-            Family::Wrapping => bytes(&wrapping(random)),
-            Family::Cut => cut(random),
-            Family::Garbage => bytes(&garbage(random)),
+            Family::Whole => file(edition, &bodies(random, 6)),
+            Family::Many => file(edition, &small_bodies(random, most)),
+            Family::Long => long(random, edition, most),
+            Family::Head => bytes(&damaged_head(random, edition, most)),
+            Family::Wrapping => bytes(&wrapping(random, edition)),
+            Family::Cut => cut(random, edition),
+            Family::Garbage => bytes(&garbage(random, edition)),
         }
     }
 }
@@ -127,27 +134,27 @@ fn small_bodies(random: &mut Random, most: usize) -> Vec<Vec<i32>> {
 }
 
 /// A file of just as many words as there may be, of one more, or of a few less.
-fn long(random: &mut Random) -> Vec<u8> {
-    let mut all = small_bodies(random, MOST_BODIES - 1);
+fn long(random: &mut Random, edition: u32, most: usize) -> Vec<u8> {
+    let mut all = small_bodies(random, most - 1);
     let size = MOST_WORDS + 1 - random.pick(&[0, 1, 1, 2, 9]);
-    let rest = size - 2 - file_words(&all).len();
+    let rest = size - 2 - file_words(edition, &all).len();
     let at = random.size(0, all.len());
     all.insert(at, (0..rest).map(|_| random.within(-9, 9)).collect());
-    file(&all)
+    file(edition, &all)
 }
 
 /// Numbers that an edition or a count may be damaged to.
-const FRONT: [i32; 12] = [-1, 0, 1, 2, 3, 63, 64, 65, 66, 256, i32::MIN, i32::MAX];
+const FRONT: [i32; 14] = [-1, 0, 1, 2, 3, 47, 48, 49, 64, 65, 66, 256, i32::MIN, i32::MAX];
 
 /// A word or two of the head are others, or pairs change their places.
-fn damaged_head(random: &mut Random) -> Vec<i32> {
-    let most = if random.percent(20) { MOST_BODIES } else { 5 };
-    let mut all = small_bodies(random, most);
+fn damaged_head(random: &mut Random, edition: u32, most: usize) -> Vec<i32> {
+    let few = if random.percent(20) { most } else { 5 };
+    let mut all = small_bodies(random, few);
     if random.percent(10) {
-        all.resize(MOST_BODIES + random.size(0, 2), vec![]);
+        all.resize(most + random.size(0, 2), vec![]);
     }
     let count = all.len();
-    let mut words = file_words(&all);
+    let mut words = file_words(edition, &all);
     match random.below(12) {
         0 => words[0] = random.pick(&FRONT),
         1 => words[1] = random.pick(&FRONT),
@@ -171,9 +178,9 @@ fn damaged_head(random: &mut Random) -> Vec<i32> {
 }
 
 /// Pairs whose places are right in 32 bits that wrap, and in whole numbers not.
-fn wrapping(random: &mut Random) -> Vec<i32> {
+fn wrapping(random: &mut Random, edition: u32) -> Vec<i32> {
     let count = random.size(2, 5);
-    let mut words = vec![1, count as i32];
+    let mut words = vec![edition as i32, count as i32];
     let mut start = 2 + 2 * count as i32;
     for _ in 0..count {
         let length = match random.below(4) {
@@ -191,8 +198,8 @@ fn wrapping(random: &mut Random) -> Vec<i32> {
 }
 
 /// The bytes of a file, some of them left out at the end or more behind it.
-fn cut(random: &mut Random) -> Vec<u8> {
-    let mut bytes = file(&bodies(random, 3));
+fn cut(random: &mut Random, edition: u32) -> Vec<u8> {
+    let mut bytes = file(edition, &bodies(random, 3));
     match random.below(4) {
         0 => bytes.truncate(random.below(bytes.len())),
         1 => bytes.truncate(bytes.len() - 4),
@@ -203,24 +210,26 @@ fn cut(random: &mut Random) -> Vec<u8> {
 }
 
 /// Words of no meaning, often behind a right edition and count.
-fn garbage(random: &mut Random) -> Vec<i32> {
+fn garbage(random: &mut Random, edition: u32) -> Vec<i32> {
     let mut words = damage::garbage(random);
     if random.percent(70) && words.len() >= 2 {
-        words[0] = 1;
+        words[0] = edition as i32;
         words[1] = random.within(-1, 3);
     }
     words
 }
 
-/// What a writer is told: lengths, and words. One in two is right.
-pub fn writing(random: &mut Random) -> (Vec<i32>, Vec<i32>) {
-    let most = if random.percent(40) { MOST_BODIES } else { 5 };
-    let all = small_bodies(random, most);
+/// What a writer is told: an edition, lengths, and words. Nearly one
+/// in two is right.
+pub fn writing(random: &mut Random) -> (u32, Vec<i32>, Vec<i32>) {
+    let (edition, most) = edition(random);
+    let few = if random.percent(40) { most } else { 5 };
+    let all = small_bodies(random, few);
     let mut lengths: Vec<i32> = all.iter().map(|body| body.len() as i32).collect();
     let mut words = all.concat();
     match random.below(16) {
-        0 => lengths.resize(MOST_BODIES + random.size(1, 3), 0),
-        1 => lengths.resize(MOST_BODIES + random.size(0, 1), -1),
+        0 => lengths.resize(most + random.size(1, 3), 0),
+        1 => lengths.resize(most + random.size(0, 1), -1),
         2 => words.push(0),
         3 if !words.is_empty() => words.truncate(words.len() - 1),
         4 | 5 if !lengths.is_empty() => {
@@ -238,7 +247,7 @@ pub fn writing(random: &mut Random) -> (Vec<i32>, Vec<i32>) {
         }
         7 if lengths.len() > 2 => lengths[..3].copy_from_slice(&[i32::MAX, i32::MAX, 2]),
         8 | 9 => {
-            lengths.truncate(MOST_BODIES - 1);
+            lengths.truncate(most - 1);
             words.truncate(lengths.iter().sum::<i32>() as usize);
             let head = 4 + 2 * lengths.len();
             let rest = MOST_WORDS - head - words.len() + random.size(0, 1);
@@ -247,5 +256,6 @@ pub fn writing(random: &mut Random) -> (Vec<i32>, Vec<i32>) {
         }
         _ => {}
     }
-    (lengths, words)
+    let unknown = random.pick(&[0, 3, 4, 1 << 8, 1 << 31, u32::MAX]);
+    (if random.percent(6) { unknown } else { edition }, lengths, words)
 }

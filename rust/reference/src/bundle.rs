@@ -13,10 +13,15 @@ struct Edition {
     /// Word 0.
     number: i32,
     most_bodies: usize,
+    /// Of a body.
+    most_rows: u32,
 }
 
 /// Every edition there is.
-const EDITIONS: [Edition; 1] = [Edition { number: 1, most_bodies: 64 }];
+const EDITIONS: [Edition; 2] = [
+    Edition { number: 1, most_bodies: 64, most_rows: 16 },
+    Edition { number: 2, most_bodies: 48, most_rows: 24 },
+];
 
 /// What a reader tells of a file.
 #[derive(Debug, Clone, Copy, PartialEq, Eq)]
@@ -31,7 +36,7 @@ pub struct Contents {
 
 /// A file that is not refused.
 struct Bundle {
-    edition: i32,
+    edition: &'static Edition,
     bodies: Vec<Vec<i32>>,
 }
 
@@ -61,7 +66,7 @@ impl Bundle {
             return Err(35);
         }
         let body = |pair: &[i32]| words[pair[0] as usize..][..pair[1] as usize].to_vec();
-        Ok(Bundle { edition: words[0], bodies: pairs.chunks(2).map(body).collect() })
+        Ok(Bundle { edition, bodies: pairs.chunks(2).map(body).collect() })
     }
 }
 
@@ -100,13 +105,16 @@ pub fn bundle_read(file: &[u8], lengths: &mut [i32], words: &mut [i32]) -> Conte
     }
     lengths[..found.len()].copy_from_slice(&found);
     words[..joined.len()].copy_from_slice(&joined);
-    Contents { refused: 0, edition: bundle.edition as u32, bodies: found.len() }
+    Contents { refused: 0, edition: bundle.edition.number as u32, bodies: found.len() }
 }
 
-/// Writes a file of edition 1 from the lengths of its bodies and their words. No
+/// Writes a file of an edition from the lengths of its bodies and their words. No
 /// body is judged. A refusal leaves the output as it was.
-pub fn bundle_write(lengths: &[i32], words: &[i32], file: &mut [u8]) -> u32 {
-    let edition = &EDITIONS[0];
+pub fn bundle_write(edition: u32, lengths: &[i32], words: &[i32], file: &mut [u8]) -> u32 {
+    let known = EDITIONS.iter().find(|known| i64::from(known.number) == i64::from(edition));
+    let Some(edition) = known else {
+        return 31;
+    };
     if lengths.len() > edition.most_bodies {
         return 32;
     }
@@ -138,7 +146,10 @@ pub fn bundle_write(lengths: &[i32], words: &[i32], file: &mut [u8]) -> u32 {
 /// problem, in their order, or the line of the file's refusal.
 pub fn day_text(file: &[u8]) -> Vec<u8> {
     match Bundle::read(file) {
-        Ok(bundle) => bundle.bodies.iter().flat_map(|body| body_text(body)).collect(),
+        Ok(bundle) => {
+            let text = |body: &Vec<i32>| body_text(bundle.edition.most_rows, body);
+            bundle.bodies.iter().flat_map(text).collect()
+        }
         Err(refusal) => format!("refused {refusal}\n").into_bytes(),
     }
 }

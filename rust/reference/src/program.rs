@@ -14,10 +14,10 @@ pub fn respond(input: &[u8]) -> Vec<u8> {
     text(read(input))
 }
 
-/// What is printed for a body of a day's file: it is judged by its words, and its
-/// number of bytes is not.
-pub fn body_text(words: &[i32]) -> Vec<u8> {
-    text(Problem::read(words))
+/// What is printed for a body of a day's file whose edition allows so many rows: it
+/// is judged by its words, and its number of bytes is not.
+pub fn body_text(most_rows: u32, words: &[i32]) -> Vec<u8> {
+    text(Problem::read_within(most_rows, words))
 }
 
 fn text(read: Result<Problem, u32>) -> Vec<u8> {

@@ -4,7 +4,7 @@ use crate::bundle_refusal::BundleRefusal;
 use crate::problem::Problem;
 use crate::raw;
 use crate::refusal::Refusal;
-use crate::sizes::{MOST_BODIES, MOST_DAY_TEXT, MOST_FILE_WORDS};
+use crate::sizes::{FIRST_ROWS, MOST_BODIES, MOST_DAY_TEXT, MOST_FILE_WORDS, MOST_ROWS};
 
 /// A day's file: the words of many problems. They are not judged before they are
 /// asked for, so a body may be one that is refused.
@@ -33,21 +33,60 @@ pub struct Bundle {
     words: Vec<i32>,
 }
 
-/// The edition of a bundle that is made of bodies.
-const EDITION: u32 = 1;
+/// How many rows a body may have, in a file of an edition that there is.
+fn rows_in(edition: u32) -> usize {
+    if edition == 1 {
+        FIRST_ROWS
+    } else {
+        MOST_ROWS
+    }
+}
+
+/// The refusal of a body, in a file of such an edition.
+fn judged(edition: u32, body: &[i32]) -> Option<Refusal> {
+    Problem::refusal_within(rows_in(edition), body)
+}
 
 impl Bundle {
-    /// The bundle of these bodies, in this order.
+    /// The bundle of these bodies, in this order: of edition 1, or of edition 2 if
+    /// some body has more than 16 rows and edition 2 would take it.
     ///
     /// # Errors
     ///
-    /// [`BundleRefusal::Bodies`] if there are more than 64, and
-    /// [`BundleRefusal::Size`] if their file would have more than 16,384 words.
+    /// [`BundleRefusal::Bodies`] if there are more than 64, or more than 48 in
+    /// edition 2, and [`BundleRefusal::Size`] if their file would have more than
+    /// 16,384 words.
     pub fn of<B: AsRef<[i32]>>(bodies: &[B]) -> Result<Bundle, BundleRefusal> {
+        let is_second = |body: &B| judged(1, body.as_ref()) != judged(2, body.as_ref());
+        Bundle::of_edition(if bodies.iter().any(is_second) { 2 } else { 1 }, bodies)
+    }
+
+    /// The bundle of these bodies, in this order and in this edition.
+    ///
+    /// ```
+    /// use scatterflock::{Bundle, BundleRefusal, Refusal};
+    ///
+    /// // one variable and 17 rows without limits
+    /// let body = [&[1, 17], &[1; 17][..], &[0; 54]].concat();
+    /// assert_eq!(Bundle::of(&[&body])?.edition(), 2);
+    /// let first = Bundle::of_edition(1, &[&body])?;
+    /// assert_eq!(first.problems().next(), Some(Err(Refusal::Sizes)));
+    /// assert_eq!(Bundle::of_edition(3, &[&body]), Err(BundleRefusal::Edition));
+    /// # Ok::<(), scatterflock::BundleRefusal>(())
+    /// ```
+    ///
+    /// # Errors
+    ///
+    /// As for [`Bundle::of`]; and first of all [`BundleRefusal::Edition`], if there
+    /// is no such edition.
+    pub fn of_edition<B: AsRef<[i32]>>(
+        edition: u32,
+        bodies: &[B],
+    ) -> Result<Bundle, BundleRefusal> {
         let length = |body: &B| i32::try_from(body.as_ref().len()).unwrap_or(i32::MAX);
         let lengths: Vec<i32> = bodies.iter().map(length).collect();
         let words = bodies.iter().flat_map(|body| body.as_ref()).copied().collect();
-        let bundle = Bundle { edition: EDITION, lengths, words };
+        let bundle = Bundle { edition, lengths, words };
         bundle.written().map(|_| bundle)
     }
 
@@ -77,7 +116,7 @@ impl Bundle {
     fn written(&self) -> Result<Vec<u8>, BundleRefusal> {
         let size = 2 + 2 * self.lengths.len() + self.words.len();
         let mut file = vec![0; 4 * size.min(MOST_FILE_WORDS)];
-        match raw::bundle_write(&self.lengths, &self.words, &mut file) {
+        match raw::bundle_write(self.edition, &self.lengths, &self.words, &mut file) {
             0 => Ok(file),
             number => Err(BundleRefusal::of(number)),
         }
@@ -87,6 +126,12 @@ impl Bundle {
     #[must_use]
     pub fn edition(&self) -> u32 {
         self.edition
+    }
+
+    /// How many rows a body of it may have.
+    #[must_use]
+    pub fn most_rows(&self) -> usize {
+        rows_in(self.edition)
     }
 
     /// The words of each body.
@@ -99,9 +144,10 @@ impl Bundle {
         })
     }
 
-    /// The problem of each body, or its refusal.
+    /// The problem of each body, or its refusal: that of a body which is a problem
+    /// and has too many rows for the edition is [`Refusal::Sizes`].
     pub fn problems(&self) -> impl Iterator<Item = Result<Problem, Refusal>> + '_ {
-        self.bodies().map(Problem::from_words)
+        self.bodies().map(|body| Problem::from_words_within(self.most_rows(), body))
     }
 
     /// What is printed for it: the texts of its bodies, one behind the other, byte

@@ -11,7 +11,7 @@ use std::fmt;
 /// let refusal = Bundle::read(&[0; 8]).unwrap_err();
 /// assert_eq!(refusal, BundleRefusal::Edition);
 /// assert_eq!(refusal.number(), 31);
-/// assert_eq!(refusal.to_string(), "the file does not begin with an edition that there is: 1");
+/// assert_eq!(refusal.to_string(), "there is no such edition: a day's file has edition 1 or 2");
 /// ```
 #[derive(Debug, Clone, Copy, PartialEq, Eq, Hash)]
 #[non_exhaustive]
@@ -69,8 +69,10 @@ impl fmt::Display for BundleRefusal {
     fn fmt(&self, to: &mut fmt::Formatter) -> fmt::Result {
         to.write_str(match self {
             BundleRefusal::Size => "a day's file has 2 to 16,384 words of four bytes each",
-            BundleRefusal::Edition => "the file does not begin with an edition that there is: 1",
-            BundleRefusal::Bodies => "there must be 0 to 64 bodies",
+            BundleRefusal::Edition => "there is no such edition: a day's file has edition 1 or 2",
+            BundleRefusal::Bodies => {
+                "there must be 0 to 64 bodies in edition 1, 0 to 48 in edition 2"
+            }
             BundleRefusal::Table => "the file ends before it has told where each body is",
             BundleRefusal::Pair => {
                 "a body has a negative length, or does not start where the one before it ends"

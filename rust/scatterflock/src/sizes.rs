@@ -25,8 +25,14 @@ pub const MOST_TIME_ROWS: usize = 256;
 pub const LARGEST_LENGTH: i32 = 30_000;
 /// The most words of an answer to time rows.
 pub const MOST_TIMES: usize = 2 + 2 * MOST_VERTICES;
-/// The most bodies of a day's file.
-pub const MOST_BODIES: usize = 64;
+/// The most bodies of a day's file of edition 1.
+pub const FIRST_BODIES: usize = 64;
+/// The most rows of a body there.
+pub const FIRST_ROWS: usize = 16;
+/// The most bodies of a day's file of edition 2. Each may have [`MOST_ROWS`].
+pub const SECOND_BODIES: usize = 48;
+/// The most bodies of a day's file, in any edition.
+pub const MOST_BODIES: usize = FIRST_BODIES;
 /// The most words of a day's file; each has four bytes.
 pub const MOST_FILE_WORDS: usize = 16_384;
 /// The most bytes of the text of a day: 1,955 for each body.

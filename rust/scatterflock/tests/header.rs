@@ -89,6 +89,9 @@ fn the_names_of_the_header_are_those_of_the_crate() {
         ("SLICE_WORDS", size_of::<raw::Slice>() / 8 - 1),
         ("SESSION_WORDS", size_of::<raw::Session>() / 8),
         ("MOST_BODIES", sizes::MOST_BODIES),
+        ("FIRST_BODIES", sizes::FIRST_BODIES),
+        ("FIRST_ROWS", sizes::FIRST_ROWS),
+        ("SECOND_BODIES", sizes::SECOND_BODIES),
         ("MOST_FILE_WORDS", sizes::MOST_FILE_WORDS),
         ("MOST_DAY_TEXT", sizes::MOST_DAY_TEXT),
     ] {

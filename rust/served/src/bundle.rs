@@ -24,16 +24,17 @@ pub struct Contents {
 /// Reads a day's file.
 pub fn bundle_read(file: &[u8], lengths: &mut [i32], words: &mut [i32]) -> Contents {
     let parts = [file.to_vec(), bytes(lengths), bytes(words)];
-    let ([refused, edition, bodies, _], [_, new_lengths, new_words]) = ask(Function::Read, parts);
+    let ([refused, edition, bodies, _], [_, new_lengths, new_words]) =
+        ask(Function::Read, 0, parts);
     put(lengths, &new_lengths);
     put(words, &new_words);
     Contents { refused: refused as u32, edition: edition as u32, bodies: bodies as usize }
 }
 
 /// Writes a day's file.
-pub fn bundle_write(lengths: &[i32], words: &[i32], file: &mut [u8]) -> u32 {
+pub fn bundle_write(edition: u32, lengths: &[i32], words: &[i32], file: &mut [u8]) -> u32 {
     let parts = [bytes(lengths), bytes(words), file.to_vec()];
-    let ([number, ..], [_, _, new_file]) = ask(Function::Write, parts);
+    let ([number, ..], [_, _, new_file]) = ask(Function::Write, edition, parts);
     file.copy_from_slice(&new_file);
     number as u32
 }
@@ -41,7 +42,7 @@ pub fn bundle_write(lengths: &[i32], words: &[i32], file: &mut [u8]) -> u32 {
 /// Prints a day's file.
 pub fn day(file: &[u8], text: &mut [u8]) -> usize {
     let ([length, ..], [_, new_text, _]) =
-        ask(Function::Day, [file.to_vec(), text.to_vec(), vec![]]);
+        ask(Function::Day, 0, [file.to_vec(), text.to_vec(), vec![]]);
     text.copy_from_slice(&new_text);
     length as usize
 }
@@ -57,9 +58,9 @@ fn put(words: &mut [i32], bytes: &[u8]) {
 }
 
 /// The four numbers of the reply, and all parts after the call.
-fn ask(function: Function, parts: [Vec<u8>; 3]) -> ([u64; 4], [Vec<u8>; 3]) {
+fn ask(function: Function, edition: u32, parts: [Vec<u8>; 3]) -> ([u64; 4], [Vec<u8>; 3]) {
     let [first, second, third] = parts.each_ref().map(|part| part.len() as u64);
-    let mut request: Vec<u8> = [function as u64, first, second, third, 0, 0, 0]
+    let mut request: Vec<u8> = [function as u64, first, second, third, edition.into(), 0, 0]
         .iter()
         .flat_map(|number| number.to_le_bytes())
         .collect();

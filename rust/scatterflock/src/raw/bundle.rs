@@ -14,6 +14,7 @@ mod archive {
         ) -> Contents;
 
         pub fn scatterflock_bundle_write(
+            edition: u32,
             lengths: *const i32,
             bodies: usize,
             words: *const i32,
@@ -74,21 +75,25 @@ pub fn bundle_read(file: &[u8], lengths: &mut [i32], words: &mut [i32]) -> Conte
     }
 }
 
-/// Writes a day's file at the start of `file`, from the lengths of its bodies and
-/// the words of all of them: 0, or the number of a
+/// Writes a day's file of an edition at the start of `file`, from the lengths of
+/// its bodies and the words of all of them: 0, or the number of a
 /// [`BundleRefusal`](crate::BundleRefusal) and `file` as it was. No body is judged.
 ///
 /// ```
+/// use scatterflock::raw::bundle_write;
+///
 /// let mut file = [0xff; 21];
-/// assert_eq!(scatterflock::raw::bundle_write(&[1], &[9], &mut file), 0);
+/// assert_eq!(bundle_write(1, &[1], &[9], &mut file), 0);
 /// assert_eq!(file, [1, 0, 0, 0, 1, 0, 0, 0, 4, 0, 0, 0, 1, 0, 0, 0, 9, 0, 0, 0, 0xff]);
-/// assert_eq!(scatterflock::raw::bundle_write(&[2], &[9], &mut file), 35);
+/// assert_eq!(bundle_write(2, &[2], &[9], &mut file), 35);
+/// assert_eq!(bundle_write(3, &[2], &[9], &mut file), 31);
 /// ```
 #[must_use = "where it is not 0, nothing was written"]
-pub fn bundle_write(lengths: &[i32], words: &[i32], file: &mut [u8]) -> u32 {
+pub fn bundle_write(edition: u32, lengths: &[i32], words: &[i32], file: &mut [u8]) -> u32 {
     // SAFETY: as in `bundle_read`.
     unsafe {
         archive::scatterflock_bundle_write(
+            edition,
             lengths.as_ptr(),
             lengths.len(),
             words.as_ptr(),
