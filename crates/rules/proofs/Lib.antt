@@ -2,13 +2,13 @@
 --   Refusal      refusals 1 to 7 and 10: each line of the table, exactly
 --   Tableau      the tableau by variable: rows that hold, the pivot, lowest common form
 --   Step         one step: who leaves, who enters, what moves, and what it comes to
---   Run          the states of a run, what is known of each, and runs that are cut
+--   Run          the states of a run, and what is known of each
 --   Termination  no arrangement comes twice, so the count is bounded and every run ends
 --   Answer       the words of an answer
 --   Evidence     the checker: what it accepts, what that means, and that it accepts the answers of the run (Own)
 --   Idle         nothing is idle in a "cannot"
 --   Plain        where no limit is strict, the run over pairs is the run over whole numbers
---   Session      sessions: what holds of each handed back, what an operation changes, the demands of each check
+--   Runs         runs that are cut, and limits switched between them
 --   Times        time rows: refusals exactly, times or a bad cycle and never both, and what each means
 --   Program      the program's bytes and text
 --   Bundle       a day's file: refusals exactly, both round trips over bytes, its bodies, its text
@@ -23,7 +23,7 @@ pub mod Answer
 pub mod Evidence
 pub mod Idle
 pub mod Plain
-pub mod Session
+pub mod Runs
 pub mod Times
 pub mod Program
 pub mod Bundle

@@ -7,8 +7,7 @@
 --   Range      in range, and out of range
 --   Run        that the answer is the run
 --   Answer     what every answer is
---   Slices     a run that is cut anywhere
---   Session    opening, switches and checks
+--   Runs       runs that are cut, and limits switched between them
 --   Fractions  fractions over denominators of their own
 --   Evidence   the checker, sentence by sentence, and what an accepted answer means
 pub mod Refusal
@@ -19,7 +18,6 @@ pub mod Tableau
 pub mod Range
 pub mod Run
 pub mod Answer
-pub mod Slices
-pub mod Session
+pub mod Runs
 pub mod Fractions
 pub mod Evidence

@@ -10,8 +10,7 @@
 --   Run       the steps one after the other
 --   Answer    the words of an answer
 --   Plain     the run where no limit is strict
---   Slices    the run in slices
---   Session   limits switched on and off
+--   Runs      runs that are cut, and limits switched between them
 --   Evidence  the checker
 --   Keeping   a problem with some of its limits alone
 --   Times     time rows
@@ -28,8 +27,7 @@ pub mod Step
 pub mod Run
 pub mod Answer
 pub mod Plain
-pub mod Slices
-pub mod Session
+pub mod Runs
 pub mod Evidence
 pub mod Keeping
 pub mod Times

@@ -10,15 +10,15 @@ use lib.IntN.{pos, ℤ}
 use lib.ListN.{List·getD-append, drop, length}
 use Rattle.whole.specs.Values.{pairs}
 use Rattle.rules.proofs.Evidence.Own.Accepted.{written-accepted}
-use Rattle.rules.proofs.Session.Checked.{shaped-checked}
-use Rattle.rules.proofs.Session.Demands.{eight-checked, fair-words}
+use Rattle.rules.proofs.Runs.Session.Checked.{shaped-checked}
+use Rattle.rules.proofs.Runs.Session.Demands.{eight-checked, fair-words}
 use Rattle.rules.specs.Answer.{written}
-use Rattle.rules.specs.Facts.Answer.{Decided}
 use Rattle.rules.specs.Evidence.{checked, verdictOf}
+use Rattle.rules.specs.Facts.Answer.{Decided}
 use Rattle.rules.specs.Keeping.Words.{liveWords}
 use Rattle.rules.specs.Problem.{inner, problem}
 use Rattle.rules.specs.Refusal.{Accepted, refusal}
-use Rattle.rules.specs.Session.{Handed, Session, checkAnswer, checkLength, checkOutput, isOn}
+use Rattle.rules.specs.Runs.Session.{Handed, Session, checkAnswer, checkLength, checkOutput, isOn}
 use Rattle.rules.specs.Sizes.{mostRows}
 use Rattle.session.specs.declared.Checked.{Checked}
 use Rattle.session.specs.Sessions.{CheckMeans}

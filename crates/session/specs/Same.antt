@@ -4,10 +4,10 @@ use mathlib.Core.Path.{_≡_}
 use Prim.Native.Nat.{ℕ, _<_}
 use lib.IntN.{ℤ}
 use Rattle.rules.specs.Problem.{vars}
-use Rattle.rules.specs.Session.{isOn}
-use Rattle.rules.specs.Session as rules
+use Rattle.rules.specs.Runs.Session.{isOn}
 use Rattle.rules.specs.Step.{above, below, common, seat}
 use Rattle.rules.specs.Tableau.{entry}
+use Rattle.rules.specs.Runs.Session as rules
 use Rattle.slices.specs.Slices.{SameProblem}
 
 -- one problem, the same limits on, and the same state

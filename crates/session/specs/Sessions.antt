@@ -7,13 +7,13 @@ use Prim.Native.Nat.{ℕ, zero, suc, _<_}
 use lib.IntN.{ℤ}
 use lib.ListN.{getD, length}
 use Rattle.whole.specs.Values.{pairs}
+use Rattle.rules.specs.Facts.Runs.Session.{Fair}
 use Rattle.rules.specs.Limit.{lowerPair, upperPair}
 use Rattle.rules.specs.Problem.{Problem, inner, mapped, vars}
 use Rattle.rules.specs.Refusal.{problemRefusal}
-use Rattle.rules.specs.Session as rules
-use Rattle.rules.specs.Session.{checkOutput, checkRefusal, liveOf, opened, restedBy, switchRefusal, switched}
+use Rattle.rules.specs.Runs.Session.{checkOutput, checkRefusal, liveOf, opened, restedBy, switchRefusal, switched}
 use Rattle.rules.specs.Sizes.{mostVariables}
-use Rattle.rules.specs.Facts.Session.{Fair}
+use Rattle.rules.specs.Runs.Session as rules
 use Rattle.tableau.specs.declared.Limits.{Limits}
 use Rattle.tableau.specs.Parts.{lowerGiven, upperGiven}
 use Rattle.tableau.specs.Stands.{Ranged, Stands}

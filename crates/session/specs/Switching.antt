@@ -12,7 +12,7 @@ use Rattle.whole.specs.Tables.{filled}
 use Rattle.whole.specs.Values.{pairs}
 use Rattle.rules.specs.Limit.{Limit, present}
 use Rattle.rules.specs.Refusal.{first}
-use Rattle.rules.specs.Session.{inside}
+use Rattle.rules.specs.Runs.Session.{inside}
 use Rattle.rules.specs.Sizes.{mostColumns, mostVariables}
 use Rattle.rules.specs.Step.{Side, above, below}
 use Rattle.amounts.specs.declared.Given.{Given}

@@ -4,7 +4,7 @@ ghost use Prim.Native.Nat.{_<_};
 ghost use Rattle.whole.specs.Values.{pairs};
 ghost use Rattle.rules.specs.Limit.{lowerPair, upperPair};
 ghost use Rattle.rules.specs.Problem.{mapped};
-ghost use Rattle.rules.specs.Session.{inside};
+ghost use Rattle.rules.specs.Runs.Session.{inside};
 ghost use Rattle.rules.specs.Sizes.{mostVariables};
 ghost use Rattle.amounts.specs.Amounts.{limitIn, pairIn, valueOf};
 ghost use Rattle.session.specs.Switching.{Settleable, allOff, flaggedAt, givenAt, limitRefusal, quietAt};

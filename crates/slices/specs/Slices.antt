@@ -11,8 +11,8 @@ use Rattle.whole.specs.Values.{pairs}
 use Rattle.rules.specs.Limit.{Limit}
 use Rattle.rules.specs.Problem.{Problem, inner, problem, vars}
 use Rattle.rules.specs.Refusal.{problemRefusal}
-use Rattle.rules.specs.Slices.{begun, continued, isAnswer, sliceAnswer, sliceLength, sliceOutput, sliceRefusal}
-use Rattle.rules.specs.Slices as rules
+use Rattle.rules.specs.Runs.Slices.{begun, continued, isAnswer, sliceAnswer, sliceLength, sliceOutput, sliceRefusal}
+use Rattle.rules.specs.Runs.Slices as rules
 use Rattle.tableau.specs.Start.{startTableau}
 use Rattle.answers.specs.Answer.{isShort}
 use Rattle.solver.specs.declared.spend.Spent.{Spent}

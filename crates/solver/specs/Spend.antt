@@ -4,8 +4,8 @@ use mathlib.Core.List.{List}
 use mathlib.Core.Path.{_≡_}
 use Prim.Native.Nat.{ℕ, zero, suc, _+_}
 use lib.IntN.{ℤ, pos}
-use Rattle.rules.specs.Slices.{Slice}
-use Rattle.rules.specs.Facts.Slices.{OnWay}
+use Rattle.rules.specs.Facts.Runs.Slices.{OnWay}
+use Rattle.rules.specs.Runs.Slices.{Slice}
 use Rattle.tableau.specs.declared.Tableau.{Tableau}
 use Rattle.tableau.specs.Stands.{Ranged, Stands}
 use Rattle.answers.specs.declared.Verdict.the-variants as verdicts

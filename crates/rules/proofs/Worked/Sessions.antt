@@ -6,19 +6,19 @@ use Rattle.whole.specs.Numbers.{outside, within}
 use Rattle.whole.specs.Sums.{sumBy}
 use Rattle.whole.specs.Tables.{matrix, tableFrom}
 use Rattle.rules.specs.Answer.{answerFrom, wordsOf}
+use Rattle.rules.specs.Cases.Sessions.{SessionsRight, repliesTo, sessionCases}
 use Rattle.rules.specs.Evidence.{accepted, atLeast, atMost, checked, column, contradicts, fair, plainOf, showsCan}
 use Rattle.rules.specs.Evidence.{showsCannot, someStrict, strictNamed, surplus}
 use Rattle.rules.specs.Keeping.Limits.{kept}
-use Rattle.rules.specs.Limit.{badKindWord, badLimitWord, bit, present}
 use Rattle.rules.specs.Keeping.Words.{kindOf, liveKind, liveLimit, liveWord, liveWords}
+use Rattle.rules.specs.Limit.{badKindWord, badLimitWord, bit, present}
 use Rattle.rules.specs.Problem.{mapped, problem}
 use Rattle.rules.specs.Refusal.{badCoefficient, badKind, badLength, badLimit, badSize, blankRow, first}
 use Rattle.rules.specs.Refusal.{problemTests, someBlank, tooFew, tooShort}
 use Rattle.rules.specs.Run.{bound, choose, conflict, crossed, ending, run, spending}
-use Rattle.rules.specs.Session.{checkAnswer, flagged, inside, insideSeat, opened, rested, allInside}
-use Rattle.rules.specs.Session.{switchRefusal}
-use Rattle.rules.specs.Session.{switchTests, switched}
-use Rattle.rules.specs.Cases.Sessions.{SessionsRight, repliesTo, sessionCases}
+use Rattle.rules.specs.Runs.Session.{checkAnswer, flagged, inside, insideSeat, opened, rested, allInside}
+use Rattle.rules.specs.Runs.Session.{switchRefusal}
+use Rattle.rules.specs.Runs.Session.{switchTests, switched}
 use Rattle.rules.specs.Step.{admit, broken, entering, evidence, leaving, limitAt, mayFall, mayRise, moved, over}
 use Rattle.rules.specs.Step.{pull, scaled, seated, shortfallBy, start, startEntry, startSeat, startValue, step}
 use Rattle.rules.specs.Step.{suits, under}

@@ -6,11 +6,11 @@ use Rattle.whole.specs.Numbers.{outside, within}
 use Rattle.whole.specs.Sums.{sumBy}
 use Rattle.whole.specs.Tables.{matrix, tableFrom}
 use Rattle.rules.specs.Answer.{wordsOf}
+use Rattle.rules.specs.Cases.Slices.{SlicesRight, repliesOf, sliceCases}
 use Rattle.rules.specs.Limit.{bit, present}
 use Rattle.rules.specs.Problem.{mapped, problem}
 use Rattle.rules.specs.Run.{conflict, crossed, run, spending}
-use Rattle.rules.specs.Cases.Slices.{SlicesRight, repliesOf, sliceCases}
-use Rattle.rules.specs.Slices.{begun, continued, sliceAnswer, told}
+use Rattle.rules.specs.Runs.Slices.{begun, continued, sliceAnswer, told}
 use Rattle.rules.specs.Step.{admit, broken, entering, evidence, leaving, limitAt, mayFall, mayRise, moved, over}
 use Rattle.rules.specs.Step.{pull, scaled, seated, shortfallBy, start, startEntry, startSeat, startValue, step}
 use Rattle.rules.specs.Step.{suits, under}

@@ -5,12 +5,12 @@ use mathlib.Core.Path.{_≡_}
 use Prim.Native.Nat.{ℕ}
 use lib.IntN.{ℤ, pos}
 use Rattle.whole.specs.Values.{pairs}
-use Rattle.rules.specs.Evidence.{checked}
 use Rattle.rules.specs.Cases.Expected.{minus}
 use Rattle.rules.specs.Cases.Limits.{lowerOnly, upperOnly, lessThan, moreThan, two, zeros}
+use Rattle.rules.specs.Evidence.{checked}
 use Rattle.rules.specs.Keeping.Words.{liveWords}
 use Rattle.rules.specs.Problem.{inner, problem}
-use Rattle.rules.specs.Session.{Session, checkAnswer, isOn, opened, rested, switchRefusal, switched}
+use Rattle.rules.specs.Runs.Session.{Session, checkAnswer, isOn, opened, rested, switchRefusal, switched}
 use Rattle.rules.specs.Step.{Side, above, below}
 
 pub data Operation : Type 0 where

@@ -7,7 +7,7 @@ use lib.IntN.{ℤ, pos}
 use Rattle.whole.specs.Values.{pairs}
 use Rattle.rules.specs.Cases.Limits.{caseA, caseG, caseH, caseInside}
 use Rattle.rules.specs.Problem.{inner, problem}
-use Rattle.rules.specs.Slices.{Slice, begun, continued, sliceAnswer}
+use Rattle.rules.specs.Runs.Slices.{Slice, begun, continued, sliceAnswer}
 
 -- words, the pivots of each continue, and what each hands back: an answer's words, or nothing
 pub record SliceCase : Type 0 where

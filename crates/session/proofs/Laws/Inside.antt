@@ -8,7 +8,7 @@ use Rattle.whole.specs.Values.{pairs}
 use Rattle.rules.specs.Limit.{Limit, lowerPair, present, upperPair}
 use Rattle.rules.specs.Problem.{mapped}
 use Rattle.rules.specs.Run.{crossed}
-use Rattle.rules.specs.Session.{inside}
+use Rattle.rules.specs.Runs.Session.{inside}
 use Rattle.amounts.specs.declared.Given.{Given}
 use Rattle.amounts.specs.Amounts.{givenLower, givenUpper, putInside}
 use Rattle.sides.specs.Sides.{leastIn, mostIn}

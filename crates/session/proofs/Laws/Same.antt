@@ -7,9 +7,9 @@ use Prim.Native.Nat.{ℕ, _<_}
 use native.Mathlib.Omega.{arith}
 use lib.IntN.{ℤ}
 use Rattle.rules.specs.Problem.{Problem, vars}
-use Rattle.rules.specs.Session as rules
-use Rattle.rules.specs.Session.{liveOf}
+use Rattle.rules.specs.Runs.Session.{liveOf}
 use Rattle.rules.specs.Step.{State, seat}
+use Rattle.rules.specs.Runs.Session as rules
 use Rattle.tableau.specs.declared.Tableau.{Tableau}
 use Rattle.tableau.specs.Parts.{columnOf, valueAt}
 use Rattle.tableau.specs.Stands.{Stands}

@@ -9,13 +9,13 @@ use native.Mathlib.Omega.{arith}
 use lib.IntN.{ℤ}
 use Rattle.whole.specs.Values.{pairs}
 use Rattle.whole.proofs.Bools.{true-false}
+use Rattle.rules.proofs.Runs.Slices.{on-way-rowed}
+use Rattle.rules.proofs.Tableau.Problem.{rows-only}
+use Rattle.rules.specs.Facts.State.{Rowed}
 use Rattle.rules.specs.Problem.{Problem, vars}
-use Rattle.rules.specs.Slices as rules
 use Rattle.rules.specs.Step.{State, common, seat}
 use Rattle.rules.specs.Tableau.{entry}
-use Rattle.rules.proofs.Tableau.Problem.{rows-only}
-use Rattle.rules.proofs.Run.Slices.{on-way-rowed}
-use Rattle.rules.specs.Facts.State.{Rowed}
+use Rattle.rules.specs.Runs.Slices as rules
 use Rattle.tableau.specs.declared.Tableau.{Tableau}
 use Rattle.tableau.specs.Parts.{columnOf, rowOf}
 use Rattle.tableau.specs.Stands.{Stands}

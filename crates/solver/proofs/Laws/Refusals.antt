@@ -15,17 +15,17 @@ use borrow.Author.Tests.{le-ltb}
 use lib.IntN.{ℤ}
 use Rattle.whole.specs.Values.{pairs}
 use Rattle.whole.proofs.Values.Beside.{pairs-laws}
+use Rattle.rules.proofs.Refusal.Exactly.{accepted-exactly, fine-more, numbered}
+use Rattle.rules.proofs.Refusal.First.{first-hit, first-kept, first-passed, first-skip}
+use Rattle.rules.proofs.Runs.Slices.{cut-answer, on-way-start, sliced-words}
+use Rattle.rules.proofs.Termination.Ends.{ready-start}
 use Rattle.rules.specs.Answer.{written}
 use Rattle.rules.specs.Problem.{answerLength, inner, mOf, nOf, problem, varsOf}
 use Rattle.rules.specs.Refusal.{Accepted, first, problemRefusal, problemRefusalWithin, problemTests}
 use Rattle.rules.specs.Refusal.{refusalWithin, tooShort}
+use Rattle.rules.specs.Runs.Slices.{begun, continuedBy, sliceOutput}
 use Rattle.rules.specs.Sizes.{mostRows}
-use Rattle.rules.specs.Slices.{begun, continuedBy, sliceOutput}
 use Rattle.rules.specs.Step.{start}
-use Rattle.rules.proofs.Termination.Ends.{ready-start}
-use Rattle.rules.proofs.Refusal.First.{first-hit, first-kept, first-passed, first-skip}
-use Rattle.rules.proofs.Refusal.Exactly.{accepted-exactly, fine-more, numbered}
-use Rattle.rules.proofs.Run.Slices.{cut-answer, on-way-start, sliced-words}
 use Rattle.tableau.specs.declared.Tableau.{Tableau}
 use Rattle.tableau.specs.Stands.{Ranged, Stands}
 use Rattle.tableau.specs.Start.{startTableau, startLaid}

@@ -13,17 +13,17 @@ use lib.IntN.{ℤ}
 use lib.ListN.{drop, length}
 use Rattle.whole.specs.Values.{pairs}
 use Rattle.whole.proofs.Values.Beside.{pairs-laws}
+use Rattle.rules.proofs.Refusal.First.{first-hit, first-skip}
+use Rattle.rules.proofs.Runs.Session.Fair.{fair-ready, fair-rested}
+use Rattle.rules.proofs.Runs.Session.Sliced.{check-sliced}
+use Rattle.rules.proofs.Runs.Slices.{on-way-start}
 use Rattle.rules.specs.Problem.{Problem, vars}
 use Rattle.rules.specs.Refusal.{first}
 use Rattle.rules.specs.Run.{after, bound}
-use Rattle.rules.specs.Session as rules
-use Rattle.rules.specs.Session.{checkAnswer, checkLength, checkRefusal, liveOf, rested}
-use Rattle.rules.specs.Slices as slices
-use Rattle.rules.specs.Slices.{continued, sliceLength, sliceOutput}
-use Rattle.rules.proofs.Refusal.First.{first-hit, first-skip}
-use Rattle.rules.proofs.Session.Fair.{fair-ready, fair-rested}
-use Rattle.rules.proofs.Session.Sliced.{check-sliced}
-use Rattle.rules.proofs.Run.Slices.{on-way-start}
+use Rattle.rules.specs.Runs.Session.{checkAnswer, checkLength, checkRefusal, liveOf, rested}
+use Rattle.rules.specs.Runs.Slices.{continued, sliceLength, sliceOutput}
+use Rattle.rules.specs.Runs.Session as rules
+use Rattle.rules.specs.Runs.Slices as slices
 use Rattle.layout.specs.Layout.{inUse}
 use Rattle.tableau.specs.declared.Tableau.{Tableau}
 use Rattle.tableau.specs.Pivot.{pivotedLaid, swappedAt}

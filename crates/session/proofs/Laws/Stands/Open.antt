@@ -16,15 +16,15 @@ use Rattle.whole.specs.Values.{pairs}
 use Rattle.whole.proofs.Values.Beside.{pairs-laws}
 use Rattle.whole.proofs.Bools.{true-false}
 use Rattle.whole.proofs.Lists.Tables.{filled-each, filled-in, filled-length, replicate-at}
+use Rattle.rules.proofs.Runs.Session.Fair.{fair-opened}
 use Rattle.rules.specs.Keeping.Limits.{keeping, kept}
 use Rattle.rules.specs.Limit.{Limit, lowerPair, present, upperPair}
 use Rattle.rules.specs.Problem.{Problem, inner, mapped, problem, vars}
 use Rattle.rules.specs.Refusal.{problemRefusal}
-use Rattle.rules.specs.Session as rules
-use Rattle.rules.specs.Session.{isOn, liveOf, noneOn, opened}
+use Rattle.rules.specs.Runs.Session.{isOn, liveOf, noneOn, opened}
 use Rattle.rules.specs.Sizes.{largestLimit, mostColumns, mostVariables}
 use Rattle.rules.specs.Step.{start, startValue}
-use Rattle.rules.proofs.Session.Fair.{fair-opened}
+use Rattle.rules.specs.Runs.Session as rules
 use Rattle.amounts.specs.declared.Given.{Given}
 use Rattle.amounts.specs.Amounts.{absent, limitIn}
 use Rattle.tableau.specs.declared.Limits.{Limits}

@@ -14,15 +14,15 @@ use lib.ListN.{getD, length-set, set}
 use lib.Seq.{getD-set-other, getD-set-same}
 use Rattle.whole.specs.Numbers.{Within}
 use Rattle.whole.specs.Values.{pairs}
+use Rattle.rules.proofs.Runs.Session.Fair.{seat-settled}
+use Rattle.rules.specs.Facts.Runs.Session.{Fair}
 use Rattle.rules.specs.Keeping.Limits.{kept}
 use Rattle.rules.specs.Limit.{Limit, inset, lowerPair, present, upperPair}
 use Rattle.rules.specs.Problem.{Problem, mapped, vars}
-use Rattle.rules.specs.Session as rules
-use Rattle.rules.specs.Session.{inside, insideSeat, isOn, liveOf, allInside}
+use Rattle.rules.specs.Runs.Session.{inside, insideSeat, isOn, liveOf, allInside}
 use Rattle.rules.specs.Sizes.{largestLimit, mostColumns}
 use Rattle.rules.specs.Step.{seat}
-use Rattle.rules.specs.Facts.Session.{Fair}
-use Rattle.rules.proofs.Session.Fair.{seat-settled}
+use Rattle.rules.specs.Runs.Session as rules
 use Rattle.amounts.specs.declared.Given.{Given}
 use Rattle.amounts.specs.Amounts.{givenLower, givenUpper, limitIn}
 use Rattle.tableau.specs.declared.Limits.{Limits}

@@ -19,18 +19,18 @@ use lib.Seq.{getD-set-other, getD-set-same}
 use Rattle.whole.specs.Values.{pairs}
 use Rattle.whole.proofs.Values.Beside.{pairs-laws}
 use Rattle.whole.proofs.Bools.{true-false}
+use Rattle.rules.proofs.Refusal.First.{first-hit, first-skip}
+use Rattle.rules.proofs.Runs.Session.Fair.{fair-switched}
+use Rattle.rules.proofs.Runs.Session.Switched.{settled-one, switched-done, switched-refused}
+use Rattle.rules.specs.Facts.Runs.Session.{Fair}
 use Rattle.rules.specs.Keeping.Limits.{limitOf}
 use Rattle.rules.specs.Limit.{Limit, lowerPair, present, upperPair}
 use Rattle.rules.specs.Problem.{mapped, vars}
 use Rattle.rules.specs.Refusal.{first}
-use Rattle.rules.specs.Session as rules
-use Rattle.rules.specs.Session.{flagged, isMissing, isOn, liveOf, allInside, switchRefusal, switchTests}
+use Rattle.rules.specs.Runs.Session.{flagged, isMissing, isOn, liveOf, allInside, switchRefusal, switchTests}
 use Rattle.rules.specs.Sizes.{mostColumns, mostVariables}
 use Rattle.rules.specs.Step.{above, below, seat}
-use Rattle.rules.proofs.Refusal.First.{first-hit, first-skip}
-use Rattle.rules.specs.Facts.Session.{Fair}
-use Rattle.rules.proofs.Session.Fair.{fair-switched}
-use Rattle.rules.proofs.Session.Switched.{settled-one, switched-done, switched-refused}
+use Rattle.rules.specs.Runs.Session as rules
 use Rattle.amounts.specs.declared.Given.{Given}
 use Rattle.amounts.specs.Amounts.{absent}
 use Rattle.tableau.specs.declared.Tableau.{Tableau}

@@ -8,10 +8,10 @@ use Prim.Native.Nat.{ℕ, _*_, _+_}
 use lib.Dec.{ltb}
 use lib.IntN.{ℤ}
 use lib.ListN.{length}
-use Rattle.rules.specs.Slices.{sliceLength, sliceOutput, sliceRefusal}
-use Rattle.rules.specs.Slices as rules
 use Rattle.rules.proofs.Refusal.First.{first-hit, first-skip}
 use Rattle.rules.specs.Refusal.{first}
+use Rattle.rules.specs.Runs.Slices.{sliceLength, sliceOutput, sliceRefusal}
+use Rattle.rules.specs.Runs.Slices as rules
 use Rattle.answers.specs.Answer.{isShort}
 use Rattle.solver.specs.Spend.{manyOf, outAt, spentAt}
 use Rattle.solver.proofs.Laws.Stands.Slices.{holds-more, many-is, out-is}

@@ -15,7 +15,7 @@ use Rattle.rules.specs.Limit.{badKindWord, badLimitWord, bit}
 use Rattle.rules.specs.Problem.{inner, problem}
 use Rattle.rules.specs.Refusal.{badCoefficient, badKind, badLength, badLimit, badSize, blankRow, first, problemRefusal}
 use Rattle.rules.specs.Refusal.{problemTests, someBlank, tooFew}
-use Rattle.rules.specs.Slices.{begun}
+use Rattle.rules.specs.Runs.Slices.{begun}
 use Rattle.tableau.specs.declared.Tableau.{Tableau}
 use Rattle.tableau.specs.Start.{startTableau}
 use Rattle.solver.proofs.Laws.Refusals.{holds-start}

@@ -13,15 +13,15 @@ use native.Mathlib.Omega.{arith}
 use lib.IntN.{ℤ, pos}
 use Rattle.whole.specs.Tables.{table}
 use Rattle.whole.specs.Values.{pairs}
+use Rattle.rules.proofs.Answer.Run.{spending-crossed, spending-run}
+use Rattle.rules.proofs.Runs.Slices.{on-way-below, on-way-more, on-way-rowed, told-ended, told-moves}
 use Rattle.rules.specs.Answer.{wordsOf}
+use Rattle.rules.specs.Facts.State.{Rowed}
 use Rattle.rules.specs.Problem.{Problem, vars}
 use Rattle.rules.specs.Run.{Ended, Ending, Moves, conflict, spending}
+use Rattle.rules.specs.Runs.Slices.{Slice, continued, isAnswer, sliceAnswer, sliceLength, sliceOutput, told}
 use Rattle.rules.specs.Sizes.{mostVariables}
-use Rattle.rules.specs.Slices.{Slice, continued, isAnswer, sliceAnswer, sliceLength, sliceOutput, told}
 use Rattle.rules.specs.Step.{Outcome, cannot, evidence, same}
-use Rattle.rules.proofs.Answer.Run.{spending-crossed, spending-run}
-use Rattle.rules.proofs.Run.Slices.{on-way-below, on-way-more, on-way-rowed, told-ended, told-moves}
-use Rattle.rules.specs.Facts.State.{Rowed}
 use Rattle.tableau.specs.declared.Tableau.{Tableau}
 use Rattle.tableau.specs.declared.Variable.{Variable}
 use Rattle.tableau.specs.Stands.{Ranged, Stands}

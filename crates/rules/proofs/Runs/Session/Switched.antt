@@ -5,7 +5,7 @@
 --   flag-there, flag-elsewhere     that flag, and every other
 --   settled-one                    no variable moves but the one that was switched
 --   switched-so                    all that a switch does that is not refused: `Switches`
--- The table and `Switches` are in specs/Facts/Session.
+-- The table and `Switches` are in specs/Facts/Runs/Session.
 use mathlib.Core.Bool.{Bool, false, true}
 use mathlib.Core.Logic.{_↔_, _≢_}
 use mathlib.Core.Option.{Option, Option·none-ne-some, Option·some-ne-none, none, some}
@@ -19,14 +19,14 @@ use Rattle.whole.proofs.Tells.{tells-and, tells-lt, tells-not}
 use Rattle.whole.specs.Tells.{Tells}
 use Rattle.whole.specs.Values.{Laws, Values}
 use Rattle.rules.proofs.Refusal.First.{Tested, first-exactly, first-fine, no-test, tested}
-use Rattle.rules.proofs.Session.Fair.{seat-settled}
-use Rattle.rules.proofs.Session.Inside.{inside-exactly, inside-still, same-some}
-use Rattle.rules.specs.Keeping.Limits.{kept, limitOf}
+use Rattle.rules.proofs.Runs.Session.Fair.{seat-settled}
+use Rattle.rules.proofs.Runs.Session.Inside.{inside-exactly, inside-still, same-some}
 use Rattle.rules.specs.Facts.Refusal.{AllFine, First}
+use Rattle.rules.specs.Facts.Runs.Session.{Fair, Lands, Switches, switchTable, Sworn}
+use Rattle.rules.specs.Keeping.Limits.{kept, limitOf}
 use Rattle.rules.specs.Problem.{vars}
-use Rattle.rules.specs.Session.{Session, bySide, flagged, inside, insideSeat, isMissing, isOn, liveOf, allInside}
-use Rattle.rules.specs.Session.{switchRefusal, switchTests, switched}
-use Rattle.rules.specs.Facts.Session.{Fair, Lands, Switches, switchTable, Sworn}
+use Rattle.rules.specs.Runs.Session.{Session, bySide, flagged, inside, insideSeat, isMissing, isOn, liveOf}
+use Rattle.rules.specs.Runs.Session.{allInside, switchRefusal, switchTests, switched}
 use Rattle.rules.specs.Step.{Side, above, below, seat}
 
 -- ---- the numbers

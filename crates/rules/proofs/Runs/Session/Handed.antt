@@ -1,7 +1,7 @@
 -- What every session handed back has, beside being fair.
 --   handed-given      its problem is the one handed in
 --   sworn-opened, sworn-switched, sworn-rested, handed-sworn    as many flags as variables, and a limit that is on is
---                     there: `Sworn` of specs/Facts/Session
+--                     there: `Sworn` of specs/Facts/Runs/Session
 --   values-opened, values-switched, values-rested, values-handed    what holds of 0 and of every limit handed in holds
 --                     of every value of a nonbasic variable
 use mathlib.Core.Bool.{Bool, false, true}
@@ -18,17 +18,17 @@ use Rattle.whole.specs.Numbers.{Within}
 use Rattle.whole.specs.Values.{Laws, Values}
 use Rattle.rules.proofs.Evidence.Own.Seats.{values-after, values-start}
 use Rattle.rules.proofs.Idle.Kept.{kept-some}
-use Rattle.rules.proofs.Session.Fair.{came-from, handed-fair, rested-after, insideOf}
-use Rattle.rules.proofs.Session.Inside.{lands}
-use Rattle.rules.proofs.Session.Opened.{opened-so}
-use Rattle.rules.proofs.Session.Switched.{flag-elsewhere, given-flagged, state-flagged, switch-fine}
-use Rattle.rules.proofs.Session.Switched.{switched-done, switched-refused}
+use Rattle.rules.proofs.Runs.Session.Fair.{came-from, handed-fair, rested-after, insideOf}
+use Rattle.rules.proofs.Runs.Session.Inside.{lands}
+use Rattle.rules.proofs.Runs.Session.Opened.{opened-so}
+use Rattle.rules.proofs.Runs.Session.Switched.{flag-elsewhere, given-flagged, state-flagged, switch-fine}
+use Rattle.rules.proofs.Runs.Session.Switched.{switched-done, switched-refused}
+use Rattle.rules.specs.Facts.Runs.Session.{Fair, Lands, LimitsAre, Sworn, ValuesAre, stays-crossed, stays-within}
+use Rattle.rules.specs.Facts.Runs.Session.{to-lower, to-upper}
 use Rattle.rules.specs.Keeping.Limits.{keeping, limitOf}
 use Rattle.rules.specs.Problem.{Problem, vars}
-use Rattle.rules.specs.Session.{Handed, Session, flagged, from-check, from-opening, from-switch, isOn}
-use Rattle.rules.specs.Session.{liveOf, noneOn, opened, rested, allInside, switchRefusal, switched}
-use Rattle.rules.specs.Facts.Session.{Fair, Lands, LimitsAre, Sworn, ValuesAre, stays-crossed, stays-within}
-use Rattle.rules.specs.Facts.Session.{to-lower, to-upper}
+use Rattle.rules.specs.Runs.Session.{Handed, Session, flagged, from-check, from-opening, from-switch, isOn}
+use Rattle.rules.specs.Runs.Session.{liveOf, noneOn, opened, rested, allInside, switchRefusal, switched}
 use Rattle.rules.specs.Sizes.{largestCoefficient}
 use Rattle.rules.specs.Step.{Side, above, below}
 

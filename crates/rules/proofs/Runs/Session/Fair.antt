@@ -1,5 +1,5 @@
--- Every session that opening or an operation handed back is `Fair` (specs/Facts/Session): a check may start from it,
--- whatever is on.
+-- Every session that opening or an operation handed back is `Fair` (specs/Facts/Runs/Session): a check may start from
+-- it, whatever is on.
 --   rows-kept, numbers-kept    rows and numbers do not ask which limits count
 --   Alike, rowed-alike, kept-alike    the same tableau, and the same variables basic
 --   fair-ready                 from a session of which this is known a check may start
@@ -18,23 +18,23 @@ use Rattle.whole.specs.Numbers.{Within}
 use Rattle.whole.specs.Tables.{table, tableFrom}
 use Rattle.whole.specs.Values.{Laws, Values}
 use Rattle.rules.proofs.Answer.Run.{ending-crossed, ending-run}
-use Rattle.rules.proofs.Termination.Ends.{ends, ready-start}
 use Rattle.rules.proofs.Run.Numbers.{kept-after, kept-start}
-use Rattle.rules.proofs.Run.Steady.{rowed-after, sound-after}
-use Rattle.rules.proofs.Session.Inside.{inside-high, inside-low}
-use Rattle.rules.proofs.Session.Opened.{opened-so}
-use Rattle.rules.proofs.Run.State.{housed-of, ready-sound}
 use Rattle.rules.proofs.Run.Start.{no-conflict}
+use Rattle.rules.proofs.Run.State.{housed-of, ready-sound}
+use Rattle.rules.proofs.Run.Steady.{rowed-after, sound-after}
+use Rattle.rules.proofs.Runs.Session.Inside.{inside-high, inside-low}
+use Rattle.rules.proofs.Runs.Session.Opened.{opened-so}
+use Rattle.rules.proofs.Termination.Ends.{ends, ready-start}
+use Rattle.rules.specs.Facts.Runs.Session.{Fair}
+use Rattle.rules.specs.Facts.State.{Housed, Kept, Ready, Rowed, howManySeated}
 use Rattle.rules.specs.Keeping.Limits.{keeping, kept}
 use Rattle.rules.specs.Problem.{Problem, vars}
 use Rattle.rules.specs.Run.{Ends, after, conflict}
-use Rattle.rules.specs.Session.{Handed, Session, withState, flagged, from-check, from-opening, from-switch}
-use Rattle.rules.specs.Session.{inside}
-use Rattle.rules.specs.Session.{insideSeat, isOn, liveOf, noneOn, opened, rested, allInside, switchRefusal}
-use Rattle.rules.specs.Session.{switched}
-use Rattle.rules.specs.Facts.Session.{Fair}
+use Rattle.rules.specs.Runs.Session.{Handed, Session, withState, flagged, from-check, from-opening, from-switch}
+use Rattle.rules.specs.Runs.Session.{inside}
+use Rattle.rules.specs.Runs.Session.{insideSeat, isOn, liveOf, noneOn, opened, rested, allInside, switchRefusal}
+use Rattle.rules.specs.Runs.Session.{switched}
 use Rattle.rules.specs.Sizes.{largestCoefficient}
-use Rattle.rules.specs.Facts.State.{Housed, Kept, Ready, Rowed, howManySeated}
 use Rattle.rules.specs.Step.{Side, State, above, below, seat}
 
 module _ {X : Type 0} (𝓥 : Values X) where

@@ -11,7 +11,7 @@
 --   on-way-start, on-way-more    every state that is handed back is on the way of its run
 --   on-way-rowed, on-way-below     .. and what follows
 --   sliced-words, cut-answer       of words
--- `cutAt`, `Sliced` and `OnWay` are in specs/Facts/Slices.
+-- `cutAt`, `Sliced` and `OnWay` are in specs/Facts/Runs/Slices.
 use mathlib.Core.List.{List, [], _∷_}
 use mathlib.Core.Option.{Option, none, some}
 use mathlib.Core.Path.{ap, refl, subst, sym, _∙_, _≡_}
@@ -23,18 +23,18 @@ use lib.IntN.{ℤ}
 use Rattle.whole.proofs.Values.Beside.{pairs-laws}
 use Rattle.whole.specs.Values.{Values, pairs}
 use Rattle.rules.proofs.Answer.Run.{answer-crossed, answer-run, ending-crossed, spending-crossed, spending-run}
+use Rattle.rules.proofs.Run.Once.{next-after, run-from, run-on}
+use Rattle.rules.proofs.Run.Steady.{rowed-after}
 use Rattle.rules.proofs.Termination.Bound.{bound-some}
 use Rattle.rules.proofs.Termination.Ends.{ready-start}
-use Rattle.rules.proofs.Run.Steady.{rowed-after}
-use Rattle.rules.proofs.Run.Once.{next-after, run-from, run-on}
 use Rattle.rules.specs.Answer.{answer, answerFrom, wordsOf}
-use Rattle.rules.specs.Facts.Slices.{OnWay, Sliced, cut, cutAt, firstSlice, allPivots}
+use Rattle.rules.specs.Facts.Run.{TheRun, ended}
+use Rattle.rules.specs.Facts.Runs.Slices.{OnWay, Sliced, cut, cutAt, firstSlice, allPivots}
+use Rattle.rules.specs.Facts.State.{Ready, Rowed}
 use Rattle.rules.specs.Problem.{Problem, inner, problem, word}
 use Rattle.rules.specs.Run.{Ended, Ending, Ends, Moves, after, bound, conflict, run, spending}
-use Rattle.rules.specs.Slices.{Slice, begun, continued, continuedBy, sliceAnswer, told}
-use Rattle.rules.specs.Facts.State.{Ready, Rowed}
+use Rattle.rules.specs.Runs.Slices.{Slice, begun, continued, continuedBy, sliceAnswer, told}
 use Rattle.rules.specs.Step.{Outcome, State, can, cannot, goes, range, start}
-use Rattle.rules.specs.Facts.Run.{TheRun, ended}
 
 module _ {X : Type 0} (𝓥 : Values X) (P : Problem X) (s : State X) where
   module _ (k : ℕ) (E : Ends 𝓥 P s k) where

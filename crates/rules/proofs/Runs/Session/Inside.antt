@@ -1,5 +1,5 @@
 -- Where a nonbasic variable goes after a switch, in plain words.
---   inside-exactly     `inside` takes x to y exactly where `Lands` of specs/Facts/Session says so
+--   inside-exactly     `inside` takes x to y exactly where `Lands` of specs/Facts/Runs/Session says so
 --   inside-low, inside-high    so it is within limits that do not conflict
 --   inside-still       and where it was within them, it stays
 use mathlib.Core.Bool.{Bool, cond, false, true}
@@ -10,9 +10,9 @@ use Rattle.whole.proofs.Bools.{true-false}
 use Rattle.whole.proofs.Values.Laws.{le-refl, lt-irrefl, lt-le-trans}
 use Rattle.whole.specs.Values.{Laws, Le, Lt, Values}
 use Rattle.rules.proofs.Run.Start.{uncrossed}
+use Rattle.rules.specs.Facts.Runs.Session.{Lands, stays-crossed, stays-within, to-lower, to-upper}
 use Rattle.rules.specs.Run.{crossed}
-use Rattle.rules.specs.Session.{inside}
-use Rattle.rules.specs.Facts.Session.{Lands, stays-crossed, stays-within, to-lower, to-upper}
+use Rattle.rules.specs.Runs.Session.{inside}
 
 module _ {X : Type 0} (𝓥 : Values X) where
   pub same-some : {x y : X} → some x ≡ some y → x ≡ y

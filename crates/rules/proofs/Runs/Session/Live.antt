@@ -20,16 +20,16 @@ use Rattle.whole.proofs.Lists.Tables.{table-at, table-length}
 use Rattle.rules.proofs.Evidence.Checked.{checked-accepted}
 use Rattle.rules.proofs.Evidence.Own.Words.{Judged}
 use Rattle.rules.proofs.Refusal.Exactly.{accepted-exactly}
-use Rattle.rules.proofs.Session.Like.{Agree, shown-alike}
+use Rattle.rules.proofs.Runs.Session.Like.{Agree, shown-alike}
 use Rattle.rules.proofs.Tableau.Units.{ge-false, lt-true}
 use Rattle.rules.specs.Evidence.{checked}
+use Rattle.rules.specs.Facts.Evidence.{Shown}
 use Rattle.rules.specs.Keeping.Limits.{keeping, kept}
-use Rattle.rules.specs.Limit.{Limit, bit, hasLower, hasUpper, present, strictLower, strictUpper}
 use Rattle.rules.specs.Keeping.Words.{kindOf, liveKind, liveLimit, liveWord, liveWords, bitValue}
+use Rattle.rules.specs.Limit.{Limit, bit, hasLower, hasUpper, present, strictLower, strictUpper}
 use Rattle.rules.specs.Problem.{Problem, coefficientWord, kind, kindPlace, lowerWord, mOf, nOf, problem}
 use Rattle.rules.specs.Problem.{upperWord, varsOf, word}
 use Rattle.rules.specs.Refusal.{Accepted, FineLimit, problemRefusal}
-use Rattle.rules.specs.Facts.Evidence.{Shown}
 use Rattle.rules.specs.Sizes.{mostRows}
 use Rattle.rules.specs.Step.{Side, above, below}
 

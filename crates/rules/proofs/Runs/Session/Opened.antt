@@ -1,5 +1,5 @@
 -- What opening hands back: every limit off, every problem variable nonbasic at 0, every row's variable basic, over 1.
---   opened-so      `Opens` of specs/Facts/Session
+--   opened-so      `Opens` of specs/Facts/Runs/Session
 use mathlib.Core.Bool.{false}
 use mathlib.Core.Path.{refl, _∙_, _≡_}
 use Prim.Native.Nat.{ℕ}
@@ -8,10 +8,10 @@ use Rattle.whole.proofs.Lists.Tables.{replicate-at}
 use Rattle.whole.specs.Values.{Values}
 use Rattle.rules.proofs.Run.Start.{at-start, common-one, seat-start}
 use Rattle.rules.proofs.Tableau.Units.{ge-false, lt-true}
+use Rattle.rules.specs.Facts.Runs.Session.{Opens}
 use Rattle.rules.specs.Keeping.Limits.{keeping, kept}
 use Rattle.rules.specs.Problem.{Problem, vars}
-use Rattle.rules.specs.Session.{isOn, noneOn, opened}
-use Rattle.rules.specs.Facts.Session.{Opens}
+use Rattle.rules.specs.Runs.Session.{isOn, noneOn, opened}
 use Rattle.rules.specs.Step.{Side, above, below, startEntry, startSeat, startValue}
 
 module _ {X : Type 0} (𝓥 : Values X) (P : Problem X) where

@@ -7,7 +7,7 @@
 --                                  are those of the end of the run
 --   rested-checked                 the state that is kept is the one at the run's end
 --   count-checked                  word 1 is below the bound, conflict or not
---   check-exactly                  7 exactly where the output is too short, else 0 (`checkTable`, specs/Facts/Session)
+--   check-exactly                  7 exactly where the output is too short, else 0 (`checkTable` of Facts/Runs/Session)
 --   output-length, output-past     an output keeps its length and the words past the answer
 --   check-only                     any two results that a check may have are equal
 use mathlib.Core.List.{List, _∷_, _++_}
@@ -23,28 +23,28 @@ use Rattle.whole.proofs.Values.Beside.{pairs-laws}
 use Rattle.whole.proofs.Tells.{tells-lt}
 use Rattle.whole.specs.Tables.{table}
 use Rattle.whole.specs.Values.{pairs}
+use Rattle.rules.proofs.Answer.OutOfRange.{range-verdict}
 use Rattle.rules.proofs.Answer.Run.{answer-crossed, answer-run}
-use Rattle.rules.proofs.Termination.Bound.{below-bound, bound-some}
+use Rattle.rules.proofs.Answer.Shape.{shaped}
 use Rattle.rules.proofs.Demands.{can-from, cannot-from}
 use Rattle.rules.proofs.Refusal.First.{first-exactly, no-test, tested}
-use Rattle.rules.proofs.Run.Steady.{twice-never}
-use Rattle.rules.proofs.Answer.OutOfRange.{range-verdict}
-use Rattle.rules.proofs.Session.Fair.{fair-ready, rested-crossed, rested-run}
-use Rattle.rules.proofs.Answer.Shape.{shaped}
-use Rattle.rules.proofs.Run.State.{ready-sound}
 use Rattle.rules.proofs.Run.Start.{no-conflict}
-use Rattle.rules.specs.Facts.Answer.{Shaped}
+use Rattle.rules.proofs.Run.State.{ready-sound}
+use Rattle.rules.proofs.Run.Steady.{twice-never}
+use Rattle.rules.proofs.Runs.Session.Fair.{fair-ready, rested-crossed, rested-run}
+use Rattle.rules.proofs.Termination.Bound.{below-bound, bound-some}
 use Rattle.rules.specs.Evidence.{Meets, Unmet, denominatorOf, pairPart, verdictOf}
-use Rattle.rules.specs.Facts.Refusal.{First}
-use Rattle.rules.specs.Problem.{Problem, vars, word}
+use Rattle.rules.specs.Facts.Answer.{Shaped}
 use Rattle.rules.specs.Facts.Range.{TooLarge}
-use Rattle.rules.specs.Run.{Runs, after, bound, conflict}
-use Rattle.rules.specs.Session.{Session, withState, checkAnswer, checkLength, checkOutput, checkRefusal, liveOf}
-use Rattle.rules.specs.Session.{rested, restedBy}
-use Rattle.rules.specs.Facts.Session.{Fair, checkTable}
-use Rattle.rules.specs.Facts.State.{Apart, Ready, Sound}
-use Rattle.rules.specs.Step.{State, same}
+use Rattle.rules.specs.Facts.Refusal.{First}
 use Rattle.rules.specs.Facts.Run.{TheRun}
+use Rattle.rules.specs.Facts.Runs.Session.{Fair, checkTable}
+use Rattle.rules.specs.Facts.State.{Apart, Ready, Sound}
+use Rattle.rules.specs.Problem.{Problem, vars, word}
+use Rattle.rules.specs.Run.{Runs, after, bound, conflict}
+use Rattle.rules.specs.Runs.Session.{Session, withState, checkAnswer, checkLength, checkOutput, checkRefusal}
+use Rattle.rules.specs.Runs.Session.{liveOf, rested, restedBy}
+use Rattle.rules.specs.Step.{State, same}
 
 module _ (A : Session (ℤ × ℤ)) (F : Fair pairs A) where
   abbrev P : Problem (ℤ × ℤ)

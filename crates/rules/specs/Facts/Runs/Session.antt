@@ -16,13 +16,13 @@ use Prim.Native.Nat.{ℕ, _<_, _≤_}
 use lib.IntN.{pos, ℤ}
 use lib.ListN.{length}
 use Rattle.whole.specs.Values.{Le, Lt, Values}
+use Rattle.rules.specs.Facts.Refusal.{Line, lineOf}
+use Rattle.rules.specs.Facts.State.{Housed, Kept, Rowed}
 use Rattle.rules.specs.Keeping.Limits.{keeping, limitOf}
 use Rattle.rules.specs.Limit.{Limit}
-use Rattle.rules.specs.Facts.Refusal.{Line, lineOf}
 use Rattle.rules.specs.Problem.{Problem, problem, vars}
 use Rattle.rules.specs.Run.{crossed}
-use Rattle.rules.specs.Session.{Session, checkLength, isOn, liveOf}
-use Rattle.rules.specs.Facts.State.{Housed, Kept, Rowed}
+use Rattle.rules.specs.Runs.Session.{Session, checkLength, isOn, liveOf}
 use Rattle.rules.specs.Step.{Side, common, seat, startEntry}
 use Rattle.rules.specs.Tableau.{entry}
 

@@ -10,10 +10,10 @@ use Prim.Native.Nat.{min, ℕ, _+_, _<_, _≤_}
 use lib.IntN.{pos, ℤ}
 use Rattle.whole.specs.Values.{Values, pairs}
 use Rattle.rules.specs.Answer.{answerFrom}
+use Rattle.rules.specs.Facts.State.{Ready}
 use Rattle.rules.specs.Problem.{Problem, word}
 use Rattle.rules.specs.Run.{after, bound}
-use Rattle.rules.specs.Slices.{Slice, continued, sliceAnswer}
-use Rattle.rules.specs.Facts.State.{Ready}
+use Rattle.rules.specs.Runs.Slices.{Slice, continued, sliceAnswer}
 use Rattle.rules.specs.Step.{State}
 
 -- all pivots of the numbers together

@@ -10,20 +10,20 @@ use lib.IntN.{ℤ}
 use Rattle.whole.proofs.Values.Beside.{pairs-laws}
 use Rattle.whole.specs.Values.{Laws, Values, pairs}
 use Rattle.rules.proofs.Answer.Run.{ending-crossed, ending-run, spending-crossed, spending-run}
+use Rattle.rules.proofs.Run.Once.{run-is}
+use Rattle.rules.proofs.Run.Start.{no-conflict}
+use Rattle.rules.proofs.Run.State.{ready-sound}
+use Rattle.rules.proofs.Runs.Session.Fair.{fair-ready}
+use Rattle.rules.proofs.Runs.Slices.{answer-by, sliced}
 use Rattle.rules.proofs.Termination.Bound.{below-bound}
 use Rattle.rules.proofs.Termination.Ends.{ends}
-use Rattle.rules.proofs.Run.Once.{run-is}
-use Rattle.rules.proofs.Session.Fair.{fair-ready}
-use Rattle.rules.proofs.Run.Slices.{answer-by, sliced}
-use Rattle.rules.proofs.Run.State.{ready-sound}
-use Rattle.rules.proofs.Run.Start.{no-conflict}
-use Rattle.rules.specs.Facts.Slices.{Sliced, firstSlice}
+use Rattle.rules.specs.Facts.Runs.Session.{Fair}
+use Rattle.rules.specs.Facts.Runs.Slices.{Sliced, firstSlice}
+use Rattle.rules.specs.Facts.State.{Ready}
 use Rattle.rules.specs.Problem.{Problem}
 use Rattle.rules.specs.Run.{bound, conflict, ending, spending}
-use Rattle.rules.specs.Session.{Session, checkAnswer, liveOf, rested}
-use Rattle.rules.specs.Facts.Session.{Fair}
-use Rattle.rules.specs.Slices.{continued, continuedBy, sliceAnswer}
-use Rattle.rules.specs.Facts.State.{Ready}
+use Rattle.rules.specs.Runs.Session.{Session, checkAnswer, liveOf, rested}
+use Rattle.rules.specs.Runs.Slices.{continued, continuedBy, sliceAnswer}
 use Rattle.rules.specs.Step.{State}
 
 spending-enough : {X : Type 0} (𝓥 : Values X) → Laws 𝓥 → (P : Problem X) (s : State X) → Ready 𝓥 P s → (b : ℕ) →

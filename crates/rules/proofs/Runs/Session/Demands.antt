@@ -17,35 +17,35 @@ use lib.IntN.{pos, ℤ}
 use Rattle.whole.proofs.Values.Beside.{pairs-laws}
 use Rattle.whole.specs.Numbers.{Within}
 use Rattle.whole.specs.Values.{pairs}
-use Rattle.rules.proofs.Evidence.Own.Accepted.{LimitSized, answer-judged, high-modest, low-modest}
 use Rattle.rules.proofs.Evidence.Means.{one-two}
+use Rattle.rules.proofs.Evidence.Own.Accepted.{LimitSized, answer-judged, high-modest, low-modest}
+use Rattle.rules.proofs.Evidence.Own.Words.{Judged}
 use Rattle.rules.proofs.Evidence.Satisfied.{pairs-satisfied, satisfied, unmet-none}
 use Rattle.rules.proofs.Evidence.Separate.{unsatisfied-fractions}
-use Rattle.rules.proofs.Evidence.Own.Words.{Judged}
 use Rattle.rules.proofs.Idle.Enough.{named-clash-shown}
 use Rattle.rules.proofs.Idle.Kept.{keeping-inner, kept-some}
 use Rattle.rules.proofs.Idle.Needed.{no-blanks, nothing-idle-from}
 use Rattle.rules.proofs.Refusal.Accepted.{coefficient-within, lower-within, n-few, upper-within}
-use Rattle.rules.proofs.Session.Checked.{can-checked, cannot-checked}
-use Rattle.rules.proofs.Session.Fair.{fair-ready, handed-fair}
-use Rattle.rules.proofs.Session.Handed.{handed-given, values-handed}
-use Rattle.rules.proofs.Session.Live.{live-checked}
+use Rattle.rules.proofs.Runs.Session.Checked.{can-checked, cannot-checked}
+use Rattle.rules.proofs.Runs.Session.Fair.{fair-ready, handed-fair}
+use Rattle.rules.proofs.Runs.Session.Handed.{handed-given, values-handed}
+use Rattle.rules.proofs.Runs.Session.Live.{live-checked}
 use Rattle.rules.specs.Answer.{answerFrom}
-use Rattle.rules.specs.Facts.Answer.{Decided}
 use Rattle.rules.specs.Evidence.{Satisfiable, Unmet, Unsatisfied, checked, denominatorOf, lowerPart}
 use Rattle.rules.specs.Evidence.{Meets, pairPart, upperPart, verdictOf}
+use Rattle.rules.specs.Facts.Answer.{Decided}
+use Rattle.rules.specs.Facts.Evidence.{MetSmall, Shown}
 use Rattle.rules.specs.Facts.Fractions.{Fraction, FractionsMeet}
+use Rattle.rules.specs.Facts.Runs.Session.{Fair, LimitsAre, liveProblem}
+use Rattle.rules.specs.Facts.State.{Kept, Ready}
 use Rattle.rules.specs.Keeping.Idle.{NoBlank, multiplier, named, without}
 use Rattle.rules.specs.Keeping.Limits.{keeping, limitOf}
-use Rattle.rules.specs.Limit.{Limit}
 use Rattle.rules.specs.Keeping.Words.{liveWords}
+use Rattle.rules.specs.Limit.{Limit}
 use Rattle.rules.specs.Problem.{Problem, inner, problem, vars}
 use Rattle.rules.specs.Refusal.{Accepted}
-use Rattle.rules.specs.Session.{Handed, Session, checkAnswer, isOn, liveOf}
-use Rattle.rules.specs.Facts.Session.{Fair, LimitsAre, liveProblem}
-use Rattle.rules.specs.Facts.Evidence.{MetSmall, Shown}
+use Rattle.rules.specs.Runs.Session.{Handed, Session, checkAnswer, isOn, liveOf}
 use Rattle.rules.specs.Sizes.{largestCoefficient, largestLimit, mostColumns, mostRows}
-use Rattle.rules.specs.Facts.State.{Kept, Ready}
 use Rattle.rules.specs.Step.{Side, above, below, seat}
 
 -- ---- of a session whose problem is given with its marks
