@@ -4,6 +4,7 @@
 --   Evidence  strangers' answers
 --   Slices    runs in slices
 --   Sessions  sessions
+--   Replays   traces
 --   Times     cases J to L, strict rows
 --   All       limit problems, evidence and time rows as one list
 --   Program   what is printed on them
@@ -13,6 +14,7 @@ pub mod Limits
 pub mod Evidence
 pub mod Slices
 pub mod Sessions
+pub mod Replays
 pub mod Times
 pub mod All
 pub mod Program

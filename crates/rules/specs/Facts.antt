@@ -7,7 +7,7 @@
 --   Range      in range, and out of range
 --   Run        that the answer is the run
 --   Answer     what every answer is
---   Runs       runs that are cut, and limits switched between them
+--   Runs       runs that are cut, switched between, and replayed
 --   Fractions  fractions over denominators of their own
 --   Evidence   the checker, sentence by sentence, and what an accepted answer means
 pub mod Refusal

@@ -10,7 +10,7 @@
 --   Run       the steps one after the other
 --   Answer    the words of an answer
 --   Plain     the run where no limit is strict
---   Runs      runs that are cut, and limits switched between them
+--   Runs      runs that are cut, switched between, and replayed
 --   Evidence  the checker
 --   Keeping   a problem with some of its limits alone
 --   Times     time rows

@@ -1,5 +1,7 @@
--- Runs that are cut, and limits switched between them.
+-- Runs that are cut, switched between, and replayed.
 --   Slices   the run in slices
 --   Session  limits switched on and off
+--   Replay   another solver's trace
 pub mod Slices
 pub mod Session
+pub mod Replay

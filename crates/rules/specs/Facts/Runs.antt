@@ -1,5 +1,7 @@
--- Runs that are cut, and limits switched between them, in plain facts.
+-- Runs that are cut, switched between, and replayed, in plain facts.
 --   Slices   a run that is cut anywhere
 --   Session  opening, switches and checks
+--   Replay   what each answer about a trace says
 pub mod Slices
 pub mod Session
+pub mod Replay
