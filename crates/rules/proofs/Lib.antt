@@ -8,7 +8,7 @@
 --   Evidence     the checker: what it accepts, what that means, and that it accepts the answers of the run (Own)
 --   Idle         nothing is idle in a "cannot"
 --   Plain        where no limit is strict, the run over pairs is the run over whole numbers
---   Runs         runs that are cut, and limits switched between them
+--   Runs         runs that are cut, switched between, and replayed
 --   Times        time rows: refusals exactly, times or a bad cycle and never both, and what each means
 --   Program      the program's bytes and text
 --   Bundle       a day's file: refusals exactly, both round trips over bytes, its bodies, its text

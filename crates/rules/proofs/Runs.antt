@@ -1,5 +1,7 @@
--- Runs that are cut, and limits switched between them.
+-- Runs that are cut, switched between, and replayed.
 --   Slices   a run in slices is the run
 --   Session  sessions: what holds of each handed back, what an operation changes, the demands of each check
+--   Replay   traces: what each answer about one means, exactly
 pub mod Slices
 pub mod Session
+pub mod Replay

@@ -2,8 +2,10 @@
 --   All       limit problems, evidence and time rows
 --   Slices    runs in slices
 --   Sessions  sessions
+--   Replays   traces
 --   Bundle    files of many problems
 pub mod All
 pub mod Slices
 pub mod Sessions
+pub mod Replays
 pub mod Bundle

@@ -2,6 +2,8 @@
 --   Slices   the run in slices
 --   Session  limits switched on and off
 --   Replay   another solver's trace
+--   Trace    a problem's own trace
 pub mod Slices
 pub mod Session
 pub mod Replay
+pub mod Trace

@@ -5,6 +5,7 @@
 --   spending-run, spending-crossed            what a run with pivots to spend comes to, of any values
 --   ending-run, ending-crossed                .. and a check
 --   answer-run                                the one count, and the answer's words: `TheRun` of specs/Facts/Run
+--   words-count                               word 1 is the count of pivots
 --   answer-crossed                            the words where limits cross
 use mathlib.Core.Bool.{false}
 use mathlib.Core.List.{_++_, _∷_}
@@ -99,7 +100,7 @@ module _ {X : Type 0} (𝓥 : Values X) where
 -- ---- the answer
 
 -- word 1 is the count, whatever the ending
-words-count : (P : Problem (ℤ × ℤ)) (e : Ending (ℤ × ℤ)) → word (wordsOf P e) 1 ≡ pos (e .pivots)
+pub words-count : (P : Problem (ℤ × ℤ)) (e : Ending (ℤ × ℤ)) → word (wordsOf P e) 1 ≡ pos (e .pivots)
 unfolding wordsOf
 words-count P e = go (e .how)
   where

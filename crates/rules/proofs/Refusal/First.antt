@@ -5,12 +5,12 @@
 --   first-exactly    `first` gives k exactly where `First` of the table says k
 --   first-fine       `first` gives 0 exactly where every line is fine
 --   first-hit, first-skip    one test at a time
---   first-kept, first-passed, Upto    a list in two parts: the first part has a number, or none
+--   first-kept, first-front, first-passed, Upto    a list in two parts: the first part has a number, or none
 use mathlib.Core.Bool.{Bool, false, true}
 use mathlib.Core.List.{List, [], _++_, _∷_}
 use mathlib.Core.Logic.{inl, inr, _↔_, _≢_}
 use mathlib.Core.Path.{refl, sym, _∙_, _≡_}
-use Prim.Native.Nat.{ℕ, suc, _<_, _≤_}
+use Prim.Native.Nat.{ℕ, suc, zero, _<_, _≤_}
 use native.Mathlib.Omega.{arith}
 use Rattle.whole.proofs.Tells.{tells-false, tells-true}
 use Rattle.rules.specs.Facts.Refusal.{AllFine, First, Line, Tests}
@@ -31,6 +31,14 @@ unfolding first
 first-kept [] us k e = let z : ⊥ = omega arith in absurd z
 first-kept ((true, j) ∷ ts) us k e = e
 first-kept ((false, j) ∷ ts) us k e = first-kept ts us k e
+
+-- none of all, so none of the first ones
+pub first-front : (ts us : List (Bool × ℕ)) → first (ts ++ us) ≡ 0 → first ts ≡ 0
+first-front ts us e = go (first ts) refl
+  where
+    go : (k : ℕ) → first ts ≡ k → first ts ≡ 0
+    go zero q = q
+    go (suc k) q = let z : suc k ≡ 0 = sym (first-kept ts us k q) ∙ e in let y : ⊥ = omega (arith, z) in absurd y
 
 -- every number is from 1 to n
 abbrev pub Upto : ℕ → List (Bool × ℕ) → Type 0

@@ -10,6 +10,7 @@
 --   slices-only              once the numbers reach the end, the state is the same
 --   on-way-start, on-way-more    every state that is handed back is on the way of its run
 --   on-way-rowed, on-way-below     .. and what follows
+--   on-way-apart             some pivots on, no limits cross
 --   sliced-words, cut-answer       of words
 -- `cutAt`, `Sliced` and `OnWay` are in specs/Facts/Runs/Slices.
 use mathlib.Core.List.{List, [], _∷_}
@@ -19,7 +20,7 @@ use Prim.Native.Nat.{min, suc, zero, ℕ, _+_, _-_, _<_, _≤_}
 use native.Mathlib.Decide.{decLt}
 use native.Mathlib.Nat.{add-zero}
 use native.Mathlib.Omega.{arith}
-use lib.IntN.{ℤ}
+use lib.IntN.{pos, ℤ}
 use Rattle.whole.proofs.Values.Beside.{pairs-laws}
 use Rattle.whole.specs.Values.{Values, pairs}
 use Rattle.rules.proofs.Answer.Run.{answer-crossed, answer-run, ending-crossed, spending-crossed, spending-run}
@@ -202,6 +203,11 @@ module _ (S : Slice (ℤ × ℤ)) (W : OnWay S) where
 
   pub on-way-below : S .count < bound P
   on-way-below = let a = W .reached in let b = W .run .below in omega arith
+
+  pub on-way-apart : (v : ℕ) → conflict pairs P ≡ some v → S .count ≡ 0
+  on-way-apart v e =
+      let none-made : pos 0 ≡ pos (W .run .count) = sym (ap (λ l. word l 1) (answer-crossed P (W .from) v e))
+      ∙ W .run .word-1 in let z : 0 ≡ W .run .count = cc in let h = W .reached in omega arith
 
   continued-is : (b : ℕ) → continued pairs S b ≡ way (min (W .run .count) (S .count + b))
   continued-is b = ap (λ A. continued pairs A b) slice-is ∙ W .run .moves b (S .count) (W .reached)

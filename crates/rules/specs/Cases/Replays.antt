@@ -1,12 +1,14 @@
--- docs/formats/trace.md: problems with traces, and what is answered.
+-- docs/formats/trace.md: problems with traces, and what is answered; and problems with their own traces.
 use mathlib.Core.List.{List, [], _∷_, _++_, map}
 use mathlib.Core.Path.{_≡_}
 use Prim.Native.Nat.{ℕ}
 use lib.IntN.{ℤ, pos}
+use lib.ListN.{length, replicate}
 use Rattle.rules.specs.Cases.Expected.{minus}
 use Rattle.rules.specs.Cases.Limits.{caseA, caseG, caseH, caseInside, lowerOnly, zeros}
 use Rattle.rules.specs.Runs.Replay.{Replayed, accepted, early, entering-word, leaving-word, mask-word, past}
 use Rattle.rules.specs.Runs.Replay.{replayRefusal, replayedWords, wrong}
+use Rattle.rules.specs.Runs.Trace.{traceOutput, traceRefusal}
 
 -- words, a trace, the refusal, and the answer where there is none
 pub record ReplayCase : Type 0 where
@@ -63,4 +65,45 @@ replayCases =
     ∷ record { words = caseH .words; trace = 0 ∷ []; refused = 51; answer = accepted }
     ∷ record { words = caseA .words; trace = traceA ++ (3 ∷ 1 ∷ []); refused = 51; answer = accepted }
     ∷ record { words = pos 1 ∷ []; trace = 0 ∷ []; refused = 1; answer = accepted }
+    ∷ []
+
+-- ---- a problem's own trace
+
+-- words, what stands in the room before, the refusal, and what stands there afterwards
+pub record TraceCase : Type 0 where
+  pub words : List ℤ
+  pub before : List ℕ
+  pub refused : ℕ
+  pub output : List ℕ
+
+abbrev traced : List ℤ → List ℕ → List ℕ → TraceCase
+traced ws before after = record { words = ws; before = before; refused = 0; output = after }
+
+abbrev kept : List ℤ → List ℕ → ℕ → TraceCase
+kept ws before k = record { words = ws; before = before; refused = k; output = before }
+
+abbrev pub TracesRight : List TraceCase → Type 0
+TracesRight cs =
+    map {B = ℕ × List ℕ} (λ c. (
+      traceRefusal (c .words) (length (c .before)),
+      traceOutput (traceRefusal (c .words) (length (c .before))) (c .words) (c .before),
+    )) cs
+    ≡ map {B = ℕ × List ℕ} (λ c. (c .refused, c .output)) cs
+
+unfoldable pub traceCases : List TraceCase
+traceCases =
+    -- room to spare, just enough, one word too few
+    traced (caseA .words) (replicate 8 9) (traceA ++ (9 ∷ 9 ∷ []))
+    ∷ traced (caseA .words) (replicate 6 9) traceA
+    ∷ kept (caseA .words) (replicate 5 9) 7
+    -- a strict limit
+    ∷ traced (caseInside .words) (replicate 3 9) (2 ∷ 0 ∷ 1 ∷ [])
+    -- limits that cross, and a run of no pivots
+    ∷ traced (caseG .words) [] []
+    ∷ traced (caseH .words) (9 ∷ []) (9 ∷ [])
+    -- out of range, behind one pivot
+    ∷ traced wideRows (replicate 3 9) (3 ∷ 0 ∷ 49 ∷ [])
+    ∷ kept wideRows (replicate 2 9) 7
+    -- no problem, whatever the room
+    ∷ kept (pos 1 ∷ []) [] 1
     ∷ []

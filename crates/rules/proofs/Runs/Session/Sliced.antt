@@ -26,7 +26,7 @@ use Rattle.rules.specs.Runs.Session.{Session, checkAnswer, liveOf, reste
 use Rattle.rules.specs.Runs.Slices.{continued, continuedBy, sliceAnswer}
 use Rattle.rules.specs.Step.{State}
 
-spending-enough : {X : Type 0} (𝓥 : Values X) → Laws 𝓥 → (P : Problem X) (s : State X) → Ready 𝓥 P s → (b : ℕ) →
+pub spending-enough : {X : Type 0} (𝓥 : Values X) → Laws 𝓥 → (P : Problem X) (s : State X) → Ready 𝓥 P s → (b : ℕ) →
     bound P ≤ b → spending 𝓥 b P s 0 ≡ ending 𝓥 P s
 spending-enough 𝓥 law P s R b h = go (conflict 𝓥 P) refl
   where

@@ -1,37 +1,31 @@
 -- docs/RULES.md, "Replaying a trace": what each answer says, in plain words. The run has c pivots, and `own i` are the
 -- words of its step i; the trace has so many steps, and `f i` are the words of its step i.
---   runStep      the words of step i of the run from a state
---   RunStep      .. are: the lowest basic variable outside of its limits, the lowest that may move, and the new basis
---   traceWords   steps as words, three each
+--   RunStep      the words of a step of the run: the lowest basic variable outside of its limits, the lowest that may
+--                move, and the new basis
 --   Differs      a word differs, and none before it
 --   ReplayIs     accepted, wrong, early or past
---   replayTable  the lines of refusals
+--   replayTable, traceTable   the lines of refusals: of a replay, and of a problem's own trace
 use mathlib.Core.Bool.{true}
 use mathlib.Core.List.{List, [], _++_, _∷_}
 use mathlib.Core.Logic.{_↔_, _≢_}
 use mathlib.Core.Option.{none}
 use mathlib.Core.Path.{_≡_}
-use Prim.Native.Nat.{ℕ, suc, zero, _%_, _*_, _/_, _<_}
+use Prim.Native.Nat.{ℕ, _%_, _<_, _≤_}
 use lib.IntN.{ℤ}
 use lib.ListN.{length}
-use Rattle.whole.specs.Tables.{table}
-use Rattle.whole.specs.Values.{Values, pairs}
+use Rattle.whole.specs.Values.{Values}
 use Rattle.rules.specs.Facts.Refusal.{Line, lineOf, problemTable}
 use Rattle.rules.specs.Facts.Rule.{Entered, Left}
-use Rattle.rules.specs.Facts.Run.{begin}
-use Rattle.rules.specs.Problem.{Problem, inner, problem, vars}
-use Rattle.rules.specs.Run.{after}
-use Rattle.rules.specs.Runs.Replay.{Replayed, StepWord, TraceStep, accepted, bitIn, early, entering-word, leaving-word}
-use Rattle.rules.specs.Runs.Replay.{mask-word, past, stepWords, wrong}
+use Rattle.rules.specs.Problem.{Problem, vars}
+use Rattle.rules.specs.Runs.Replay.{Replayed, StepWord, TraceStep, accepted, bitIn, early, entering-word}
+use Rattle.rules.specs.Runs.Replay.{leaving-word, mask-word, past, wrong}
+use Rattle.rules.specs.Runs.Trace.{traceLength}
 use Rattle.rules.specs.Sizes.{mostRows}
 use Rattle.rules.specs.Step.{Leaving, State, seat}
 
 -- ---- a step of the run
 
 module _ {X : Type 0} (𝓥 : Values X) (P : Problem X) where
-  abbrev pub runStep : State X → ℕ → TraceStep
-  runStep s i = stepWords 𝓥 P (after 𝓥 P s i) (after 𝓥 P s (suc i))
-
   -- the words of a step from s to t
   pub record RunStep (s t : State X) (a : TraceStep) : Type 0 where
     pub leaving : Leaving X
@@ -39,21 +33,6 @@ module _ {X : Type 0} (𝓥 : Values X) (P : Problem X) where
     pub entered : Entered 𝓥 P s leaving (a .into)
     pub out-is : a .out ≡ leaving .variable
     pub mask-is : (v : ℕ) → (bitIn (a .mask) v ≡ true) ↔ ((v < vars P) × (seat t v ≡ none))
-
--- .. of words
-abbrev pub ownStep : List ℤ → ℕ → TraceStep
-ownStep ws = runStep pairs (inner (problem ws)) (begin ws)
-
--- ---- the words of a trace
-
-abbrev pub stepWordAt : TraceStep → ℕ → ℕ
-stepWordAt a zero = a .out
-stepWordAt a (suc zero) = a .into
-stepWordAt a (suc (suc k)) = a .mask
-
--- so many steps, one after the other
-abbrev pub traceWords : ℕ → (ℕ → TraceStep) → List ℕ
-traceWords c own = table (3 * c) (λ i. stepWordAt (own (i / 3)) (i % 3))
 
 -- ---- what the answers say
 
@@ -98,3 +77,7 @@ traceLine trace = lineOf 51 (length trace % 3 ≢ 0) (length trace % 3 ≡ 0)
 
 abbrev pub replayTable : List ℤ → List ℕ → List Line
 replayTable ws trace = problemTable mostRows ws ++ (traceLine trace ∷ [])
+
+-- .. of a problem's own trace: 7, the room is too short
+abbrev pub traceTable : List ℤ → ℕ → List Line
+traceTable ws room = problemTable mostRows ws ++ (lineOf 7 (room < traceLength ws) (traceLength ws ≤ room) ∷ [])
