@@ -1,0 +1,3 @@
+-- Laws that the proofs cite. Assumes nothing.
+pub mod Bits
+pub mod Only

@@ -1,0 +1,2 @@
+-- The laws behind masks. Assumes nothing.
+pub mod Laws

@@ -1,0 +1,2 @@
+-- What the code of this crate computes.
+pub mod Masks
