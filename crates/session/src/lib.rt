@@ -103,7 +103,7 @@ impl Session {
                 session: self,
             };
         }
-        let spent = spend::spend(tableau, 0, usize::MAX, out);
+        let spent = spend::spend(tableau, 0, usize::MAX, true, out);
         let tableau = spent.tableau;
         Checked {
             refused: 0,

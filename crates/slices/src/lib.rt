@@ -70,7 +70,7 @@ impl Slice {
                 slice: self,
             };
         }
-        let spent = spend::spend(tableau, self.count, pivots, out);
+        let spent = spend::spend(tableau, self.count, pivots, true, out);
         let tableau = spent.tableau;
         Continued {
             refused: 0,

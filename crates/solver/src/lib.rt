@@ -36,7 +36,7 @@ pub fn solve_within(most: u32, words: &[i32], out: &mut [i64]) -> u32
         return answers::TOO_SHORT;
     }
     let t = Tableau::new(words);
-    let spent = spend::spend(t, 0, usize::MAX, out);
+    let spent = spend::spend(t, 0, usize::MAX, true, out);
     0
 }
 

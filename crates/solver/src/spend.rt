@@ -2,7 +2,9 @@
 ghost use mathlib.Core.Path.{_≡_};
 ghost use Prim.Native.Nat.{_+_, _*_, _≤_};
 ghost use lib.ListN.{length};
-ghost use Rattle.solver.specs.Spend.{Standing, Uncrossed, outAt, ranAt, ranOut, spentAt, spentFrom};
+ghost use Rattle.rules.specs.Sizes.{mostVariables};
+ghost use Rattle.solver.specs.Spend.{Standing, Uncrossed, crossedSince, isDone, outAs, ranBy, ranOut, spentAs};
+ghost use Rattle.solver.specs.Spend.{spentFrom};
 use crate::run::seated;
 use crate::run::tell;
 use answers::Head;
@@ -15,6 +17,7 @@ use search::View;
 use steps::End;
 use steps::Outcome;
 use steps::step;
+use tableau::Limits;
 use tableau::Tableau;
 
 // The run is over, or goes on past the pivots that were spent.
@@ -31,19 +34,32 @@ pub struct Spent {
     pub tableau: Tableau,
 }
 
-// Completes `most` pivots of a run whose limits don't cross, `before` pivots on, or all that are left, and looks
-// whether it goes on. The look is a step on the run's own entries, which are saved before it; where it goes on they are
-// put back.
-fn advance(mut t: Tableau, before: usize, most: usize, out: &mut [i64]) -> Spent
+// Whether there is nothing left to do: all pivots are spent, and the run is not to be looked at there.
+fn is_done(look: bool, count: usize, most: usize) -> bool
+    ensures { λ r. ⌜ r ≡ isDone look count most ⌝ }
+{
+    if look {
+        return false;
+    }
+    count == most
+}
+
+// Completes `most` pivots of a run whose limits don't cross, `before` pivots on, or all that are left, and then looks
+// whether it goes on, if it is to. The look is a step on the run's own entries, which are
+// saved before it; where it goes on they are put back.
+fn advance(mut t: Tableau, before: usize, most: usize, look: bool, out: &mut [i64]) -> Spent
     requires { ⌜ Standing t before ⌝ }
     requires { ⌜ Uncrossed t ⌝ }
     requires { ⌜ 3 + 2 * (t .rows + t .columns) ≤ length (now out) ⌝ }
-    ensures state { λ r. ⌜ r ≡ spentFrom before (ranAt t most) ⌝ }
-    ensures output { λ r. ⌜ now (out .exit) ≡ ranOut before (ranAt t most) (now (out .entry)) ⌝ }
+    ensures state { λ r. ⌜ r ≡ spentFrom before (ranBy look t most) ⌝ }
+    ensures output { λ r. ⌜ now (out .exit) ≡ ranOut before (ranBy look t most) (now (out .entry)) ⌝ }
 {
     let mut count = 0usize;
     let mut saved = t.entries;
     let course = 'run: loop {
+        if is_done(look, count, most) {
+            break 'run Course::On;
+        }
         let view = View {
             rows: t.rows,
             columns: t.columns,
@@ -104,17 +120,29 @@ fn advance(mut t: Tableau, before: usize, most: usize, out: &mut [i64]) -> Spent
     }
 }
 
+// The lowest variable whose limits cross. A run that is some pivots on has none.
+fn crossed_since(limits: Limits, variables: usize, before: usize) -> Crossed
+    requires { ⌜ variables ≤ mostVariables ⌝ }
+    ensures { λ r. ⌜ r ≡ crossedSince before limits variables ⌝ }
+{
+    if before == 0 {
+        return conflict_of(limits, variables);
+    }
+    Crossed::Nowhere
+}
+
 // Completes `most` pivots of a run that is `before` pivots on, or all that are left: the last completed tableau and its
-// count, and in `out` the answer where that is the run's whole count. Limits that cross are answered at once.
-pub fn spend(t: Tableau, before: usize, most: usize, out: &mut [i64]) -> Spent
+// count, and in `out` the answer where that is the run's whole count and the run is looked at there. Limits that cross
+// are answered at once.
+pub fn spend(t: Tableau, before: usize, most: usize, look: bool, out: &mut [i64]) -> Spent
     requires { ⌜ Standing t before ⌝ }
     requires { ⌜ 3 + 2 * (t .rows + t .columns) ≤ length (now out) ⌝ }
-    ensures state { λ r. ⌜ r ≡ spentAt t before most ⌝ }
-    ensures output { λ r. ⌜ now (out .exit) ≡ outAt t before most (now (out .entry)) ⌝ }
+    ensures state { λ r. ⌜ r ≡ spentAs look t before most ⌝ }
+    ensures output { λ r. ⌜ now (out .exit) ≡ outAs look t before most (now (out .entry)) ⌝ }
 {
     let variables = t.rows + t.columns;
     let limits = t.limits;
-    let crossed = conflict_of(limits, variables);
+    let crossed = crossed_since(limits, variables, before);
     match crossed {
         Crossed::At(variable) => {
             let ones = unit(variable);
@@ -130,6 +158,6 @@ pub fn spend(t: Tableau, before: usize, most: usize, out: &mut [i64]) -> Spent
                 tableau: t,
             }
         }
-        Crossed::Nowhere => advance(t, before, most, out),
+        Crossed::Nowhere => advance(t, before, most, look, out),
     }
 }

@@ -9,7 +9,7 @@ use Rattle.solver.proofs.solve.Reads as solve
 use Rattle.solver.proofs.solve_within.Reads as solve-within
 
 pub spend-only : (κs : _) (x : _) (a b : _) (e f : _) → spend.Post κs x a e → spend.Post κs x b f →
-    (a ≡ b) × (e .1 .1 .1 .0 .now ≡ f .1 .1 .1 .0 .now)
+    (a ≡ b) × (e .1 .1 .1 .1 .0 .now ≡ f .1 .1 .1 .1 .0 .now)
 spend-only κs x a b e f h k = (h .0 ∙ sym (k .0), h .1 ∙ sym (k .1))
 
 pub solve-only : (κs : _) (x : _) (a b : _) (e f : _) → solve.Post κs x a e → solve.Post κs x b f →

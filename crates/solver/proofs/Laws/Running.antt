@@ -4,13 +4,17 @@
 --   running-start, running-more    none is spent, and one more
 --   running-held                   a step may be asked of u
 --   running-over, running-spent    the run is over at u, or goes on where nothing is left to spend
+--   running-done                   nothing is left to spend, and there is no look
 --   ran-few, ran-tellable          what the run comes to can be told: its count, and its end
 --   ran-many                       .. of as many variables
+use mathlib.Core.Bool.{Bool, false, true}
 use mathlib.Core.List.{List}
 use mathlib.Core.Path.{_≡_, ap, ap₂, refl, sym, _∙_}
 use Prim.Native.Nat.{ℕ, _+_, _<_, _≤_}
 use native.Mathlib.Omega.{arith}
 use lib.IntN.{ℤ}
+use Rattle.whole.proofs.Bools.{true-false}
+use Rattle.whole.proofs.Tells.{tells-eq}
 use Rattle.tableau.specs.declared.Tableau.{Tableau}
 use Rattle.tableau.specs.Pivot.{withNumbers}
 use Rattle.answers.specs.Answer.{mostCount}
@@ -19,10 +23,10 @@ use Rattle.steps.specs.declared.Outcome.the-variants as outcomes
 use Rattle.steps.specs.Step.{Held, leftAt, on, outcomeAt, over, steppedAt}
 use Rattle.steps.proofs.Laws.Cases.{outcome-ended, outcome-left, readOf}
 use Rattle.solver.specs.Run.{GoesOn, Tellable, afterAt}
-use Rattle.solver.specs.Spend.{Ran, Standing, Uncrossed, manyOf, ranAt}
+use Rattle.solver.specs.Spend.{Ran, Standing, Uncrossed, isDone, manyOf, ranBy}
 use Rattle.solver.proofs.Laws.Stands.Run.{after-more, after-none, goes-more, held-after}
 use Rattle.solver.proofs.Laws.Stands.Slices.{many-same, tellable-slice, total-few}
-use Rattle.solver.proofs.Laws.Spends.{ran-over, ran-spent}
+use Rattle.solver.proofs.Laws.Spends.{by-over, ran-by, ran-over, ran-spent, ran-unlooked}
 
 pub record Running (t : Tableau) (most : ℕ) (u : Tableau) (k : ℕ) (saved : List ℤ) : Type 0 where
   pub counted : k ≤ most
@@ -52,25 +56,35 @@ module _ {t u : Tableau} {most k : ℕ} {saved : List ℤ} (R : Running t most u
   }
 
   -- the entries l that the last step leaves are those before it
-  pub running-over : (e : End) {l : List ℤ} → outcomeAt (readOf u) ≡ outcomes.Ended e → l ≡ leftAt (readOf u) →
-      record { tableau = withNumbers u (u .common) l; course = over e; count = k } ≡ ranAt t most
-  running-over e q f =
+  pub running-over : (look : Bool) → isDone look k most ≡ false → (e : End) {l : List ℤ} →
+      outcomeAt (readOf u) ≡ outcomes.Ended e → l ≡ leftAt (readOf u) →
+      record { tableau = withNumbers u (u .common) l; course = over e; count = k } ≡ ranBy look t most
+  running-over look d e q f = ran-by look t most _ (
       ap (λ x. record { tableau = x; course = over e; count = k })
       (ap (withNumbers u (u .common)) (f ∙ outcome-left u e q) ∙ R .after-is)
       ∙ sym (ran-over t k most (R .goes-on) e (R .counted)
-      (ap (λ x. steppedAt x .course) (sym (R .after-is)) ∙ ap (λ s. s .course) (outcome-ended u e q)))
+      (ap (λ x. steppedAt x .course) (sym (R .after-is)) ∙ ap (λ s. s .course) (outcome-ended u e q)))) d
 
   -- the saved entries are put back
-  pub running-spent : k ≡ most → steppedAt u .course ≡ on →
-      record { tableau = withNumbers u (u .common) saved; course = on; count = k } ≡ ranAt t most
-  running-spent h e =
+  pub running-spent : (look : Bool) → isDone look k most ≡ false → k ≡ most → steppedAt u .course ≡ on →
+      record { tableau = withNumbers u (u .common) saved; course = on; count = k } ≡ ranBy look t most
+  running-spent look d h e = ran-by look t most _ (
       ap₂ (λ x w. record { tableau = x; course = w; count = k })
       (ap (withNumbers u (u .common)) (R .saved-is h) ∙ R .after-is)
       (sym e ∙ ap (λ x. steppedAt x .course) (R .after-is))
-      ∙ sym (ran-spent t k most (R .goes-on) h)
+      ∙ sym (ran-spent t k most (R .goes-on) h)) d
 
-module _ {t : Tableau} {before : ℕ} (S : Standing t before) (free : Uncrossed t) (most : ℕ) {r : Ran}
-    (q : r ≡ ranAt t most) where
+  pub running-done : (look : Bool) → isDone look k most ≡ true →
+      record { tableau = u; course = on; count = k } ≡ ranBy look t most
+  running-done look d = ap (λ x. record { tableau = x; course = on; count = k }) (R .after-is)
+      ∙ ran-unlooked look t most _ (sym (ran-spent t k most (R .goes-on) (done-all look d))) d
+    where
+      done-all : (x : Bool) → isDone x k most ≡ true → k ≡ most
+      done-all true e = true-false e refl
+      done-all false e = tells-eq k most .if-true e
+
+module _ {t : Tableau} {before : ℕ} (S : Standing t before) (free : Uncrossed t) (look : Bool) (most : ℕ) {r : Ran}
+    (q : r ≡ ranBy look t most) where
   pub ran-few : before + r .count < mostCount
   ran-few = rw q (total-few (S .holds) free most)
 
@@ -78,4 +92,4 @@ module _ {t : Tableau} {before : ℕ} (S : Standing t before) (free : Uncrossed 
   ran-many = rw q (many-same (S .holds) free most)
 
   pub ran-tellable : (e : End) → r .course ≡ over e → Tellable e (before + r .count) (r .tableau)
-  ran-tellable e = rw q (tellable-slice (S .holds) free most e)
+  ran-tellable e = rw q (λ p. tellable-slice (S .holds) free most e (by-over look t most e p))

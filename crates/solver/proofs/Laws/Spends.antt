@@ -1,15 +1,19 @@
 -- A run with so many pivots to spend, from any tableau on its way.
 --   ran-along     some pivots on, with those that are left
 --   ran-over, ran-spent     the run is over there; nothing is left to spend
-use mathlib.Core.Path.{_≡_, ap, ap₂, refl, _∙_}
+--   ran-by, ran-unlooked    with a look or without: where it makes no difference, and behind the last pivot
+--   by-over                 where it is over without, it is over with one
+use mathlib.Core.Bool.{Bool, cond, false, true}
+use mathlib.Core.Path.{_≡_, ap, ap₂, refl, sym, _∙_}
 use Prim.Native.Nat.{ℕ, zero, suc, _+_, _-_, _≤_}
 use native.Mathlib.Nat.{add-zero}
 use native.Mathlib.Omega.{arith}
+use Rattle.whole.proofs.Bools.{zero-one}
 use Rattle.tableau.specs.declared.Tableau.{Tableau}
 use Rattle.steps.specs.declared.End.{End}
-use Rattle.steps.specs.Step.{over, steppedAt}
+use Rattle.steps.specs.Step.{on, over, steppedAt}
 use Rattle.solver.specs.Run.{GoesOn, afterAt, afterLaid}
-use Rattle.solver.specs.Spend.{Ran, counted, ranAt, spentBy}
+use Rattle.solver.specs.Spend.{Ran, counted, isDone, ranAt, ranBy, spentBy}
 
 after-front : (t : Tableau) (i : ℕ) → afterAt (steppedAt t .tableau) i ≡ afterAt t (suc i)
 unfolding afterLaid
@@ -56,3 +60,33 @@ module _ (t : Tableau) (k most : ℕ) (g : GoesOn t k) where
   unfolding ranAt
   ran-spent h = ap (ranAt t) (let z : most ≡ k + 0 = omega arith in z) ∙ ran-along k 0 t g
       ∙ ap (λ j. record { tableau = afterAt t k; course = steppedAt (afterAt t k) .course; count = j }) (add-zero k)
+
+-- ---- with a look or without
+
+module _ (look : Bool) (t : Tableau) (b : ℕ) where
+  -- the look is not left out
+  pub ran-by : (r : Ran) → r ≡ ranAt t b → isDone look (r .count) b ≡ false → r ≡ ranBy look t b
+  ran-by r e f = sym (ap (λ x. record { tableau = r .tableau; course = cond x on (r .course); count = r .count }) f)
+      ∙ ap (λ (y : Ran). record {
+        tableau = y .tableau;
+        course = cond (isDone look (y .count) b) on (y .course);
+        count = y .count;
+      }) e
+
+  -- .. and is
+  pub ran-unlooked : (r : Ran) → r ≡ ranAt t b → isDone look (r .count) b ≡ true →
+      record { tableau = r .tableau; course = on; count = r .count } ≡ ranBy look t b
+  ran-unlooked r e f =
+      sym (ap (λ x. record { tableau = r .tableau; course = cond x on (r .course); count = r .count }) f)
+      ∙ ap (λ (y : Ran). record {
+        tableau = y .tableau;
+        course = cond (isDone look (y .count) b) on (y .course);
+        count = y .count;
+      }) e
+
+  pub by-over : (e : End) → ranBy look t b .course ≡ over e → ranAt t b .course ≡ over e
+  by-over e q = go (isDone look (ranAt t b .count) b) q
+    where
+      go : (x : Bool) → cond x on (ranAt t b .course) ≡ over e → ranAt t b .course ≡ over e
+      go true p = let c : _≡_ {A = ℕ} 0 1 = cc in zero-one c
+      go false p = p

@@ -38,7 +38,7 @@ use Rattle.answers.specs.Answer.{isShort}
 use Rattle.answers.specs.Conflict.{conflictAt}
 use Rattle.steps.specs.Step.{Course, admitAt, fitsByLaid, movedLaid, on, over, stepLaid, steppedAt, steppedLaid}
 use Rattle.solver.specs.Spend as solver
-use Rattle.solver.specs.Spend.{manyOf, outAt, ranAt, spentAt, spentBy, spentWhere}
+use Rattle.solver.specs.Spend.{manyOf, outAt, ranAt, spentAs, spentAt, spentBy, spentWhere}
 use Rattle.solver.proofs.Laws.Stands.Run.{bound-small}
 use Rattle.solver.proofs.Laws.Stands.Slices.{holds-more, many-is, out-is}
 use Rattle.session.specs.declared.Checked.{Checked}
@@ -72,10 +72,10 @@ ran-limits (suc b) t = go (steppedAt t .course) (ran-limits b (steppedAt t .tabl
     go on h = h
 
 spent-limits : (t : Tableau) (k b : ℕ) → spentAt t k b .tableau .limits ≡ t .limits
-unfolding spentAt
+unfolding spentAs
 spent-limits t k b = go (conflictAt (t .limits) (manyOf t))
   where
-    go : (c : Crossed) → spentWhere c t k b .tableau .limits ≡ t .limits
+    go : (c : Crossed) → spentWhere c true t k b .tableau .limits ≡ t .limits
     go (crossings.At v) = refl
     go crossings.Nowhere = ran-limits b t
 

@@ -1,20 +1,20 @@
 -- A tableau and a count that stand for a state on the way of its run: what spending pivots from there comes to.
 --   spent-where, out-where   by what the search for crossed limits says
---   held-slice, count-few    what the code needs
+--   held-slice, count-few, crossed-since     what the code needs
 --   came-slice               where the run comes, if no limits cross
 --   holds-more               what is handed back stands for the state of the rules
 --   out-is                   the output is theirs, and whether it is answered
-use mathlib.Core.Bool.{true}
+use mathlib.Core.Bool.{Bool, true}
 use mathlib.Core.List.{List}
 use mathlib.Core.Option.{some}
 use mathlib.Core.Path.{_≡_, ap, ap₂, refl, subst, sym, _∙_}
-use Prim.Native.Nat.{ℕ, _+_, _<_, _≤_}
+use Prim.Native.Nat.{ℕ, suc, zero, _+_, _<_, _≤_}
 use native.Mathlib.Omega.{arith}
 use lib.IntN.{ℤ, pos}
 use Rattle.whole.specs.Tables.{table}
 use Rattle.whole.specs.Values.{pairs}
 use Rattle.rules.proofs.Answer.Run.{spending-crossed, spending-run}
-use Rattle.rules.proofs.Runs.Slices.{on-way-below, on-way-more, on-way-rowed, told-ended, told-moves}
+use Rattle.rules.proofs.Runs.Slices.{on-way-apart, on-way-below, on-way-more, on-way-rowed, told-ended, told-moves}
 use Rattle.rules.specs.Answer.{wordsOf}
 use Rattle.rules.specs.Facts.State.{Rowed}
 use Rattle.rules.specs.Problem.{Problem, vars}
@@ -38,8 +38,8 @@ use Rattle.steps.specs.declared.End.{End}
 use Rattle.steps.specs.declared.End.the-variants as ends
 use Rattle.steps.specs.Step.{Course, Held, on, over}
 use Rattle.solver.specs.Run.{Tellable, endWords}
-use Rattle.solver.specs.Spend.{Holds, Ran, Uncrossed, isOver, manyOf, outAt, outBy, outWhere, ranAt, spentAt}
-use Rattle.solver.specs.Spend.{spentWhere}
+use Rattle.solver.specs.Spend.{Holds, Ran, Uncrossed, crossedSince, isOver, manyOf, outAs, outAt, outBy}
+use Rattle.solver.specs.Spend.{outWhere, ranAt, spentAs, spentAt, spentWhere}
 use Rattle.solver.specs.Came.{Came, CourseIs, over-can, over-cannot, over-range, still-on}
 use Rattle.solver.proofs.Laws.Stands.Came.{came}
 use Rattle.solver.proofs.Laws.Stands.Run.{bound-small}
@@ -47,15 +47,15 @@ use Rattle.solver.proofs.Laws.Stands.Told.{came-many, tellable-came, to
 
 -- ---- by what the search for crossed limits says
 
-module _ (t : Tableau) (k b : ℕ) where
-  pub spent-where : (c : Crossed) → conflictAt (t .limits) (manyOf t) ≡ c → spentAt t k b ≡ spentWhere c t k b
-  unfolding spentAt
-  spent-where c q = ap (λ x. spentWhere x t k b) q
+module _ (look : Bool) (t : Tableau) (k b : ℕ) where
+  pub spent-where : (c : Crossed) → conflictAt (t .limits) (manyOf t) ≡ c → spentAs look t k b ≡ spentWhere c look t k b
+  unfolding spentAs
+  spent-where c q = ap (λ x. spentWhere x look t k b) q
 
   pub out-where : (c : Crossed) → conflictAt (t .limits) (manyOf t) ≡ c → (before : List ℤ) →
-      outAt t k b before ≡ outWhere c t k b before
-  unfolding outAt
-  out-where c q before = ap (λ x. outWhere x t k b before) q
+      outAs look t k b before ≡ outWhere c look t k b before
+  unfolding outAs
+  out-where c q before = ap (λ x. outWhere x look t k b before) q
 
 -- ---- what stands for what
 
@@ -80,6 +80,18 @@ module _ {S : Slice (ℤ × ℤ)} {t : Tableau} {k : ℕ} (H : Holds S t k) wher
   pub few-variables : manyOf t ≤ mostVariables
   few-variables = let a = H .stands .sized .few-rows in let b =
       H .stands .sized .few-columns in let c = many-is in omega arith
+
+  -- the search for crossed limits may be left out behind the first pivot
+  pub crossed-since : crossedSince k (t .limits) (manyOf t) ≡ conflictAt (t .limits) (manyOf t)
+  crossed-since = go k refl (conflictAt (t .limits) (manyOf t)) refl
+    where
+      go : (j : ℕ) → k ≡ j → (c : Crossed) → conflictAt (t .limits) (manyOf t) ≡ c →
+          crossedSince j (t .limits) (manyOf t) ≡ conflictAt (t .limits) (manyOf t)
+      go zero e c q = refl
+      go (suc j) e crossings.Nowhere q = sym q
+      go (suc j) e (crossings.At v) q =
+          let z = on-way-apart S (H .on-way) (v .0) (crossing-at (H .stands) rowed v q) in
+          let y = H .count-is in let x : ⊥ = omega (arith, y, z, e) in absurd x
 
   -- a continue of the rules, by what its run comes to
   continued-by : (b : ℕ) (e : Ending (ℤ × ℤ)) (u : Tableau) (j : ℕ) → spending pairs b P (S .state) (S .count) ≡ e →
@@ -205,8 +217,8 @@ module _ {S : Slice (ℤ × ℤ)} {t : Tableau} {k : ℕ} (H : Holds S t k) wher
     where
       go : (c : Crossed) → conflictAt (t .limits) (manyOf t) ≡ c →
           Holds (continued pairs S b) (spentAt t k b .tableau) (spentAt t k b .count)
-      go (crossings.At v) q = rw (spent-where t k b (crossings.At v) q) (holds-crossed v q b)
-      go crossings.Nowhere q = rw (spent-where t k b crossings.Nowhere q) (holds-ran q b)
+      go (crossings.At v) q = rw (spent-where true t k b (crossings.At v) q) (holds-crossed v q b)
+      go crossings.Nowhere q = rw (spent-where true t k b crossings.Nowhere q) (holds-ran q b)
 
   pub out-is : (b : ℕ) (before : List ℤ) → (spentAt t k b .answered ≡ isAnswer (sliceAnswer S b))
       × (outAt t k b before ≡ sliceOutput (sliceAnswer S b) (sliceLength S) before)
@@ -216,7 +228,8 @@ module _ {S : Slice (ℤ × ℤ)} {t : Tableau} {k : ℕ} (H : Holds S t k) wher
           (spentAt t k b .answered ≡ isAnswer (sliceAnswer S b))
           × (outAt t k b before ≡ sliceOutput (sliceAnswer S b) (sliceLength S) before)
       go (crossings.At v) q =
-          rw (spent-where t k b (crossings.At v) q, out-where t k b (crossings.At v) q before)
+          rw (spent-where true t k b (crossings.At v) q, out-where true t k b (crossings.At v) q before)
           (crossed-says v q b before)
       go crossings.Nowhere q =
-          rw (spent-where t k b crossings.Nowhere q, out-where t k b crossings.Nowhere q before) (ran-says q b before)
+          rw (spent-where true t k b crossings.Nowhere q, out-where true t k b crossings.Nowhere q before)
+          (ran-says q b before)

@@ -1,6 +1,7 @@
 -- `solver::spend::advance` meets its contract. The loop's invariant: the tableau is the first one after as many steps
 -- as are counted, all of which go on; not more are counted than there are to spend, and where none is left the entries
 -- are saved. The measure is what is left to spend. Assumes nothing.
+use mathlib.Core.List.{List}
 use mathlib.Core.Logic.{⊎-elim}
 use mathlib.Core.Path.{_≡_, ap, ap₂, refl, sym, _∙_}
 use Prim.Native.Nat.{ℕ, _-_, _<_}
@@ -17,14 +18,15 @@ use Rattle.amounts.specs.declared.Value.{Value}
 use Rattle.tableau.specs.declared.Tableau.{Tableau}
 use Rattle.tableau.specs.Pivot.{Swappable}
 use Rattle.search.specs.Search.{nextAt}
+use Rattle.steps.specs.declared.Outcome.{Outcome}
 use Rattle.steps.specs.Step.{Course, Held, leftAt, on, outcomeAt, over, steppedAt}
 use Rattle.steps.proofs.Laws.Cases.{Chosen, exchanged, course-on, outcome-goes, readOf}
 use Rattle.steps.proofs.Laws.Stands.{common-held, places-held, small-held, steppable-held, value-held}
 use Rattle.solver.specs.declared.spend.Course as code
 use Rattle.solver.specs.declared.spend.Course.the-variants as courses
-use Rattle.solver.specs.Spend.{Ran, ranAt, ranOut, spentFrom}
+use Rattle.solver.specs.Spend.{Ran, ranBy, ranOut, spentFrom}
 use Rattle.solver.proofs.Laws.Running.{Running, ran-few, ran-many, ran-tellable, running-held, running-more}
-use Rattle.solver.proofs.Laws.Running.{running-over, running-spent, running-start}
+use Rattle.solver.proofs.Laws.Running.{running-done, running-over, running-spent, running-start}
 use Rattle.solver.proofs.Laws.Stands.Slices.{held-slice}
 use Rattle.solver.proofs.spend.advance.Statement.{statement}
 use Rattle.solver.proofs.spend.advance.Tie as tie
@@ -35,10 +37,10 @@ courseOf (courses.Over e) = over e
 courseOf courses.On = on
 
 abbrev Inv-run : tie.InvT-run
-Inv-run before most out t₀ count₀ saved₀ t count saved = Running t₀ most t count saved
+Inv-run before most look out t₀ count₀ saved₀ t count saved = Running t₀ most t count saved
 
 abbrev μ-run : tie.MeasureT-run
-μ-run before most out t₀ count₀ saved₀ t count saved = most - count
+μ-run before most look out t₀ count₀ saved₀ t count saved = most - count
 
 run-holds : tie.Need-run-holds Inv-run μ-run
 run-holds c = running-start (c .before .args .t1) (c .before .args .most)
@@ -61,16 +63,23 @@ module _ (c : tie.At-run Inv-run μ-run) where
   fit-common : SFits w32 (here .common)
   fit-common = fits-by (held .ranged .cells .common-within) tt
 
+  -- what a step from here promises of its result, and of the entries
+  abbrev Stepped : Outcome → List ℤ → Type 0
+  Stepped r entries = (r ≡ outcomeAt (readOf here)) × (entries ≡ leftAt (readOf here))
+
+is-done-requires : tie.Need-is-done-requires Inv-run μ-run
+is-done-requires c κs = search needs
+
 step-requires : tie.Need-step-requires Inv-run μ-run
-step-requires c κs = let a = c .before .before .before .before .before .before .before in
+step-requires c κs = let a = c .before .before .before .before .before .before .before .before .before in
     simp (toZ-ofZ (fit-common a)) (steppable-held (held a))
 
 -- the step from there
 module _ (c : tie.After-step Inv-run μ-run) where
   abbrev at : tie.At-run Inv-run μ-run
-  at = c .before .before .before .before .before .before .before .before
+  at = c .before .before .before .before .before .before .before .before .before .before
 
-  step-is : (c .step .result ≡ outcomeAt (readOf (here at))) × (c .step .last .1 .1 .0 ≡ leftAt (readOf (here at)))
+  step-is : Stepped at (c .step .result) (c .step .last .1 .1 .0)
   step-is = simp (toZ-ofZ (fit-common at)) at (c .step .ensures)
 
 enum-known-next : tie.Need-enum-known-next Inv-run μ-run
@@ -166,14 +175,14 @@ element-set-from-left c = places (made (c .before .before .before .before)) .lea
 
 -- after the exchange
 module _ (c : tie.After-seated2 Inv-run μ-run) where
-  abbrev unspent : tie.Else1 Inv-run μ-run
+  abbrev unspent : tie.Else2 Inv-run μ-run
   unspent = c .before .before .before .before .before .before .before .before .before .before
 
   abbrev gone : tie.After-next2 Inv-run μ-run
   gone = unspent .before .before
 
   left-to-spend : turn gone .run .count < most (turn gone)
-  left-to-spend = let e = unspent .if1 .left in let i = turn gone .run .inv .counted in omega (arith, e, i)
+  left-to-spend = let e = unspent .if2 .left in let i = turn gone .run .inv .counted in omega (arith, e, i)
 
 add-count : tie.Need-add-count Inv-run μ-run
 add-count c = let h = left-to-spend c in let z = start (turn (gone c)) .fits .most in omega (arith, h, z)
@@ -194,13 +203,13 @@ run-again-2 : tie.Need-run-again-2 Inv-run μ-run
 run-again-2 c = let q = c .before in let o = gone q in let h = held (turn o) in let k = chosen o in
     simp (toZ-ofZ (common-held h k), toZ-ofZ (value-held h k), toZ-ofZ (small-held h k))
     (running-more (turn o .run .inv) (left-to-spend q) (goes o) (exchanged _ _ _ _ _ k (step-is (o .before .before) .1)
-    (q .before .seated .ensures) (q .seated2 .ensures)) (λ e. let z : ⊥ = omega (arith, c .if2 .left, e) in absurd z))
+    (q .before .seated .ensures) (q .seated2 .ensures)) (λ e. let z : ⊥ = omega (arith, c .if3 .left, e) in absurd z))
 
 -- ---- where the loop came, by which way it was left
 
-module _ (c : tie.At-match-came Inv-run μ-run) where
+module _ (c : tie.Joined1 Inv-run μ-run) where
   abbrev last : tie.At-run Inv-run μ-run
-  last = at (c .before)
+  last = c .before .before
 
   abbrev begun : tie.Start Inv-run μ-run
   begun = start last
@@ -208,19 +217,26 @@ module _ (c : tie.At-match-came Inv-run μ-run) where
   abbrev came : Tableau → code.Course → Ran
   came t w = record { tableau = t; course = courseOf w; count = last .run .count }
 
-  ran-is : (w : code.Course) → c .match .course ≡ w →
-      came (c .match .t) w ≡ ranAt (begun .args .t1) (begun .args .most)
-  ran-is w e = ap (came (c .match .t)) (sym e) ∙ ⊎-elim
-      (λ (x, y, z, p, q). ap₂ came p q
-      ∙ running-over (last .run .inv) _ (sym (step-is (c .before) .0) ∙ y .given .1) (step-is (c .before) .1))
-      (λ (x, y, z, f, p, q). ap₂ came p q
-      ∙ running-spent (last .run .inv) (let e = f .taken in omega (arith, e))
-      (goes (record { before = record { before = c .before; match = x }; next2 = y })))
-      (c .match .came)
+  ran-is : (w : code.Course) → c .if1 .course ≡ w →
+      came (c .if1 .t) w ≡ ranBy (begun .args .look) (begun .args .t1) (begun .args .most)
+  ran-is w e = ap (came (c .if1 .t)) (sym e) ∙ ⊎-elim
+      (λ (i, p, q). ap₂ came p q
+      ∙ running-done (last .run .inv) (begun .args .look) (sym (c .before .is-done .ensures) ∙ i .taken))
+      (⊎-elim
+      (λ (i, r, t1, t2, t3, t4, a1, a2, s, x, y, z, p, q).
+      let e : Stepped last (s .result) (s .last .1 .1 .0) = simp (toZ-ofZ (fit-common last)) at (s .ensures) in
+      ap₂ came p q ∙ running-over (last .run .inv) (begun .args .look)
+      (sym (c .before .is-done .ensures) ∙ i .left) _ (sym (e .0) ∙ y .given .1) (e .1))
+      (λ (i, r, t1, t2, t3, t4, a1, a2, s, x, y, z, f, p, q).
+      let e : Stepped last (s .result) (s .last .1 .1 .0) = simp (toZ-ofZ (fit-common last)) at (s .ensures) in
+      ap₂ came p q ∙ running-spent (last .run .inv) (begun .args .look)
+      (sym (c .before .is-done .ensures) ∙ i .left) (let h = f .taken in omega (arith, h))
+      (course-on (here last) _ _ _ _ (outcome-goes (here last) _ _ _ _ (sym (e .0) ∙ y .given .1)))))
+      (c .if1 .came)
 
 add-total : tie.Need-add-total Inv-run μ-run
 add-total c = let b = begun c in
-    let z = ran-few (b .pre .0) (b .pre .1 .0) (b .args .most) (ran-is c _ refl) in omega (arith, z)
+    let z = ran-few (b .pre .0) (b .pre .1 .0) (b .args .look) (b .args .most) (ran-is c _ refl) in omega (arith, z)
 
 enum-known-course : tie.Need-enum-known-course Inv-run μ-run
 enum-known-course c = search needs
@@ -228,8 +244,8 @@ enum-known-course c = search needs
 tell-requires : tie.Need-tell-requires Inv-run μ-run
 tell-requires c κs = let o = c .before .before .before .before in let g = c .before .before .course .given in
     let b = begun o in let q = ran-is o (courses.Over (g .0 .0)) (g .1) in (
-      ran-tellable (b .pre .0) (b .pre .1 .0) (b .args .most) q (g .0 .0) refl,
-      let z = ran-many (b .pre .0) (b .pre .1 .0) (b .args .most) q in omega (arith, z, b .pre .1 .1),
+      ran-tellable (b .pre .0) (b .pre .1 .0) (b .args .look) (b .args .most) q (g .0 .0) refl,
+      let z = ran-many (b .pre .0) (b .pre .1 .0) (b .args .look) (b .args .most) q in omega (arith, z, b .pre .1 .1),
     )
 
 enum-told : tie.Need-enum-told Inv-run μ-run
@@ -251,7 +267,7 @@ returns-2 c = let o = c .before .before in let b = begun o .args in
 pub advance-spec : {M : Type 1} → statement M
 advance-spec =
     tie.close
-    (tie.spec Inv-run μ-run run-holds step-requires enum-known-next enum-known-next-2 cast-i cast-j
+    (tie.spec Inv-run μ-run run-holds is-done-requires step-requires enum-known-next enum-known-next-2 cast-i cast-j
     element-copy-out-leaving element-copy-out-entering cast-v cast-w element-set-from-entering element-set-from-leaving
     mul-plain element-set-from-plain mul-small element-set-from-small seated-requires mul-entered
     element-set-from-entered seated-requires-2 mul-left element-set-from-left add-count run-less run-again run-less-2

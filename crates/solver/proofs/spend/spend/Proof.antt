@@ -10,15 +10,16 @@ use Rattle.answers.specs.declared.conflict.Crossed.the-variants as crossings
 use Rattle.answers.specs.Answer.{laidOver, wordsAt}
 use Rattle.answers.specs.Conflict.{conflictAt}
 use Rattle.solver.specs.Spend.{Uncrossed, manyOf}
-use Rattle.solver.proofs.Laws.Stands.Slices.{count-few, crossing-seat, few-variables, out-where, spent-where}
+use Rattle.solver.proofs.Laws.Stands.Slices.{count-few, crossed-since, crossing-seat, few-variables, out-where}
+use Rattle.solver.proofs.Laws.Stands.Slices.{spent-where}
 use Rattle.solver.proofs.spend.spend.Statement.{statement}
 use Rattle.solver.proofs.spend.spend.Tie as tie
 
 add-variables : tie.Need-add-variables
 add-variables c = search needs
 
-conflict-of-requires : tie.Need-conflict-of-requires
-conflict-of-requires c κs = search needs
+crossed-since-requires : tie.Need-crossed-since-requires
+crossed-since-requires c κs = search needs
 
 enum-known-crossed : tie.Need-enum-known-crossed
 enum-known-crossed c = search needs
@@ -32,7 +33,8 @@ module _ (c : tie.After-crossed) where
   lowest-one = c .crossed .given .0 .0
 
   crossed-is : conflictAt (first .limits) (manyOf first) ≡ crossings.At lowest-one
-  crossed-is = sym (c .before .before .conflict-of .ensures) ∙ c .crossed .given .1
+  crossed-is = sym (crossed-since (c .before .before .before .before .before .pre .0 .holds))
+      ∙ sym (c .before .before .crossed-since .ensures) ∙ c .crossed .given .1
 
 unit-requires : tie.Need-unit-requires
 unit-requires c κs = let o = c .before in
@@ -52,7 +54,8 @@ module _ (c : tie.After-enum-told) where
   only = c .before .before .before .before .before .args .t
 
   uncrossed-is : Uncrossed only
-  uncrossed-is = sym (c .before .before .conflict-of .ensures) ∙ c .enum-told .given .1
+  uncrossed-is = sym (crossed-since (c .before .before .before .before .before .pre .0 .holds))
+      ∙ sym (c .before .before .crossed-since .ensures) ∙ c .enum-told .given .1
 
 advance-requires : tie.Need-advance-requires
 advance-requires c κs = let o = c .before in let s = o .before .before .before .before .before in
@@ -64,12 +67,13 @@ same-length c = search needs
 returns : tie.Need-returns
 returns c = let o = c .before .before .before .before .before .before .before in
     let s = o .before .before .before .before .before in let a = s .args in (
-      sym (spent-where (a .t) (a .before) (a .most) (crossings.At (lowest-one o)) (crossed-is o)),
+      sym (spent-where (a .look) (a .t) (a .before) (a .most) (crossings.At (lowest-one o)) (crossed-is o)),
       c .before .write .ensures
           ∙ ap (λ l. laidOver (manyOf (a .t)) (a .out .now)
           (wordsAt verdicts.Cannot (a .before) (pos 0) (manyOf (a .t)) l l))
           (c .before .before .before .before .before .unit .ensures)
-          ∙ sym (out-where (a .t) (a .before) (a .most) (crossings.At (lowest-one o)) (crossed-is o) (a .out .now)),
+          ∙ sym (out-where (a .look) (a .t) (a .before) (a .most) (crossings.At (lowest-one o)) (crossed-is o)
+          (a .out .now)),
     )
 
 same-length-2 : tie.Need-same-length-2
@@ -77,9 +81,10 @@ same-length-2 c = search needs
 
 returns-2 : tie.Need-returns-2
 returns-2 c = let o = c .before .before .before in let a = o .before .before .before .before .before .args in (
-  c .before .advance .ensures .0 ∙ sym (spent-where (a .t) (a .before) (a .most) crossings.Nowhere (uncrossed-is o)),
+  c .before .advance .ensures .0
+      ∙ sym (spent-where (a .look) (a .t) (a .before) (a .most) crossings.Nowhere (uncrossed-is o)),
   c .before .advance .ensures .1
-      ∙ sym (out-where (a .t) (a .before) (a .most) crossings.Nowhere (uncrossed-is o) (a .out .now)),
+      ∙ sym (out-where (a .look) (a .t) (a .before) (a .most) crossings.Nowhere (uncrossed-is o) (a .out .now)),
 )
 
 pub spend-spec : {M : Type 1} → statement M
@@ -87,7 +92,7 @@ spend-spec =
     tie.close
     (tie.spec
     add-variables
-    conflict-of-requires
+    crossed-since-requires
     enum-known-crossed
     unit-requires
     write-requires
