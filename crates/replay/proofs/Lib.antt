@@ -1,0 +1,2 @@
+-- The laws behind a replay. Assumes nothing.
+pub mod Laws
