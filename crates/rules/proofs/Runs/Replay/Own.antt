@@ -35,7 +35,8 @@ pub count-is : (ws : List ℤ) → word (answer ws) 1 ≡ pos (runCount ws)
 unfolding answer answerFrom runCount
 count-is ws = words-count (inner (problem ws)) (ending pairs (inner (problem ws)) (start pairs (inner (problem ws))))
 
-pub trace-refusal-exactly : (ws : List ℤ) (room k : ℕ) → (traceRefusal ws room ≡ k) ↔ First (traceTable ws room) k
+pub trace-refusal-exactly : (ws : List ℤ) (room k : ℕ) →
+    (traceRefusal ws room ≡ k) ↔ First (traceTable ws room) k
 unfolding traceRefusal
 trace-refusal-exactly ws room k =
     first-exactly (tested-then (problem-tested mostRows ws) (tested (tells-lt room (traceLength ws)) no-test)) k
@@ -60,7 +61,7 @@ module _ (ws : List ℤ) where
       (replayRefusal ws own ≡ 0) × (replayedWords ws own ≡ accepted)
   unfolding traceRefusal replayRefusal badTrace first
   traced-accepted room e = (
-    first-passed 10 (problemTests mostRows ws) ((badTrace own, 51) ∷ []) (numbered ws)
+    first-passed 10 (problemTests mostRows ws) ((badTrace own, 51) ∷ []) (numbered mostRows ws)
         (first-front (problemTests mostRows ws) ((ltb room (traceLength ws), 7) ∷ []) e)
         ∙ first-skip 51 [] (tells-false (tells-not (tells-eq (length own % 3) 0)) (let h = own-long in omega arith)),
     own-accepted ws (runCount ws) (count-is ws),

@@ -1,0 +1,2 @@
+-- The laws behind a problem's own trace. Assumes nothing.
+pub mod Laws
