@@ -103,6 +103,13 @@ enum {
     SCATTERFLOCK_OUT_OF_RANGE = 3
 };
 
+/* The words of a step of a trace, by their places. */
+enum {
+    SCATTERFLOCK_LEAVING = 0,
+    SCATTERFLOCK_ENTERING = 1,
+    SCATTERFLOCK_MASK = 2
+};
+
 /* Word 0 of an answer to time rows. */
 enum {
     SCATTERFLOCK_TIMES = 1,
@@ -139,7 +146,11 @@ enum {
     SCATTERFLOCK_SWITCH_NO_VARIABLE = 41,
     SCATTERFLOCK_SWITCH_NO_LIMIT = 42,
     SCATTERFLOCK_SWITCH_ALREADY_ON = 43,
-    SCATTERFLOCK_SWITCH_ALREADY_OFF = 44
+    SCATTERFLOCK_SWITCH_ALREADY_OFF = 44,
+    SCATTERFLOCK_TRACE_LEFT_OVER = 51,
+    SCATTERFLOCK_TRACE_WRONG = 52,
+    SCATTERFLOCK_TRACE_EARLY = 53,
+    SCATTERFLOCK_TRACE_PAST = 54
 };
 
 /*
@@ -284,6 +295,52 @@ struct scatterflock_begun scatterflock_slice_start(const int32_t *words, size_t 
 struct scatterflock_continued scatterflock_slice_continue(struct scatterflock_slice slice,
                                                           size_t pivots,
                                                           int64_t *out, size_t out_count);
+
+/* What scatterflock_replay hands back. */
+struct scatterflock_replayed {
+    uint32_t number;
+    uint32_t word;
+    size_t step;
+};
+
+/* What scatterflock_trace hands back. */
+struct scatterflock_traced {
+    uint32_t refused;
+    size_t count;
+};
+
+/*
+ * Holds another solver's trace against the run of a problem.
+ *
+ * A trace has three words for each pivot: the variable that leaves, the one
+ * that enters, and the basic variables afterwards as a mask, variable v at bit
+ * v. It is accepted exactly if each step is the one that the run completes
+ * from there, and the run is over after the last: a run that goes out of range
+ * is over at its last completed pivot, and limits that cross leave no pivot.
+ *
+ * number is 0 if the trace is accepted. Else it is the number of the refusal as
+ * in scatterflock_solve, 1 to 6 or 10; 51 if trace_count is no multiple of
+ * three; 52 if a step is wrong; 53 if the steps are right and the run goes on
+ * past them; 54 if they are right up to the end of the run, and there are more.
+ * Of 52 step is the first wrong step, from 0, and word the first of its three
+ * words that differs: 0 leaving, 1 entering, 2 the mask. Else both are 0.
+ * Nothing is written.
+ */
+struct scatterflock_replayed scatterflock_replay(const int32_t *words, size_t word_count,
+                                                 const uint32_t *trace, size_t trace_count);
+
+/*
+ * Writes the trace of a problem's own run. scatterflock_replay accepts it, and
+ * no other.
+ *
+ * In refused is 0, and in count how many words were written at the start of
+ * trace: three for each pivot. Words past those keep what they had. Or refused
+ * is the number of the refusal as in scatterflock_solve, 1 to 6 or 10, or 7 if
+ * trace_room is below three words for each pivot; then count is 0, and trace
+ * keeps every word.
+ */
+struct scatterflock_traced scatterflock_trace(const int32_t *words, size_t word_count,
+                                              uint32_t *trace, size_t trace_room);
 
 /*
  * A session: a problem, which of its limits are on, and the tableau and the

@@ -1,15 +1,18 @@
--- What the solver and the check of a session leave is what the checker accepts, over the functions' promises alone.
+-- What the solver and the check of a session leave is what the checker accepts, and what is traced is what a replay
+-- accepts, over the functions' promises alone.
 --   solved-accepted    the output of `scatterflock_solve` with verdict 1 or 2, handed to `scatterflock_check`, gives 8
+--   trace-replayed     the words that `scatterflock_trace` wrote, handed to `scatterflock_replay`, give 0
 --   session-accepted   so does that of `scatterflock_session_check`, beside the words without the limits that are off
 use mathlib.Core.List.{List, _++_}
 use mathlib.Core.Logic.{inl, inr, _≢_, _⊎_}
-use mathlib.Core.Path.{ap, subst, sym, _∙_, _≡_}
+use mathlib.Core.Path.{ap, ap₂, subst, sym, _∙_, _≡_}
 use Prim.Native.Nat.{ℕ, _<_}
 use native.Mathlib.Omega.{arith}
 use lib.IntN.{pos, ℤ}
-use lib.ListN.{List·getD-append, drop, length}
+use lib.ListN.{List·getD-append, drop, length, take}
 use Rattle.whole.specs.Values.{pairs}
 use Rattle.rules.proofs.Evidence.Own.Accepted.{written-accepted}
+use Rattle.rules.proofs.Runs.Replay.Own.{trace-front, traced-accepted}
 use Rattle.rules.proofs.Runs.Session.Checked.{shaped-checked}
 use Rattle.rules.proofs.Runs.Session.Demands.{eight-checked, fair-words}
 use Rattle.rules.specs.Answer.{written}
@@ -18,10 +21,16 @@ use Rattle.rules.specs.Facts.Answer.{Decided}
 use Rattle.rules.specs.Keeping.Words.{liveWords}
 use Rattle.rules.specs.Problem.{inner, problem}
 use Rattle.rules.specs.Refusal.{Accepted, refusal}
+use Rattle.rules.specs.Runs.Replay.{accepted, replayRefusal, replayedWords}
 use Rattle.rules.specs.Runs.Session.{Handed, Session, checkAnswer, checkLength, checkOutput, isOn}
+use Rattle.rules.specs.Runs.Trace.{ownStep, runCount, traceLength, traceOutput, traceRefusal, traceWords}
 use Rattle.rules.specs.Sizes.{mostRows}
+use Rattle.replay.specs.declared.Told.{Told}
+use Rattle.replay.specs.Replay.{replayedAs, toldOf}
 use Rattle.session.specs.declared.Checked.{Checked}
 use Rattle.session.specs.Sessions.{CheckMeans}
+use Rattle.traces.specs.declared.Traced.{Traced}
+use Rattle.traces.specs.Traces.{tracedAs}
 
 not-range : (a : List ℤ) → Decided a → verdictOf a ≢ pos 3
 not-range a (inl e) q = let z : pos 1 ≡ pos 3 = sym e ∙ q in let n : _≡_ {A = ℕ} 1 3 = cc in absurd (omega arith)
@@ -37,6 +46,31 @@ solved-accepted ws before after number judged n o j z d =
   where
     left : after ≡ written 0 ws before
     left = o ∙ ap (λ k. written k ws before) z
+
+-- `r` and `after` are what the trace of these words promises of `before`, `told` what a replay promises of the words
+-- that were written
+pub trace-replayed : (ws : List ℤ) (before after : List ℕ) (r : Traced) (told : Told) →
+    r ≡ tracedAs (traceRefusal ws (length before)) ws → after ≡ traceOutput (r .refused) ws before →
+    told ≡ toldOf (replayedAs (replayRefusal ws (take (r .count) after)) (replayedWords ws (take (r .count) after))) →
+    r .refused ≡ 0 → told ≡ record { number = 0; word = 0; step = 0 }
+trace-replayed ws before after r told n o j z = j ∙ ap told-of front
+    ∙ ap₂ (λ k a. toldOf (replayedAs k a)) (accepted-own .0) (accepted-own .1)
+  where
+    told-of : List ℕ → Told
+    told-of trace = toldOf (replayedAs (replayRefusal ws trace) (replayedWords ws trace))
+
+    fine : traceRefusal ws (length before) ≡ 0
+    fine = sym (ap (λ (x : Traced). x .refused) n) ∙ z
+
+    count-is : r .count ≡ traceLength ws
+    count-is = ap (λ (x : Traced). x .count) (n ∙ ap (λ k. tracedAs k ws) fine)
+
+    front : take (r .count) after ≡ traceWords (runCount ws) (ownStep ws)
+    front = ap₂ take count-is (o ∙ ap (λ k. traceOutput k ws before) z) ∙ trace-front ws before
+
+    accepted-own : (replayRefusal ws (traceWords (runCount ws) (ownStep ws)) ≡ 0)
+        × (replayedWords ws (traceWords (runCount ws) (ownStep ws)) ≡ accepted)
+    accepted-own = traced-accepted ws (length before) fine
 
 -- the verdict of an answer with more words behind it is the answer's
 decided-front : (a rest : List ℤ) → 0 < length a → Decided (a ++ rest) → Decided a

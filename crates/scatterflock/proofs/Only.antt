@@ -5,6 +5,8 @@
 --   scatterflock-check-only    the number
 --   scatterflock-slice-start-only       the number and the state
 --   scatterflock-slice-continue-only    the number, whether there is an answer, the state, and every word of the output
+--   scatterflock-replay-only            what a trace comes to, in numbers
+--   scatterflock-trace-only             the number, how many words were written, and every word of the room
 --   scatterflock-session-open-only, scatterflock-session-switch-only    the number and the session
 --   scatterflock-session-check-only     the number, the session, and every word of the output
 --   scatterflock-bundle-read-only      what is told, and every word of both outputs
@@ -23,12 +25,15 @@ use Rattle.scatterflock.proofs.scatterflock_check.Reads as check
 use Rattle.scatterflock.proofs.scatterflock_bundle_read.Reads as bundle-read
 use Rattle.scatterflock.proofs.scatterflock_bundle_write.Reads as bundle-write
 use Rattle.scatterflock.proofs.scatterflock_day.Reads as day
+use Rattle.scatterflock.proofs.scatterflock_replay.Reads as replay
 use Rattle.scatterflock.proofs.scatterflock_session_check.Reads as session-check
 use Rattle.scatterflock.proofs.scatterflock_session_open.Reads as session-open
 use Rattle.scatterflock.proofs.scatterflock_session_switch.Reads as session-switch
 use Rattle.scatterflock.proofs.scatterflock_slice_continue.Reads as slice-continue
 use Rattle.scatterflock.proofs.scatterflock_slice_start.Reads as slice-start
 use Rattle.scatterflock.proofs.scatterflock_times.Reads as times
+use Rattle.scatterflock.proofs.scatterflock_trace.Reads as trace
+use Rattle.traces.proofs.Laws.Only.{trace-only}
 
 pub scatterflock-solve-only : (κs : _) (x : _) (a b : _) (e f : _) → solve.Post κs x a e → solve.Post κs x b f →
     (a ≡ b) × (e .1 .0 .now ≡ f .1 .0 .now)
@@ -52,6 +57,14 @@ scatterflock-slice-start-only κs x a b e f h k = h .0 ∙ sym (k .0)
 pub scatterflock-slice-continue-only : (κs : _) (x : _) (a b : _) (e f : _) →
     slice-continue.Post κs x a e → slice-continue.Post κs x b f → (a ≡ b) × (e .1 .1 .0 .now ≡ f .1 .1 .0 .now)
 scatterflock-slice-continue-only κs x a b e f h k = (h .0 ∙ sym (k .0), h .1 .0 ∙ sym (k .1 .0))
+
+pub scatterflock-replay-only : (κs : _) (x : _) (a b : _) (e f : _) →
+    replay.Post κs x a e → replay.Post κs x b f → a ≡ b
+scatterflock-replay-only κs x a b e f h k = h ∙ sym k
+
+pub scatterflock-trace-only : (κs : _) (x : _) (a b : _) (e f : _) → trace.Post κs x a e → trace.Post κs x b f →
+    (a ≡ b) × (e .1 .0 .now ≡ f .1 .0 .now)
+scatterflock-trace-only κs x a b e f h k = trace-only κs x a b e f h k
 
 pub scatterflock-session-open-only : (κs : _) (x : _) (a b : _) (e f : _) →
     session-open.Post κs x a e → session-open.Post κs x b f → a ≡ b

@@ -5,6 +5,8 @@ ghost use lib.ListN.{length};
 ghost use Rattle.rules.specs.Answer.{written};
 ghost use Rattle.rules.specs.Evidence.{checked};
 ghost use Rattle.rules.specs.Refusal.{refusal, refusalWithin, rowsWithin};
+ghost use Rattle.rules.specs.Runs.Replay.{replayRefusal, replayedWords};
+ghost use Rattle.rules.specs.Runs.Trace.{traceOutput, traceRefusal};
 ghost use Rattle.rules.specs.Times.Answer.{Timed};
 ghost use Rattle.rules.specs.Program.Bytes.{wordsFrom};
 ghost use Rattle.rules.specs.Program.Text.{printed};
@@ -12,10 +14,13 @@ ghost use Rattle.rules.specs.Bundle.File.{lengthsLeft, readRefusal, wordsLeft};
 ghost use Rattle.rules.specs.Bundle.Writer.{fileLeft, writerRefusal};
 ghost use Rattle.rules.specs.Bundle.Day.{dayText};
 ghost use Rattle.bundle.specs.Contents.{contentsTold};
+ghost use Rattle.replay.specs.Replay.{replayedAs, toldOf};
+ghost use Rattle.traces.specs.Traces.{tracedAs};
 ghost use Rattle.slices.specs.Slices.{GoesOnAs, SliceStanding, StartsAs, begunAt, sliceOutputAt, wentOnAt};
 ghost use Rattle.session.specs.Sessions as sessions;
 ghost use Rattle.session.specs.Sessions.{ChecksAs, OpensAs, SwitchesAs, checkedAt, openedAt, switchedAt};
 use bundle::Contents;
+use replay::Told;
 use session::Checked;
 use session::Opened;
 use session::Session;
@@ -23,6 +28,7 @@ use session::Switched;
 use slices::Begun;
 use slices::Continued;
 use slices::Slice;
+use traces::Traced;
 
 // Answers a limit problem.
 #[no_mangle]
@@ -80,6 +86,25 @@ pub extern "C" fn scatterflock_slice_continue(
     ensures meaning { λ r. ⌜ GoesOnAs slice pivots (now (out .entry)) r (now (out .exit)) ⌝ }
 {
     slice.go_on(pivots, out)
+}
+
+// Holds another solver's trace against the run of a problem.
+#[no_mangle]
+pub extern "C" fn scatterflock_replay(words: &[i32], trace: &[u32]) -> Told
+    ensures { λ r. ⌜ r ≡ toldOf (replayedAs (replayRefusal (now (words .entry)) (now (trace .entry)))
+        (replayedWords (now (words .entry)) (now (trace .entry)))) ⌝ }
+{
+    replay::in_numbers(replay::replay(words, trace))
+}
+
+// Writes the trace of a problem's own run.
+#[no_mangle]
+pub extern "C" fn scatterflock_trace(words: &[i32], trace: &mut [u32]) -> Traced
+    ensures told { λ r. ⌜ r ≡ tracedAs (traceRefusal (now (words .entry)) (length (now (trace .entry))))
+        (now (words .entry)) ⌝ }
+    ensures output { λ r. ⌜ now (trace .exit) ≡ traceOutput (r .refused) (now (words .entry)) (now (trace .entry)) ⌝ }
+{
+    traces::trace(words, trace)
 }
 
 // Opens a problem whose limits are switched on and off.

@@ -1,6 +1,6 @@
 /*
  * Calls the archive through include/scatterflock.h and compares what it gives:
- * cases A, C and J of docs/RULES.md, case A in slices, the first session of
+ * cases A, C and J of docs/RULES.md, case A in slices, its trace, the first session of
  * docs/formats/session.md, strict limits, answers that are right and wrong,
  * refusals, and on x86-64 how long the records are that come back. It is C and
  * C++ at once, and header.rs compiles it as both. Each
@@ -45,6 +45,9 @@ static const int32_t FOUR_LIVE[] = {2, 2, 2, 1, 1, -3, 0, 0, 0, 1, 3, 0, 2, 0, 1
 static const int64_t FOUR_ANSWERS[][11] = {{1, 0, 1, 5, 3, 13, -4, 0, 0, 0, 0},
                                            {2, 0, 0, 2, 1, 0, 0, 0, 0, 1, 0},
                                            {1, 1, 2, 9, 6, 24, -9, 0, 0, 0, 0}};
+
+static const uint32_t A_TRACE[] = {2, 0, 25, 4, 1, 11, 0, 0, 0};
+static const uint32_t A_TRACE_WRONG[] = {2, 0, 25, 4, 1, 25};
 
 static const int32_t NINE_VARIABLES[] = {9, 0};
 static const int32_t NO_SUCH_VERTEX[] = {1, 1, 0, 1, 0, 0};
@@ -131,6 +134,44 @@ static void within_rows(void)
         number("solve nine within",
                scatterflock_solve_within(most, NINE_VARIABLES, COUNT(NINE_VARIABLES), out, ROOM), 2);
     }
+}
+
+static void replayed(const char *call, const uint32_t *trace, size_t count, uint32_t expected,
+                     uint32_t word, size_t step)
+{
+    struct scatterflock_replayed told = scatterflock_replay(A, COUNT(A), trace, count);
+
+    number(call, told.number, expected);
+    number("the wrong word", told.word, word);
+    number("the wrong step", (uint32_t)told.step, (uint32_t)step);
+}
+
+/* Case A's own trace: accepted, wrong, early, past, left over; written into room for none to all of it. */
+static void in_a_trace(void)
+{
+    uint32_t room[COUNT(A_TRACE)];
+
+    replayed("replay A", A_TRACE, 6, 0, 0, 0);
+    replayed("replay A wrong", A_TRACE_WRONG, 6, SCATTERFLOCK_TRACE_WRONG, SCATTERFLOCK_MASK, 1);
+    replayed("replay A begun late", A_TRACE + 1, 3, SCATTERFLOCK_TRACE_WRONG, SCATTERFLOCK_LEAVING, 0);
+    replayed("replay A early", A_TRACE, 3, SCATTERFLOCK_TRACE_EARLY, 0, 0);
+    replayed("replay A past", A_TRACE, 9, SCATTERFLOCK_TRACE_PAST, 0, 0);
+    replayed("replay A left over", A_TRACE, 7, SCATTERFLOCK_TRACE_LEFT_OVER, 0, 0);
+    number("replay nine", scatterflock_replay(NINE_VARIABLES, COUNT(NINE_VARIABLES), A_TRACE, 7).number, 2);
+
+    for (size_t long_enough = 0; long_enough <= COUNT(room); long_enough++) {
+        size_t written = long_enough < 6 ? 0 : 6;
+        struct scatterflock_traced told;
+
+        for (size_t place = 0; place < COUNT(room); place++)
+            room[place] = 4000000000u;
+        told = scatterflock_trace(A, COUNT(A), room, long_enough);
+        number("trace A", told.refused, written == 0 ? SCATTERFLOCK_SHORT : 0);
+        number("trace A, count", (uint32_t)told.count, (uint32_t)written);
+        for (size_t place = 0; place < COUNT(room); place++)
+            number("trace A, a word", room[place], place < written ? A_TRACE[place] : 4000000000u);
+    }
+    number("trace nine", scatterflock_trace(NINE_VARIABLES, COUNT(NINE_VARIABLES), room, 0).refused, 2);
 }
 
 static struct scatterflock_session switched(struct scatterflock_session session, uint32_t variable,
@@ -259,6 +300,7 @@ int main(void)
     words("times vertex", out, NULL, 0);
 
     in_slices();
+    in_a_trace();
     in_a_session();
     lengths();
     return differences == 0 ? 0 : 1;
