@@ -5,14 +5,17 @@
  *
  * A request is seven numbers of 64 bits: the function (0 solve, 1 check,
  * 2 times, 3 slice_start, 4 slice_continue, 5 session_open, 6 session_switch,
- * 7 session_check, 11 solve_within), how many 32-bit words there are to read, how
- * many 64-bit words the output (of check: the answer) has, and what else the
- * function takes: slice_continue the number of the slice and the pivots, 6 and 7
- * the number of the session, session_switch variable, upper and on, and
- * solve_within the most rows. Then come those words. The reply is four numbers of 64 bits: what the function
- * returned, and of slices and sessions whether it answered, the number of the
- * one that came back and its count; and then all words of the output. Numbers
- * are little-endian, as the machine's own. Requests with 8 to 10 are bundle.c's.
+ * 7 session_check, 11 solve_within, 12 replay, 13 trace), how many 32-bit words
+ * there are to read, how many 64-bit words the output (of check: the answer; of a
+ * replay: the trace) has, and what else the function takes: slice_continue the
+ * number of the slice and the pivots, 6 and 7 the number of the session,
+ * session_switch variable, upper and on, and solve_within the most rows. Then come
+ * those words. The reply is four numbers of 64 bits: what the function returned,
+ * and of slices and sessions whether it answered, the number of the one that came
+ * back and its count, of a replay 0, word and step, of a trace 0, 0 and its count;
+ * and then all words of the output. Numbers are little-endian, as the machine's
+ * own. The words of a trace have 32 bits: they are lent in a slice of their own.
+ * Requests with 8 to 10 are bundle.c's.
  *
  * Slices and sessions are kept here, the last so many of them.
  *
@@ -35,6 +38,8 @@ static const int64_t OUT_GUARD = -6148914691236517206;
 
 static int32_t words[MOST_WORDS + 2 * GUARD], words_before[MOST_WORDS];
 static int64_t out[MOST_WORDS + 2 * GUARD], out_before[MOST_WORDS];
+
+static uint32_t steps[MOST_WORDS + 2 * GUARD];
 
 static struct scatterflock_slice kept[KEPT];
 static uint64_t slices;
@@ -144,6 +149,48 @@ static void check_session(const uint64_t *more, size_t out_count, uint64_t *repl
     keep_session(reply, next.refused, next.session);
 }
 
+/* The words of the output as those of a trace, between guards. */
+static void narrow(size_t count)
+{
+    for (size_t place = 0; place < GUARD; place++)
+        steps[place] = steps[GUARD + count + place] = (uint32_t)WORD_GUARD;
+    for (size_t place = 0; place < count; place++)
+        steps[GUARD + place] = (uint32_t)out[GUARD + place];
+}
+
+/* .. and back. */
+static void widen(size_t count)
+{
+    for (size_t place = 0; place < GUARD; place++)
+        if (steps[place] != (uint32_t)WORD_GUARD || steps[GUARD + count + place] != (uint32_t)WORD_GUARD)
+            stop("words beside the trace have changed");
+    for (size_t place = 0; place < count; place++)
+        out[GUARD + place] = steps[GUARD + place];
+}
+
+static void replay(size_t word_count, size_t count, uint64_t *reply)
+{
+    struct scatterflock_replayed told;
+
+    narrow(count);
+    told = scatterflock_replay(words + GUARD, word_count, steps + GUARD, count);
+    widen(count);
+    reply[0] = told.number;
+    reply[2] = told.word;
+    reply[3] = told.step;
+}
+
+static void trace(size_t word_count, size_t count, uint64_t *reply)
+{
+    struct scatterflock_traced told;
+
+    narrow(count);
+    told = scatterflock_trace(words + GUARD, word_count, steps + GUARD, count);
+    widen(count);
+    reply[0] = told.refused;
+    reply[3] = told.count;
+}
+
 static uint64_t answer(uint64_t function, size_t word_count, size_t out_count)
 {
     const int32_t *read = words + GUARD;
@@ -202,6 +249,12 @@ int main(void)
             reply[0] = scatterflock_solve_within((uint32_t)request[3], words + GUARD, word_count,
                                                  out + GUARD, out_count);
             break;
+        case 12:
+            replay(word_count, out_count, reply);
+            break;
+        case 13:
+            trace(word_count, out_count, reply);
+            break;
         default:
             reply[0] = answer(request[0], word_count, out_count);
         }
@@ -209,8 +262,8 @@ int main(void)
         look_at_guards(word_count, out_count);
         if (memcmp(words_before, words + GUARD, word_count * sizeof *words) != 0)
             stop("words that were lent to read have changed");
-        if (request[0] == 1 && memcmp(out_before, out + GUARD, out_count * sizeof *out) != 0)
-            stop("an answer that was lent to read has changed");
+        if ((request[0] == 1 || request[0] == 8) && memcmp(out_before, out + GUARD, out_count * sizeof *out) != 0)
+            stop("an answer or a trace that was lent to read has changed");
         give(reply, sizeof reply);
         give(out + GUARD, out_count * sizeof *out);
         if (fflush(stdout) != 0)

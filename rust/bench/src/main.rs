@@ -9,7 +9,8 @@
 //! not. The checker is measured on the answers of the first contender.
 //!
 //! Then scripts of edits, in a session and with each problem solved anew
-//! (`edits`), and days' files, as one call and problem by problem (`days`).
+//! (`edits`), days' files, as one call and problem by problem (`days`), and
+//! traces: a replay beside the solve of its problem (`traces`).
 //!
 //! `SEED=.. make bench` measures other problems.
 
@@ -19,6 +20,7 @@ mod edits;
 mod measure;
 mod sets;
 mod table;
+mod traces;
 
 use contenders::CONTENDERS;
 use std::io::{self, ErrorKind, Write};
@@ -59,6 +61,10 @@ fn print(to: &mut impl Write) -> io::Result<()> {
     writeln!(to, "\n{}", days::heading())?;
     for set in days::sets(seed) {
         writeln!(to, "{}", set.line())?;
+    }
+    writeln!(to, "\n{}", traces::heading())?;
+    for set in sets::limits(seed) {
+        writeln!(to, "{}", traces::line(&set))?;
     }
     Ok(())
 }

@@ -1,6 +1,6 @@
 //! Many problems, counted.
 
-use crate::{bundles, limits, sessions, slices, times};
+use crate::{bundles, limits, sessions, slices, times, traces};
 use problems::random::Random;
 use std::collections::BTreeMap;
 use std::fmt;
@@ -13,7 +13,7 @@ pub struct Report {
     /// By verdict or refusal.
     pub outcomes: BTreeMap<String, u64>,
     /// By what further calls returned: the checker, continues, switches and checks
-    /// of sessions, or the writer of a day's file.
+    /// of sessions, the writer of a day's file, or replays and traces.
     pub calls: BTreeMap<u32, u64>,
     /// How many answers have small parts.
     pub with_small: u64,
@@ -62,6 +62,26 @@ pub fn sessions(seed: u64, problems: u64) -> Result<Report, String> {
         report.count_outcome(&format!("refused {}", outcome.number), (outcome.number != 0).into());
         for (name, count) in outcome.checks {
             report.count_outcome(name, count);
+        }
+        report.count_calls(&outcome.calls);
+    }
+    Ok(report)
+}
+
+/// Compares the traces of so many limit problems, the families in turn. What is
+/// counted beside what calls returned is each wrong word, and how many runs
+/// have pivots.
+pub fn traces(seed: u64, problems: u64) -> Result<Report, String> {
+    let mut report = Report::default();
+    for problem in 0..problems {
+        let family = in_turn(&problems::limits::Family::ALL, problem);
+        let outcome = traces::compare(&mut Random::of_problem(seed, problem), family)
+            .map_err(|what| format!("SEED={seed}, problem {problem}, {family:?}: {what}"))?;
+        report.problems += 1;
+        report.count_outcome(&format!("refused {}", outcome.number), (outcome.number != 0).into());
+        report.count_outcome("pivots", (outcome.pivots > 0).into());
+        for word in outcome.wrong {
+            report.count_outcome(["leaving", "entering", "mask"][word as usize], 1);
         }
         report.count_calls(&outcome.calls);
     }

@@ -1,5 +1,5 @@
-//! Random problems, with a seed that is printed and can be given again: 320,000,
-//! 10,000 sessions and 7,000 days' files a run where the archive is linked, 65,000,
+//! Random problems, with a seed that is printed and can be given again: 380,000,
+//! 10,000 sessions and 7,000 days' files a run where the archive is linked, 75,000,
 //! 2,000 and 1,400 under an emulator.
 
 use differential::archive::LINKED;
@@ -9,6 +9,7 @@ use problems::random::seed;
 const LIMIT_PROBLEMS: u64 = if LINKED { 200_000 } else { 40_000 };
 const SLICED_PROBLEMS: u64 = if LINKED { 60_000 } else { 10_000 };
 const SESSIONS: u64 = if LINKED { 10_000 } else { 2_000 };
+const TRACED_PROBLEMS: u64 = if LINKED { 60_000 } else { 10_000 };
 const TIME_PROBLEMS: u64 = if LINKED { 60_000 } else { 15_000 };
 const FILES: u64 = if LINKED { 7_000 } else { 1_400 };
 
@@ -75,6 +76,29 @@ fn sessions() {
     }
     for number in [0, 7, 41, 42, 43, 44] {
         assert!(report.calls[&number] > SESSIONS / 10, "{number}, SEED={seed}");
+    }
+}
+
+#[test]
+fn traces() {
+    let seed = seed();
+    println!("SEED={seed}");
+    let report = report::traces(seed, TRACED_PROBLEMS).unwrap_or_else(|what| panic!("{what}"));
+    println!("{report}");
+    for (outcome, least) in [
+        ("pivots", TRACED_PROBLEMS / 2),
+        ("leaving", TRACED_PROBLEMS / 4),
+        ("entering", TRACED_PROBLEMS / 10),
+        ("mask", TRACED_PROBLEMS / 4),
+    ] {
+        assert!(report.of(outcome) > least, "{outcome}, SEED={seed}");
+    }
+    for number in (1..=6).chain([10]) {
+        let refused = report.of(&format!("refused {number}"));
+        assert!(refused > TRACED_PROBLEMS / 1_000, "{number}, SEED={seed}");
+    }
+    for number in [0, 7, 51, 52, 53, 54] {
+        assert!(report.calls[&number] > TRACED_PROBLEMS / 20, "{number}, SEED={seed}");
     }
 }
 

@@ -4,6 +4,7 @@
 use differential::archive;
 use problems::published::published;
 use problems::sessions::{self, Operation, Reply};
+use problems::traces;
 use problems::worked;
 
 const KEPT: i64 = -123_456_789;
@@ -36,6 +37,25 @@ fn worked_cases_and_the_published_problems() {
             }
         }
     }
+}
+
+#[test]
+fn worked_traces() {
+    for case in traces::worked() {
+        let told = archive::replay(&case.words, &case.trace);
+        assert_eq!((told.number, told.word, told.step), case.answer, "{:?}", case.trace);
+    }
+    let case_a = worked::case_a().words;
+    for room in 0..9 {
+        let mut trace = vec![9; room];
+        let traced = archive::trace(&case_a, &mut trace);
+        let (number, written) = if room < 6 { (7, 0) } else { (0, 6) };
+        assert_eq!((traced.refused, traced.count), (number, written), "{room}");
+        let kept = vec![9; room - written];
+        assert_eq!(trace, [&traces::TRACE_A[..written], &kept].concat(), "{room}");
+    }
+    let mut none = [];
+    assert_eq!(archive::trace(&[1], &mut none).refused, 1);
 }
 
 #[test]

@@ -13,6 +13,7 @@
 //! - `times`: random time rows, by family
 //! - `sessions`: scripts of switches and checks
 //! - `bundles`: days' files, and calls of their writer
+//! - `traces`: worked traces, and such that are nearly right
 
 pub mod bundles;
 pub mod damage;
@@ -26,4 +27,5 @@ pub mod random;
 pub mod sessions;
 pub mod strict;
 pub mod times;
+pub mod traces;
 pub mod worked;

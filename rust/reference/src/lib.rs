@@ -11,6 +11,7 @@
 //! - `tableau`: basic variables as sums over nonbasic ones, and the exchange
 //! - `run`: the limit solver
 //! - `slices`: the same run, some pivots at a time
+//! - `trace`: the pivots of a run, and another solver's held against them
 //! - `session`: limits that are switched on and off, and checks
 //! - `answer`: how a run ended, and the words that say so
 //! - `evidence`: the checker, which uses nothing of the run
@@ -37,6 +38,7 @@ mod session;
 mod slices;
 mod tableau;
 mod times;
+mod trace;
 mod wide;
 
 pub use actual::meets;
@@ -50,3 +52,4 @@ pub use session::Session;
 pub use slices::{Continued, Slice};
 pub use tableau::Pivot;
 pub use times::{times, times_is_right};
+pub use trace::{replay, trace, Replayed};

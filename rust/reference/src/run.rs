@@ -169,6 +169,12 @@ impl<'a> State<'a> {
         Step::Moved(State { problem: self.problem, tableau, values })
     }
 
+    /// The variables that leave and enter in a step that pivots.
+    pub fn exchange(&self) -> Option<(Variable, Variable)> {
+        let violated = self.lowest_violated()?;
+        Some((violated.variable, self.lowest_suitable(violated)?))
+    }
+
     fn lowest_violated(&self) -> Option<Violated> {
         self.tableau.rows.keys().find_map(|&variable| self.violation(variable))
     }

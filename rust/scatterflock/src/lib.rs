@@ -53,6 +53,8 @@
 //! - [`Fractions`]: values as numbers over one denominator
 //! - [`Slice`]: a run that is made some pivots at a time
 //! - [`Session`]: limits that are switched on and off, and checked again
+//! - [`Replayed`], [`replay`], [`trace()`]: another solver's trace against a run,
+//!   and a run's own
 //! - [`TimeRows`], [`times()`]: time rows
 //! - [`Bundle`], [`day()`]: a day's problems in one file
 //! - [`Refusal`], [`TimesRefusal`], [`SwitchRefusal`], [`BundleRefusal`]: why
@@ -76,6 +78,7 @@ mod session;
 pub mod sizes;
 mod slice;
 mod times;
+mod trace;
 
 pub use answer::{check, solve, solve_within, Answer, Judgement, Verdict};
 pub use build_error::BuildError;
@@ -88,3 +91,4 @@ pub use rows::TimeRows;
 pub use session::Session;
 pub use slice::Slice;
 pub use times::{times, Schedule, Time};
+pub use trace::{replay, trace, Replayed, TraceWord};

@@ -2,8 +2,10 @@
 //! Nothing is allocated.
 
 mod bundle;
+mod traces;
 
 pub use bundle::{bundle_read, bundle_write, day, Contents};
+pub use traces::{replay, trace, Replayed, Traced};
 
 mod archive {
     use super::{Begun, Checked, Continued, Opened, Session, Slice, Switched};

@@ -6,8 +6,10 @@
 //! The functions are those of `scatterflock::raw`.
 
 mod bundle;
+mod traces;
 
 pub use bundle::{bundle_read, bundle_write, day, Contents};
+pub use traces::{replay, trace, Replayed, Traced};
 
 use std::cell::RefCell;
 use std::io::{Read, Result, Write};
@@ -31,6 +33,8 @@ enum Function {
     SessionSwitch = 6,
     SessionCheck = 7,
     SolveWithin = 11,
+    Replay = 12,
+    Trace = 13,
 }
 
 /// A run at some point, that the program keeps.
@@ -96,9 +100,9 @@ pub struct Checked {
     pub session: Session,
 }
 
-/// What the program says: what the function returned, and of slices and
-/// sessions whether it answered, by which number the one that came back is kept,
-/// and its count.
+/// What the program says: what the function returned; of slices and sessions
+/// whether it answered, by which number the one that came back is kept, and its
+/// count; of a replay the word and the step, of a trace how many words.
 struct Reply {
     number: u32,
     answered: bool,
