@@ -46,7 +46,7 @@ pub fn problem(file: &OsStr, stdin: &mut dyn Read) -> Result<Input, Failure> {
     if is_words {
         return Ok(Input { file: name, digest, content: Content::Bytes(bytes) });
     }
-    let text = text(&name, bytes)?;
+    let text = text_of(&name, bytes)?;
     let content = if numbers::are_bare(&text) {
         Content::Words(numbers::read(&text).map_err(|fault| bad(&name, &text, fault))?)
     } else {
@@ -58,7 +58,7 @@ pub fn problem(file: &OsStr, stdin: &mut dyn Read) -> Result<Input, Failure> {
 /// Reads a file that is text.
 pub fn any_text(file: &OsStr, stdin: &mut dyn Read) -> Result<(String, String), Failure> {
     let (name, bytes) = bytes(file, stdin)?;
-    let text = text(&name, bytes)?;
+    let text = text_of(&name, bytes)?;
     Ok((name, text))
 }
 
@@ -84,7 +84,7 @@ pub fn bytes(file: &OsStr, stdin: &mut dyn Read) -> Result<(String, Vec<u8>), Fa
 }
 
 /// The text of bytes, but for a mark of byte order at its start.
-fn text(name: &str, mut bytes: Vec<u8>) -> Result<String, Failure> {
+pub fn text_of(name: &str, mut bytes: Vec<u8>) -> Result<String, Failure> {
     if is_wide(&bytes) {
         let what = "this text is UTF-16: save it as UTF-8".to_string();
         return Err(bad(name, "", Fault { line: 1, column: 1, what }));

@@ -11,6 +11,8 @@ usage: scatterflock [--json | --page | --words] solve [--each] FILE
        scatterflock [--json | --bare] day DAY
        scatterflock pack [--edition=N] DAY FILE..
        scatterflock unpack [--bytes] DAY FOLDER
+       scatterflock [--json] trace [--bytes] FILE
+       scatterflock [--json] replay FILE TRACE
 
   solve   can all limits of FILE be met at once? With values, or with the limits that clash
   check   is ANSWER right for the limits of FILE? Asks the proved checker
@@ -20,13 +22,15 @@ usage: scatterflock [--json | --page | --words] solve [--each] FILE
   day     the answers to all bodies of DAY, a day's file: limits of many files in one
   pack    writes DAY, with a body for each FILE; a text's names are lost
   unpack  writes each body of DAY into FOLDER: body-00.txt and so on, or .words where it is refused
+  trace   the pivots of the run on FILE: who leaves, who enters, and who is basic then, as a mask
+  replay  is TRACE, another solver's pivots, the run on FILE? Else the first step that differs
 
   --json    the answer as one line of JSON
   --page    the answer as a page of HTML, with pictures, to look at or to print
   --words   the answer as bare numbers, which check takes too
   --each    for each limit of a clash, what the others come to without it
   --times   the words of FILE are time rows, not limits
-  --bytes   words as bytes, four each, as a file .words has them
+  --bytes   words, or a trace, as bytes, four each word, as a file .words has them
   --bare    the proved text of a day as it is
   --edition=1, --edition=2   the edition of DAY; without it 2 where some body has more than 16 rows
 
@@ -61,6 +65,8 @@ pub enum Action {
     Day(OsString),
     Pack(OsString, Vec<OsString>),
     Unpack(OsString, OsString),
+    Trace(OsString),
+    Replay(OsString, OsString),
 }
 
 #[derive(Debug, PartialEq, Eq)]
@@ -77,7 +83,8 @@ pub struct Options {
     pub edition: Option<u32>,
 }
 
-const COMMANDS: [&str; 8] = ["solve", "check", "times", "words", "edit", "day", "pack", "unpack"];
+const COMMANDS: [&str; 10] =
+    ["solve", "check", "times", "words", "edit", "day", "pack", "unpack", "trace", "replay"];
 const OPTIONS: [&str; 10] = [
     "--json",
     "--page",
@@ -145,8 +152,12 @@ impl Options {
             }
             ("edit", Ok([file])) => Action::Edit(file),
             ("day", Ok([file])) => Action::Day(file),
+            ("trace", Ok([file])) => Action::Trace(file),
             ("check", Err(files)) if files.len() == 2 => {
                 Action::Check(files[0].clone(), files[1].clone())
+            }
+            ("replay", Err(files)) if files.len() == 2 => {
+                Action::Replay(files[0].clone(), files[1].clone())
             }
             ("unpack", Err(files)) if files.len() == 2 => {
                 Action::Unpack(files[0].clone(), files[1].clone())
@@ -154,12 +165,12 @@ impl Options {
             ("pack", Err(files)) if files.len() >= 2 => {
                 Action::Pack(files[0].clone(), files[1..].to_vec())
             }
-            ("solve" | "times" | "words" | "edit" | "day", _) => {
+            ("solve" | "times" | "words" | "edit" | "day" | "trace", _) => {
                 return Err(format!("{name} takes one file"))
             }
             ("pack", _) => return Err("pack takes the file to write, and then files".to_string()),
             ("unpack", _) => return Err("unpack takes a file and a folder".to_string()),
-            ("check", _) => return Err("check takes two files".to_string()),
+            ("check" | "replay", _) => return Err(format!("{name} takes two files")),
             ("help", _) => Action::Help,
             _ => return Err(format!("there is no command {name}{}", near(&name, &COMMANDS))),
         };
@@ -175,11 +186,15 @@ impl Options {
         if each && !matches!(action, Action::Solve(_)) {
             return Err("--each is an option of solve".to_string());
         }
-        let is_words = matches!(action, Action::Words(_));
-        if (times || bytes) && !is_words && (times || !matches!(action, Action::Unpack(..))) {
-            return Err(
-                "--times and --bytes are options of words, --bytes of unpack too".to_string()
-            );
+        if times && !matches!(action, Action::Words(_)) {
+            return Err("--times is an option of words".to_string());
+        }
+        let has_bytes = matches!(action, Action::Words(_) | Action::Trace(_) | Action::Unpack(..));
+        if bytes && !has_bytes {
+            return Err("--bytes is an option of words, of trace and of unpack".to_string());
+        }
+        if bytes && json && matches!(action, Action::Trace(_)) {
+            return Err("--bytes does not go beside --json".to_string());
         }
         if bare && (json || !matches!(action, Action::Day(_))) {
             return Err("--bare is an option of day, and not beside --json".to_string());
@@ -193,7 +208,7 @@ impl Options {
         if json && matches!(action, Action::Edit(_)) {
             return Err("--json is no option of edit".to_string());
         }
-        if matches!(&action, Action::Check(a, b) if a == "-" && b == "-") {
+        if matches!(&action, Action::Check(a, b) | Action::Replay(a, b) if a == "-" && b == "-") {
             return Err("one of the two files can be standard input, not both".to_string());
         }
         let is_stdin = |file: &&OsString| *file == "-";

@@ -5,7 +5,7 @@ use std::fs;
 use std::path::PathBuf;
 use std::process::Command;
 
-const PAGES: [&str; 2] = ["README.md", "docs/formats/text.md"];
+const PAGES: [&str; 3] = ["README.md", "docs/formats/text.md", "docs/formats/trace.md"];
 
 fn top() -> PathBuf {
     PathBuf::from(env!("CARGO_MANIFEST_DIR")).join("../..")

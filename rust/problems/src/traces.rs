@@ -10,9 +10,12 @@ pub struct Traced {
     pub words: Vec<i32>,
     /// The trace.
     pub trace: Vec<u32>,
-    /// The number, and the word and the step of a wrong one.
-    pub answer: (u32, u32, usize),
+    /// What is answered.
+    pub answer: Answer,
 }
+
+/// The number, and the word and the step of a wrong one.
+pub type Answer = (u32, u32, usize);
 
 /// The trace of case A: 2 leaves and 0 enters, then 0, 3 and 4 are basic; 4
 /// leaves and 1 enters, then 0, 1 and 3 are.
@@ -24,7 +27,7 @@ pub fn worked() -> Vec<Traced> {
     let inside = Draft::new(2, &[&[1, 1]], &[above(0), below(3), above(3)]).words();
     let crossed = Draft::new(1, &[], &[between(1, 0)]).words();
     let idle = Draft::new(1, &[], &[FREE]).words();
-    let listed: [(&[i32], &[u32], (u32, u32, usize)); 22] = [
+    let listed: [(&[i32], &[u32], Answer); 22] = [
         (&case_a, &TRACE_A, (0, 0, 0)),
         (&case_a, &[2, 0, 25, 3, 1, 11], (52, 0, 1)),
         (&case_a, &[2, 0, 25, 4, 2, 11], (52, 1, 1)),

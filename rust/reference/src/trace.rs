@@ -32,7 +32,7 @@ pub fn replay(words: &[i32], trace: &[u32]) -> Replayed {
         Ok(problem) => problem,
         Err(refusal) => return told(refusal),
     };
-    if trace.len() % 3 != 0 {
+    if !trace.len().is_multiple_of(3) {
         return told(51);
     }
     let own = steps(&problem);

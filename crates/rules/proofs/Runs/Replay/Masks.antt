@@ -61,7 +61,7 @@ bit-here m v true h = ap (λ x. eqb (x % 2) 1)
     (ap (λ x. (m + x) / 2 ^ v) (let z : 2 ^ v ≡ 1 * 2 ^ v = omega arith in z)
     ∙ add-mul-div-right m 1 (two-some v) ∙ ap (λ x. x + 1) (div-eq-of-lt h))
 
-pub bit-in : (k : ℕ) (f : ℕ → Bool) (v : ℕ) → v < k → bitIn (maskBelow k f) v ≡ f v
+bit-in : (k : ℕ) (f : ℕ → Bool) (v : ℕ) → v < k → bitIn (maskBelow k f) v ≡ f v
 unfolding maskBelow bitIn
 bit-in zero f v h = let z : ⊥ = omega arith in absurd z
 bit-in (suc k) f v h = go (ℕ-discrete v k) (λ l. bit-in k f v l)
@@ -74,7 +74,7 @@ bit-in (suc k) f v h = go (ℕ-discrete v k) (λ l. bit-in k f v l)
         ap (λ j. eqb ((maskBelow k f + bitAt j (f k)) / 2 ^ v % 2) 1) e
         ∙ ap (λ x. eqb x 1) (bit-under (maskBelow k f) v (k - suc v) (f k)) ∙ rest l
 
-pub bit-past : (k : ℕ) (f : ℕ → Bool) (v : ℕ) → k ≤ v → bitIn (maskBelow k f) v ≡ false
+bit-past : (k : ℕ) (f : ℕ → Bool) (v : ℕ) → k ≤ v → bitIn (maskBelow k f) v ≡ false
 unfolding bitIn
 bit-past k f v h = ap (λ x. eqb (x % 2) 1) (div-eq-of-lt below)
   where
