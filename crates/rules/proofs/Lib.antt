@@ -12,6 +12,7 @@
 --   Times        time rows: refusals exactly, times or a bad cycle and never both, and what each means
 --   Program      the program's bytes and text
 --   Bundle       a day's file: refusals exactly, both round trips over bytes, its bodies, its text
+--   Exchange     a problem as SMT-LIB text
 --   Worked       every worked case and edge is right, by computing
 --   Demands      the demands of docs/RULES.md, at the level of words
 pub mod Refusal
@@ -27,5 +28,6 @@ pub mod Runs
 pub mod Times
 pub mod Program
 pub mod Bundle
+pub mod Exchange
 pub mod Worked
 pub mod Demands

@@ -9,6 +9,7 @@
 --   All       limit problems, evidence and time rows as one list
 --   Program   what is printed on them
 --   Bundle    files of many problems
+--   Exchange  problems as SMT-LIB text
 pub mod Expected
 pub mod Limits
 pub mod Evidence
@@ -19,3 +20,4 @@ pub mod Times
 pub mod All
 pub mod Program
 pub mod Bundle
+pub mod Exchange

@@ -16,6 +16,7 @@
 --   Times     time rows
 --   Program   bytes and text
 --   Bundle    a day's problems in one file
+--   Exchange  a problem as SMT-LIB text
 --   Facts     what theorems speak of, in plain facts
 --   Cases     cases worked by hand
 pub mod Sizes
@@ -33,5 +34,6 @@ pub mod Keeping
 pub mod Times
 pub mod Program
 pub mod Bundle
+pub mod Exchange
 pub mod Facts
 pub mod Cases

@@ -8,7 +8,7 @@ use Rattle.rules.specs.Cases.Expected.{Case, answers, minus, refused}
 -- ---- how words are written
 
 -- the limits of one variable: kind, lower, upper
-abbrev free : List ℤ
+abbrev pub free : List ℤ
 free = pos 0 ∷ pos 0 ∷ pos 0 ∷ []
 
 abbrev pub lowerOnly : ℤ → List ℤ
@@ -17,7 +17,7 @@ lowerOnly l = pos 1 ∷ l ∷ pos 0 ∷ []
 abbrev pub upperOnly : ℤ → List ℤ
 upperOnly u = pos 2 ∷ pos 0 ∷ u ∷ []
 
-abbrev between : ℤ → ℤ → List ℤ
+abbrev pub between : ℤ → ℤ → List ℤ
 between l u = pos 3 ∷ l ∷ u ∷ []
 
 -- strict ones
@@ -94,7 +94,7 @@ abbrev pub caseH : Case
 caseH = gives (two (pos 1) (pos 0) ++ free) (pos 1 ∷ pos 0 ∷ pos 1 ∷ pos 0 ∷ pos 0 ∷ [])
 
 -- one row 0x >= 1: refused, as a blank row
-abbrev caseI : Case
+abbrev pub caseI : Case
 caseI = turnedAway (two (pos 1) (pos 1) ++ (pos 0 ∷ []) ++ free ++ lowerOnly (pos 1)) 10
 
 -- ---- strict limits

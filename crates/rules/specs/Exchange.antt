@@ -1,0 +1,3 @@
+-- docs/formats/smtlib.md.
+--   Script  a problem as SMT-LIB text
+pub mod Script
