@@ -1,3 +1,7 @@
 -- A problem as SMT-LIB text.
---   Cases  whole texts, and refusals of the writer, by computing
+--   Refusals  when writing is refused
+--   Lengths   how long a text is
+--   Cases     whole texts, and refusals of the writer, by computing
+pub mod Refusals
+pub mod Lengths
 pub mod Cases

@@ -110,3 +110,39 @@ mostBodies = firstBodies
 -- the text of a day
 abbrev pub mostDayText : ℕ
 mostDayText = mostBodies * mostText
+
+-- ---- SMT-LIB text, in bytes
+
+-- the name of a problem variable: a letter and a digit
+abbrev pub mostColumnName : ℕ
+mostColumnName = 2
+
+-- of any variable: a letter and two digits
+abbrev pub mostName : ℕ
+mostName = 3
+
+-- a coefficient below 0: a minus and four digits in parentheses; a limit has one digit more
+abbrev pub mostCoefficientText : ℕ
+mostCoefficientText = 8
+
+abbrev pub mostLimitText : ℕ
+mostLimitText = 9
+
+-- what stands around a name where it is declared
+abbrev pub mostDeclaration : ℕ
+mostDeclaration = 14 + mostName + 8
+
+abbrev pub mostTerm : ℕ
+mostTerm = 4 + mostCoefficientText + 1 + mostColumnName + 1
+
+-- a row: its name, and a sum of all columns
+abbrev pub mostRowText : ℕ
+mostRowText = 10 + mostName + 3 + mostTerm * mostColumns + 1 + 4
+
+-- the two limits of a variable
+abbrev pub mostLimitsText : ℕ
+mostLimitsText = 2 * (8 + 2 + 1 + mostName + 1 + mostLimitText + 4)
+
+-- a whole text, by the most rows
+abbrev pub mostScript : ℕ → ℕ
+mostScript rows = 20 + (mostDeclaration + mostLimitsText) * (mostColumns + rows) + mostRowText * rows + 11

@@ -1,10 +1,13 @@
 -- How long the program's texts are. A number of 64 bits takes at most 20 bytes, so no text has more than `mostText`.
 --   line-short, head-short, value-short, multipliers-short   of one line or two
 --   lines-longer                                             of the lines of the variables, one variable more
+--   lines-inside, lines-bounded                              one line and all before it; all, where each is short
 --   can-short, cannot-short, range-short, refusal-text-short      of a whole text, from its parts
 use mathlib.Core.Path.{_≡_, _∙_, ap}
 use mathlib.Core.List.{List}
 use Prim.Native.Nat.{ℕ, zero, suc, _+_, _*_, _≤_, _<_}
+use native.Mathlib.Decide.{decLt}
+use native.Mathlib.Nat.{mul-suc}
 use native.Mathlib.Numerals.{add-one}
 use native.Mathlib.Omega.{arith}
 use lib.IntN.{ℤ, pos, negsuc}
@@ -74,6 +77,25 @@ pub lines-longer :
     (v : ℕ) (f : ℕ → List ℕ) → length (linesBelow (v + 1) f) ≡ length (linesBelow v f) + length (f v)
 unfolding linesBelow
 lines-longer v f = ap (λ k. length (linesBelow k f)) (add-one v) ∙ length-append (linesBelow v f) (f v)
+
+-- one line with those before it is no longer than all
+pub lines-inside :
+    (k v : ℕ) (f : ℕ → List ℕ) → v < k → length (linesBelow v f) + length (f v) ≤ length (linesBelow k f)
+lines-inside zero v f h = absurd (omega arith)
+lines-inside (suc k) v f h = elim (decLt v k) [
+  | yes s ↦ let r = lines-inside k v f s in let l = lines-longer k f in rw (← add-one k) (omega (arith, r, l))
+  | no s ↦
+      let e : v ≡ k = omega arith in
+      rw (e, ← add-one k) (omega (arith, lines-longer k f))
+]
+
+pub lines-bounded :
+    (k b : ℕ) (f : ℕ → List ℕ) → ((v : ℕ) → v < k → length (f v) ≤ b) → length (linesBelow k f) ≤ b * k
+unfolding linesBelow
+lines-bounded zero b f h = omega arith
+lines-bounded (suc k) b f h =
+    let r = lines-bounded k b f (λ v l. h v (omega arith)) in
+    rw length-append (omega (arith, r, h k (omega arith), mul-suc b k))
 
 -- ---- whole texts
 

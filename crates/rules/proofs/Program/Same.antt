@@ -1,5 +1,6 @@
 -- The text of an answer asks only for its first 3 + 2N words.
 --   answer-text-same
+--   lines-same          lines that are the same one by one are the same together
 use mathlib.Core.Bool.{cond}
 use mathlib.Core.List.{List, _++_}
 use mathlib.Core.Path.{ap, ap₂, refl, _∙_, _≡_}
@@ -11,7 +12,7 @@ use Rattle.rules.specs.Problem.{word}
 use Rattle.rules.specs.Program.Text.{answerText, ascii, canText, cannotText, decimal, digits, headLines, line}
 use Rattle.rules.specs.Program.Text.{linesBelow, multiplierLine, multiplierLines, rangeText, smallEnd, valueLine}
 
-lines-same : (k : ℕ) (f g : ℕ → List ℕ) → ((v : ℕ) → v < k → f v ≡ g v) → linesBelow k f ≡ linesBelow k g
+pub lines-same : (k : ℕ) (f g : ℕ → List ℕ) → ((v : ℕ) → v < k → f v ≡ g v) → linesBelow k f ≡ linesBelow k g
 unfolding linesBelow
 lines-same zero f g h = refl
 lines-same (suc k) f g h = ap₂ _++_ (lines-same k f g (λ v l. h v (omega arith))) (h k (omega arith))
