@@ -1,0 +1,3 @@
+-- Laws of the exchange. Nothing is assumed.
+pub mod Laws
+pub mod Only

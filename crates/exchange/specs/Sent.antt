@@ -1,0 +1,9 @@
+-- What is answered, by the number of the refusal.
+use mathlib.Core.List.{List}
+use Prim.Native.Nat.{ℕ, zero, suc}
+use lib.ListN.{length}
+use Rattle.exchange.specs.declared.Sent.{Sent}
+
+unfoldable pub sentBy : ℕ → List ℕ → Sent
+sentBy zero text = record { refused = 0; count = length text }
+sentBy (suc k) text = record { refused = suc k; count = 0 }
