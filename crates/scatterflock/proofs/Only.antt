@@ -12,6 +12,7 @@
 --   scatterflock-bundle-read-only      what is told, and every word of both outputs
 --   scatterflock-bundle-write-only     the number, and every byte of the file
 --   scatterflock-day-only     the length of the text, and every byte of the slice
+--   scatterflock-smtlib-write-only      the number, the count, and every byte of the slice
 --   scatterflock-times-only    the number, and every word of the output; or both name a bad cycle
 use mathlib.Core.Logic.{_⊎_}
 use mathlib.Core.Path.{_≡_, ap, sym, _∙_}
@@ -31,6 +32,7 @@ use Rattle.scatterflock.proofs.scatterflock_session_open.Reads as sessi
 use Rattle.scatterflock.proofs.scatterflock_session_switch.Reads as session-switch
 use Rattle.scatterflock.proofs.scatterflock_slice_continue.Reads as slice-continue
 use Rattle.scatterflock.proofs.scatterflock_slice_start.Reads as slice-start
+use Rattle.scatterflock.proofs.scatterflock_smtlib_write.Reads as smtlib-write
 use Rattle.scatterflock.proofs.scatterflock_times.Reads as times
 use Rattle.scatterflock.proofs.scatterflock_trace.Reads as trace
 use Rattle.traces.proofs.Laws.Only.{trace-only}
@@ -95,3 +97,7 @@ scatterflock-bundle-write-only κs x a b e f h k = write-only κs x a b e f h k
 pub scatterflock-day-only : (κs : _) (x : _) (a b : _) (e f : _) → day.Post κs x a e → day.Post κs x b f →
     (a ≡ b) × (e .1 .0 .now ≡ f .1 .0 .now)
 scatterflock-day-only κs x a b e f h k = (h .0 ∙ sym (k .0), h .1 ∙ sym (k .1))
+
+pub scatterflock-smtlib-write-only : (κs : _) (x : _) (a b : _) (e f : _) →
+    smtlib-write.Post κs x a e → smtlib-write.Post κs x b f → (a ≡ b) × (e .1 .0 .now ≡ f .1 .0 .now)
+scatterflock-smtlib-write-only κs x a b e f h k = (h .0 ∙ sym (k .0), h .1 ∙ sym (k .1))

@@ -4,6 +4,7 @@ ghost use mathlib.Core.Path.{_≡_};
 ghost use lib.ListN.{length};
 ghost use Rattle.rules.specs.Answer.{written};
 ghost use Rattle.rules.specs.Evidence.{checked};
+ghost use Rattle.rules.specs.Exchange.Script.{exchangeOutput, exchangeRefusal, exchangeText};
 ghost use Rattle.rules.specs.Refusal.{refusal, refusalWithin, rowsWithin};
 ghost use Rattle.rules.specs.Runs.Replay.{replayRefusal, replayedWords};
 ghost use Rattle.rules.specs.Runs.Trace.{traceOutput, traceRefusal};
@@ -16,11 +17,13 @@ ghost use Rattle.rules.specs.Bundle.Day.{dayText};
 ghost use Rattle.bundle.specs.Contents.{contentsTold};
 ghost use Rattle.replay.specs.Replay.{replayedAs, toldOf};
 ghost use Rattle.traces.specs.Traces.{tracedAs};
+ghost use Rattle.exchange.specs.Sent.{sentBy};
 ghost use Rattle.slices.specs.Slices.{GoesOnAs, SliceStanding, StartsAs, begunAt, sliceOutputAt, wentOnAt};
 ghost use Rattle.session.specs.Sessions as sessions;
 ghost use Rattle.session.specs.Sessions.{ChecksAs, OpensAs, SwitchesAs, checkedAt, openedAt, switchedAt};
 use bundle::Contents;
 use replay::Told;
+use exchange::Sent;
 use session::Checked;
 use session::Opened;
 use session::Session;
@@ -183,4 +186,17 @@ pub extern "C" fn scatterflock_day(file: &[u8], text: &mut [u8]) -> usize
     ensures output { λ r. ⌜ now (text .exit) ≡ printed (dayText (now (file .entry))) (now (text .entry)) ⌝ }
 {
     days::day(file, text)
+}
+
+// Writes a limit problem as SMT-LIB text.
+#[no_mangle]
+pub extern "C" fn scatterflock_smtlib_write(words: &[i32], text: &mut [u8]) -> Sent
+    ensures answer { λ r.
+        ⌜ r ≡ sentBy (exchangeRefusal (now (words .entry)) (length (now (text .entry))))
+        (exchangeText (now (words .entry))) ⌝ }
+    ensures bytes { λ r.
+        ⌜ now (text .exit) ≡ exchangeOutput (exchangeRefusal (now (words .entry)) (length (now (text .entry))))
+        (now (words .entry)) (now (text .entry)) ⌝ }
+{
+    exchange::write(words, text)
 }
