@@ -14,7 +14,7 @@ ghost use Rattle.exchange.specs.Sent.{sentBy};
 // What became of a problem: 0, and all of its text, so many bytes, stands at the front of the slice; or the number of
 // the refusal and 0, and the slice is as it was.
 #[repr(C)]
-pub struct Sent {
+pub struct Exchanged {
     pub refused: u32,
     pub count: usize,
 }
@@ -23,7 +23,7 @@ pub struct Sent {
 const TOO_SHORT: u32 = 7;
 
 // The text of a problem, from its words. It is measured first, by putting it into a slice that is too short.
-pub fn write(words: &[i32], text: &mut [u8]) -> Sent
+pub fn write(words: &[i32], text: &mut [u8]) -> Exchanged
     ensures answer { λ r.
         ⌜ r ≡ sentBy (exchangeRefusal (now (words .entry)) (length (now (text .entry))))
         (exchangeText (now (words .entry))) ⌝ }
@@ -33,7 +33,7 @@ pub fn write(words: &[i32], text: &mut [u8]) -> Sent
 {
     let refused = judge::judge(words);
     if refused != 0 {
-        return Sent {
+        return Exchanged {
             refused: refused,
             count: 0,
         };
@@ -41,13 +41,13 @@ pub fn write(words: &[i32], text: &mut [u8]) -> Sent
     let mut scratch = [0u8; 1];
     let text_length = put_script(&mut scratch, words);
     if text.len() < text_length {
-        return Sent {
+        return Exchanged {
             refused: TOO_SHORT,
             count: 0,
         };
     }
     put_script(text, words);
-    Sent {
+    Exchanged {
         refused: 0,
         count: text_length,
     }

@@ -22,8 +22,8 @@ ghost use Rattle.slices.specs.Slices.{GoesOnAs, SliceStanding, StartsAs, begunA
 ghost use Rattle.session.specs.Sessions as sessions;
 ghost use Rattle.session.specs.Sessions.{ChecksAs, OpensAs, SwitchesAs, checkedAt, openedAt, switchedAt};
 use bundle::Contents;
+use exchange::Exchanged;
 use replay::Told;
-use exchange::Sent;
 use session::Checked;
 use session::Opened;
 use session::Session;
@@ -190,7 +190,7 @@ pub extern "C" fn scatterflock_day(file: &[u8], text: &mut [u8]) -> usize
 
 // Writes a limit problem as SMT-LIB text.
 #[no_mangle]
-pub extern "C" fn scatterflock_smtlib_write(words: &[i32], text: &mut [u8]) -> Sent
+pub extern "C" fn scatterflock_smtlib_write(words: &[i32], text: &mut [u8]) -> Exchanged
     ensures answer { λ r.
         ⌜ r ≡ sentBy (exchangeRefusal (now (words .entry)) (length (now (text .entry))))
         (exchangeText (now (words .entry))) ⌝ }

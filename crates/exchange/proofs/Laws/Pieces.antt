@@ -29,15 +29,15 @@ use Rattle.exchange.specs.declared.limits.Shown.{Shown}
 -- ---- a part of the words
 
 -- from place a on, up to place a + k
-abbrev pub part : List ℤ → ℕ → ℕ → List ℤ
-part ws a k = take (a + k - a) (drop a ws)
+abbrev pub wordsPart : List ℤ → ℕ → ℕ → List ℤ
+wordsPart ws a k = take (a + k - a) (drop a ws)
 
-part-length : (ws : List ℤ) (a k : ℕ) → a + k ≤ length ws → length (part ws a k) ≡ k
+part-length : (ws : List ℤ) (a k : ℕ) → a + k ≤ length ws → length (wordsPart ws a k) ≡ k
 part-length ws a k h =
     let z : a + k - a ≡ k = omega arith in
     rw z (length-take-le k (drop a ws) (rw length-drop (omega arith)))
 
-part-word : (ws : List ℤ) (a k j : ℕ) → j < k → word (part ws a k) j ≡ word ws (a + j)
+part-word : (ws : List ℤ) (a k j : ℕ) → j < k → word (wordsPart ws a k) j ≡ word ws (a + j)
 part-word ws a k j h =
     getD-take (a + k - a) (drop a ws) j (pos 0) (omega arith) ∙ getD-drop a ws j (pos 0)
 
@@ -55,7 +55,7 @@ module _ {ws : List ℤ} {n m : ℕ} (F : Framed ws n m) where
 
   module _ (i : ℕ) (h : i < m) where
     abbrev coefficients : List ℤ
-    coefficients = part ws (2 + i * n) n
+    coefficients = wordsPart ws (2 + i * n) n
 
     many : length coefficients ≡ n
     many = part-length ws (2 + i * n) n (row-inside i h)
@@ -78,10 +78,10 @@ module _ {ws : List ℤ} {n m : ℕ} (F : Framed ws n m) where
   pub limits-inside : (v : ℕ) → v < n + m → 2 + m * n + 3 * v + 3 ≤ length ws
   limits-inside v h = omega (arith, F .exact)
 
-  pub limits-length : (v : ℕ) → v < n + m → length (part ws (2 + m * n + 3 * v) 3) ≡ 3
+  pub limits-length : (v : ℕ) → v < n + m → length (wordsPart ws (2 + m * n + 3 * v) 3) ≡ 3
   limits-length v h = part-length ws (2 + m * n + 3 * v) 3 (limits-inside v h)
 
-  pub limits-part : (v : ℕ) → limitsPiece n v (part ws (2 + m * n + 3 * v) 3) ≡ limitsText ws v
+  pub limits-part : (v : ℕ) → limitsPiece n v (wordsPart ws (2 + m * n + 3 * v) 3) ≡ limitsText ws v
   unfolding limitsText
   limits-part v =
       rw (

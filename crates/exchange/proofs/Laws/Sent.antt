@@ -13,18 +13,18 @@ use Rattle.rules.specs.Exchange.Script.{exchangeOutput, exchangeRefusal, exchan
 use Rattle.rules.proofs.Exchange.Refusals.{output-refused}
 use Rattle.put.specs.Put.{Put}
 use Rattle.exchange.specs.Sent.{sentBy}
-use Rattle.exchange.specs.declared.Sent.{Sent}
+use Rattle.exchange.specs.declared.Exchanged.{Exchanged}
 
 -- what is promised of words and a slice
-abbrev pub Sends : List ℤ → List ℕ → Sent → List ℕ → Type 0
+abbrev pub Sends : List ℤ → List ℕ → Exchanged → List ℕ → Type 0
 Sends ws before r after =
     (r ≡ sentBy (exchangeRefusal ws (length before)) (exchangeText ws))
     × (after ≡ exchangeOutput (exchangeRefusal ws (length before)) ws before)
 
-abbrev refusedWith : ℕ → Sent
+abbrev refusedWith : ℕ → Exchanged
 refusedWith k = record { refused = k; count = 0 }
 
-abbrev bytes : ℕ → Sent
+abbrev bytes : ℕ → Exchanged
 bytes n = record { refused = 0; count = n }
 
 module _ (ws : List ℤ) (before : List ℕ) where
