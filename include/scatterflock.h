@@ -80,6 +80,11 @@ enum {
 };
 #define SCATTERFLOCK_LARGEST_SMALL INT64_C(17179869176) /* small part of a numerator */
 
+/* No SMT-LIB text of a limit problem has more bytes. */
+#define SCATTERFLOCK_MOST_SMTLIB \
+    (31 + 81 * (SCATTERFLOCK_MOST_VARIABLES + SCATTERFLOCK_MOST_ROWS) \
+     + (21 + 16 * SCATTERFLOCK_MOST_VARIABLES) * SCATTERFLOCK_MOST_ROWS)
+
 /*
  * The kind of a variable's limits, in a limit problem. For a strict limit, one
  * that leaves its own number out, STRICT_LOWER or STRICT_UPPER is added:
@@ -488,6 +493,27 @@ uint32_t scatterflock_bundle_write(uint32_t edition,
  */
 size_t scatterflock_day(const uint8_t *file, size_t file_count,
                         uint8_t *text, size_t text_room);
+
+/* What scatterflock_smtlib_write hands back. */
+struct scatterflock_exchanged {
+    uint32_t refused;
+    size_t count;
+};
+
+/*
+ * Writes a limit problem as SMT-LIB text, version 2, logic QF_LRA, byte for
+ * byte as docs/formats/smtlib.md has it. Other solvers say sat for it where
+ * fractions meet the problem, and unsat where none do.
+ *
+ * In refused is 0, and in count how many bytes the text has: it stands at the
+ * start of text, without a zero byte behind it, and bytes past it keep what
+ * they had. Or refused is the number of the refusal as in scatterflock_solve,
+ * 1 to 6 or 10, or 7 if text_room is below the bytes of the text. Then count is
+ * 0, and every byte of text keeps what it had. SCATTERFLOCK_MOST_SMTLIB bytes
+ * are always enough.
+ */
+struct scatterflock_exchanged scatterflock_smtlib_write(const int32_t *words, size_t word_count,
+                                                        uint8_t *text, size_t text_room);
 
 #ifdef __cplusplus
 }

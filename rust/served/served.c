@@ -5,17 +5,18 @@
  *
  * A request is seven numbers of 64 bits: the function (0 solve, 1 check,
  * 2 times, 3 slice_start, 4 slice_continue, 5 session_open, 6 session_switch,
- * 7 session_check, 11 solve_within, 12 replay, 13 trace), how many 32-bit words
- * there are to read, how many 64-bit words the output (of check: the answer; of a
- * replay: the trace) has, and what else the function takes: slice_continue the
- * number of the slice and the pivots, 6 and 7 the number of the session,
- * session_switch variable, upper and on, and solve_within the most rows. Then come
- * those words. The reply is four numbers of 64 bits: what the function returned,
- * and of slices and sessions whether it answered, the number of the one that came
- * back and its count, of a replay 0, word and step, of a trace 0, 0 and its count;
- * and then all words of the output. Numbers are little-endian, as the machine's
- * own. The words of a trace have 32 bits: they are lent in a slice of their own.
- * Requests with 8 to 10 are bundle.c's.
+ * 7 session_check, 11 solve_within, 12 replay, 13 trace, 14 smtlib_write), how
+ * many 32-bit words there are to read, how many 64-bit words the output (of check:
+ * the answer; of a replay: the trace) has, and what else the function takes:
+ * slice_continue the number of the slice and the pivots, session_switch and
+ * session_check the number of the session, session_switch variable, upper and on,
+ * solve_within the most rows, and smtlib_write how many bytes of the output are
+ * lent. Then come those words. The reply is four numbers of 64 bits: what the
+ * function returned, and of slices and sessions whether it answered, the number of
+ * the one that came back and its count, of a replay 0, word and step, of a trace
+ * and a text 0, 0 and its count; and then all words of the output. Numbers are
+ * little-endian, as the machine's own. The words of a trace have 32 bits: they are
+ * lent in a slice of their own. Requests with 8 to 10 are bundle.c's.
  *
  * Slices and sessions are kept here, the last so many of them.
  *
@@ -191,6 +192,17 @@ static void trace(size_t word_count, size_t count, uint64_t *reply)
     reply[3] = told.count;
 }
 
+static void write_smtlib(size_t word_count, size_t out_count, size_t room, uint64_t *reply)
+{
+    struct scatterflock_exchanged written;
+
+    if (room > out_count * sizeof *out)
+        stop("there are fewer bytes than are to be lent");
+    written = scatterflock_smtlib_write(words + GUARD, word_count, (uint8_t *)(out + GUARD), room);
+    reply[0] = written.refused;
+    reply[3] = written.count;
+}
+
 static uint64_t answer(uint64_t function, size_t word_count, size_t out_count)
 {
     const int32_t *read = words + GUARD;
@@ -254,6 +266,9 @@ int main(void)
             break;
         case 13:
             trace(word_count, out_count, reply);
+            break;
+        case 14:
+            write_smtlib(word_count, out_count, request[3], reply);
             break;
         default:
             reply[0] = answer(request[0], word_count, out_count);

@@ -1,6 +1,6 @@
 //! The archive against `reference`: solver, checker, slices, sessions, traces,
-//! time rows and days' files, on random problems of every family, every word
-//! compared.
+//! SMT-LIB texts, time rows and days' files, on random problems of every family,
+//! every word compared.
 //!
 //! - [`archive`]: the archive's functions, linked or served
 //! - `lent`: lends an output with guards around it and looks at all of it
@@ -9,6 +9,7 @@
 //! - `slices`: one limit problem through a start and continues
 //! - `sessions`: one limit problem through a script of switches and checks
 //! - `traces`: one limit problem's own trace, and bent ones against its run
+//! - `smtlib`: one limit problem as SMT-LIB text
 //! - `times`: time rows through the time solver
 //! - `bundles`: a day's file through its reader, its writer and its text
 //! - `report`: many of them, counted
@@ -20,5 +21,6 @@ pub mod limits;
 pub mod report;
 pub mod sessions;
 pub mod slices;
+pub mod smtlib;
 pub mod times;
 pub mod traces;

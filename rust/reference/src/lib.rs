@@ -22,6 +22,7 @@
 //! - `times`: time rows, and a judge of anybody's answer to them
 //! - `program`: the text that the program prints
 //! - `bundle`: a day's file, read, written and printed
+//! - `smtlib`: a limit problem as SMT-LIB text
 
 mod actual;
 mod answer;
@@ -36,6 +37,7 @@ mod program;
 mod run;
 mod session;
 mod slices;
+mod smtlib;
 mod tableau;
 mod times;
 mod trace;
@@ -50,6 +52,7 @@ pub use program::respond;
 pub use run::{pivots, solve, solve_within, violations, Violation};
 pub use session::Session;
 pub use slices::{Continued, Slice};
+pub use smtlib::smtlib_write;
 pub use tableau::Pivot;
 pub use times::{times, times_is_right};
 pub use trace::{replay, trace, Replayed};

@@ -49,7 +49,7 @@
 //! ```
 //!
 //! - [`Problem`], [`solve()`], [`solve_within`], [`check`]: limit problems, answers
-//!   and their judgement
+//!   and their judgement; [`Problem::to_smtlib`]: one as text for other solvers
 //! - [`Fractions`]: values as numbers over one denominator
 //! - [`Slice`]: a run that is made some pivots at a time
 //! - [`Session`]: limits that are switched on and off, and checked again
@@ -77,6 +77,7 @@ mod rows;
 mod session;
 pub mod sizes;
 mod slice;
+mod smtlib;
 mod times;
 mod trace;
 

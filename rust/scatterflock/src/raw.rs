@@ -2,9 +2,11 @@
 //! Nothing is allocated.
 
 mod bundle;
+mod smtlib;
 mod traces;
 
 pub use bundle::{bundle_read, bundle_write, day, Contents};
+pub use smtlib::{smtlib_write, Exchanged};
 pub use traces::{replay, trace, Replayed, Traced};
 
 mod archive {

@@ -2,8 +2,8 @@
  * Calls the archive through include/scatterflock.h and compares what it gives:
  * cases A, C and J of docs/RULES.md, case A in slices, its trace, the first session of
  * docs/formats/session.md, strict limits, answers that are right and wrong,
- * refusals, and on x86-64 how long the records are that come back. It is C and
- * C++ at once, and header.rs compiles it as both. Each
+ * case A as SMT-LIB text in every room, refusals, and on x86-64 how long the records are that come back. It is C and
+ * C++ at once, and header.rs compiles it as both, with MOST_SMTLIB by -D. Each
  * difference is a line, and any makes the program fail.
  */
 #include "scatterflock.h"
@@ -224,6 +224,44 @@ static void in_a_session(void)
     switched(opened.session, 1, false, true, 41);
 }
 
+/* Case A as text, in every room up to a little more than it needs. */
+static void as_smtlib(void)
+{
+    static const char TEXT[] =
+        "(set-logic QF_LRA)\n"
+        "(declare-const x0 Real)\n"
+        "(declare-const x1 Real)\n"
+        "(declare-const r0 Real)\n"
+        "(declare-const r1 Real)\n"
+        "(declare-const r2 Real)\n"
+        "(assert (= r0 (+ (* 1 x0) (* 1 x1))))\n"
+        "(assert (= r1 (+ (* 2 x0) (* (- 1) x1))))\n"
+        "(assert (= r2 (+ (* (- 1) x0) (* 2 x1))))\n"
+        "(assert (>= r0 2))\n"
+        "(assert (>= r1 0))\n"
+        "(assert (>= r2 1))\n"
+        "(check-sat)\n";
+    static uint8_t text[SCATTERFLOCK_MOST_SMTLIB];
+    const size_t length = COUNT(TEXT) - 1;
+
+    number("the most bytes of a text", sizeof text, MOST_SMTLIB);
+    for (size_t room = 0; room < length + 3; room++) {
+        bool fits = room >= length;
+        size_t changed = 0;
+        struct scatterflock_exchanged written;
+
+        for (size_t place = 0; place < sizeof text; place++)
+            text[place] = 0xA5;
+        written = scatterflock_smtlib_write(A, COUNT(A), text, room);
+        number("smtlib A", written.refused, fits ? 0 : SCATTERFLOCK_SHORT);
+        number("smtlib A, count", (uint32_t)written.count, fits ? (uint32_t)length : 0);
+        for (size_t place = 0; place < sizeof text; place++)
+            changed += text[place] != (fits && place < length ? (uint8_t)TEXT[place] : 0xA5);
+        number("smtlib A, bytes that differ,", (uint32_t)changed, 0);
+    }
+    number("smtlib nine", scatterflock_smtlib_write(NINE_VARIABLES, COUNT(NINE_VARIABLES), text, sizeof text).refused, 2);
+}
+
 #ifdef __x86_64__
 /* A record that is handed back is written where a hidden first argument points,
  * so a call that names this argument sees how far the archive itself writes. */
@@ -302,6 +340,7 @@ int main(void)
     in_slices();
     in_a_trace();
     in_a_session();
+    as_smtlib();
     lengths();
     return differences == 0 ? 0 : 1;
 }

@@ -131,7 +131,8 @@ fn calls_through(compiler: &str, language: &str, standard: &str) {
     for machine in machines() {
         let standard = format!("-std={standard}");
         let name = format!("header-{language}");
-        machine.runs(compiler, &["-x", language, &standard], "tests/header.c", &name);
+        let most = format!("-DMOST_SMTLIB={}", sizes::MOST_SMTLIB);
+        machine.runs(compiler, &["-x", language, &standard, &most], "tests/header.c", &name);
         let name = format!("bundle-{language}");
         machine.runs(compiler, &["-x", language, &standard], "tests/bundle.c", &name);
     }

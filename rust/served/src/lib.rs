@@ -35,6 +35,7 @@ enum Function {
     SolveWithin = 11,
     Replay = 12,
     Trace = 13,
+    SmtlibWrite = 14,
 }
 
 /// A run at some point, that the program keeps.
@@ -100,9 +101,18 @@ pub struct Checked {
     pub session: Session,
 }
 
+/// What [`smtlib_write`] hands back.
+pub struct Exchanged {
+    /// 0, or the number of a refusal.
+    pub refused: u32,
+    /// How many bytes the text has.
+    pub count: usize,
+}
+
 /// What the program says: what the function returned; of slices and sessions
 /// whether it answered, by which number the one that came back is kept, and its
-/// count; of a replay the word and the step, of a trace how many words.
+/// count; of a replay the word and the step, of a trace how many words, of a text
+/// how many bytes.
 struct Reply {
     number: u32,
     answered: bool,
@@ -173,6 +183,27 @@ pub fn session_switch(session: Session, variable: u32, upper: bool, on: bool) ->
 pub fn session_check(session: Session, out: &mut [i64]) -> Checked {
     let reply = reply(Function::SessionCheck, &[], out, [session.number, 0, 0, 0]);
     Checked { refused: reply.number, session: reply.session() }
+}
+
+/// Writes a limit problem as SMT-LIB text.
+pub fn smtlib_write(words: &[i32], text: &mut [u8]) -> Exchanged {
+    // The bytes go in words, the last of which may have some more.
+    let mut out: Vec<i64> = text.chunks(8).map(word_of).collect();
+    let past = out.last().copied();
+    let reply = reply(Function::SmtlibWrite, words, &mut out, [text.len() as u64, 0, 0, 0]);
+    let bytes: Vec<u8> = out.iter().flat_map(|word| word.to_le_bytes()).collect();
+    let past: Vec<u8> = past.into_iter().flat_map(i64::to_le_bytes).collect();
+    let more = bytes.len() - text.len();
+    assert_eq!(bytes[text.len()..], past[past.len() - more..], "bytes past the text have changed");
+    text.copy_from_slice(&bytes[..text.len()]);
+    Exchanged { refused: reply.number, count: reply.count }
+}
+
+/// Eight bytes as a word; fewer have others behind them.
+fn word_of(bytes: &[u8]) -> i64 {
+    let mut eight = [0xa5; 8];
+    eight[..bytes.len()].copy_from_slice(bytes);
+    i64::from_le_bytes(eight)
 }
 
 fn ask(function: Function, words: &[i32], out: &mut [i64]) -> u32 {
