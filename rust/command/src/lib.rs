@@ -11,7 +11,7 @@
 //! - `json`, `table`, `excerpt`: values as JSON, lines of cells, the line of a
 //!   fault
 //! - `page`, `digest`: an answer as a page of HTML, and the digest that it has
-//! - `solve`, `check`, `times`, `words`, `edit`, `traces`: what the command does
+//! - `solve`, `check`, `times`, `words`, `smtlib`, `edit`, `traces`: what the command does
 //! - `day`, `pack`: the same of days' files
 
 mod check;
@@ -28,6 +28,7 @@ mod own;
 mod pack;
 mod page;
 mod problem;
+mod smtlib;
 mod solve;
 mod table;
 mod times;
@@ -113,6 +114,7 @@ pub fn run_writing(words: &[OsString], stdin: &mut dyn Read, out: &mut dyn Write
         Action::Words(file) => words::run(file, &options, stdin),
         Action::Trace(file) => traces::trace(file, &options, stdin),
         Action::Replay(file, trace) => traces::replay(file, trace, options.json, stdin),
+        Action::Smtlib(file) => smtlib::run(file, stdin),
         Action::Edit(file) => edit::run(file, &mut BufReader::new(stdin), out),
         Action::Day(file) => day::run(file, &options, stdin),
         Action::Pack(file, files) => pack::pack(file, files, &options, stdin),

@@ -7,6 +7,7 @@ usage: scatterflock [--json | --page | --words] solve [--each] FILE
        scatterflock [--json] check FILE ANSWER
        scatterflock [--json | --page] times FILE
        scatterflock words [--times] [--bytes] FILE
+       scatterflock smtlib FILE
        scatterflock edit FILE
        scatterflock [--json | --bare] day DAY
        scatterflock pack [--edition=N] DAY FILE..
@@ -18,6 +19,7 @@ usage: scatterflock [--json | --page | --words] solve [--each] FILE
   check   is ANSWER right for the limits of FILE? Asks the proved checker
   times   can all time rows of FILE be met? With times, or with the rows that go round
   words   a text as words, or words as a text
+  smtlib  the limits of FILE as SMT-LIB text, for other solvers
   edit    limits of FILE switched off and on, with an answer each time: off 4, on 4, back, list, why
   day     the answers to all bodies of DAY, a day's file: limits of many files in one
   pack    writes DAY, with a body for each FILE; a text's names are lost
@@ -61,6 +63,7 @@ pub enum Action {
     Check(OsString, OsString),
     Times(OsString),
     Words(OsString),
+    Smtlib(OsString),
     Edit(OsString),
     Day(OsString),
     Pack(OsString, Vec<OsString>),
@@ -83,8 +86,10 @@ pub struct Options {
     pub edition: Option<u32>,
 }
 
-const COMMANDS: [&str; 10] =
-    ["solve", "check", "times", "words", "edit", "day", "pack", "unpack", "trace", "replay"];
+const COMMANDS: [&str; 11] = [
+    "solve", "check", "times", "words", "smtlib", "edit", "day", "pack", "unpack", "trace",
+    "replay",
+];
 const OPTIONS: [&str; 10] = [
     "--json",
     "--page",
@@ -145,6 +150,7 @@ impl Options {
             ("solve", Ok([file])) => Action::Solve(file),
             ("times", Ok([file])) => Action::Times(file),
             ("words", Ok([file])) => Action::Words(file),
+            ("smtlib", Ok([file])) => Action::Smtlib(file),
             ("edit", Ok([file])) if file == "-" => {
                 return Err(
                     "edit reads commands from standard input, and FILE is another".to_string()
@@ -165,7 +171,7 @@ impl Options {
             ("pack", Err(files)) if files.len() >= 2 => {
                 Action::Pack(files[0].clone(), files[1..].to_vec())
             }
-            ("solve" | "times" | "words" | "edit" | "day" | "trace", _) => {
+            ("solve" | "times" | "words" | "smtlib" | "edit" | "day" | "trace", _) => {
                 return Err(format!("{name} takes one file"))
             }
             ("pack", _) => return Err("pack takes the file to write, and then files".to_string()),
@@ -207,6 +213,9 @@ impl Options {
         }
         if json && matches!(action, Action::Edit(_)) {
             return Err("--json is no option of edit".to_string());
+        }
+        if json && matches!(action, Action::Smtlib(_)) {
+            return Err("--json is no option of smtlib".to_string());
         }
         if matches!(&action, Action::Check(a, b) | Action::Replay(a, b) if a == "-" && b == "-") {
             return Err("one of the two files can be standard input, not both".to_string());
