@@ -3,7 +3,7 @@
 use mathlib.Core.Bool.{Bool, true, false}
 use mathlib.Core.List.{List, _∷_, _++_}
 use mathlib.Core.Path.{_≡_}
-use Prim.Native.Nat.{ℕ, _+_, _*_, _^_, _≤_, _<_}
+use Prim.Native.Nat.{ℕ, _+_, _*_, _≤_, _<_}
 use lib.Dec.{ltb}
 use lib.IntN.{ℤ, pos, _*ℤ_}
 use lib.ListN.{getD, take, drop, replicate}
@@ -83,10 +83,6 @@ firstOf N l = table N (λ v. getD l v (pos 0))
 -- .. over the words from a place on
 unfoldable pub copiedAt : List ℤ → ℕ → ℕ → List ℤ → List ℤ
 copiedAt before at N l = take at before ++ (firstOf N l ++ drop (at + N) before)
-
--- no run has as many pivots: 3^n times the ways to choose n of n + m is at most this
-abbrev pub mostCount : ℕ
-mostCount = 3 ^ mostColumns * 2 ^ mostVariables
 
 -- verdict, count, denominator, and two words for each variable
 unfoldable pub wordsAt : Verdict → ℕ → ℤ → ℕ → List ℤ → List ℤ → List ℤ

@@ -2,10 +2,11 @@
 ghost use mathlib.Core.Path.{_≡_};
 ghost use Prim.Native.Nat.{ℕ, _+_, _*_, _≤_, _<_};
 ghost use lib.ListN.{getD, length};
+ghost use Rattle.rules.specs.Run.{mostCount};
 ghost use Rattle.rules.specs.Sizes.{mostColumns, mostRows, mostVariables};
 ghost use Rattle.tableau.specs.Parts.{nowhere};
 ghost use Rattle.answers.specs.Answer.{numberOf, Numerable, numeratorOf, numeratorsIn};
-ghost use Rattle.answers.specs.Answer.{copiedAt, isShort, mostCount, wordsAt, laidOver};
+ghost use Rattle.answers.specs.Answer.{copiedAt, isShort, wordsAt, laidOver};
 use search::Size;
 use search::after;
 use sides::product;

@@ -7,6 +7,7 @@ use Rattle.whole.specs.Below.{lowest}
 use Rattle.whole.specs.Tables.{table}
 use Rattle.whole.specs.Values.{Values}
 use Rattle.rules.specs.Problem.{Problem, vars}
+use Rattle.rules.specs.Sizes.{mostColumns, mostVariables}
 use Rattle.rules.specs.Step.{State, Outcome, can, cannot, range, goes, step, same}
 
 -- ---- what k steps make of a state. One that has ended stays as it is
@@ -52,6 +53,10 @@ choose (suc k) (suc j) = choose k (suc j) + choose k j
 
 unfoldable pub bound : {X : Type 0} → Problem X → ℕ
 bound P = 3 ^ P .n * choose (vars P) (P .n)
+
+-- no run has as many pivots, by the sizes: the bound is at most this (proofs/Termination/Bound.antt)
+abbrev pub mostCount : ℕ
+mostCount = 3 ^ mostColumns * 2 ^ mostVariables
 
 -- ---- the run that computes
 

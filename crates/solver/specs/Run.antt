@@ -6,7 +6,7 @@ use Prim.Native.Nat.{ℕ, zero, suc, _<_}
 use lib.IntN.{ℤ, pos}
 use Rattle.whole.specs.Values.{pairs}
 use Rattle.rules.specs.Problem.{Problem}
-use Rattle.rules.specs.Run.{conflict}
+use Rattle.rules.specs.Run.{conflict, mostCount}
 use Rattle.rules.specs.Step.{State}
 use Rattle.rules.specs.Facts.State.{Ready}
 use Rattle.tableau.specs.declared.Tableau.{Tableau}
@@ -16,7 +16,7 @@ use Rattle.search.specs.declared.Blocked.{Blocked}
 use Rattle.search.specs.Search.{Searchable}
 use Rattle.answers.specs.declared.multipliers.Multipliers.{Multipliers}
 use Rattle.answers.specs.declared.Verdict.the-variants as verdicts
-use Rattle.answers.specs.Answer.{mostCount, noughts, numeratorsLaid, wordsAt}
+use Rattle.answers.specs.Answer.{noughts, numeratorsLaid, wordsAt}
 use Rattle.answers.specs.Multipliers.{multipliersLaid}
 use Rattle.steps.specs.declared.End.{End}
 use Rattle.steps.specs.declared.End.the-variants as ends

@@ -4,13 +4,14 @@
 --   seated-moved   a move seats as many variables
 --   below-bound    demand 3, second half, from any sound state
 --   bound-some     the bound is above 0: there is a way to choose n of m + n
+--   bound-small    and at most a number of the sizes
 use mathlib.Core.List.{List, [], _∷_}
 use mathlib.Core.Logic.{inl, inr, _≢_}
 use mathlib.Core.Option.{Option, Option·none-ne-some, none, some}
 use mathlib.Core.Path.{ap, refl, sym, _∙_, _≡_}
-use Prim.Native.Nat.{suc, zero, ℕ, _<_, _^_, _≤_}
+use Prim.Native.Nat.{suc, zero, ℕ, _+_, _<_, _^_, _≤_}
 use native.Mathlib.Decide.{decLt, ℕ-discrete}
-use native.Mathlib.Nat.{mul-pos}
+use native.Mathlib.Nat.{le-trans, mul-le-mul, mul-pos, one-le-pow, pow-le-pow-right, two-pow-succ}
 use native.Mathlib.Omega.{arith}
 use lib.IntN.{one}
 use lib.ListN.{List·getD-eq-default, getD, length, length-set, set}
@@ -25,7 +26,8 @@ use Rattle.rules.proofs.Run.Steady.{sound-after, twice-never}
 use Rattle.rules.proofs.Step.Cases.{step-goes}
 use Rattle.rules.specs.Problem.{Problem, vars}
 use Rattle.rules.specs.Facts.Rule.{Entered, Left, Outside, Swap, too-high, too-low}
-use Rattle.rules.specs.Run.{Runs, after, bound, choose, next}
+use Rattle.rules.specs.Run.{Runs, after, bound, choose, mostCount, next}
+use Rattle.rules.specs.Sizes.{mostColumns, mostRows, mostVariables}
 use Rattle.rules.specs.Facts.State.{Apart, Rowed, Sound, howManySeated}
 use Rattle.rules.specs.Step.{Leaving, Outcome, Side, State, can, cannot, goes, limitAt, moved, range, seat}
 use Rattle.rules.specs.Step.{seated, step}
@@ -169,3 +171,17 @@ choose-some (suc k) (suc j) h = let r : 0 < choose k j = choose-some k j (omega 
 pub bound-some : {X : Type 0} (P : Problem X) → 0 < bound P
 unfolding bound
 bound-some P = mul-pos (power-some (P .n)) (choose-some (vars P) (P .n) (omega arith))
+
+-- ---- the bound by the sizes
+
+choose-most : (k j : ℕ) → choose k j ≤ 2 ^ k
+unfolding choose
+choose-most k zero = one-le-pow k 2 (omega arith)
+choose-most zero (suc j) = omega arith
+choose-most (suc k) (suc j) = let a = choose-most k (suc j) in let b = choose-most k j in omega (arith, two-pow-succ k)
+
+pub bound-small : {X : Type 0} (P : Problem X) → P .m ≤ mostRows → P .n ≤ mostColumns → bound P ≤ mostCount
+unfolding bound
+bound-small P h k = mul-le-mul (pow-le-pow-right {n = 3} (omega arith) k)
+    (le-trans (choose-most (P .n + P .m) (P .n))
+    (pow-le-pow-right {n = 2} (omega arith) {j = mostVariables} (omega arith)))

@@ -31,10 +31,11 @@ use Rattle.tableau.specs.Stands.{Ranged, Stands}
 use Rattle.tableau.specs.Start.{startTableau, startLaid}
 use Rattle.tableau.proofs.Laws.Fits.{fitting-accepted, ranged-start}
 use Rattle.tableau.proofs.Laws.Stands.Start.{stands-start}
-use Rattle.answers.specs.Answer.{isShort, mostCount}
+use Rattle.answers.specs.Answer.{isShort}
 use Rattle.solver.specs.Run.{Begun}
 use Rattle.solver.specs.Spend.{Holds, outAt}
-use Rattle.solver.proofs.Laws.Stands.Run.{bound-small}
+use Rattle.rules.proofs.Termination.Bound.{bound-small}
+use Rattle.rules.specs.Run.{mostCount}
 use Rattle.solver.proofs.Laws.Stands.Slices.{out-is}
 
 module _ (rows : ℕ) (ws : List ℤ) (room : ℕ) where

@@ -17,7 +17,7 @@ use Rattle.whole.proofs.Bools.{true-false}
 use Rattle.whole.proofs.Tells.{tells-eq}
 use Rattle.tableau.specs.declared.Tableau.{Tableau}
 use Rattle.tableau.specs.Pivot.{withNumbers}
-use Rattle.answers.specs.Answer.{mostCount}
+use Rattle.rules.specs.Run.{mostCount}
 use Rattle.steps.specs.declared.End.{End}
 use Rattle.steps.specs.declared.Outcome.the-variants as outcomes
 use Rattle.steps.specs.Step.{Held, leftAt, on, outcomeAt, over, steppedAt}

@@ -39,7 +39,7 @@ use Rattle.answers.specs.Conflict.{conflictAt}
 use Rattle.steps.specs.Step.{Course, admitAt, fitsByLaid, movedLaid, on, over, stepLaid, steppedAt, steppedLaid}
 use Rattle.solver.specs.Spend as solver
 use Rattle.solver.specs.Spend.{manyOf, outAt, ranAt, spentAs, spentAt, spentBy, spentWhere}
-use Rattle.solver.proofs.Laws.Stands.Run.{bound-small}
+use Rattle.rules.proofs.Termination.Bound.{bound-small}
 use Rattle.solver.proofs.Laws.Stands.Slices.{holds-more, many-is, out-is}
 use Rattle.session.specs.declared.Checked.{Checked}
 use Rattle.session.specs.declared.Session.{Session}

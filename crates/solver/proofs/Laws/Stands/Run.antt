@@ -2,25 +2,21 @@
 --   Going, run-goes         after k steps that go on the tableau stands for the state after k steps, and the run has k
 -- pivots   held-begun, held-after    so a step may be asked of it
 --   after-none, after-more, goes-more    no step yet, and one more
---   bound-small          the bound on its pivots fits
 use mathlib.Core.Path.{_≡_, ap, refl}
-use Prim.Native.Nat.{ℕ, zero, suc, _+_, _^_, _<_, _≤_}
+use Prim.Native.Nat.{ℕ, zero, suc, _+_, _<_}
 use native.Mathlib.Decide.{ℕ-discrete}
-use native.Mathlib.Nat.{le-trans, mul-le-mul, one-le-pow, pow-le-pow-right, two-pow-succ}
 use native.Mathlib.Numerals.{add-one}
 use native.Mathlib.Omega.{arith}
 use lib.IntN.{ℤ}
 use Rattle.whole.specs.Values.{pairs}
 use Rattle.whole.proofs.Bools.{zero-one}
 use Rattle.rules.specs.Problem.{Problem}
-use Rattle.rules.specs.Sizes.{mostColumns, mostRows, mostVariables}
-use Rattle.rules.specs.Run.{Moves, Runs, after, bound, choose, next}
+use Rattle.rules.specs.Run.{Moves, Runs, after, next}
 use Rattle.rules.specs.Step.{State, goes, step}
 use Rattle.rules.proofs.Run.Steady.{rowed-after}
 use Rattle.rules.specs.Facts.State.{Rowed}
 use Rattle.tableau.specs.declared.Tableau.{Tableau}
 use Rattle.tableau.specs.Stands.{Ranged, Stands}
-use Rattle.answers.specs.Answer.{mostCount}
 use Rattle.steps.specs.Step.{Held, on, steppedAt}
 use Rattle.steps.proofs.Laws.Stands.{StepIs, ends-can, ends-cannot, ends-range, goes-to, step-is}
 use Rattle.solver.specs.Run.{Begun, GoesOn, afterAt, afterLaid}
@@ -95,17 +91,3 @@ after-none t = refl
 pub after-more : (t : Tableau) (k : ℕ) → steppedAt (afterAt t k) .tableau ≡ afterAt t (k + 1)
 unfolding afterLaid
 after-more t k = rw add-one refl
-
--- ---- the bound
-
-choose-most : (k j : ℕ) → choose k j ≤ 2 ^ k
-unfolding choose
-choose-most k zero = one-le-pow k 2 (omega arith)
-choose-most zero (suc j) = omega arith
-choose-most (suc k) (suc j) = let a = choose-most k (suc j) in let b = choose-most k j in omega (arith, two-pow-succ k)
-
-pub bound-small : (P : Problem (ℤ × ℤ)) → P .m ≤ mostRows → P .n ≤ mostColumns → bound P ≤ mostCount
-unfolding bound
-bound-small P h k = mul-le-mul (pow-le-pow-right {n = 3} (omega arith) k)
-    (le-trans (choose-most (P .n + P .m) (P .n))
-    (pow-le-pow-right {n = 2} (omega arith) {j = mostVariables} (omega arith)))

@@ -18,7 +18,7 @@ use Rattle.rules.proofs.Runs.Slices.{on-way-apart, on-way-below, on-way-more, o
 use Rattle.rules.specs.Answer.{wordsOf}
 use Rattle.rules.specs.Facts.State.{Rowed}
 use Rattle.rules.specs.Problem.{Problem, vars}
-use Rattle.rules.specs.Run.{Ended, Ending, Moves, conflict, spending}
+use Rattle.rules.specs.Run.{Ended, Ending, Moves, conflict, mostCount, spending}
 use Rattle.rules.specs.Runs.Slices.{Slice, continued, isAnswer, sliceAnswer, sliceLength, sliceOutput, told}
 use Rattle.rules.specs.Sizes.{mostVariables}
 use Rattle.rules.specs.Step.{Outcome, cannot, evidence, same}
@@ -30,7 +30,7 @@ use Rattle.search.proofs.Laws.Stands.{all-vars}
 use Rattle.answers.specs.declared.Verdict.the-variants as verdicts
 use Rattle.answers.specs.declared.conflict.Crossed.{Crossed}
 use Rattle.answers.specs.declared.conflict.Crossed.the-variants as crossings
-use Rattle.answers.specs.Answer.{laidOver, mostCount, wordsAt}
+use Rattle.answers.specs.Answer.{laidOver, wordsAt}
 use Rattle.answers.specs.Conflict.{conflictAt}
 use Rattle.answers.specs.Multipliers.{unitAt}
 use Rattle.answers.proofs.Laws.Stands.Crossed.{crossing-at, crossing-in, crossing-none, crossing-told}
@@ -42,7 +42,7 @@ use Rattle.solver.specs.Spend.{Holds, Ran, Uncrossed, crossedSince, isOv
 use Rattle.solver.specs.Spend.{outWhere, ranAt, spentAs, spentAt, spentWhere}
 use Rattle.solver.specs.Came.{Came, CourseIs, over-can, over-cannot, over-range, still-on}
 use Rattle.solver.proofs.Laws.Stands.Came.{came}
-use Rattle.solver.proofs.Laws.Stands.Run.{bound-small}
+use Rattle.rules.proofs.Termination.Bound.{bound-small}
 use Rattle.solver.proofs.Laws.Stands.Told.{came-many, tellable-came, told-came}
 
 -- ---- by what the search for crossed limits says

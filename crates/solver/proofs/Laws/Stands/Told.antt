@@ -14,10 +14,10 @@ use Rattle.whole.proofs.Bools.{zero-one}
 use Rattle.whole.proofs.Values.Beside.{pairs-laws}
 use Rattle.rules.specs.Answer.{answerFrom, wordsOf}
 use Rattle.rules.specs.Problem.{Problem, vars}
-use Rattle.rules.specs.Run.{Ending, bound, ending, run}
+use Rattle.rules.specs.Run.{Ending, bound, ending, mostCount, run}
 use Rattle.rules.specs.Step.{Outcome, State, evidence}
 use Rattle.rules.proofs.Answer.Run.{spending-run}
-use Rattle.rules.proofs.Termination.Bound.{below-bound}
+use Rattle.rules.proofs.Termination.Bound.{below-bound, bound-small}
 use Rattle.rules.proofs.Step.Leaving.{left}
 use Rattle.rules.proofs.Run.State.{ready-sound}
 use Rattle.rules.proofs.Run.Start.{no-conflict}
@@ -27,7 +27,7 @@ use Rattle.search.specs.declared.Blocked.{Blocked}
 use Rattle.search.specs.Search.{blockedAt}
 use Rattle.search.proofs.Laws.Rows.{searchable}
 use Rattle.search.proofs.Laws.Stands.{all-vars}
-use Rattle.answers.specs.Answer.{mostCount, numberOf, wordsAt}
+use Rattle.answers.specs.Answer.{numberOf, wordsAt}
 use Rattle.answers.proofs.Laws.Stands.Halves.{lowers-are, numerators-are, smalls-are, uppers-are, zeros-are}
 use Rattle.steps.specs.declared.End.{End}
 use Rattle.steps.specs.declared.End.the-variants as ends
@@ -36,7 +36,7 @@ use Rattle.solver.specs.Run.{Finished, Startable, Tellable, endWords, wo
 use Rattle.solver.specs.Spend.{Ran, manyOf, ranAt}
 use Rattle.solver.specs.Came.{Came, CourseIs, over-can, over-cannot, over-range, still-on}
 use Rattle.solver.proofs.Laws.Stands.Came.{came}
-use Rattle.solver.proofs.Laws.Stands.Run.{bound-small, run-goes, held-begun}
+use Rattle.solver.proofs.Laws.Stands.Run.{run-goes, held-begun}
 use Rattle.solver.proofs.Laws.Spends.{ran-over}
 
 twice : (N : ℕ) (a : ℤ) → replicate N a ++ replicate N a ≡ replicate (2 * N) a
