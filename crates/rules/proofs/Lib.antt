@@ -13,6 +13,7 @@
 --   Program      the program's bytes and text
 --   Bundle       a day's file: refusals exactly, both round trips over bytes, its bodies, its text
 --   Exchange     a problem as SMT-LIB text
+--   Sheet        the auditor's sheet: whole sheets, by computing
 --   Worked       every worked case and edge is right, by computing
 --   Demands      the demands of docs/RULES.md, at the level of words
 pub mod Refusal
@@ -29,5 +30,6 @@ pub mod Times
 pub mod Program
 pub mod Bundle
 pub mod Exchange
+pub mod Sheet
 pub mod Worked
 pub mod Demands

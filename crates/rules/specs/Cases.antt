@@ -10,6 +10,7 @@
 --   Program   what is printed on them
 --   Bundle    files of many problems
 --   Exchange  problems as SMT-LIB text
+--   Sheet     whole sheets of the auditor
 pub mod Expected
 pub mod Limits
 pub mod Evidence
@@ -21,3 +22,4 @@ pub mod All
 pub mod Program
 pub mod Bundle
 pub mod Exchange
+pub mod Sheet

@@ -17,6 +17,7 @@
 --   Program   bytes and text
 --   Bundle    a day's problems in one file
 --   Exchange  a problem as SMT-LIB text
+--   Sheet     the auditor's sheet
 --   Facts     what theorems speak of, in plain facts
 --   Cases     cases worked by hand
 pub mod Sizes
@@ -35,5 +36,6 @@ pub mod Times
 pub mod Program
 pub mod Bundle
 pub mod Exchange
+pub mod Sheet
 pub mod Facts
 pub mod Cases

@@ -146,3 +146,18 @@ mostLimitsText = 2 * (8 + 2 + 1 + mostName + 1 + mostLimitText + 4)
 -- a whole text, by the most rows
 abbrev pub mostScript : ℕ → ℕ
 mostScript rows = 20 + (mostDeclaration + mostLimitsText) * (mostColumns + rows) + mostRowText * rows + 11
+
+-- ---- the auditor's sheet
+
+-- the line of a count: its name, two digits and a newline
+abbrev pub mostCountLine : ℕ → ℕ
+mostCountLine name = name + 2 + 1
+
+-- a whole sheet: bodies, can, cannot, range; six refusals and 10; pivots of 16 digits; the largest, of 14, with "none";
+-- and a line for each variable
+abbrev pub mostSheet : ℕ
+mostSheet =
+    mostCountLine 7 + mostCountLine 4 + mostCountLine 7 + mostCountLine 6
+    + (6 * mostCountLine 10 + mostCountLine 11)
+    + (7 + 16 + 1) + (8 + 14 + 6 + 4 + 1)
+    + mostVariables * (2 + 7 + 2 + 7 + 2 + 1)

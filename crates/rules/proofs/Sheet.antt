@@ -1,0 +1,3 @@
+-- The auditor's sheet.
+--   Worked   whole sheets, by computing
+pub mod Worked
