@@ -6,6 +6,7 @@
 --   first-fine       `first` gives 0 exactly where every line is fine
 --   first-hit, first-skip    one test at a time
 --   first-kept, first-front, first-passed, Upto    a list in two parts: the first part has a number, or none
+--   first-most       `first` gives no number beyond those of its list
 use mathlib.Core.Bool.{Bool, false, true}
 use mathlib.Core.List.{List, [], _++_, _∷_}
 use mathlib.Core.Logic.{inl, inr, _↔_, _≢_}
@@ -50,6 +51,12 @@ unfolding first
 first-passed n [] us h e = refl
 first-passed n ((true, j) ∷ ts) us (l, m, h) e = let z : ⊥ = omega arith in absurd z
 first-passed n ((false, j) ∷ ts) us (l, m, h) e = first-passed n ts us h e
+
+pub first-most : (n : ℕ) (ts : List (Bool × ℕ)) → Upto n ts → first ts ≤ n
+unfolding first
+first-most n [] h = omega arith
+first-most n ((true, j) ∷ ts) (l, m, h) = m
+first-most n ((false, j) ∷ ts) (l, m, h) = first-most n ts h
 
 -- ---- a list of tests, and a table
 
