@@ -4,6 +4,7 @@
 --   Heads    the head of a file, filled word by word
 --   Told     what a reader hands back
 --   Writers  the refusal of a writer, test after test
+--   Parts    bodies as parts of the words
 --   Trips    what was written is read again, over the promises
 --   Only     two allowed results are equal
 pub mod Pairs
@@ -11,5 +12,6 @@ pub mod Files
 pub mod Heads
 pub mod Told
 pub mod Writers
+pub mod Parts
 pub mod Trips
 pub mod Only

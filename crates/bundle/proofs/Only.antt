@@ -6,13 +6,17 @@ use mathlib.Core.Path.{_≡_, ap, sym, _∙_}
 use Rattle.rules.specs.Program.Bytes.{wordsFrom}
 use Rattle.rules.specs.Bundle.File.{lengthsLeft, wordsLeft}
 use Rattle.rules.specs.Bundle.Writer.{fileLeft}
-use Rattle.bundle.proofs.judge.count_of.Reads as count-of
+use Rattle.bundle.proofs.body.part_of.Reads as part-of
+use Rattle.bundle.proofs.body.rows_of.Reads as rows-of
 use Rattle.bundle.proofs.judge.file_refusal.Reads as file-refusal
 use Rattle.bundle.proofs.read.Reads as read
 use Rattle.bundle.proofs.write.Reads as write
 
-pub count-of-only : (κs : _) (x : _) (a b : _) (e : _) → count-of.Post κs x a e → count-of.Post κs x b e → a ≡ b
-count-of-only κs x a b e h k = h ∙ sym k
+pub rows-of-only : (κs : _) (x : _) (a b : _) (e f : _) → rows-of.Post κs x a e → rows-of.Post κs x b f → a ≡ b
+rows-of-only κs x a b e f h k = h ∙ sym k
+
+pub part-of-only : (κs : _) (x : _) (a b : _) (e f : _) → part-of.Post κs x a e → part-of.Post κs x b f → a ≡ b
+part-of-only κs x a b e f h k = h ∙ sym k
 
 pub file-refusal-only : (κs : _) (x : _) (a b : _) (e f : _) → file-refusal.Post κs x a e →
     file-refusal.Post κs x b f → a ≡ b

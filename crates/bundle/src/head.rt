@@ -1,5 +1,5 @@
 // The head of a file: its edition, the count of bodies, and their pairs.
-use crate::judge::count_of;
+use crate::counts::count_of;
 ghost use mathlib.Core.List.{[], _++_};
 ghost use mathlib.Core.Path.{_≡_};
 ghost use Prim.Native.Nat.{_^_, _≤_, _<_};

@@ -1,4 +1,5 @@
 // Whether bytes are a day's file: refusals 30 to 35, each over the whole file before the next.
+use crate::counts::count_of;
 use editions::EDITIONS;
 use editions::bodies_in;
 use wire::word_at;
@@ -7,9 +8,8 @@ ghost use mathlib.Core.Bool.{_||_, not};
 ghost use mathlib.Core.List.{[], _∷_};
 ghost use mathlib.Core.Path.{_≡_};
 ghost use Prim.Native.Nat.{_+_, _*_, _^_, _≤_, _<_};
-ghost use lib.IntN.{pos, natAbs};
+ghost use lib.IntN.{pos};
 ghost use lib.ListN.{length};
-ghost use lib.Signed.{_≤ℤ_};
 ghost use Rattle.whole.specs.Numbers.{eqZ, isNeg, outside};
 ghost use Rattle.rules.specs.Sizes.{mostBodies};
 ghost use Rattle.rules.specs.Refusal.{first};
@@ -42,14 +42,6 @@ fn is_bad_pair(first: i32, size: i32, at: usize) -> bool
         return false;
     }
     true
-}
-
-// A word that is not below 0, as a count.
-pub fn count_of(word: i32) -> usize
-    requires { ⌜ pos 0 ≤ℤ word ⌝ }
-    ensures { λ r. ⌜ r ≡ natAbs word ⌝ }
-{
-    word as u32 as usize
 }
 
 // Refusals 34 and 35, or 0: the pairs one after the other, with the place where the next body has to start.

@@ -1,9 +1,11 @@
 // A day's problems in one file: read from bytes, and written as bytes. No body is judged.
+pub mod body;
+mod counts;
 mod head;
 pub mod judge;
 mod writer;
 
-use judge::count_of;
+use counts::count_of;
 use judge::file_refusal;
 use wire::word_at;
 use writer::writer_refusal;

@@ -1,5 +1,5 @@
 // Whether lengths and words make a file of an edition: refusals 31, 32, 34, 35, 30 and 36.
-use crate::judge::count_of;
+use crate::counts::count_of;
 ghost use mathlib.Core.Path.{_≡_};
 ghost use lib.IntN.{pos};
 ghost use lib.ListN.{length};

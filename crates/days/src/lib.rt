@@ -1,11 +1,12 @@
 // The text of a day's file: each body as the program `ramp` prints a problem, one behind the other.
-use bundle::judge::count_of;
+use bundle::body::part_of;
+use bundle::body::rows_of;
 use bundle::judge::file_refusal;
-use editions::rows_in;
 use lines::respond::MOST_TEXT;
 use lines::respond::put_refusal;
 use lines::respond::put_reply;
 use lines::write_text;
+use words::count_at;
 ghost use mathlib.Core.Path.{_≡_};
 ghost use Prim.Native.Nat.{_+_, _^_, _≤_, _<_};
 ghost use lib.ListN.{length};
@@ -14,7 +15,7 @@ ghost use Rattle.rules.specs.Program.Text.{linesBelow, printed};
 ghost use Rattle.rules.specs.Bundle.File.{bodyIn, countIn, editionIn, rowsIn};
 ghost use Rattle.rules.specs.Bundle.Day.{bodyText, dayText};
 ghost use Rattle.put.specs.Put.{PutShort};
-ghost use Rattle.days.specs.Opened.{Opened};
+ghost use Rattle.bundle.specs.Opened.{Opened};
 
 // No text of a day has more bytes.
 pub const MOST_DAY_TEXT: usize = rules::MOST_BODIES * MOST_TEXT;
@@ -26,8 +27,9 @@ fn put_body(out: &mut [u8], at: usize, rows: u32, words: &[i32], i: usize) -> us
     ensures { λ r. ⌜ PutShort mostText (now (out .entry)) at
         (bodyText (editionIn (now (words .entry))) (bodyIn (now (words .entry)) i)) (now (out .exit)) r ⌝ }
 {
-    let first = count_of(words[2 + 2 * i]);
-    let end = first + count_of(words[3 + 2 * i]);
+    let part = part_of(words, i);
+    let first = part.first;
+    let end = part.end;
     put_reply(out, at, rows, &words[first..end])
 }
 
@@ -37,8 +39,8 @@ fn put_bodies(out: &mut [u8], words: &[i32]) -> usize
     ensures { λ r. ⌜ PutShort mostDayText (now (out .entry)) 0 (linesBelow (countIn (now (words .entry)))
         (λ i. bodyText (editionIn (now (words .entry))) (bodyIn (now (words .entry)) i))) (now (out .exit)) r ⌝ }
 {
-    let rows = rows_in(count_of(words[0]) as u32);
-    let bodies = count_of(words[1]);
+    let rows = rows_of(words);
+    let bodies = count_at(words, 1);
     let mut next = 0usize;
     for i in 0..bodies {
         next = put_body(out, next, rows, words, i);

@@ -16,7 +16,7 @@ use Rattle.rules.proofs.Program.Words.{words-length}
 use Rattle.rules.proofs.Bundle.Day.{day-lines}
 use Rattle.rules.proofs.Bundle.Exactly.{file-accepted-exactly}
 use Rattle.lines.proofs.Replies.{put-as, words-front}
-use Rattle.days.specs.Opened.{Opened}
+use Rattle.bundle.specs.Opened.{Opened}
 use Rattle.days.proofs.Days.{day-refused-by, put-more}
 use Rattle.days.proofs.put_day.Statement.{statement}
 use Rattle.days.proofs.put_day.Tie as tie

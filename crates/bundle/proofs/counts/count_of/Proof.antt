@@ -1,11 +1,11 @@
--- `bundle::judge::count_of` meets its contract. Assumes nothing.
+-- `bundle::counts::count_of` meets its contract. Assumes nothing.
 use mathlib.Core.Path.{ap}
 use lib.IntN.{natAbs}
 use mir.Facts.{toZ-ofZ, fits-natAbs}
 use mir.Syntax.{w32}
 use Rattle.whole.proofs.Numbers.Tests.{not-neg}
-use Rattle.bundle.proofs.judge.count_of.Statement.{statement}
-use Rattle.bundle.proofs.judge.count_of.Tie as tie
+use Rattle.bundle.proofs.counts.count_of.Statement.{statement}
+use Rattle.bundle.proofs.counts.count_of.Tie as tie
 
 cast-result : tie.Need-cast-result
 cast-result c =

@@ -1,2 +1,0 @@
--- What the contracts of `days` say.
-pub mod Opened
