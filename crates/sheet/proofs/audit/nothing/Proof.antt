@@ -1,0 +1,12 @@
+-- `sheet::audit::nothing` meets its contract. Assumes nothing.
+use borrow.Author.Needs.{needs}
+use Rattle.sheet.specs.Counting.{noTotals}
+use Rattle.sheet.proofs.audit.nothing.Statement.{statement}
+use Rattle.sheet.proofs.audit.nothing.Tie as tie
+
+returns : tie.Need-returns
+unfolding noTotals
+returns c = search needs
+
+pub nothing-spec : {M : Type 1} → statement M
+nothing-spec = tie.close (tie.spec returns)
