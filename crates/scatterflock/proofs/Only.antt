@@ -13,6 +13,7 @@
 --   scatterflock-bundle-write-only     the number, and every byte of the file
 --   scatterflock-day-only     the length of the text, and every byte of the slice
 --   scatterflock-smtlib-write-only      the number, the count, and every byte of the slice
+--   scatterflock-sheet-only    the length of the sheet, and every byte of the slice
 --   scatterflock-times-only    the number, and every word of the output; or both name a bad cycle
 use mathlib.Core.Logic.{_⊎_}
 use mathlib.Core.Path.{_≡_, ap, sym, _∙_}
@@ -27,6 +28,7 @@ use Rattle.scatterflock.proofs.scatterflock_bundle_read.Reads as bundle
 use Rattle.scatterflock.proofs.scatterflock_bundle_write.Reads as bundle-write
 use Rattle.scatterflock.proofs.scatterflock_day.Reads as day
 use Rattle.scatterflock.proofs.scatterflock_replay.Reads as replay
+use Rattle.scatterflock.proofs.scatterflock_sheet.Reads as sheet
 use Rattle.scatterflock.proofs.scatterflock_session_check.Reads as session-check
 use Rattle.scatterflock.proofs.scatterflock_session_open.Reads as session-open
 use Rattle.scatterflock.proofs.scatterflock_session_switch.Reads as session-switch
@@ -101,3 +103,7 @@ scatterflock-day-only κs x a b e f h k = (h .0 ∙ sym (k .0), h .1 ∙ sym (k 
 pub scatterflock-smtlib-write-only : (κs : _) (x : _) (a b : _) (e f : _) →
     smtlib-write.Post κs x a e → smtlib-write.Post κs x b f → (a ≡ b) × (e .1 .0 .now ≡ f .1 .0 .now)
 scatterflock-smtlib-write-only κs x a b e f h k = (h .0 ∙ sym (k .0), h .1 ∙ sym (k .1))
+
+pub scatterflock-sheet-only : (κs : _) (x : _) (a b : _) (e f : _) → sheet.Post κs x a e → sheet.Post κs x b f →
+    (a ≡ b) × (e .1 .0 .now ≡ f .1 .0 .now)
+scatterflock-sheet-only κs x a b e f h k = (h .0 ∙ sym (k .0), h .1 ∙ sym (k .1))

@@ -14,6 +14,7 @@ ghost use Rattle.rules.specs.Program.Text.{printed};
 ghost use Rattle.rules.specs.Bundle.File.{lengthsLeft, readRefusal, wordsLeft};
 ghost use Rattle.rules.specs.Bundle.Writer.{fileLeft, writerRefusal};
 ghost use Rattle.rules.specs.Bundle.Day.{dayText};
+ghost use Rattle.rules.specs.Sheet.File.{fileSheet};
 ghost use Rattle.bundle.specs.Contents.{contentsTold};
 ghost use Rattle.replay.specs.Replay.{replayedAs, toldOf};
 ghost use Rattle.traces.specs.Traces.{tracedAs};
@@ -199,4 +200,13 @@ pub extern "C" fn scatterflock_smtlib_write(words: &[i32], text: &mut [u8]) -> E
         (now (words .entry)) (now (text .entry)) ⌝ }
 {
     exchange::write(words, text)
+}
+
+// Prints the auditor's sheet of a day's file, and answers how long it is.
+#[no_mangle]
+pub extern "C" fn scatterflock_sheet(file: &[u8], text: &mut [u8]) -> usize
+    ensures size { λ r. ⌜ r ≡ length (fileSheet (now (file .entry))) ⌝ }
+    ensures output { λ r. ⌜ now (text .exit) ≡ printed (fileSheet (now (file .entry))) (now (text .entry)) ⌝ }
+{
+    sheet::sheet(file, text)
 }

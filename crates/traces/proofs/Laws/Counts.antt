@@ -8,6 +8,8 @@ use native.Mathlib.Omega.{arith}
 use lib.IntN.{ℤ}
 use Rattle.whole.proofs.Values.Beside.{pairs-laws}
 use Rattle.whole.specs.Values.{pairs}
+use Rattle.rules.proofs.Termination.Bound.{bound-small}
+use Rattle.rules.specs.Run.{mostCount}
 use Rattle.rules.proofs.Answer.Run.{answer-run, ending-crossed, ending-run}
 use Rattle.rules.proofs.Run.Start.{no-conflict}
 use Rattle.rules.proofs.Run.State.{ready-sound}
@@ -19,9 +21,7 @@ use Rattle.rules.specs.Problem.{Problem}
 use Rattle.rules.specs.Run.{Ending, Moves, after, bound, conflict, ending}
 use Rattle.rules.specs.Runs.Slices.{begun, continued}
 use Rattle.rules.specs.Step.{start, step}
-use Rattle.answers.specs.Answer.{mostCount}
 use Rattle.tableau.specs.declared.Tableau.{Tableau}
-use Rattle.solver.proofs.Laws.Stands.Run.{bound-small}
 use Rattle.solver.proofs.Laws.Stands.Slices.{holds-more}
 use Rattle.solver.specs.Spend.{Holds, spentAt}
 
