@@ -4,8 +4,8 @@
 //! - `vectors`: what the test program `vectors` is asked, on its standard
 //!   input, and what `reference` answers, in its file `stdout`
 //!
-//! And the day's file of docs/formats/bundle.md, which the program `day` is run
-//! on, with what `reference` prints for it.
+//! And the day's file of docs/formats/bundle.md, which the programs `day` and
+//! `audit` are run on, with what `reference` prints for it, and with its sheet.
 
 pub mod shown;
 pub mod vectors;
@@ -52,8 +52,11 @@ pub fn made() -> Vec<Made> {
         bytes: vectors::answered(&vectors).into_bytes(),
     });
     let day = file(1, &ten_bodies());
-    let printed = reference::day_text(&day);
-    made.push(Made { path: "crates/day/stdin".to_string(), bytes: day });
-    made.push(Made { path: "crates/day/stdout".to_string(), bytes: printed });
+    for (program, printed) in
+        [("day", reference::day_text(&day)), ("audit", reference::sheet_text(&day))]
+    {
+        made.push(Made { path: format!("crates/{program}/stdin"), bytes: day.clone() });
+        made.push(Made { path: format!("crates/{program}/stdout"), bytes: printed });
+    }
     made
 }

@@ -58,7 +58,7 @@ pub fn file(edition: u32, bodies: &[Vec<i32>]) -> Vec<u8> {
 }
 
 /// An edition that there is, and how many bodies its files have.
-fn edition(random: &mut Random) -> (u32, usize) {
+pub(crate) fn edition(random: &mut Random) -> (u32, usize) {
     let edition = random.size(1, 2);
     (edition as u32, MOST_BODIES[edition - 1])
 }
@@ -114,7 +114,7 @@ fn bodies(random: &mut Random, most: usize) -> Vec<Vec<i32>> {
     (0..random.size(0, most)).map(|_| body(random)).collect()
 }
 
-fn body(random: &mut Random) -> Vec<i32> {
+pub(crate) fn body(random: &mut Random) -> Vec<i32> {
     match random.below(10) {
         0 => vec![],
         1 => vec![random.within(-1, 9)],

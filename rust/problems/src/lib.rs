@@ -14,7 +14,9 @@
 //! - `sessions`: scripts of switches and checks
 //! - `bundles`: days' files, and calls of their writer
 //! - `traces`: worked traces, and such that are nearly right
+//! - `audits`: days' files as an auditor has them
 
+pub mod audits;
 pub mod bundles;
 pub mod damage;
 pub mod division;

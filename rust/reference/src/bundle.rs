@@ -70,6 +70,11 @@ impl Bundle {
     }
 }
 
+/// The most rows of a file's bodies and the bodies, or the number that refuses it.
+pub fn bodies_in(file: &[u8]) -> Result<(u32, Vec<Vec<i32>>), u32> {
+    Bundle::read(file).map(|bundle| (bundle.edition.most_rows, bundle.bodies))
+}
+
 /// Whether no length is negative and each body starts right behind the one before
 /// it, the first behind all pairs. Places are summed as whole numbers.
 fn pairs_pass(pairs: &[i32]) -> bool {

@@ -23,6 +23,7 @@
 //! - `program`: the text that the program prints
 //! - `bundle`: a day's file, read, written and printed
 //! - `smtlib`: a limit problem as SMT-LIB text
+//! - `sheet`: the auditor's sheet of a day's file
 
 mod actual;
 mod answer;
@@ -36,6 +37,7 @@ mod problem;
 mod program;
 mod run;
 mod session;
+mod sheet;
 mod slices;
 mod smtlib;
 mod tableau;
@@ -51,6 +53,7 @@ pub use idle::{idle, named, Named};
 pub use program::respond;
 pub use run::{pivots, solve, solve_within, violations, Violation};
 pub use session::Session;
+pub use sheet::{sheet, sheet_text};
 pub use slices::{Continued, Slice};
 pub use smtlib::smtlib_write;
 pub use tableau::Pivot;
