@@ -30,7 +30,8 @@
  *     and nobody else writes any of them, or reads what may be written, until
  *     the call returns;
  *   - there is room on the stack: 256 KiB for scatterflock_day, which uses
- *     206,000 bytes; 64 KiB is more than any other function uses;
+ *     206,000 bytes, and 128 KiB for scatterflock_sheet, which keeps the
+ *     65,536 bytes of a file there; 64 KiB is more than any other function uses;
  *   - the state of a run in slices, and a session, is handed in as it was
  *     handed back.
  *
@@ -76,7 +77,8 @@ enum {
     SCATTERFLOCK_FIRST_ROWS = 16,   /* of a body there */
     SCATTERFLOCK_SECOND_BODIES = 48, /* of edition 2, whose bodies may have MOST_ROWS */
     SCATTERFLOCK_MOST_FILE_WORDS = 16384, /* of a day's file, four bytes each */
-    SCATTERFLOCK_MOST_DAY_TEXT = 125120 /* bytes that are printed for a day's file */
+    SCATTERFLOCK_MOST_DAY_TEXT = 125120, /* bytes that are printed for a day's file */
+    SCATTERFLOCK_MOST_SHEET = 857   /* bytes of the sheet of a day's file */
 };
 #define SCATTERFLOCK_LARGEST_SMALL INT64_C(17179869176) /* small part of a numerator */
 
@@ -514,6 +516,30 @@ struct scatterflock_exchanged {
  */
 struct scatterflock_exchanged scatterflock_smtlib_write(const int32_t *words, size_t word_count,
                                                         uint8_t *text, size_t text_room);
+
+/*
+ * Prints the auditor's sheet of a day's file of file_count bytes: exact totals
+ * over its bodies, each judged and answered as scatterflock_day does it. Every
+ * line is always there, in this order:
+ *
+ *   bodies B           how many there are; each is counted in one of the next lines
+ *   can N, cannot N, range N        how many have each verdict, a line each
+ *   refused K N        how many are refused with K: 1 to 6 and 10, a line each
+ *   pivots P           those of all verdicts together
+ *   largest P body B   the most of one, and the lowest body that has so many, from 0;
+ *                      "largest 0 body none" where no body has a verdict
+ *   V lower A upper B  for each variable, 0 to 31, in how many "cannot" answers its
+ *                      lower and its upper limit has a multiplier other than 0
+ *
+ * For a file that scatterflock_bundle_read would refuse with 30 to 35 it is one
+ * line, "refused 30" and so on.
+ *
+ * Returns how many bytes the sheet has, which is at most 857. Where text_room is
+ * at least that, it stands at the start of text, and bytes past it keep what they
+ * had; no byte with 0 is put behind it. Else text keeps every byte.
+ */
+size_t scatterflock_sheet(const uint8_t *file, size_t file_count,
+                          uint8_t *text, size_t text_room);
 
 #ifdef __cplusplus
 }

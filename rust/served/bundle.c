@@ -2,10 +2,10 @@
  * The functions of a day's file, for served.c.
  *
  * A request of one of them is seven numbers of 64 bits: the function (8
- * bundle_read, 9 bundle_write, 10 day), how many bytes each of three parts has,
- * for bundle_write the edition, and zeros; then those parts. They are what the function takes, in its
- * order: file, lengths and words; lengths, words and file; file, text and
- * nothing. The reply is four numbers of 64 bits, what the function returned
+ * bundle_read, 9 bundle_write, 10 day, 12 sheet), how many bytes each of three
+ * parts has, for bundle_write the edition, and zeros; then those parts. They are
+ * what the function takes, in its order: file, lengths and words; lengths, words
+ * and file; of day and sheet file, text and nothing. The reply is four numbers of 64 bits, what the function returned
  * (of bundle_read: refused, edition and bodies), and then all parts again.
  *
  * Each part lies between guards. A function that changes a guard, or a part that
@@ -24,7 +24,9 @@ static int32_t parts[PARTS][(MOST_BYTES + 2 * GUARD_BYTES) / 4];
 static uint8_t before[PARTS][MOST_BYTES];
 
 /* Which parts are lent to be read alone, function by function. */
-static const bool ONLY_READ[][PARTS] = {{true, false, false}, {true, true, false}, {true, false, true}};
+static const bool ONLY_READ[][PARTS] = {
+    {true, false, false}, {true, true, false}, {true, false, true}, {false, false, false}, {true, false, true},
+};
 
 static uint8_t *bytes(size_t part)
 {
@@ -67,8 +69,11 @@ static void call(uint64_t function, uint32_t edition, const size_t *counts, uint
         reply[0] = scatterflock_bundle_write(edition, words(0), counts[0] / 4, words(1), counts[1] / 4,
                                              bytes(2), counts[2]);
         break;
-    default:
+    case 10:
         reply[0] = scatterflock_day(bytes(0), counts[0], bytes(1), counts[1]);
+        break;
+    default:
+        reply[0] = scatterflock_sheet(bytes(0), counts[0], bytes(1), counts[1]);
     }
 }
 

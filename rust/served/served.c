@@ -5,7 +5,7 @@
  *
  * A request is seven numbers of 64 bits: the function (0 solve, 1 check,
  * 2 times, 3 slice_start, 4 slice_continue, 5 session_open, 6 session_switch,
- * 7 session_check, 11 solve_within, 12 replay, 13 trace, 14 smtlib_write), how
+ * 7 session_check, 11 solve_within, 13 replay, 14 trace, 15 smtlib_write), how
  * many 32-bit words there are to read, how many 64-bit words the output (of check:
  * the answer; of a replay: the trace) has, and what else the function takes:
  * slice_continue the number of the slice and the pivots, session_switch and
@@ -16,7 +16,8 @@
  * the one that came back and its count, of a replay 0, word and step, of a trace
  * and a text 0, 0 and its count; and then all words of the output. Numbers are
  * little-endian, as the machine's own. The words of a trace have 32 bits: they are
- * lent in a slice of their own. Requests with 8 to 10 are bundle.c's.
+ * lent in a slice of their own. Requests with 8, 9, 10 or 12 are
+ * bundle.c's.
  *
  * Slices and sessions are kept here, the last so many of them.
  *
@@ -227,7 +228,7 @@ int main(void)
     while (fread(request, sizeof request, 1, stdin) == 1) {
         uint64_t reply[4] = { 0 }, word_count = request[1], out_count = request[2];
 
-        if (request[0] >= 8 && request[0] <= 10) {
+        if ((request[0] >= 8 && request[0] <= 10) || request[0] == 12) {
             serve_bundle(request);
             if (fflush(stdout) != 0)
                 stop("a reply cannot be written");
@@ -261,13 +262,13 @@ int main(void)
             reply[0] = scatterflock_solve_within((uint32_t)request[3], words + GUARD, word_count,
                                                  out + GUARD, out_count);
             break;
-        case 12:
+        case 13:
             replay(word_count, out_count, reply);
             break;
-        case 13:
+        case 14:
             trace(word_count, out_count, reply);
             break;
-        case 14:
+        case 15:
             write_smtlib(word_count, out_count, request[3], reply);
             break;
         default:

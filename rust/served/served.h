@@ -13,7 +13,7 @@ void take(void *to, size_t size);
 /* Writes so many bytes to standard output. */
 void give(const void *from, size_t size);
 
-/* Answers a request about a day's file: the function is 8, 9 or 10. */
+/* Answers a request about a day's file: the function is 8, 9, 10 or 12. */
 void serve_bundle(const uint64_t *request);
 
 #endif

@@ -57,6 +57,7 @@
 //!   and a run's own
 //! - [`TimeRows`], [`times()`]: time rows
 //! - [`Bundle`], [`day()`]: a day's problems in one file
+//! - [`Sheet`], [`sheet()`]: their totals, for an auditor
 //! - [`Refusal`], [`TimesRefusal`], [`SwitchRefusal`], [`BundleRefusal`]: why
 //!   words, switches or files are refused
 //! - [`sizes`]: how large everything may be
@@ -75,6 +76,7 @@ pub mod raw;
 mod refusal;
 mod rows;
 mod session;
+mod sheet;
 pub mod sizes;
 mod slice;
 mod smtlib;
@@ -90,6 +92,7 @@ pub use problem::{Limit, Problem, Side};
 pub use refusal::{Refusal, SwitchRefusal, TimesRefusal};
 pub use rows::TimeRows;
 pub use session::Session;
+pub use sheet::{sheet, Named, Sheet};
 pub use slice::Slice;
 pub use times::{times, Schedule, Time};
 pub use trace::{replay, trace, Replayed, TraceWord};

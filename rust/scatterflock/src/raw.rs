@@ -5,7 +5,7 @@ mod bundle;
 mod smtlib;
 mod traces;
 
-pub use bundle::{bundle_read, bundle_write, day, Contents};
+pub use bundle::{bundle_read, bundle_write, day, sheet, Contents};
 pub use smtlib::{smtlib_write, Exchanged};
 pub use traces::{replay, trace, Replayed, Traced};
 

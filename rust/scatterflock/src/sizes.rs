@@ -40,3 +40,5 @@ pub const MOST_BODIES: usize = FIRST_BODIES;
 pub const MOST_FILE_WORDS: usize = 16_384;
 /// The most bytes of the text of a day: 1,955 for each body.
 pub const MOST_DAY_TEXT: usize = MOST_BODIES * 1_955;
+/// The most bytes of an auditor's sheet: 185, and 21 for each variable.
+pub const MOST_SHEET: usize = 185 + 21 * (MOST_VARIABLES + MOST_ROWS);

@@ -1,5 +1,5 @@
-//! include/scatterflock.h, compiled as C and as C++: `header.c` and `bundle.c`
-//! call the archive through it and compare what it gives, and
+//! include/scatterflock.h, compiled as C and as C++: `header.c`, `bundle.c` and
+//! `sheet.c` call the archive through it and compare what it gives, and
 //! `examples/planner.c` is run. Where the machine is not x86-64 that is done
 //! twice: with the archive that is linked here, and with the code for x86-64
 //! under an emulator.
@@ -94,6 +94,7 @@ fn the_names_of_the_header_are_those_of_the_crate() {
         ("SECOND_BODIES", sizes::SECOND_BODIES),
         ("MOST_FILE_WORDS", sizes::MOST_FILE_WORDS),
         ("MOST_DAY_TEXT", sizes::MOST_DAY_TEXT),
+        ("MOST_SHEET", sizes::MOST_SHEET),
     ] {
         assert_eq!(named[name] as usize, size, "{name}");
     }
@@ -130,11 +131,11 @@ fn read(file: &str) -> String {
 fn calls_through(compiler: &str, language: &str, standard: &str) {
     for machine in machines() {
         let standard = format!("-std={standard}");
-        let name = format!("header-{language}");
         let most = format!("-DMOST_SMTLIB={}", sizes::MOST_SMTLIB);
-        machine.runs(compiler, &["-x", language, &standard, &most], "tests/header.c", &name);
-        let name = format!("bundle-{language}");
-        machine.runs(compiler, &["-x", language, &standard], "tests/bundle.c", &name);
+        for source in ["header", "bundle", "sheet"] {
+            let (name, source) = (format!("{source}-{language}"), format!("tests/{source}.c"));
+            machine.runs(compiler, &["-x", language, &standard, &most], &source, &name);
+        }
     }
 }
 

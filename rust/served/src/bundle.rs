@@ -8,6 +8,7 @@ enum Function {
     Read = 8,
     Write = 9,
     Day = 10,
+    Sheet = 12,
 }
 
 /// What [`bundle_read`] tells of a file.
@@ -41,8 +42,16 @@ pub fn bundle_write(edition: u32, lengths: &[i32], words: &[i32], file: &mut [u8
 
 /// Prints a day's file.
 pub fn day(file: &[u8], text: &mut [u8]) -> usize {
-    let ([length, ..], [_, new_text, _]) =
-        ask(Function::Day, 0, [file.to_vec(), text.to_vec(), vec![]]);
+    printed(Function::Day, file, text)
+}
+
+/// Prints the auditor's sheet of a day's file.
+pub fn sheet(file: &[u8], text: &mut [u8]) -> usize {
+    printed(Function::Sheet, file, text)
+}
+
+fn printed(function: Function, file: &[u8], text: &mut [u8]) -> usize {
+    let ([length, ..], [_, new_text, _]) = ask(function, 0, [file.to_vec(), text.to_vec(), vec![]]);
     text.copy_from_slice(&new_text);
     length as usize
 }

@@ -8,7 +8,7 @@
 mod bundle;
 mod traces;
 
-pub use bundle::{bundle_read, bundle_write, day, Contents};
+pub use bundle::{bundle_read, bundle_write, day, sheet, Contents};
 pub use traces::{replay, trace, Replayed, Traced};
 
 use std::cell::RefCell;
@@ -33,9 +33,9 @@ enum Function {
     SessionSwitch = 6,
     SessionCheck = 7,
     SolveWithin = 11,
-    Replay = 12,
-    Trace = 13,
-    SmtlibWrite = 14,
+    Replay = 13,
+    Trace = 14,
+    SmtlibWrite = 15,
 }
 
 /// A run at some point, that the program keeps.

@@ -29,6 +29,13 @@ mod archive {
             text: *mut u8,
             text_room: usize,
         ) -> usize;
+
+        pub fn scatterflock_sheet(
+            file: *const u8,
+            file_count: usize,
+            text: *mut u8,
+            text_room: usize,
+        ) -> usize;
     }
 }
 
@@ -118,4 +125,20 @@ pub fn bundle_write(edition: u32, lengths: &[i32], words: &[i32], file: &mut [u8
 pub fn day(file: &[u8], text: &mut [u8]) -> usize {
     // SAFETY: as in `bundle_read`.
     unsafe { archive::scatterflock_day(file.as_ptr(), file.len(), text.as_mut_ptr(), text.len()) }
+}
+
+/// Prints the auditor's sheet of a day's file, or the line of the file's refusal.
+/// Returns how long it is. It stands at the start of `text` if that has room for
+/// all of it, and else nothing was written.
+///
+/// ```
+/// let mut text = [b'.'; 12];
+/// assert_eq!(scatterflock::raw::sheet(&[0; 8], &mut text), 11);
+/// assert_eq!(&text, b"refused 31\n.");
+/// assert_eq!(scatterflock::raw::sheet(&[0; 8], &mut []), 11);
+/// ```
+#[must_use = "where it is more than there is room for, nothing was written"]
+pub fn sheet(file: &[u8], text: &mut [u8]) -> usize {
+    // SAFETY: as in `bundle_read`.
+    unsafe { archive::scatterflock_sheet(file.as_ptr(), file.len(), text.as_mut_ptr(), text.len()) }
 }
