@@ -6,7 +6,7 @@ use scatterflock::raw;
 #[cfg(feature = "served")]
 use served as raw;
 
-pub use raw::{bundle_read, bundle_write, day, Contents};
+pub use raw::{bundle_read, bundle_write, day, sheet, Contents};
 pub use raw::{check, solve, solve_within, times};
 pub use raw::{replay, trace};
 pub use raw::{session_check, session_open, session_switch, Session};

@@ -1,6 +1,6 @@
 //! The archive against `reference`: solver, checker, slices, sessions, traces,
-//! SMT-LIB texts, time rows and days' files, on random problems of every family,
-//! every word compared.
+//! SMT-LIB texts, time rows, days' files and their sheets, on random problems of
+//! every family, every word compared.
 //!
 //! - [`archive`]: the archive's functions, linked or served
 //! - `lent`: lends an output with guards around it and looks at all of it
@@ -12,6 +12,7 @@
 //! - `smtlib`: one limit problem as SMT-LIB text
 //! - `times`: time rows through the time solver
 //! - `bundles`: a day's file through its reader, its writer and its text
+//! - `sheets`: a day's file through its auditor's sheet
 //! - `report`: many of them, counted
 
 pub mod archive;
@@ -20,6 +21,7 @@ mod lent;
 pub mod limits;
 pub mod report;
 pub mod sessions;
+pub mod sheets;
 pub mod slices;
 pub mod smtlib;
 pub mod times;

@@ -1,6 +1,6 @@
 //! Many problems, counted.
 
-use crate::{bundles, limits, sessions, slices, smtlib, times, traces};
+use crate::{bundles, limits, sessions, sheets, slices, smtlib, times, traces};
 use problems::random::Random;
 use std::collections::BTreeMap;
 use std::fmt;
@@ -130,6 +130,23 @@ pub fn bundles(seed: u64, files: u64) -> Result<Report, String> {
             report.count_outcome(&more_rows, outcome.with_more_rows as u64);
         }
         report.count_calls(&outcome.writes);
+    }
+    Ok(report)
+}
+
+/// Compares the sheets of so many days' files. What is counted is each refused file,
+/// the sums of the figures of all sheets, and the sheets that name no body.
+pub fn sheets(seed: u64, files: u64) -> Result<Report, String> {
+    let mut report = Report::default();
+    for file in 0..files {
+        let outcome = sheets::compare(&mut Random::of_problem(seed, file))
+            .map_err(|what| format!("SEED={seed}, file {file}: {what}"))?;
+        report.count(outcome.number, ["sheets", "", "", ""], 0);
+        for (name, count) in &outcome.counts {
+            report.count_outcome(name, *count);
+        }
+        report.count_outcome("named", outcome.named);
+        report.count_outcome("without a verdict", outcome.without_verdict.into());
     }
     Ok(report)
 }

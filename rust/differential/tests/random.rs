@@ -1,6 +1,6 @@
 //! Random problems, with a seed that is printed and can be given again: 380,000,
-//! 10,000 sessions and 7,000 days' files a run where the archive is linked, 75,000,
-//! 2,000 and 1,400 under an emulator.
+//! 10,000 sessions, 7,000 days' files and 6,000 sheets a run where the archive is
+//! linked, 75,000, 2,000, 1,400 and 1,200 under an emulator.
 
 use differential::archive::LINKED;
 use differential::report;
@@ -12,6 +12,7 @@ const SESSIONS: u64 = if LINKED { 10_000 } else { 2_000 };
 const TRACED_PROBLEMS: u64 = if LINKED { 60_000 } else { 10_000 };
 const TIME_PROBLEMS: u64 = if LINKED { 60_000 } else { 15_000 };
 const FILES: u64 = if LINKED { 7_000 } else { 1_400 };
+const SHEETS: u64 = if LINKED { 6_000 } else { 1_200 };
 
 #[test]
 fn limit_problems() {
@@ -151,5 +152,44 @@ fn days() {
         (36, FILES / 3),
     ] {
         assert!(report.calls[&number] > least, "the writer's {number}, SEED={seed}");
+    }
+}
+
+/// A least share is four standard deviations below what is expected, or lower.
+#[test]
+fn sheets() {
+    let seed = seed();
+    println!("SEED={seed}");
+    let report = report::sheets(seed, SHEETS).unwrap_or_else(|what| panic!("{what}"));
+    println!("{report}");
+    let mut classes = 0;
+    for outcome in ["can", "cannot", "range"] {
+        classes += report.of(outcome);
+    }
+    for number in (1..=6).chain([10]) {
+        classes += report.of(&format!("refused {number}"));
+    }
+    assert_eq!(classes, report.of("bodies"), "SEED={seed}");
+    for (outcome, least) in [
+        ("sheets", 3 * SHEETS / 4),
+        ("bodies", 9 * SHEETS),
+        ("can", 7 * SHEETS / 2),
+        ("cannot", 5 * SHEETS / 2),
+        ("range", SHEETS / 17),
+        ("refused 1", 4 * SHEETS / 5),
+        ("refused 2", 3 * SHEETS / 5),
+        ("refused 3", SHEETS / 4),
+        ("refused 4", SHEETS / 150),
+        ("refused 5", SHEETS / 6),
+        ("refused 6", SHEETS / 45),
+        ("refused 10", SHEETS / 16),
+        ("pivots", 11 * SHEETS),
+        ("named", 7 * SHEETS),
+        ("without a verdict", SHEETS / 24),
+        ("refused 30", SHEETS / 90),
+        ("refused 34", SHEETS / 24),
+        ("refused 35", SHEETS / 45),
+    ] {
+        assert!(report.of(outcome) > least, "{outcome}, SEED={seed}");
     }
 }
