@@ -13,7 +13,9 @@
 //! - `page`, `digest`: an answer as a page of HTML, and the digest that it has
 //! - `solve`, `check`, `times`, `words`, `smtlib`, `edit`, `traces`: what the command does
 //! - `day`, `pack`: the same of days' files
+//! - `audit`: the totals of a day's file
 
+mod audit;
 mod check;
 mod clash;
 mod day;
@@ -117,6 +119,7 @@ pub fn run_writing(words: &[OsString], stdin: &mut dyn Read, out: &mut dyn Write
         Action::Smtlib(file) => smtlib::run(file, stdin),
         Action::Edit(file) => edit::run(file, &mut BufReader::new(stdin), out),
         Action::Day(file) => day::run(file, &options, stdin),
+        Action::Audit(file) => audit::run(file, &options, stdin),
         Action::Pack(file, files) => pack::pack(file, files, &options, stdin),
         Action::Unpack(file, folder) => pack::unpack(file, folder, &options, stdin),
     };

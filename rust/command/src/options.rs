@@ -10,6 +10,7 @@ usage: scatterflock [--json | --page | --words] solve [--each] FILE
        scatterflock smtlib FILE
        scatterflock edit FILE
        scatterflock [--json | --bare] day DAY
+       scatterflock [--json | --bare] audit DAY
        scatterflock pack [--edition=N] DAY FILE..
        scatterflock unpack [--bytes] DAY FOLDER
        scatterflock [--json] trace [--bytes] FILE
@@ -22,6 +23,7 @@ usage: scatterflock [--json | --page | --words] solve [--each] FILE
   smtlib  the limits of FILE as SMT-LIB text, for other solvers
   edit    limits of FILE switched off and on, with an answer each time: off 4, on 4, back, list, why
   day     the answers to all bodies of DAY, a day's file: limits of many files in one
+  audit   exact totals over all bodies of DAY, a line each
   pack    writes DAY, with a body for each FILE; a text's names are lost
   unpack  writes each body of DAY into FOLDER: body-00.txt and so on, or .words where it is refused
   trace   the pivots of the run on FILE: who leaves, who enters, and who is basic then, as a mask
@@ -33,7 +35,7 @@ usage: scatterflock [--json | --page | --words] solve [--each] FILE
   --each    for each limit of a clash, what the others come to without it
   --times   the words of FILE are time rows, not limits
   --bytes   words, or a trace, as bytes, four each word, as a file .words has them
-  --bare    the proved text of a day as it is
+  --bare    the proved text of a day, or of its totals, as it is
   --edition=1, --edition=2   the edition of DAY; without it 2 where some body has more than 16 rows
 
 A FILE is a text that declares its names and has one limit a line,
@@ -52,7 +54,8 @@ or, of time rows,
 or a file .words, or a text of bare numbers; - is standard input.
 
 Status: 0 can, or accepted; 1 cannot, or not accepted; 2 out of range; 3 refused; 4 a bad text or
-command; 5 a file cannot be read, or the output not be written. Of day the greatest of its bodies'.
+command; 5 a file cannot be read, or the output not be written. Of day the greatest of its bodies';
+of audit 0, whatever the bodies are, or 3 where DAY itself is refused.
 ";
 
 #[derive(Debug, PartialEq, Eq)]
@@ -66,6 +69,7 @@ pub enum Action {
     Smtlib(OsString),
     Edit(OsString),
     Day(OsString),
+    Audit(OsString),
     Pack(OsString, Vec<OsString>),
     Unpack(OsString, OsString),
     Trace(OsString),
@@ -86,9 +90,9 @@ pub struct Options {
     pub edition: Option<u32>,
 }
 
-const COMMANDS: [&str; 11] = [
-    "solve", "check", "times", "words", "smtlib", "edit", "day", "pack", "unpack", "trace",
-    "replay",
+const COMMANDS: [&str; 12] = [
+    "solve", "check", "times", "words", "smtlib", "edit", "day", "audit", "pack", "unpack",
+    "trace", "replay",
 ];
 const OPTIONS: [&str; 10] = [
     "--json",
@@ -159,6 +163,7 @@ impl Options {
             ("edit", Ok([file])) => Action::Edit(file),
             ("day", Ok([file])) => Action::Day(file),
             ("trace", Ok([file])) => Action::Trace(file),
+            ("audit", Ok([file])) => Action::Audit(file),
             ("check", Err(files)) if files.len() == 2 => {
                 Action::Check(files[0].clone(), files[1].clone())
             }
@@ -171,7 +176,7 @@ impl Options {
             ("pack", Err(files)) if files.len() >= 2 => {
                 Action::Pack(files[0].clone(), files[1..].to_vec())
             }
-            ("solve" | "times" | "words" | "smtlib" | "edit" | "day" | "trace", _) => {
+            ("solve" | "times" | "words" | "smtlib" | "edit" | "day" | "audit" | "trace", _) => {
                 return Err(format!("{name} takes one file"))
             }
             ("pack", _) => return Err("pack takes the file to write, and then files".to_string()),
@@ -202,8 +207,8 @@ impl Options {
         if bytes && json && matches!(action, Action::Trace(_)) {
             return Err("--bytes does not go beside --json".to_string());
         }
-        if bare && (json || !matches!(action, Action::Day(_))) {
-            return Err("--bare is an option of day, and not beside --json".to_string());
+        if bare && (json || !matches!(action, Action::Day(_) | Action::Audit(_))) {
+            return Err("--bare is an option of day and audit, and not beside --json".to_string());
         }
         if json && matches!(action, Action::Pack(..) | Action::Unpack(..)) {
             return Err("--json is no option of pack and unpack".to_string());
