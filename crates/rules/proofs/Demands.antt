@@ -8,12 +8,13 @@
 --   no-twice, few-pivots, run-ends    no arrangement comes twice; the count is below the bound; the run ends
 --   count-below          word 1 is a count below the bound, crossed limits or not
 --   solve-only           any two results that the solver's promise allows are equal
+--   refused-kept         a refusal keeps every word of the output
 --   written-length, written-past      an answered output keeps its length and the words past the answer
 use mathlib.Core.List.{List, [], append-nil, _++_}
 use mathlib.Core.Logic.{inl, _≢_}
 use mathlib.Core.Option.{Option, none, some}
 use mathlib.Core.Path.{ap, refl, subst, sym, _∙_, _≡_, ap₂}
-use Prim.Native.Nat.{ℕ, _+_, _<_, _≤_}
+use Prim.Native.Nat.{ℕ, suc, zero, _+_, _<_, _≤_}
 use native.Mathlib.Omega.{arith}
 use lib.IntN.{pos, ℤ}
 use lib.ListN.{drop, length, length-append, length-drop}
@@ -179,6 +180,11 @@ pub solve-only : (ws before : List ℤ) (r r′ : ℕ) (out out′ : List ℤ) �
     (r′ ≡ refusal ws (length before)) × (out′ ≡ written r′ ws before) →
     (r ≡ r′) × (out ≡ out′)
 solve-only ws before r r′ out out′ (a, b) (c, d) = (a ∙ sym c, b ∙ ap (λ k. written k ws before) (a ∙ sym c) ∙ sym d)
+
+pub refused-kept : (ws before : List ℤ) (r : ℕ) → r ≢ 0 → written r ws before ≡ before
+unfolding written
+refused-kept ws before zero n = absurd (n refl)
+refused-kept ws before (suc k) n = refl
 
 module _ (ws before : List ℤ) (room : answerLength ws ≤ length before) where
   pub written-length : length (written 0 ws before) ≡ length before

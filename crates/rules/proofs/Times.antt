@@ -7,6 +7,7 @@
 --   Tested   the test for a bad cycle is exact
 --   Unique   what the promise leaves open, and what not
 --   Told     the words of an answered output
+--   Separate  times over denominators of their own
 pub mod Refused
 pub mod Passes
 pub mod Decide
@@ -15,3 +16,4 @@ pub mod Means
 pub mod Tested
 pub mod Unique
 pub mod Told
+pub mod Separate

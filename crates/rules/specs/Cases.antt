@@ -11,6 +11,7 @@
 --   Bundle    files of many problems
 --   Exchange  problems as SMT-LIB text
 --   Sheet     whole sheets of the auditor
+--   Edges     calls at the edges, with the output that was lent
 pub mod Expected
 pub mod Limits
 pub mod Evidence
@@ -23,3 +24,4 @@ pub mod Program
 pub mod Bundle
 pub mod Exchange
 pub mod Sheet
+pub mod Edges

@@ -88,7 +88,7 @@ module _ {X : Type 0} (𝓥 : Values X) where
   pub ending-crossed : (P : Problem X) (s : State X) (v : ℕ) → conflict 𝓥 P ≡ some v →
       ending 𝓥 P s ≡ record { how = cannot (table (vars P) (same v)) (table (vars P) (same v)); pivots = 0; last = s }
   unfolding ending
-  ending-crossed P s v e = spending-crossed P v e (bound P) s 0
+  ending-crossed P s v e = spending-crossed P v e _ s 0
 
   pub ending-run : Laws 𝓥 → (P : Problem X) (s : State X) → conflict 𝓥 P ≡ none → Sound 𝓥 P s →
       howManySeated (s .seats) ≡ P .n →

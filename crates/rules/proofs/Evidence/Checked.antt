@@ -2,7 +2,7 @@
 -- else.
 --   checked-exactly                line by line: k where no earlier line of `checkerTable` applies, and k's does
 --   checks, checks-only            `checked` is the number with the facts that it stands for, `Checks`; no other is.
---                                  The table and `Checks` are in specs/Facts/Evidence
+--                                  The table is in specs/Facts/Evidence
 --   checked-by-problem, checked-by-answer       the number from the problem's refusal, and else from the two tests of
 --                                               the answer
 --   checked-accepted               8 exactly when its facts hold
@@ -10,7 +10,7 @@
 --   check-only                     what is allowed to come out is one number
 use mathlib.Core.Bool.{Bool, cond, false, true}
 use mathlib.Core.List.{List, [], _++_, _∷_}
-use mathlib.Core.Logic.{inl, inr, _↔_, _≢_}
+use mathlib.Core.Logic.{inl, inr, _↔_, _≢_, _⊎_}
 use mathlib.Core.Path.{refl, sym, _∙_, _≡_}
 use Prim.Native.Nat.{suc, zero, ℕ, _*_, _+_, _<_, _≤_}
 use native.Mathlib.Omega.{arith}
@@ -28,10 +28,14 @@ use Rattle.rules.specs.Limit.{Limit}
 use Rattle.rules.specs.Facts.Refusal.{First}
 use Rattle.rules.specs.Problem.{Problem, answerLength, problem, vars, word}
 use Rattle.rules.specs.Refusal.{first, problemRefusal, problemTests, tooShort}
-use Rattle.rules.specs.Facts.Evidence.{Checks, Own, Shown, checkerTable, refused, right, short, wrong}
+use Rattle.rules.specs.Facts.Evidence.{Shown, checkerTable}
 use Rattle.rules.specs.Sizes.{mostRows}
 
 -- ---- the first test that applies
+
+-- suc k is a number of the problem's: 1 to 6, or 10
+abbrev Own : ℕ → Type 0
+Own k = (k < 6) ⊎ (k ≡ 9)
 
 abbrev AllOwn : List (Bool × ℕ) → Type 0
 AllOwn [] = Unit {0}
@@ -68,7 +72,13 @@ pub checked-exactly : (ws a : List ℤ) (k : ℕ) → (checked ws a ≡ k) ↔ F
 unfolding checked
 checked-exactly ws a k = first-exactly (checker-tested ws a) k
 
--- ---- each number, with its facts: `Checks`
+-- ---- each number, with its facts
+
+data Checks (ws a : List ℤ) : ℕ → Type 0 where
+  refused : (k : ℕ) → Own k → problemRefusal ws ≡ suc k → Checks ws a (suc k)
+  short : problemRefusal ws ≡ 0 → length a < answerLength ws → Checks ws a 7
+  right : problemRefusal ws ≡ 0 → answerLength ws ≤ length a → Shown (problem ws) a → Checks ws a 8
+  wrong : problemRefusal ws ≡ 0 → answerLength ws ≤ length a → ¬ Shown (problem ws) a → Checks ws a 9
 
 module _ (ws a : List ℤ) where
   pub checked-by-problem : (k : ℕ) → problemRefusal ws ≡ suc k → checked ws a ≡ suc k
@@ -139,7 +149,7 @@ module _ (ws a : List ℤ) where
   one-number (wrong e l s) (right f m t) = absurd (s t)
   one-number (wrong e l s) (wrong f m t) = refl
 
-  pub checks-only : (r : ℕ) → Checks ws a r → checked ws a ≡ r
+  checks-only : (r : ℕ) → Checks ws a r → checked ws a ≡ r
   checks-only r c = one-number checks c
 
   -- ---- each number exactly

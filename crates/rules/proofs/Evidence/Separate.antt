@@ -1,6 +1,7 @@
 -- Fractions with separate denominators reduce to one: where fractions, each over a denominator of its own, meet the
 -- rows and limits, a strict one strictly, whole numbers over one denominator do. So `Unsatisfied` says that there are
 -- no fractions at all.
+--   shared                     one denominator for several
 --   one-denominator            whole numbers over one denominator, with the values of the fractions
 --   unsatisfied-fractions      where none of those meet a problem, no fractions do (`FractionsMeet`,
 --                              specs/Facts/Fractions)
@@ -76,14 +77,14 @@ high-over false f u x p h = weakly f (x .under) (x .top) u p (false→le h)
 
 -- ---- one denominator for the first k of q
 
-record Shared (k : ℕ) (q : ℕ → ℤ) : Type 0 where
-  common : ℤ
-  factor : ℕ → ℤ
-  common-pos : pos 0 <ℤ common
-  factor-pos : (v : ℕ) → v < k → pos 0 <ℤ factor v
-  is-common : (v : ℕ) → v < k → factor v *ℤ q v ≡ common
+pub record Shared (k : ℕ) (q : ℕ → ℤ) : Type 0 where
+  pub common : ℤ
+  pub factor : ℕ → ℤ
+  pub common-pos : pos 0 <ℤ common
+  pub factor-pos : (v : ℕ) → v < k → pos 0 <ℤ factor v
+  pub is-common : (v : ℕ) → v < k → factor v *ℤ q v ≡ common
 
-shared : (k : ℕ) (q : ℕ → ℤ) → ((v : ℕ) → v < k → pos 0 <ℤ q v) → Shared k q
+pub shared : (k : ℕ) (q : ℕ → ℤ) → ((v : ℕ) → v < k → pos 0 <ℤ q v) → Shared k q
 shared zero q h = record {
   common = pos 1;
   factor = λ v. pos 1;

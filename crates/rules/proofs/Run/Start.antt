@@ -2,7 +2,7 @@
 --   at-start, common-one, seat-start, seated-problem, basic-row    what stands where at the start
 --   rowed-start, housed-start, sound-start
 --   uncrossed, no-conflict                             limits that do not cross; no crossed limits: `Apart`
-use mathlib.Core.Bool.{Bool, cond, false, true}
+use mathlib.Core.Bool.{false}
 use mathlib.Core.Option.{Option, Option·none-ne-some, none, some}
 use mathlib.Core.Path.{ap, refl, sym, _∙_, _≡_}
 use Prim.Native.Nat.{ℕ, _+_, _-_, _<_, _≤_}
@@ -16,11 +16,13 @@ use Rattle.whole.proofs.Lists.Tables.{matrix-at, table-at, tableFrom-length}
 use Rattle.whole.proofs.Values.Laws.{le-refl}
 use Rattle.whole.specs.Sums.{sum}
 use Rattle.whole.specs.Values.{Laws, Le, Values, whole}
+use Rattle.rules.proofs.Run.Begin.{value-so}
 use Rattle.rules.proofs.Run.State.{sound-of}
 use Rattle.rules.proofs.Tableau.Units.{ge-false, lt-true, problem-row, row-row, same-off, same-self}
 use Rattle.rules.specs.Evidence.{Rows}
 use Rattle.rules.specs.Problem.{Problem, vars}
 use Rattle.rules.specs.Run.{conflict, crossed}
+use Rattle.rules.specs.Facts.Run.{StartsAt, at-high, at-low, at-nil}
 use Rattle.rules.specs.Facts.State.{Apart, Housed, Rowed, Sound}
 use Rattle.rules.specs.Step.{common, positive, same, seat, start, startEntry, startSeat, startValue}
 use Rattle.rules.specs.Tableau.{entry}
@@ -96,40 +98,21 @@ module _ {X : Type 0} (𝓥 : Values X) where
 
   value-low : Laws 𝓥 → (o p : Option X) (l : X) → ((k u : X) → o ≡ some k → p ≡ some u → Le 𝓥 k u) → o ≡ some l →
       Le 𝓥 l (startValue 𝓥 o p)
-  unfolding startValue
-  value-low law none p l a e = absurd (Option·none-ne-some l e)
-  value-low law (some k) none l a e = let z : l ≡ k = cc in rw z (go (𝓥 .less (𝓥 .nil) k) refl)
+  value-low law o p l a e = go (value-so 𝓥 o p)
     where
-      go : (b : Bool) → 𝓥 .less (𝓥 .nil) k ≡ b → Le 𝓥 k (cond b k (𝓥 .nil))
-      go true q = le-refl law k
-      go false q = q
-  value-low law (some k) (some u) l a e = let z : l ≡ k = cc in
-      rw z (go (𝓥 .less (𝓥 .nil) k) refl (𝓥 .less u (𝓥 .nil)) refl)
-    where
-      go : (b : Bool) → 𝓥 .less (𝓥 .nil) k ≡ b → (c : Bool) → 𝓥 .less u (𝓥 .nil) ≡ c →
-          Le 𝓥 k (cond b k (cond c u (𝓥 .nil)))
-      go true q c r = le-refl law k
-      go false q true r = a k u refl refl
-      go false q false r = q
+      go : StartsAt 𝓥 o p (startValue 𝓥 o p) → Le 𝓥 l (startValue 𝓥 o p)
+      go (at-nil f g z) = rw z (f l e)
+      go (at-low k q h z) = let y : l ≡ startValue 𝓥 o p = cc in rw (← y) (le-refl law l)
+      go (at-high u q h f z) = rw z (a l u e q)
 
   value-high : Laws 𝓥 → (o p : Option X) (u : X) → ((k u : X) → o ≡ some k → p ≡ some u → Le 𝓥 k u) → p ≡ some u →
       Le 𝓥 (startValue 𝓥 o p) u
-  unfolding startValue
-  value-high law none none u a e = absurd (Option·none-ne-some u e)
-  value-high law (some k) none u a e = absurd (Option·none-ne-some u e)
-  value-high law none (some h) u a e = let z : u ≡ h = cc in rw z (go (𝓥 .less h (𝓥 .nil)) refl)
+  value-high law o p u a e = go (value-so 𝓥 o p)
     where
-      go : (b : Bool) → 𝓥 .less h (𝓥 .nil) ≡ b → Le 𝓥 (cond b h (𝓥 .nil)) h
-      go true q = le-refl law h
-      go false q = q
-  value-high law (some k) (some h) u a e = let z : u ≡ h = cc in
-      rw z (go (𝓥 .less (𝓥 .nil) k) refl (𝓥 .less h (𝓥 .nil)) refl)
-    where
-      go : (b : Bool) → 𝓥 .less (𝓥 .nil) k ≡ b → (c : Bool) → 𝓥 .less h (𝓥 .nil) ≡ c →
-          Le 𝓥 (cond b k (cond c h (𝓥 .nil))) h
-      go true q c r = a k h refl refl
-      go false q true r = le-refl law h
-      go false q false r = r
+      go : StartsAt 𝓥 o p (startValue 𝓥 o p) → Le 𝓥 (startValue 𝓥 o p) u
+      go (at-nil f g z) = rw z (g u e)
+      go (at-low k q h z) = rw z (a k u q e)
+      go (at-high w q h f z) = let y : u ≡ startValue 𝓥 o p = cc in rw (← y) (le-refl law u)
 
   module _ (P : Problem X) where
     placed : (v : ℕ) (x : X) → v < vars P → seat (start 𝓥 P) v ≡ some x →

@@ -22,12 +22,12 @@ use Rattle.rules.specs.Times.Passes.{distances, canMeet}
 use Rattle.rules.specs.Times.Cycle.{BadCycle, rowTold}
 use Rattle.rules.specs.Times.Words.{timesLength, AcceptedTimes, timeEdges, strictWord, lengthWord}
 use Rattle.rules.specs.Times.Answer.{plainTime, smallTime, timesOf, cycleWords, timesAnswer, timesWritten, Timed}
-use Rattle.rules.specs.Times.Answer.{RowSays, MeetsSmall, timeIn, TimesTold, CycleTold, BothNamed, timeOf, Free}
+use Rattle.rules.specs.Times.Answer.{RowSays, MeetsSmall, timeIn, TimesTold, CycleTold, BothNamed, timeOf}
 use Rattle.rules.proofs.Times.Decide.{cycle-short}
 use Rattle.rules.proofs.Times.Means.{some-vertex, once, times-few, times-meet, times-shortest}
 use Rattle.rules.proofs.Times.Means.{cycle-no-fractions}
 use Rattle.rules.proofs.Times.Unique.{times-only, answer-can, answer-cannot, half-long, times-long, times-length}
-use Rattle.rules.proofs.Times.Unique.{times-past, cycle-long}
+use Rattle.rules.proofs.Times.Unique.{Free, times-past, cycle-long}
 use Rattle.rules.proofs.Times.Refused.{accepted-ends, times-accepted-exactly}
 
 -- past the first two words

@@ -1,13 +1,14 @@
 -- What the promise of `times` leaves open, and what it does not.
 --   times-only      two allowed results are equal, but where no times meet all rows each may name its own bad cycle:
---                   `Free` of specs/Times/Answer
+--                   `Free`
 --   answer-long     the answer has 2 + 2n words
 --   times-length    the output is as long as before
 --   times-past      words past 2 + 2n are as they were
+--   times-kept      a refusal keeps every word of the output
 use mathlib.Core.Path.{_≡_, refl, sym, _∙_, ap}
 use mathlib.Core.Bool.{true, false, cond}
 use mathlib.Core.List.{List, _∷_, _++_, map}
-use mathlib.Core.Logic.{_⊎_, inl, inr}
+use mathlib.Core.Logic.{_⊎_, _≢_, inl, inr}
 use Prim.Native.Nat.{ℕ, zero, suc, _*_}
 use native.Mathlib.Omega.{arith}
 use lib.IntN.{ℤ, pos}
@@ -21,9 +22,15 @@ use Rattle.rules.specs.Times.Passes.{distances, canMeet}
 use Rattle.rules.specs.Times.Cycle.{BadCycle}
 use Rattle.rules.specs.Times.Words.{timesLength, AcceptedTimes, timeEdges}
 use Rattle.rules.specs.Times.Answer.{plainTime, smallTime, timesOf, cycleWords, timesAnswer, timesWritten, Timed}
-use Rattle.rules.specs.Times.Answer.{Free}
 use Rattle.rules.proofs.Times.Decide.{cycle-short, distances-long}
 use Rattle.rules.proofs.Times.Refused.{accepted-ends, times-accepted-exactly}
+
+-- where two results that it allows may differ: each names a bad cycle
+pub record Free (ws : List ℤ) (r : ℕ) (rows other : List ℕ) : Type 0 where
+  pub answered : r ≡ 0
+  pub cannot : canMeet pairs (timeEdges ws) ≡ false
+  pub bad : BadCycle pairs (timeEdges ws) rows
+  pub other-bad : BadCycle pairs (timeEdges ws) other
 
 -- the answer, by whether times meet all rows
 pub answer-can : (ws : List ℤ) (rows : List ℕ) → canMeet pairs (timeEdges ws) ≡ true →
@@ -129,3 +136,11 @@ times-past ws before r after x = go r refl
         ap (drop (timesLength ws)) (x .written ∙ ap (λ j. timesWritten j ws (x .rows) before) e)
         ∙ ap (λ n. drop n (timesAnswer ws (x .rows) ++ drop (timesLength ws) before)) (sym l)
         ∙ drop-append-seam (timesAnswer ws (x .rows)) (drop (timesLength ws) before)
+
+pub times-kept : (ws before : List ℤ) (r : ℕ) (after : List ℤ) → Timed ws before r after → r ≢ 0 → after ≡ before
+unfolding timesWritten
+times-kept ws before r after x n = x .written ∙ go r n
+  where
+    go : (k : ℕ) → k ≢ 0 → timesWritten k ws (x .rows) before ≡ before
+    go zero m = absurd (m refl)
+    go (suc k) m = refl

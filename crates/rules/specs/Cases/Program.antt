@@ -16,7 +16,7 @@ abbrev zeroOrMore : List ℤ → List ℤ
 zeroOrMore ws = pos 1 ∷ pos 0 ∷ pos 0 ∷ ws
 
 -- four rows 999 w - 1000 v >= 0 along five variables, the first at least 1: the third pivot would leave 999 ^ 4
-abbrev outOfRange : List ℤ
+abbrev pub outOfRange : List ℤ
 outOfRange =
     pos 5 ∷ pos 4
     ∷ minus 1000 ∷ pos 999 ∷ pos 0 ∷ pos 0 ∷ pos 0

@@ -4,18 +4,17 @@
 --   Blame      that, of two lists of multipliers
 --   Blamed     of a step: the variable that leaves, that none enters, and the blame
 --   Stopped    which limit stops a variable
---   gives      what the limits of a variable come to, so many times each
 use mathlib.Core.List.{List}
 use mathlib.Core.Logic.{_≢_}
-use mathlib.Core.Option.{Option, none, some}
+use mathlib.Core.Option.{none, some}
 use mathlib.Core.Path.{_≡_}
 use Prim.Native.Nat.{ℕ, _<_}
-use lib.IntN.{natAbs, negℤ, pos, ℤ}
+use lib.IntN.{natAbs, pos, ℤ}
 use lib.ListN.{length}
 use lib.Signed.{_<ℤ_}
 use Rattle.whole.specs.Values.{Values}
 use Rattle.rules.specs.Problem.{Problem, vars, word}
-use Rattle.rules.specs.Step.{Leaving, Side, State, above, below, entering, leaving, pull, seated}
+use Rattle.rules.specs.Step.{Leaving, Side, State, above, below, entering, leaving, pull}
 use Rattle.rules.specs.Tableau.{Tableau, entry}
 
 -- of N variables, where r is violated on the side σ. `pull σ a` is the entry, with its sign swapped where r must fall
@@ -45,7 +44,3 @@ multipliersOn ls us above = us
 abbrev pub Stopped : Side → ℤ → Type 0
 Stopped below z = z <ℤ pos 0
 Stopped above z = pos 0 <ℤ z
-
--- what two limits give, each times its multiplier: the lower one added, the upper one taken away
-abbrev pub gives : {X : Type 0} → Values X → Option X → Option X → ℤ → ℤ → X
-gives 𝓥 low high lo hi = 𝓥 .plus (𝓥 .scale lo (seated 𝓥 low)) (𝓥 .scale (negℤ hi) (seated 𝓥 high))

@@ -3,8 +3,8 @@
 --   Numerators, ShowsCan         verdict 1: what is asked of denominator, numerators and small parts
 --   Multipliers, ShowsCannot     verdict 2: what is asked of the multipliers
 --   Shown                        the verdict with its evidence
---   checkerTable, Checks         the checker's number, line by line (specs/Facts/Refusal); each number with its facts
---   MetSmall, Meant              what the number 8 means
+--   checkerTable                 the checker's number, line by line (specs/Facts/Refusal)
+--   MetSmall, MetActually, Meant     what the number 8 means
 -- The records are over the numbers that the words stand for, so that they speak of numbers that stand in no list too.
 -- `checked` of specs/Evidence gives what the table says (`checked-exactly`).
 use mathlib.Core.Bool.{Bool, false, true}
@@ -12,7 +12,7 @@ use mathlib.Core.List.{List, [], _++_, _∷_}
 use mathlib.Core.Logic.{_≢_, _⊎_}
 use mathlib.Core.Option.{Option, none, some}
 use mathlib.Core.Path.{_≡_}
-use Prim.Native.Nat.{suc, ℕ, _<_, _≤_}
+use Prim.Native.Nat.{suc, ℕ, _<_}
 use lib.IntN.{pos, ℤ, _*ℤ_, _-ℤ_}
 use lib.ListN.{length}
 use lib.Signed.{_<ℤ_, _≤ℤ_}
@@ -22,8 +22,7 @@ use Rattle.rules.specs.Evidence.{Rows, Satisfies, Unsatisfied, column, d
 use Rattle.rules.specs.Evidence.{surplus, upperPart, verdictOf}
 use Rattle.rules.specs.Limit.{Limit}
 use Rattle.rules.specs.Facts.Refusal.{Line, lineOf, problemTable, roomLine}
-use Rattle.rules.specs.Problem.{Problem, answerLength, problem, vars}
-use Rattle.rules.specs.Refusal.{problemRefusal}
+use Rattle.rules.specs.Problem.{Problem, problem, vars}
 use Rattle.rules.specs.Sizes.{largestNumber, largestNumerator, largestSmall, mostRows}
 
 -- ---- verdict 1
@@ -92,17 +91,6 @@ abbrev pub checkerTable : List ℤ → List ℤ → List Line
 checkerTable ws a = problemTable mostRows ws
     ++ (roomLine ws (length a) ∷ lineOf 8 (Shown (problem ws) a) (¬ Shown (problem ws) a) ∷ lineOf 9 (Unit {0}) ⊥ ∷ [])
 
--- suc k is a number of the problem's: 1 to 6, or 10
-abbrev pub Own : ℕ → Type 0
-Own k = (k < 6) ⊎ (k ≡ 9)
-
--- each number, with its facts
-pub data Checks (ws a : List ℤ) : ℕ → Type 0 where
-  refused : (k : ℕ) → Own k → problemRefusal ws ≡ suc k → Checks ws a (suc k)
-  short : problemRefusal ws ≡ 0 → length a < answerLength ws → Checks ws a 7
-  right : problemRefusal ws ≡ 0 → answerLength ws ≤ length a → Shown (problem ws) a → Checks ws a 8
-  wrong : problemRefusal ws ≡ 0 → answerLength ws ≤ length a → ¬ Shown (problem ws) a → Checks ws a 9
-
 -- ---- what the number 8 means
 
 -- each positive fraction e / k up to 1 / 17,179,869,177, put for the small amount, makes of the answer's pairs
@@ -111,6 +99,11 @@ abbrev pub MetSmall : Problem Limit → List ℤ → Type 0
 MetSmall P a = (e k : ℤ) → pos 0 <ℤ e → (e *ℤ pos (suc largestSmall)) ≤ℤ k →
     Satisfies P (k *ℤ denominatorOf a) (λ v. mixed e k (pairPart (vars P) a v))
 
+-- .. one of them, 1 / 17,179,869,177 itself
+abbrev pub MetActually : Problem Limit → List ℤ → Type 0
+MetActually P a = Satisfies P (pos (suc largestSmall) *ℤ denominatorOf a)
+    (λ v. mixed (pos 1) (pos (suc largestSmall)) (pairPart (vars P) a v))
+
 pub data Meant (P : Problem Limit) (a : List ℤ) : Type 0 where
-  can-be-met : verdictOf a ≡ pos 1 → MetSmall P a → Meant P a
+  can-be-met : verdictOf a ≡ pos 1 → MetSmall P a → MetActually P a → Meant P a
   cannot-be-met : verdictOf a ≡ pos 2 → Unsatisfied P → Meant P a

@@ -4,7 +4,7 @@ use mathlib.Core.Path.{_≡_}
 use mathlib.Core.Bool.{Bool, true, false, cond}
 use mathlib.Core.List.{List, _∷_, _++_, map}
 use Prim.Native.Nat.{ℕ, zero, suc, _+_, _*_, _-_, _<_, _≤_}
-use lib.IntN.{ℤ, pos, negℤ, _-ℤ_, _*ℤ_}
+use lib.IntN.{ℤ, pos, natAbs, negsuc, negℤ, _-ℤ_, _*ℤ_}
 use lib.ListN.{length, drop, replicate}
 use lib.Signed.{_≤ℤ_, _<ℤ_}
 use Rattle.whole.specs.Numbers.{eqZ}
@@ -13,7 +13,9 @@ use Rattle.rules.specs.Problem.{nOf, mOf, word}
 use Rattle.rules.specs.Times.Walks.{Shortest}
 use Rattle.rules.specs.Times.Passes.{canMeet, distance, distances}
 use Rattle.rules.specs.Times.Cycle.{BadCycle, rowTold}
-use Rattle.rules.specs.Times.Words.{strictWord, lengthWord, timesLength, timeRefusal, timeEdges}
+use Rattle.rules.specs.Times.Words.{fromWord, toWord, strictWord, lengthWord, timesLength, timeRefusal}
+use Rattle.rules.specs.Times.Words.{timeEdges}
+use Rattle.rules.specs.Facts.Fractions.{Fraction, InOrder, fractions, overOne}
 
 -- the time of a vertex at a distance: minus it, part by part
 abbrev pub plainTime : ℤ × ℤ → ℤ
@@ -53,22 +55,15 @@ pub record Timed (ws before : List ℤ) (r : ℕ) (after : List ℤ) : Type 0 wh
   pub written : after ≡ timesWritten r ws rows before
   pub named : r ≡ 0 → canMeet pairs (timeEdges ws) ≡ false → BadCycle pairs (timeEdges ws) rows
 
--- where two results that it allows may differ: each names a bad cycle
-pub record Free (ws : List ℤ) (r : ℕ) (rows other : List ℕ) : Type 0 where
-  pub answered : r ≡ 0
-  pub cannot : canMeet pairs (timeEdges ws) ≡ false
-  pub bad : BadCycle pairs (timeEdges ws) rows
-  pub other-bad : BadCycle pairs (timeEdges ws) other
-
 -- what a row says of the difference z of two times: at most c, and a strict row less than c
 abbrev pub RowSays : Bool → ℤ → ℤ → Type 0
 RowSays true z c = z <ℤ c
 RowSays false z c = z ≤ℤ c
 
--- .. of the times t v / d, fractions of a minute
+-- .. of the times t v / d, fractions of a minute: x and y are the first two words of the row
 abbrev MeetsRow : List ℤ → ℤ → (ℕ → ℤ) → ℕ → Type 0
 MeetsRow ws d t i =
-    RowSays (eqZ (strictWord ws i) (pos 1)) (t (timeEdges ws .tail i) -ℤ t (timeEdges ws .head i))
+    RowSays (eqZ (strictWord ws i) (pos 1)) (t (natAbs (fromWord ws i)) -ℤ t (natAbs (toWord ws i)))
     (d *ℤ lengthWord ws i)
 
 abbrev pub MeetsRows : List ℤ → ℤ → (ℕ → ℤ) → Type 0
@@ -81,6 +76,13 @@ MeetsSmall ws t = (e k : ℤ) → pos 0 <ℤ e → (e *ℤ pos (nOf ws)) ≤ℤ 
 -- no fractions meet every row
 abbrev pub NoFractions : List ℤ → Type 0
 NoFractions ws = (d : ℤ) → pos 0 <ℤ d → (t : ℕ → ℤ) → ¬ MeetsRows ws d t
+
+-- .. and over denominators of their own: x less y against c
+pub record FractionsMeetRows (ws : List ℤ) (t : ℕ → Fraction) : Type 0 where
+  pub positive : (v : ℕ) → v < nOf ws → pos 0 <ℤ t v .under
+  pub rows : (i : ℕ) → i < mOf ws → InOrder (eqZ (strictWord ws i) (pos 1))
+      (fractions .plus (t (natAbs (fromWord ws i))) (fractions .scale (negsuc 0) (t (natAbs (toWord ws i)))))
+      (overOne (lengthWord ws i))
 
 -- ---- what the words of an answered output say, by word 0
 

@@ -30,8 +30,7 @@ use Rattle.rules.specs.Tableau.{relation}
 use Rattle.rules.specs.Evidence.{plainOf, surplus}
 use Rattle.rules.specs.Limit.{Limit, inset, lowerPair, upperPair}
 use Rattle.rules.specs.Facts.Evidence.{Contradiction, StrictNamed}
-use Rattle.rules.proofs.Evidence.Own.Stuck.{gain}
-use Rattle.rules.specs.Facts.Blame.{gives}
+use Rattle.rules.proofs.Evidence.Own.Stuck.{gives, gain}
 
 no-more : (a b : ℤ) → pos 0 <ℤ (a +ℤ b) → b ≤ℤ pos 0 → pos 0 <ℤ a
 no-more a b h k = lt-at (a ∷ b ∷ []) (of-lt h ⊞ of-le k) (search reify depth 30) slk

@@ -3,7 +3,7 @@
 -- what the row is violated by.
 --   Stops                        what stops a variable
 --   low-missing, high-missing    where a limit is missing the multiplier is 0
---   gain                         the sum of what they give (`gives` of specs/Facts/Blame)
+--   gain                         the sum of what they give (`gives`)
 use mathlib.Core.Bool.{cond}
 use mathlib.Core.List.{[], _∷_}
 use mathlib.Core.Logic.{_≢_}
@@ -27,13 +27,16 @@ use Rattle.rules.proofs.Evidence.Own.Terms.{positive-yes, pull-is, turn
 use Rattle.rules.proofs.Step.Gaps.{gap-less, gap-more}
 use Rattle.rules.proofs.Tableau.Relation.{relation-off, relation-own}
 use Rattle.rules.proofs.Tableau.Units.{same-off, same-self}
-use Rattle.rules.specs.Facts.Blame.{gives}
 use Rattle.rules.specs.Problem.{Problem, vars}
 use Rattle.rules.specs.Facts.Rule.{Left, Outside, too-high, too-low}
 use Rattle.rules.specs.Facts.State.{Rowed}
 use Rattle.rules.specs.Step.{Leaving, Side, gap, State, common, entering, limitAt, positive, pull, same, scaled}
 use Rattle.rules.specs.Step.{seat, seated}
 use Rattle.rules.specs.Tableau.{entry, relation}
+
+-- what two limits give, each times its multiplier: the lower one added, the upper one taken away
+abbrev pub gives : {X : Type 0} → Values X → Option X → Option X → ℤ → ℤ → X
+gives 𝓥 low high lo hi = 𝓥 .plus (𝓥 .scale lo (seated 𝓥 low)) (𝓥 .scale (negℤ hi) (seated 𝓥 high))
 
 module _ {X : Type 0} (𝓥 : Values X) (law : Laws 𝓥) where
   open Values 𝓥 using (nil, scale)

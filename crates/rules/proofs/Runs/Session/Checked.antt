@@ -9,13 +9,16 @@
 --   count-checked                  word 1 is below the bound, conflict or not
 --   check-exactly                  7 exactly where the output is too short, else 0 (`checkTable` of Facts/Runs/Session)
 --   output-length, output-past     an output keeps its length and the words past the answer
+--   check-fine                     .. and 0 exactly where it is not
+--   check-kept                     a check that is refused changes neither session nor output
 --   check-only                     any two results that a check may have are equal
-use mathlib.Core.List.{List, _∷_, _++_}
+use mathlib.Core.List.{List, [], _∷_, _++_}
 use mathlib.Core.Logic.{_↔_, _≢_}
 use mathlib.Core.Option.{Option, none, some}
 use mathlib.Core.Path.{ap, refl, sym, _∙_, _≡_}
-use Prim.Native.Nat.{ℕ, _+_, _<_, _≤_}
+use Prim.Native.Nat.{ℕ, suc, zero, _*_, _+_, _<_, _≤_}
 use native.Mathlib.Omega.{arith}
+use lib.Dec.{ltb}
 use lib.IntN.{pos, ℤ}
 use lib.ListN.{drop, length, length-append, length-drop}
 use lib.Seq.{getD-append-add, getD-drop}
@@ -27,7 +30,7 @@ use Rattle.rules.proofs.Answer.OutOfRange.{range-verdict}
 use Rattle.rules.proofs.Answer.Run.{answer-crossed, answer-run}
 use Rattle.rules.proofs.Answer.Shape.{shaped}
 use Rattle.rules.proofs.Demands.{can-from, cannot-from}
-use Rattle.rules.proofs.Refusal.First.{first-exactly, no-test, tested}
+use Rattle.rules.proofs.Refusal.First.{Tested, first-exactly, first-fine, no-test, tested}
 use Rattle.rules.proofs.Run.Start.{no-conflict}
 use Rattle.rules.proofs.Run.State.{ready-sound}
 use Rattle.rules.proofs.Run.Steady.{twice-never}
@@ -36,7 +39,7 @@ use Rattle.rules.proofs.Termination.Bound.{below-bound, bound-some}
 use Rattle.rules.specs.Evidence.{Meets, Unmet, denominatorOf, pairPart, verdictOf}
 use Rattle.rules.specs.Facts.Answer.{Shaped}
 use Rattle.rules.specs.Facts.Range.{TooLarge}
-use Rattle.rules.specs.Facts.Refusal.{First}
+use Rattle.rules.specs.Facts.Refusal.{AllFine, First}
 use Rattle.rules.specs.Facts.Run.{TheRun}
 use Rattle.rules.specs.Facts.Runs.Session.{Fair, checkTable}
 use Rattle.rules.specs.Facts.State.{Apart, Ready, Sound}
@@ -131,9 +134,20 @@ module _ (A : Session (ℤ × ℤ)) (F : Fair pairs A) where
         ∙ getD-drop (checkLength A) before i (pos 0)
 
 module _ (A : Session (ℤ × ℤ)) where
+  check-tested : (room : ℕ) → Tested ((ltb room (checkLength A), 7) ∷ []) (checkTable A room)
+  check-tested room = tested (tells-lt room (3 + 2 * vars (A .given))) no-test
+
   pub check-exactly : (room k : ℕ) → (checkRefusal A room ≡ k) ↔ First (checkTable A room) k
   unfolding checkRefusal
-  check-exactly room k = first-exactly (tested (tells-lt room (checkLength A)) no-test) k
+  check-exactly room k = first-exactly (check-tested room) k
+
+  pub check-fine : (room : ℕ) → (checkRefusal A room ≡ 0) ↔ AllFine (checkTable A room)
+  unfolding checkRefusal
+  check-fine room = first-fine (check-tested room) (λ e. let z : ⊥ = omega arith in z, tt)
+
+  pub check-kept : (before : List ℤ) (r : ℕ) → r ≢ 0 → (restedBy pairs r A ≡ A) × (checkOutput r A before ≡ before)
+  check-kept before zero n = absurd (n refl)
+  check-kept before (suc k) n = (refl, refl)
 
   -- number, session and output
   abbrev pub MayBe : List ℤ → ℕ → Session (ℤ × ℤ) → List ℤ → Type 0

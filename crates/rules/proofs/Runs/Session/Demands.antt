@@ -28,7 +28,7 @@ use Rattle.rules.proofs.Idle.Needed.{no-blanks, nothing-idle-from}
 use Rattle.rules.proofs.Refusal.Accepted.{coefficient-within, lower-within, n-few, upper-within}
 use Rattle.rules.proofs.Runs.Session.Checked.{can-checked, cannot-checked}
 use Rattle.rules.proofs.Runs.Session.Fair.{fair-ready, handed-fair}
-use Rattle.rules.proofs.Runs.Session.Handed.{handed-given, values-handed}
+use Rattle.rules.proofs.Runs.Session.Handed.{LimitsAre, handed-given, values-handed}
 use Rattle.rules.proofs.Runs.Session.Live.{live-checked}
 use Rattle.rules.specs.Answer.{answerFrom}
 use Rattle.rules.specs.Evidence.{Satisfiable, Unmet, Unsatisfied, checked, denominatorOf, lowerPart}
@@ -36,7 +36,7 @@ use Rattle.rules.specs.Evidence.{Meets, pairPart, upperPart, verdictOf}
 use Rattle.rules.specs.Facts.Answer.{Decided}
 use Rattle.rules.specs.Facts.Evidence.{MetSmall, Shown}
 use Rattle.rules.specs.Facts.Fractions.{Fraction, FractionsMeet}
-use Rattle.rules.specs.Facts.Runs.Session.{Fair, LimitsAre, liveProblem}
+use Rattle.rules.specs.Facts.Runs.Session.{Fair, liveProblem}
 use Rattle.rules.specs.Facts.State.{Kept, Ready}
 use Rattle.rules.specs.Keeping.Idle.{NoBlank, multiplier, named, without}
 use Rattle.rules.specs.Keeping.Limits.{keeping, limitOf}

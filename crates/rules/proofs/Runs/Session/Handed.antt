@@ -23,14 +23,22 @@ use Rattle.rules.proofs.Runs.Session.Inside.{lands}
 use Rattle.rules.proofs.Runs.Session.Opened.{opened-so}
 use Rattle.rules.proofs.Runs.Session.Switched.{flag-elsewhere, given-flagged, state-flagged, switch-fine}
 use Rattle.rules.proofs.Runs.Session.Switched.{switched-done, switched-refused}
-use Rattle.rules.specs.Facts.Runs.Session.{Fair, Lands, LimitsAre, Sworn, ValuesAre, stays-crossed, stays-within}
+use Rattle.rules.specs.Facts.Runs.Session.{Fair, Lands, Sworn, stays-crossed, stays-within}
 use Rattle.rules.specs.Facts.Runs.Session.{to-lower, to-upper}
 use Rattle.rules.specs.Keeping.Limits.{keeping, limitOf}
 use Rattle.rules.specs.Problem.{Problem, vars}
 use Rattle.rules.specs.Runs.Session.{Handed, Session, flagged, from-check, from-opening, from-switch, isOn}
 use Rattle.rules.specs.Runs.Session.{liveOf, noneOn, opened, rested, allInside, switchRefusal, switched}
 use Rattle.rules.specs.Sizes.{largestCoefficient}
-use Rattle.rules.specs.Step.{Side, above, below}
+use Rattle.rules.specs.Step.{Side, above, below, seat}
+
+module _ {X : Type 0} (𝓥 : Values X) (Q : X → Type 0) where
+  -- of every limit handed in, and of every value of a nonbasic variable
+  abbrev pub LimitsAre : Problem X → Type 0
+  LimitsAre P = (σ : Side) (v : ℕ) (l : X) → v < vars P → limitOf P σ v ≡ some l → Q l
+
+  abbrev pub ValuesAre : Session X → Type 0
+  ValuesAre A = (v : ℕ) (x : X) → seat (A .state) v ≡ some x → Q x
 
 module _ {X : Type 0} (𝓥 : Values X) where
   -- ---- a switch changes what one that is not refused does

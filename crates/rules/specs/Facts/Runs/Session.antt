@@ -5,14 +5,13 @@
 --   Lands                    where a nonbasic variable goes after a switch
 --   checkTable               when a check is refused
 --   Fair, Sworn              what every session handed back has: a check may start from it, and its flags are right
---   LimitsAre, ValuesAre     what holds of limits, and of values
 --   liveProblem              the problem that a check is about
 use mathlib.Core.Bool.{Bool, false, true}
 use mathlib.Core.List.{List, [], _∷_}
 use mathlib.Core.Logic.{_↔_, _≢_, _⊎_}
 use mathlib.Core.Option.{Option, none, some}
 use mathlib.Core.Path.{_≡_}
-use Prim.Native.Nat.{ℕ, _<_, _≤_}
+use Prim.Native.Nat.{ℕ, _*_, _+_, _<_, _≤_}
 use lib.IntN.{pos, ℤ}
 use lib.ListN.{length}
 use Rattle.whole.specs.Values.{Le, Lt, Values}
@@ -22,7 +21,7 @@ use Rattle.rules.specs.Keeping.Limits.{keeping, limitOf}
 use Rattle.rules.specs.Limit.{Limit}
 use Rattle.rules.specs.Problem.{Problem, problem, vars}
 use Rattle.rules.specs.Run.{crossed}
-use Rattle.rules.specs.Runs.Session.{Session, checkLength, isOn, liveOf}
+use Rattle.rules.specs.Runs.Session.{Session, isOn, liveOf}
 use Rattle.rules.specs.Step.{Side, common, seat, startEntry}
 use Rattle.rules.specs.Tableau.{entry}
 
@@ -53,14 +52,6 @@ module _ {X : Type 0} (𝓥 : Values X) where
     pub lowers-many : length (A .lowersOn) ≡ vars (A .given)
     pub uppers-many : length (A .uppersOn) ≡ vars (A .given)
     pub there : (σ : Side) (v : ℕ) → isOn A σ v ≡ true → (l : X) × (limitOf (A .given) σ v ≡ some l)
-
-  module _ (Q : X → Type 0) where
-    -- of every limit handed in, and of every value of a nonbasic variable
-    abbrev pub LimitsAre : Problem X → Type 0
-    LimitsAre P = (σ : Side) (v : ℕ) (l : X) → v < vars P → limitOf P σ v ≡ some l → Q l
-
-    abbrev pub ValuesAre : Session X → Type 0
-    ValuesAre A = (v : ℕ) (x : X) → seat (A .state) v ≡ some x → Q x
 
   -- ---- a switch
 
@@ -99,7 +90,7 @@ module _ {X : Type 0} (𝓥 : Values X) (A : Session X) (v : ℕ) (σ : Side) (o
 
 -- 7: the output is too short
 abbrev pub checkTable : Session (ℤ × ℤ) → ℕ → List Line
-checkTable A room = lineOf 7 (room < checkLength A) (checkLength A ≤ room) ∷ []
+checkTable A room = lineOf 7 (room < 3 + 2 * vars (A .given)) (3 + 2 * vars (A .given) ≤ room) ∷ []
 
 -- the problem of these words with the limits that are on, and their marks
 abbrev pub liveProblem : List ℤ → Session (ℤ × ℤ) → Problem Limit

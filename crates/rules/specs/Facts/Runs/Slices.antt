@@ -3,15 +3,17 @@
 --   cutAt       the run from a state, so many pivots on
 --   Sliced      what a continue comes to: the pivots up to the count of the uncut run, and the answer exactly then
 --   OnWay       what every state has that a start or a continue hands back
+--   sliceTable  when a continue is refused
 use mathlib.Core.List.{List, [], _∷_}
 use mathlib.Core.Option.{none, some}
 use mathlib.Core.Path.{_≡_}
-use Prim.Native.Nat.{min, ℕ, _+_, _<_, _≤_}
+use Prim.Native.Nat.{min, ℕ, _*_, _+_, _<_, _≤_}
 use lib.IntN.{pos, ℤ}
 use Rattle.whole.specs.Values.{Values, pairs}
 use Rattle.rules.specs.Answer.{answerFrom}
+use Rattle.rules.specs.Facts.Refusal.{Line, lineOf}
 use Rattle.rules.specs.Facts.State.{Ready}
-use Rattle.rules.specs.Problem.{Problem, word}
+use Rattle.rules.specs.Problem.{Problem, vars, word}
 use Rattle.rules.specs.Run.{after, bound}
 use Rattle.rules.specs.Runs.Slices.{Slice, continued, sliceAnswer}
 use Rattle.rules.specs.Step.{State}
@@ -52,3 +54,7 @@ pub record OnWay (S : Slice (ℤ × ℤ)) : Type 0 where
   -- the state is that of the run after as many pivots as are counted, which are not more than it has
   pub state-is : S .state ≡ after pairs (S .problem) from (S .count)
   pub reached : S .count ≤ run .count
+
+-- 7: the output is too short for an answer, be there one or not
+abbrev pub sliceTable : Slice (ℤ × ℤ) → ℕ → List Line
+sliceTable S room = lineOf 7 (room < 3 + 2 * vars (S .problem)) (3 + 2 * vars (S .problem) ≤ room) ∷ []
