@@ -412,7 +412,8 @@ struct scatterflock_switched scatterflock_session_switch(struct scatterflock_ses
  * one, but for where the run starts: at the tableau and the values of the
  * session. out[1] counts the pivots of this check alone. Words past the answer
  * keep what they had. While the limits of some variable that are on cross, it
- * is "cannot" by the two limits of the lowest such variable, without a pivot.
+ * is "cannot", without a pivot: both limits of the first variable of which
+ * that is so are named.
  *
  * The session that comes back has the last completed tableau and its values,
  * whatever the answer is. scatterflock_check gives 8 for an answer with 1 or 2,

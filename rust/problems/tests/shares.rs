@@ -95,7 +95,7 @@ fn limit_families() {
     }
 }
 
-/// Lower limits times multipliers less upper limits times multipliers.
+/// What multipliers make of limits: lower ones added, upper ones taken away.
 fn total(words: &[i32], answer: &[i64]) -> i64 {
     let variables = (words[0] + words[1]) as usize;
     let limits = words[2 + (words[0] * words[1]) as usize..].chunks_exact(3).enumerate();

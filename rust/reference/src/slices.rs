@@ -41,7 +41,7 @@ impl Slice {
         Ok(Slice { problem, tableau, values, pivots: 0 })
     }
 
-    /// Completes so many further pivots, or all that are left if fewer. Writes
+    /// Goes on by so many pivots, and no further than the end of the run. Writes
     /// the answer if there are no more after them, and else nothing.
     pub fn go_on(&self, pivots: u64, out: &mut [i64]) -> Continued {
         let length = self.problem.answer_length();

@@ -235,8 +235,8 @@ pub fn slice_start(words: &[i32]) -> Begun {
     unsafe { archive::scatterflock_slice_start(words.as_ptr(), words.len()) }
 }
 
-/// Completes so many further pivots of a run, or all that are left if fewer,
-/// and writes the answer at the start of `out` if no more are left then.
+/// Goes on with a run by so many pivots, and no further than its end, and
+/// writes the answer at the start of `out` if no more are left then.
 ///
 /// ```
 /// use scatterflock::raw::{slice_continue, slice_start};

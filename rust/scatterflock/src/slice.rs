@@ -43,7 +43,7 @@ impl Slice {
         }
     }
 
-    /// Completes so many further pivots, or all that are left if fewer. The
+    /// Goes on by so many pivots, and no further than the end of the run. The
     /// answer comes as soon as none is left.
     pub fn go_on(&mut self, pivots: usize) -> Option<Answer> {
         let mut out = [0; MOST_ANSWER];

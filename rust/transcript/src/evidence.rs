@@ -106,7 +106,7 @@ pub fn column<X>(p: &Problem<X>, y: impl Fn(usize) -> i128, j: usize) -> i128 {
     y(j) + sum(p.m, |i| (p.coefficient)(i, j) * y(p.n + i))
 }
 
-/// Lower limits times multipliers less upper limits times multipliers.
+/// What multipliers make of limits: lower ones added, upper ones taken away.
 pub fn surplus(p: &Problem<Limit>, lo: impl Fn(usize) -> i128, up: impl Fn(usize) -> i128) -> i128 {
     sum(vars(p), |v| plain_of((p.lower)(v)) * lo(v) - plain_of((p.upper)(v)) * up(v))
 }

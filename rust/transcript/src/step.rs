@@ -216,7 +216,7 @@ pub fn leaving<X: Copy>(values: &Values<X>, p: &Problem<X>, s: &State<X>) -> Opt
     lowest(vars(p), |v| broken(values, p, s, v, seat(s, v)))
 }
 
-/// x may increase: it is below its upper limit, or has none.
+/// Whether no upper limit stops x: there is none, or x is below it.
 pub fn may_rise<X: Copy>(values: &Values<X>, x: X, upper: Option<X>) -> bool {
     match upper {
         None => true,

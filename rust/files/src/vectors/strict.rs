@@ -198,7 +198,7 @@ fn drawn() -> Vec<Vector> {
     vectors
 }
 
-/// Lower limits times multipliers less upper limits times multipliers.
+/// What multipliers make of limits: lower ones added, upper ones taken away.
 fn total(words: &[i32], answer: &[i64]) -> i64 {
     let first = 2 + (words[0] * words[1]) as usize;
     let (lower, upper) = answer[3..].split_at((answer.len() - 3) / 2);
