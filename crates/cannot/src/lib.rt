@@ -106,7 +106,7 @@ fn weighed(limit: Given, k: i64) -> i64
     0
 }
 
-// Lower limits times multipliers less upper limits times multipliers.
+// What the multipliers make of the numbers of the limits: those of lower ones added, those of upper ones taken away.
 fn surplus(limits: Limits, answer: &[i64], variables: usize) -> i64
     requires { ⌜ (variables ≤ mostVariables) × (3 + 2 * variables ≤ length (now answer)) ⌝ }
     requires { ⌜ Multiplied (now answer) variables ⌝ }

@@ -1,6 +1,6 @@
 -- Where the entry of a row place and a column place lies in the flat array, and back, for m rows and n columns:
 -- row after row or column after column, with nothing between. The code's entries lie by columns. Beside this file only
--- src/layout.rt says so, and proofs/Laws/Layout.antt uses it.
+-- src/lib.rt says so, and proofs/Laws/Layout.antt uses it.
 use Prim.Native.Nat.{ℕ, _+_, _*_, _/_, _%_, _≤_, _<_}
 use mathlib.Core.List.{List}
 use lib.IntN.{ℤ, pos}

@@ -1,6 +1,6 @@
 // Where the entry of a row place and a column place lies in the flat array, and in which order the places follow there:
-// line after line, and a line is a column. Nothing else in the code says it; callers give both sizes, whichever order
-// needs them.
+// line after line, and a line is a column. Callers give both sizes, whichever order needs them. Beside this file only
+// the walk along a column in pivot knows it: the cells of a line lie side by side.
 ghost use mathlib.Core.Path.{_≡_};
 ghost use Prim.Native.Nat.{_+_, _≤_, _<_};
 ghost use Rattle.rules.specs.Sizes.{mostRows, mostColumns};

@@ -107,7 +107,7 @@ abbrev pub columnsCancel : List ℤ → List ℤ → ℕ → ℕ → Bool
 columnsCancel entries a rows columns =
     allBelow columns (λ j. eqZ (columnAtEntries entries a rows columns j) (pos 0))
 
--- lower limits times multipliers less upper limits times multipliers, of the first k variables
+-- what multipliers make of the limits of the first k variables: lower ones added, upper ones taken away
 unfoldable pub surplusUpTo : Limits → List ℤ → ℕ → ℕ → ℤ
 surplusUpTo l a variables k =
     sum k (λ v. plainOf (lowerOf l v) *ℤ lowerPart a v -ℤ plainOf (upperOf l v) *ℤ upperPart variables a v)

@@ -142,7 +142,7 @@ module _ {X : Type 0} (𝓥 : Values X) where
 
   -- ---- the entering variable: the smallest-numbered nonbasic one that can move the right way
 
-  -- x may increase: it is below its upper limit, or has none; and may decrease
+  -- nothing stops x from increasing: an upper limit is missing, or above it; and from decreasing
   unfoldable pub mayRise : X → Option X → Bool
   mayRise x none = true
   mayRise x (some u) = less x u

@@ -1,5 +1,5 @@
 -- Flat places and the places of rows and columns, for m rows and n columns. Only this file and the proofs of
--- src/layout.rt know which way the entries lie; the laws of places are proved for either way.
+-- src/lib.rt know which way the entries lie; the laws of places are proved for either way.
 --   row-laid, column-laid, flat-laid-back   from places to the flat place and back, and the other way round
 --   flat-laid-live, row-laid-live, ..       the place of a row and a column in use is live, and the other way round
 --   live-most, flat-in                      the live cells fit the array, and so does a place in use

@@ -1,5 +1,5 @@
 -- docs/RULES.md, "Time rows": what the answer's words are, what `times` promises, and what a row says of times. All of
--- the promise is an equation but which bad cycle is named, and from which of its rows.
+-- the promise is an equation, but for the choice of a bad cycle and of its first row.
 use mathlib.Core.Path.{_≡_}
 use mathlib.Core.Bool.{Bool, true, false, cond}
 use mathlib.Core.List.{List, _∷_, _++_, map}
