@@ -89,7 +89,7 @@ pub fn column_over<'a>(
     wrong
 }
 
-// The greatest common divisor of a number and the cells of a column.
+// The greatest common divisor of a number and the cells of a column. Once it is 1 it stays 1.
 pub fn column_divisor<'a>(
     entries: &'a [i32; MOST_ENTRIES],
     besides: &'a [i32; rules::MOST_ROWS],
@@ -102,6 +102,9 @@ pub fn column_divisor<'a>(
     let rows = column.rows;
     let mut g = by;
     for i in 0..rows {
+        if g == 1 {
+            return 1;
+        }
         g = divisor::common_of(size_at(entries, besides, column, i), g);
     }
     g

@@ -2,14 +2,14 @@
 --   spared-start, -more, -then, -wider, -twice           nothing written, one cell more, one part after another, a
 --                                                       larger part, twice
 --   each-more                                           what holds of each cell written, with one cell more
---   column-none, -more, -divides, -greatest             the divisor of a column
+--   column-none, -more, -divides, -greatest, -one       the divisor of a column; once it is 1 it stays 1
 --   difference-within, above-none, -more, -here, -at       the sizes of its cells
 --   column-alike                                        a column of equal parts
 --   column-end, -live, -most, columned, cell-here       a column of a border
 --   quotients-then, columns-all                         right quotients before a column and in it; all columns
 use Prim.Native.Nat.{ℕ, _+_, _-_, _≤_, _<_, _∣_}
 use native.Mathlib.Decide.{ℕ-discrete, decLt}
-use native.Mathlib.Nat.{le-refl, le-trans, mul-le-mul}
+use native.Mathlib.Nat.{dvd-one, le-refl, le-trans, mul-le-mul}
 use native.Mathlib.Numerals.{add-one}
 use native.Mathlib.Omega.{arith}
 use mathlib.Core.Path.{_≡_, refl, ap, ap₂, sym, subst, _∙_}
@@ -111,6 +111,13 @@ pub column-greatest : (l besides : List ℤ) (c : Column) (k by d : ℕ) → d �
     ((i : ℕ) → i < k → d ∣ natAbs (differenceIn l besides c i)) → d ∣ columnDivisor l besides c k by
 unfolding columnDivisor
 column-greatest l besides c k by d p q = fold-greatest k (λ i. natAbs (differenceIn l besides c i)) by d p q
+
+pub column-one : (l besides : List ℤ) (c : Column) (by k n : ℕ) → k ≤ n → columnDivisor l besides c k by ≡ 1 →
+    columnDivisor l besides c n by ≡ 1
+column-one l besides c by k n h e =
+    let d = column-divides l besides c n by in
+    dvd-one .0 (subst (λ g. columnDivisor l besides c n by ∣ g) e
+    (column-greatest l besides c k by (columnDivisor l besides c n by) (d .0) (λ i b. d .1 i (omega arith))))
 
 -- ---- a column of a border, which is a line of the array
 
