@@ -2,4 +2,5 @@
 pub mod Inside
 pub mod Same
 pub mod Only
+pub mod TwoOrders
 pub mod Stands
