@@ -21,10 +21,6 @@ use tableau::Limits;
 use tableau::Tableau;
 use words::is_outside;
 
-const LARGEST_NUMERATOR: i64 = 515396075280000;
-
-const LARGEST_SMALL: i64 = 17179869176;
-
 // Each number of a half is within its range.
 fn numerators_fit(half: &[i64], variables: usize, largest: i64) -> bool
     requires { ⌜ (variables ≤ mostVariables) × (3 + variables ≤ length (now half)) ⌝ }
@@ -130,7 +126,7 @@ fn smalls_hold(
     if is_zero(half, columns + rows) {
         return true;
     }
-    half_holds(entries, half, rows, columns, LARGEST_SMALL)
+    half_holds(entries, half, rows, columns, Tableau::LARGEST_SMALL)
 }
 
 // A limit's number over a denominator.
@@ -203,7 +199,7 @@ pub fn shows_can(
     if is_outside(denominator, 1, Tableau::LARGEST_NUMBER) {
         return false;
     }
-    if !half_holds(entries, answer, rows, columns, LARGEST_NUMERATOR) {
+    if !half_holds(entries, answer, rows, columns, Tableau::LARGEST_NUMERATOR) {
         return false;
     }
     if !smalls_hold(entries, &answer[variables..], rows, columns) {

@@ -24,7 +24,7 @@ pub struct Limits {
     pub strict: bool,
 }
 
-// The entries lie flat, as the layout of the crate pivot says; a cell that is not in use is 0. The value of a nonbasic
+// The entries lie flat, as the crate layout says; a cell that is not in use is 0. The value of a nonbasic
 // variable has a plain part in `values` and a multiple of the small amount in `smalls`.
 #[repr(C)]
 pub struct Tableau {
@@ -49,11 +49,12 @@ impl Tableau {
 
     pub const MOST_ENTRIES: usize = layout::MOST_ENTRIES;
 
-    pub const LARGEST_COEFFICIENT: i32 = rules::LARGEST_COEFFICIENT;
-
-    pub const LARGEST_LIMIT: i32 = rules::LARGEST_LIMIT;
-
     pub const LARGEST_NUMBER: i64 = rules::LARGEST_NUMBER;
+
+    // Of evidence: a numerator, and its small part.
+    pub const LARGEST_NUMERATOR: i64 = 515396075280000;
+
+    pub const LARGEST_SMALL: i64 = 17179869176;
 }
 
 mod read;
