@@ -1,5 +1,7 @@
 //! A limit problem in parts, and its words.
 
+use crate::random::Random;
+
 /// A variable without limits.
 pub const FREE: [i32; 3] = [0, 0, 0];
 
@@ -65,4 +67,10 @@ impl Draft {
         words.extend(self.limits.iter().flatten());
         words
     }
+}
+
+/// An earlier row, its opposite or its double.
+pub fn repeated(random: &mut Random, rows: &[Vec<i32>]) -> Vec<i32> {
+    let factor = random.pick(&[1, 1, -1, 2]);
+    rows[random.below(rows.len())].iter().map(|coefficient| factor * coefficient).collect()
 }

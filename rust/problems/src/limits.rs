@@ -6,7 +6,7 @@
 //! impossible and the others harder.
 
 use crate::damage;
-use crate::draft::{at_least, at_most, between, Draft, FREE};
+use crate::draft::{at_least, at_most, between, repeated, Draft, FREE};
 use crate::oven;
 use crate::random::Random;
 use crate::strict;
@@ -287,12 +287,6 @@ fn degenerate(random: &mut Random) -> Draft {
         limits[n + random.below(m)] = random.pick(&[at_least(1), at_most(-1), between(1, 1)]);
     }
     Draft { n, rows, limits }
-}
-
-/// An earlier row, its opposite or its double.
-pub fn repeated(random: &mut Random, rows: &[Vec<i32>]) -> Vec<i32> {
-    let factor = random.pick(&[1, 1, -1, 2]);
-    rows[random.below(rows.len())].iter().map(|coefficient| factor * coefficient).collect()
 }
 
 fn zero_limit(random: &mut Random) -> [i32; 3] {

@@ -1,7 +1,6 @@
 //! Strict marks, and limits that touch.
 
-use crate::draft::{at_least, at_most, between, marked, Draft, FREE};
-use crate::limits::repeated;
+use crate::draft::{at_least, at_most, between, marked, repeated, Draft, FREE};
 use crate::random::Random;
 
 /// The words of an accepted problem, each present limit made strict or left as
