@@ -10,7 +10,6 @@
 --   Program   what is printed on them
 --   Bundle    files of many problems
 --   Exchange  problems as SMT-LIB text
---   Sheet     whole sheets of the auditor
 --   Edges     calls at the edges, with the output that was lent
 pub mod Expected
 pub mod Limits
@@ -23,5 +22,4 @@ pub mod All
 pub mod Program
 pub mod Bundle
 pub mod Exchange
-pub mod Sheet
 pub mod Edges

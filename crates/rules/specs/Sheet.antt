@@ -3,7 +3,9 @@
 --   Text    the lines
 --   File    the sheet of a file
 --   Facts   what theorems say of bodies, in plain facts
+--   Cases   whole sheets, worked by hand
 pub mod Totals
 pub mod Text
 pub mod File
 pub mod Facts
+pub mod Cases

@@ -1,4 +1,4 @@
--- Every worked sheet is right, by computing (specs/Cases/Sheet).
+-- Every worked sheet is right, by computing (specs/Sheet/Cases).
 use mathlib.Core.Path.{_≡_, refl}
 use mathlib.Core.List.{flatten, map}
 use Rattle.whole.specs.Below
@@ -22,7 +22,7 @@ use Rattle.rules.specs.Sheet.Totals
 use Rattle.rules.specs.Sheet.Text as SheetText
 use Rattle.rules.specs.Sheet.File as SheetFile
 use Rattle.rules.specs.Sheet.File.{fileSheet}
-use Rattle.rules.specs.Cases.Sheet.{fileOf, sheetCases}
+use Rattle.rules.specs.Sheet.Cases.{fileOf, sheetCases}
 
 pub sheets-right : map (λ c. fileSheet (fileOf c)) sheetCases ≡ map (λ c. c .text) sheetCases
 unfolding sheetCases Bundles.tenBodies flatten
