@@ -1,5 +1,4 @@
 -- The program's bytes and text.
---   Cases     what is printed on worked problems, by computing
 --   Numbers   a number's text reads back, and how long it is
 --   Lengths   how long the texts are
 --   Verdicts  which text an answer has
@@ -7,7 +6,6 @@
 --   Words     bytes and words, there and back
 --   Same      which words of an answer its text asks for
 --   Replies   what is printed for an input
-pub mod Cases
 pub mod Numbers
 pub mod Lengths
 pub mod Verdicts

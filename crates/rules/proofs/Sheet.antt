@@ -4,10 +4,8 @@
 --   Fits     how large the totals are
 --   Short    how long the sheet is
 --   File     the sheet of a file
---   Worked   whole sheets, by computing
 pub mod Classes
 pub mod Largest
 pub mod Fits
 pub mod Short
 pub mod File
-pub mod Worked

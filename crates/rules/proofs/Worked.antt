@@ -3,11 +3,9 @@
 --   Slices    runs in slices
 --   Sessions  sessions
 --   Replays   traces
---   Bundle    files of many problems
 --   Edges     calls at the edges, with the output that was lent
 pub mod All
 pub mod Slices
 pub mod Sessions
 pub mod Replays
-pub mod Bundle
 pub mod Edges
