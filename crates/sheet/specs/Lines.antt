@@ -7,9 +7,9 @@ use lib.ListN.{getD}
 use Rattle.rules.specs.Program.Text.{ascii, line, linesBelow}
 use Rattle.rules.specs.Sheet.Text.{largestLine, namedLine, refusedLines}
 use Rattle.rules.specs.Sizes.{mostVariables}
-use Rattle.sheet.specs.declared.Reached.{Reached}
-use Rattle.sheet.specs.declared.Reached.the-variants.{Body, Nobody}
-use Rattle.sheet.specs.declared.Totals.{Totals}
+use Rattle.tally.specs.declared.Reached.{Reached}
+use Rattle.tally.specs.declared.Reached.the-variants.{Body, Nobody}
+use Rattle.tally.specs.declared.Totals.{Totals}
 
 abbrev pub countAt : List ℕ → ℕ → ℕ
 countAt counts v = getD counts v 0

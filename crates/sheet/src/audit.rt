@@ -1,33 +1,13 @@
 // The totals of a file's bodies.
-use crate::Reached;
-use crate::Totals;
-use crate::count;
 use bundle::body::part_of;
 use bundle::body::rows_of;
+use tally::Totals;
 use words::count_at;
 ghost use mathlib.Core.Path.{_≡_};
 ghost use Rattle.rules.specs.Refusal.{rowsWithin};
 ghost use Rattle.bundle.specs.Opened.{Opened};
-ghost use Rattle.sheet.specs.Counting.{Countable, auditedAt, noTotals};
-ghost use Rattle.sheet.specs.Sums.{totalsIn};
-
-// Of no body.
-fn nothing() -> Totals
-    ensures { λ r. ⌜ r ≡ noTotals ⌝ }
-{
-    Totals {
-        bodies: 0,
-        can: 0,
-        cannot: 0,
-        range: 0,
-        refused: [0; crate::REFUSALS],
-        pivots: 0,
-        largest: 0,
-        reached: Reached::Nobody,
-        lower: [0; rules::MOST_VARIABLES],
-        upper: [0; rules::MOST_VARIABLES],
-    }
-}
+ghost use Rattle.tally.specs.Counting.{Countable, auditedAt};
+ghost use Rattle.tally.specs.Sums.{totalsIn};
 
 // One body more, with at most so many rows.
 fn audited(totals: Totals, most: u32, words: &[i32], body: usize) -> Totals
@@ -37,10 +17,10 @@ fn audited(totals: Totals, most: u32, words: &[i32], body: usize) -> Totals
     let mut answer = [0i64; rules::MOST_ANSWER];
     let number = solver::solve_within(most, words, &mut answer);
     if number != 0 {
-        return count::refused(totals, number);
+        return tally::refused(totals, number);
     }
     let variables = count_at(words, 0) + count_at(words, 1);
-    count::counted(totals, &answer, variables, body)
+    tally::counted(totals, &answer, variables, body)
 }
 
 // All bodies, in their order, with the rows of the file's edition.
@@ -50,7 +30,7 @@ pub fn totals(words: &[i32]) -> Totals
 {
     let rows = rows_of(words);
     let bodies = count_at(words, 1);
-    let mut sums = nothing();
+    let mut sums = tally::nothing();
     for i in 0..bodies {
         let part = part_of(words, i);
         let first = part.first;

@@ -1,6 +1,5 @@
 // The auditor's sheet of a day's file: exact totals by value, one body after the other, and their lines.
 mod audit;
-mod count;
 mod text;
 
 use audit::totals;
@@ -15,30 +14,6 @@ ghost use Rattle.rules.specs.Program.Text.{printed};
 ghost use Rattle.rules.specs.Sheet.File.{fileSheet};
 ghost use Rattle.rules.specs.Sizes.{mostSheet};
 ghost use Rattle.put.specs.Put.{PutShort};
-
-// The body that reached the largest number of pivots, if any has a verdict.
-pub enum Reached {
-    Body(usize),
-    Nobody,
-}
-
-// So many refusals have a number of their own, 0 to 10.
-const REFUSALS: usize = 11;
-
-// What the sheet tells: counts of bodies, of each refusal by its number, the pivots, and how often the limits of each
-// variable were named.
-pub struct Totals {
-    pub bodies: u64,
-    pub can: u64,
-    pub cannot: u64,
-    pub range: u64,
-    pub refused: [u64; REFUSALS],
-    pub pivots: u64,
-    pub largest: u64,
-    pub reached: Reached,
-    pub lower: [u64; rules::MOST_VARIABLES],
-    pub upper: [u64; rules::MOST_VARIABLES],
-}
 
 // No sheet has more bytes: the lines above those of the variables, and 21 for each of these.
 pub const MOST_SHEET: usize = 36 + 92 + 24 + 33 + 21 * rules::MOST_VARIABLES;

@@ -1,9 +1,9 @@
 // The lines of a sheet, put at a place of a lent slice.
-use crate::Reached;
-use crate::Totals;
 use put::put_byte;
 use put::put_digits;
 use put::put_text;
+use tally::Reached;
+use tally::Totals;
 ghost use Prim.Native.Nat.{_+_};
 ghost use lib.IntN.{pos};
 ghost use Rattle.rules.specs.Program.Text.{line};
@@ -43,7 +43,7 @@ fn put_refused(out: &mut [u8], at: usize, number: u64, count: u64) -> usize
 }
 
 // Refusals 1 to 6, then 10.
-fn put_refusals(out: &mut [u8], at: usize, refused: [u64; crate::REFUSALS]) -> usize
+fn put_refusals(out: &mut [u8], at: usize, refused: [u64; tally::REFUSALS]) -> usize
     requires { ⌜ Room at (refusedLines (countAt refused)) ⌝ }
     ensures { λ r. ⌜ Put (now (out .entry)) at (refusedLines (countAt refused)) (now (out .exit)) r ⌝ }
 {

@@ -23,8 +23,8 @@ use Rattle.rules.proofs.Sheet.File.{file-sheet-short, sheet-is, sheet-refused}
 use Rattle.put.specs.Put.{Put, PutShort, Room}
 use Rattle.whole.specs.Tables.{table}
 use Rattle.sheet.specs.Lines.{countAt, countLines, reachedName, namedLines, sheetOf}
-use Rattle.sheet.specs.Sums.{reachedBy, totalsIn, totalsOf}
-use Rattle.sheet.specs.declared.Totals.{Totals}
+use Rattle.tally.specs.Sums.{reachedBy, totalsIn, totalsOf}
+use Rattle.tally.specs.declared.Totals.{Totals}
 
 lines-same : (k : ℕ) (f g : ℕ → List ℕ) → ((v : ℕ) → v < k → f v ≡ g v) → linesBelow k f ≡ linesBelow k g
 unfolding linesBelow

@@ -14,7 +14,7 @@ use Rattle.rules.proofs.Program.Words.{words-length}
 use Rattle.rules.proofs.Bundle.Exactly.{file-accepted-exactly}
 use Rattle.lines.proofs.Replies.{words-front}
 use Rattle.bundle.specs.Opened.{Opened}
-use Rattle.sheet.specs.Sums.{totalsIn}
+use Rattle.tally.specs.Sums.{totalsIn}
 use Rattle.sheet.proofs.Laws.Sheets.{refused-put, sheet-put, sheet-room}
 use Rattle.sheet.proofs.put_file.Statement.{statement}
 use Rattle.sheet.proofs.put_file.Tie as tie

@@ -14,9 +14,9 @@ use Rattle.rules.specs.Refusal.{Accepted, problemRefusalWithin, refusalWithin, 
 use Rattle.rules.specs.Sizes.{mostAnswer, mostRows, mostVariables}
 use Rattle.solver.proofs.Laws.Refusals.{accepted-of, fine-within}
 use Rattle.lines.proofs.Replies.{fine-words, vars-few}
-use Rattle.sheet.specs.Counting.{Auditable, countedAt}
-use Rattle.sheet.proofs.Laws.Ready.{answer-auditable, audited-answered, audited-refused, refusal-most}
-use Rattle.sheet.proofs.Laws.Ready.{refused-is}
+use Rattle.tally.specs.Counting.{Auditable, countedAt}
+use Rattle.sheet.proofs.Laws.Told.{answer-auditable, audited-answered, audited-refused, refusal-most}
+use Rattle.sheet.proofs.Laws.Told.{refused-is}
 use Rattle.sheet.proofs.audit.audited.Statement.{statement}
 use Rattle.sheet.proofs.audit.audited.Tie as tie
 

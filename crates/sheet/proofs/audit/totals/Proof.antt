@@ -17,10 +17,10 @@ use Rattle.rules.proofs.Bundle.Bodies.{body-at}
 use Rattle.rules.proofs.Bundle.Places.{bodies-counted, edition-rows}
 use Rattle.bundle.specs.declared.body.Part.{Part}
 use Rattle.bundle.proofs.Parts.{part-body, part-within}
-use Rattle.sheet.specs.Counting.{auditedAt}
-use Rattle.sheet.specs.Sums.{totalsOf}
-use Rattle.sheet.proofs.Laws.More.{audited-more}
-use Rattle.sheet.proofs.Laws.Ready.{nothing-yet, totals-countable}
+use Rattle.tally.specs.Counting.{auditedAt}
+use Rattle.tally.specs.Sums.{totalsOf}
+use Rattle.tally.proofs.Laws.More.{audited-more}
+use Rattle.tally.proofs.Laws.Ready.{nothing-yet, totals-countable}
 use Rattle.sheet.proofs.audit.totals.Statement.{statement}
 use Rattle.sheet.proofs.audit.totals.Tie as tie
 

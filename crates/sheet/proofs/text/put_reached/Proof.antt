@@ -6,8 +6,8 @@ use Rattle.rules.specs.Program.Text.{ascii, digits}
 use Rattle.put.specs.Put.{Room}
 use Rattle.rules.specs.Sheet.Text.{bodyName}
 use Rattle.sheet.specs.Lines.{reachedName}
-use Rattle.sheet.specs.declared.Reached.{Reached}
-use Rattle.sheet.specs.declared.Reached.the-variants.{Body, Nobody}
+use Rattle.tally.specs.declared.Reached.{Reached}
+use Rattle.tally.specs.declared.Reached.the-variants.{Body, Nobody}
 use Rattle.sheet.proofs.text.put_reached.Statement.{statement}
 use Rattle.sheet.proofs.text.put_reached.Tie as tie
 

@@ -7,7 +7,7 @@ use Rattle.rules.specs.Program.Text.{ascii, line}
 use Rattle.rules.specs.Sheet.Text.{largestLine, refusedLines}
 use Rattle.put.specs.Put.{Put, Room}
 use Rattle.put.proofs.Texts.{put-then, room-left, room-right}
-use Rattle.sheet.specs.declared.Totals.{Totals}
+use Rattle.tally.specs.declared.Totals.{Totals}
 use Rattle.sheet.specs.Lines.{countAt, countLines, reachedName, namedLines, sheetOf}
 use Rattle.sheet.proofs.text.put_sheet.Statement.{statement}
 use Rattle.sheet.proofs.text.put_sheet.Tie as tie

@@ -1,4 +1,4 @@
--- `sheet::count::naming` meets its contract. Assumes nothing.
+-- `tally::naming` meets its contract. Assumes nothing.
 use mathlib.Core.Bool.{cond}
 use mathlib.Core.Path.{_≡_, ap, refl, sym}
 use Prim.Native.Nat.{ℕ}
@@ -8,9 +8,9 @@ use mir.Syntax.{w64}
 use mir.Val.{ofZ}
 use Rattle.whole.proofs.Numbers.Tests.{test-eq}
 use Rattle.whole.proofs.Tells.{tells-eqZ, tells-false}
-use Rattle.sheet.specs.Counting.{namingOf}
-use Rattle.sheet.proofs.count.naming.Statement.{statement}
-use Rattle.sheet.proofs.count.naming.Tie as tie
+use Rattle.tally.specs.Counting.{namingOf}
+use Rattle.tally.proofs.naming.Statement.{statement}
+use Rattle.tally.proofs.naming.Tie as tie
 
 all-named : (z : ℤ) (N : ℕ) → z ≡ pos 2 → N ≡ namingOf z N
 unfolding namingOf

@@ -16,9 +16,9 @@ use Rattle.whole.proofs.Bools.{true-false}
 use Rattle.rules.proofs.Sheet.Largest.{largest-is, none-exactly, none-nought, refused-nought}
 use Rattle.rules.specs.Sheet.Facts.{Answers, Leads, Refuses}
 use Rattle.rules.specs.Sheet.Totals.{largestBelow, largestBody, largestPivots, pivotsOf}
-use Rattle.sheet.specs.Counting.{leaderOf}
-use Rattle.sheet.specs.Sums.{reachedBy}
-use Rattle.sheet.specs.declared.Reached.the-variants.{Body}
+use Rattle.tally.specs.Counting.{leaderOf}
+use Rattle.tally.specs.Sums.{reachedBy}
+use Rattle.tally.specs.declared.Reached.the-variants.{Body}
 
 module _ (rows : ℕ) (body : ℕ → List ℤ) (k : ℕ) where
   abbrev pivots : ℕ → ℕ

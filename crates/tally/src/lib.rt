@@ -1,13 +1,53 @@
-// One body more: what an answer, or a refusal, makes of the totals.
-use crate::Reached;
-use crate::Totals;
+// The totals of a sheet, by value: of no body, and what one body more makes of them, by its answer or its refusal.
 ghost use mathlib.Core.Bool.{cond};
 ghost use mathlib.Core.Path.{_≡_};
 ghost use Prim.Native.Nat.{_+_, _^_, _<_, _≤_, max};
 ghost use lib.ListN.{length};
 ghost use Rattle.rules.specs.Sizes.{mostVariables};
-ghost use Rattle.sheet.specs.Counting.{Countable, Few, Auditable, countedAt, leaderOf, namingOf, refusedAt};
-ghost use Rattle.sheet.specs.Counting.{talliedAt};
+ghost use Rattle.tally.specs.Counting.{Countable, Few, Auditable, countedAt, leaderOf, namingOf, noTotals};
+ghost use Rattle.tally.specs.Counting.{refusedAt, talliedAt};
+
+// The body that reached the largest number of pivots, if any has a verdict.
+pub enum Reached {
+    Body(usize),
+    Nobody,
+}
+
+// So many refusals have a number of their own, 0 to 10.
+pub const REFUSALS: usize = 11;
+
+// What the sheet tells: counts of bodies, of each refusal by its number, the pivots, and how often the limits of each
+// variable were named.
+pub struct Totals {
+    pub bodies: u64,
+    pub can: u64,
+    pub cannot: u64,
+    pub range: u64,
+    pub refused: [u64; REFUSALS],
+    pub pivots: u64,
+    pub largest: u64,
+    pub reached: Reached,
+    pub lower: [u64; rules::MOST_VARIABLES],
+    pub upper: [u64; rules::MOST_VARIABLES],
+}
+
+// Of no body.
+pub fn nothing() -> Totals
+    ensures { λ r. ⌜ r ≡ noTotals ⌝ }
+{
+    Totals {
+        bodies: 0,
+        can: 0,
+        cannot: 0,
+        range: 0,
+        refused: [0; REFUSALS],
+        pivots: 0,
+        largest: 0,
+        reached: Reached::Nobody,
+        lower: [0; rules::MOST_VARIABLES],
+        upper: [0; rules::MOST_VARIABLES],
+    }
+}
 
 // One more, or none.
 fn plus(n: u64, more: bool) -> u64

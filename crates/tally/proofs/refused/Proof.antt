@@ -1,9 +1,9 @@
--- `sheet::count::refused` meets its contract: one more of its number, and of all. Assumes nothing.
+-- `tally::refused` meets its contract: one more of its number, and of all. Assumes nothing.
 use native.Mathlib.Omega.{arith}
 use borrow.Author.Needs.{needs}
-use Rattle.sheet.specs.Counting.{refusedAt}
-use Rattle.sheet.proofs.count.refused.Statement.{statement}
-use Rattle.sheet.proofs.count.refused.Tie as tie
+use Rattle.tally.specs.Counting.{refusedAt}
+use Rattle.tally.proofs.refused.Statement.{statement}
+use Rattle.tally.proofs.refused.Tie as tie
 
 mul-count : tie.Need-mul-count
 mul-count c = search needs

@@ -31,12 +31,12 @@ use Rattle.rules.specs.Sheet.Totals.{Class, answeredClass, classBy, classOf, la
 use Rattle.rules.specs.Sheet.Totals.{lowerNamed, names, namesLower, namesUpper, ofClass, pivotSum, pivotsBy, pivotsOf}
 use Rattle.rules.specs.Sheet.Totals.{refused, sameClass, sumBelow, upperNamed, verdict}
 use Rattle.rules.specs.Sizes.{mostRows, mostVariables}
-use Rattle.sheet.specs.Counting.{auditedAt, auditedBy, countedAt, leaderOf, namingOf, refusedAt, talliedAt}
-use Rattle.sheet.specs.Sums.{reachedBy, totalsOf}
-use Rattle.sheet.specs.declared.Reached.{Reached}
-use Rattle.sheet.specs.declared.Totals.{Totals}
-use Rattle.sheet.proofs.Laws.Leaders.{leader-answered, leader-refused}
-use Rattle.sheet.proofs.Laws.Tallies.{as-table, tallied-none, tallied-table}
+use Rattle.tally.specs.Counting.{auditedAt, auditedBy, countedAt, leaderOf, namingOf, refusedAt, talliedAt}
+use Rattle.tally.specs.Sums.{reachedBy, totalsOf}
+use Rattle.tally.specs.declared.Reached.{Reached}
+use Rattle.tally.specs.declared.Totals.{Totals}
+use Rattle.tally.proofs.Laws.Leaders.{leader-answered, leader-refused}
+use Rattle.tally.proofs.Laws.Tallies.{as-table, tallied-none, tallied-table}
 
 -- ---- the struct, field by field
 

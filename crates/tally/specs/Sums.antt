@@ -8,9 +8,9 @@ use Rattle.rules.specs.Bundle.File.{bodiesIn, countIn, editionIn, rowsIn}
 use Rattle.rules.specs.Sheet.Totals.{bodyAt, largestBody, largestPivots, lowerNamed, ofClass, pivotSum, refused}
 use Rattle.rules.specs.Sheet.Totals.{upperNamed, verdict}
 use Rattle.rules.specs.Sizes.{mostVariables}
-use Rattle.sheet.specs.declared.Reached.{Reached}
-use Rattle.sheet.specs.declared.Reached.the-variants.{Body, Nobody}
-use Rattle.sheet.specs.declared.Totals.{Totals}
+use Rattle.tally.specs.declared.Reached.{Reached}
+use Rattle.tally.specs.declared.Reached.the-variants.{Body, Nobody}
+use Rattle.tally.specs.declared.Totals.{Totals}
 
 unfoldable pub reachedBy : Option ℕ → Reached
 reachedBy none = Nobody

@@ -17,9 +17,9 @@ use Rattle.rules.specs.Problem.{varsOf, word}
 use Rattle.rules.specs.Refusal.{problemRefusalWithin}
 use Rattle.rules.specs.Run.{mostCount}
 use Rattle.rules.specs.Sizes.{mostBodies, mostVariables}
-use Rattle.sheet.specs.declared.Reached.{Reached}
-use Rattle.sheet.specs.declared.Reached.the-variants.{Body, Nobody}
-use Rattle.sheet.specs.declared.Totals.{Totals}
+use Rattle.tally.specs.declared.Reached.{Reached}
+use Rattle.tally.specs.declared.Reached.the-variants.{Body, Nobody}
+use Rattle.tally.specs.declared.Totals.{Totals}
 
 -- ---- what fits
 

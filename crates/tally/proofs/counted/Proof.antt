@@ -1,4 +1,4 @@
--- `sheet::count::counted` meets its contract: each total by its own function. Assumes nothing.
+-- `tally::counted` meets its contract: each total by its own function. Assumes nothing.
 use mathlib.Core.Bool.{cond}
 use mathlib.Core.List.{List}
 use mathlib.Core.Path.{_≡_, ap, refl, _∙_}
@@ -15,12 +15,12 @@ use Rattle.whole.proofs.Numbers.Tests.{not-neg}
 use Rattle.whole.proofs.Tells.{bits-eq}
 use Rattle.whole.specs.Numbers.{eqZ}
 use Rattle.rules.specs.Problem.{word}
-use Rattle.sheet.specs.declared.Totals.{Totals}
-use Rattle.sheet.specs.Counting.{countedAt, leaderOf, namingOf, talliedAt}
-use Rattle.sheet.proofs.Laws.More.{made-same}
-use Rattle.sheet.proofs.Laws.Ready.{naming-most}
-use Rattle.sheet.proofs.count.counted.Statement.{statement}
-use Rattle.sheet.proofs.count.counted.Tie as tie
+use Rattle.tally.specs.declared.Totals.{Totals}
+use Rattle.tally.specs.Counting.{countedAt, leaderOf, namingOf, talliedAt}
+use Rattle.tally.proofs.Laws.More.{made-same}
+use Rattle.tally.proofs.Laws.Ready.{naming-most}
+use Rattle.tally.proofs.counted.Statement.{statement}
+use Rattle.tally.proofs.counted.Tie as tie
 
 shared-slice-copy-out-verdict : tie.Need-shared-slice-copy-out-verdict
 shared-slice-copy-out-verdict c = search needs

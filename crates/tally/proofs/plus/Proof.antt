@@ -1,11 +1,11 @@
--- `sheet::count::plus` meets its contract. Assumes nothing.
+-- `tally::plus` meets its contract. Assumes nothing.
 use mathlib.Core.Bool.{cond}
 use mathlib.Core.Path.{_≡_, ap, sym, _∙_}
 use Prim.Native.Nat.{_+_}
 use native.Mathlib.Omega.{arith}
 use borrow.Author.Needs.{needs}
-use Rattle.sheet.proofs.count.plus.Statement.{statement}
-use Rattle.sheet.proofs.count.plus.Tie as tie
+use Rattle.tally.proofs.plus.Statement.{statement}
+use Rattle.tally.proofs.plus.Tie as tie
 
 add-result : tie.Need-add-result
 add-result c = search needs

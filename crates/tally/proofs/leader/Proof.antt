@@ -1,15 +1,15 @@
--- `sheet::count::leader` meets its contract: the first verdict, or more pivots than all before. Assumes nothing.
+-- `tally::leader` meets its contract: the first verdict, or more pivots than all before. Assumes nothing.
 use mathlib.Core.Bool.{cond}
 use mathlib.Core.Path.{_≡_, ap, refl, sym, _∙_}
 use Prim.Native.Nat.{ℕ, _<_, _≤_}
 use native.Mathlib.Omega.{arith}
 use borrow.Author.Needs.{needs}
 use borrow.Author.Tests.{le-ltb, lt-ltb}
-use Rattle.sheet.specs.Counting.{leaderOf}
-use Rattle.sheet.specs.declared.Reached.{Reached}
-use Rattle.sheet.specs.declared.Reached.the-variants.{Body, Nobody}
-use Rattle.sheet.proofs.count.leader.Statement.{statement}
-use Rattle.sheet.proofs.count.leader.Tie as tie
+use Rattle.tally.specs.Counting.{leaderOf}
+use Rattle.tally.specs.declared.Reached.{Reached}
+use Rattle.tally.specs.declared.Reached.the-variants.{Body, Nobody}
+use Rattle.tally.proofs.leader.Statement.{statement}
+use Rattle.tally.proofs.leader.Tie as tie
 
 module _ (l p i : ℕ) where
   first-verdict : {r : Reached} → r ≡ Nobody → Body i ≡ leaderOf r l p i

@@ -1,4 +1,4 @@
--- `sheet::count::tallied` meets its contract. The invariant: the counts of the variables passed are told, the others as
+-- `tally::tallied` meets its contract. The invariant: the counts of the variables passed are told, the others as
 -- they were. The measure is how many variables are left. Assumes nothing.
 use mathlib.Core.Bool.{cond, not}
 use mathlib.Core.List.{List, _++_}
@@ -15,9 +15,9 @@ use Rattle.whole.proofs.Tells.{bits-eq}
 use Rattle.whole.specs.Tables.{table, tableFrom}
 use Rattle.rules.specs.Problem.{word}
 use Rattle.rules.specs.Sizes.{mostBodies}
-use Rattle.sheet.specs.Counting.{oneMore, talliedAt}
-use Rattle.sheet.proofs.count.tallied.Statement.{statement}
-use Rattle.sheet.proofs.count.tallied.Tie as tie
+use Rattle.tally.specs.Counting.{oneMore, talliedAt}
+use Rattle.tally.proofs.tallied.Statement.{statement}
+use Rattle.tally.proofs.tallied.Tie as tie
 
 abbrev Inv-loop : tie.InvT-loop
 Inv-loop answer at variables counts₀ v₀ counts v =

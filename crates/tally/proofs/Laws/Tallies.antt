@@ -17,7 +17,7 @@ use Rattle.whole.specs.Numbers.{eqZ}
 use Rattle.whole.specs.Tables.{table, tableFrom}
 use Rattle.rules.specs.Problem.{word}
 use Rattle.rules.specs.Sheet.Totals.{names}
-use Rattle.sheet.specs.Counting.{oneMore, talliedAt}
+use Rattle.tally.specs.Counting.{oneMore, talliedAt}
 
 pub as-table : (n : ℕ) (l : List ℕ) (g : ℕ → ℕ) → length l ≡ n → ((i : ℕ) → i < n → getD l i 0 ≡ g i) → l ≡ table n g
 as-table n l g e h = sym (table-all l 0) ∙ ap (λ k. table k (λ i. getD l i 0)) e ∙ table-same n (λ i. getD l i 0) g h
