@@ -3,7 +3,9 @@
 --   Session  limits switched on and off
 --   Replay   another solver's trace
 --   Trace    a problem's own trace
+--   Violation  what a desk is shown of a state
 pub mod Slices
 pub mod Session
 pub mod Replay
 pub mod Trace
+pub mod Violation

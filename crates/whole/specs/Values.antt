@@ -1,7 +1,7 @@
 -- What a variable's value is, what limits are compared with, and what lengths are added from: an ordered set of values
--- on which whole numbers act. `whole` is ℤ itself; `turned 𝓥` is 𝓥 with its order turned round; `beside 𝓐 𝓑` are two
--- values side by side, the first compared first. `pairs` are two whole numbers so: a plain part, and how many small
--- amounts there are, the small amount being as near to 0 as one likes, but above it.
+-- on which whole numbers act. `whole` is ℤ itself; `beside 𝓐 𝓑` are two values side by side, the first compared first.
+-- `pairs` are two whole numbers so: a plain part, and how many small amounts there are, the small amount being as near
+-- to 0 as one likes, but above it.
 use mathlib.Core.Path.{_≡_}
 use mathlib.Core.Bool.{Bool, true, false}
 use Prim.Native.Nat.{ℕ}
@@ -18,9 +18,6 @@ pub record Values (X : Type 0) : Type 0 where
 
 abbrev pub whole : Values ℤ
 whole = record { nil = pos 0; plus = _+ℤ_; scale = _*ℤ_; less = ltZ }
-
-abbrev pub turned : {X : Type 0} → Values X → Values X
-turned 𝓥 = record { nil = 𝓥 .nil; plus = 𝓥 .plus; scale = 𝓥 .scale; less = λ x y. 𝓥 .less y x }
 
 -- the first order decides; where it says neither less nor more, the second does
 abbrev pub lexicographic : (less more rest : Bool) → Bool

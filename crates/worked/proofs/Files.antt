@@ -45,7 +45,7 @@ ten-bodies = refl
 
 pub ten-printed : dayText (bytesFrom (tenHead ++ flatten tenBodies)) ≡ flatten (map ascii tenTexts)
 unfolding tenBodies tenHead tenTexts flatten
-    Below.lowest Below.someBelow Below.allBelow Below.foldBelow Divisors.gcdTurns Divisors.gcd Divisors.gcdList
+    Below.lowest Below.someBelow Below.allBelow Below.foldBelow Divisors.gcdTurns Divisors.gcd
     Numbers.within Numbers.outside Sums.sumBy Tables.tableFrom Tables.matrix
     Limit.bit Limit.present Limit.badKindWord Limit.badLimitWord Problem.problem Problem.mapped
     Refusal.first Refusal.tooFew Refusal.badSize Refusal.badLength Refusal.badCoefficient Refusal.badKind

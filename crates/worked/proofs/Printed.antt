@@ -27,7 +27,7 @@ use Rattle.rules.specs.Cases.Program.{inputs, outputs}
 
 pub program-cases : map programText inputs ≡ map ascii outputs
 unfolding inputs outputs limitCases
-    Below.lowest Below.someBelow Below.allBelow Below.foldBelow Divisors.gcdTurns Divisors.gcd Divisors.gcdList
+    Below.lowest Below.someBelow Below.allBelow Below.foldBelow Divisors.gcdTurns Divisors.gcd
     Numbers.within Numbers.outside Sums.sumBy Tables.tableFrom Tables.matrix
     Limit.bit Limit.present Limit.badKindWord Limit.badLimitWord Problem.problem Problem.mapped
     Refusal.first Refusal.tooFew Refusal.badSize Refusal.badLength Refusal.badCoefficient Refusal.badKind

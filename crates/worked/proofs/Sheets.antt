@@ -26,7 +26,7 @@ use Rattle.rules.specs.Sheet.Cases.{fileOf, sheetCases}
 
 pub sheets-right : map (λ c. fileSheet (fileOf c)) sheetCases ≡ map (λ c. c .text) sheetCases
 unfolding sheetCases Bundles.tenBodies flatten
-    Below.lowest Below.someBelow Below.allBelow Below.foldBelow Divisors.gcdTurns Divisors.gcd Divisors.gcdList
+    Below.lowest Below.someBelow Below.allBelow Below.foldBelow Divisors.gcdTurns Divisors.gcd
     Numbers.within Numbers.outside Sums.sumBy Tables.tableFrom Tables.matrix
     Limit.bit Limit.present Limit.badKindWord Limit.badLimitWord Problem.problem Problem.mapped
     Refusal.first Refusal.tooFew Refusal.badSize Refusal.badLength Refusal.badCoefficient Refusal.badKind

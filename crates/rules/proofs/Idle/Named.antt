@@ -1,4 +1,6 @@
 -- All that a "cannot" names.
+--   multipliersOn      the multipliers of a side
+--   Stopped            which limit stops a variable
 --   evidence-named     of a violated row: limits of variables that its relation has, each on the side that stops it
 --   crossed-named      of limits that cross: the two of that variable
 --   evidence-cannot, crossed-cannot    both are endings of that kind
@@ -18,10 +20,19 @@ use Rattle.whole.proofs.Tells.{tells-eq}
 use Rattle.whole.specs.Numbers.{isPos}
 use Rattle.whole.specs.Tables.{table}
 use Rattle.whole.specs.Values.{Values}
-use Rattle.rules.specs.Facts.Blame.{Stopped, multipliersOn}
 use Rattle.rules.specs.Problem.{Problem, vars, word}
 use Rattle.rules.specs.Run.{conflict, spending}
 use Rattle.rules.specs.Step.{Outcome, Side, State, above, below, cannot, evidence, positive, pull, same}
+
+-- the multipliers of a side
+abbrev pub multipliersOn : List ℤ → List ℤ → Side → List ℤ
+multipliersOn ls us below = ls
+multipliersOn ls us above = us
+
+-- a limit of that side stops a variable with this entry, turned to rise
+abbrev pub Stopped : Side → ℤ → Type 0
+Stopped below z = z <ℤ pos 0
+Stopped above z = pos 0 <ℤ z
 
 -- ---- a violated row
 

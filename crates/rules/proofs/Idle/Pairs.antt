@@ -19,7 +19,8 @@ use Rattle.whole.proofs.Values.Beside.{pairs-laws}
 use Rattle.whole.proofs.Bools.{and-true}
 use Rattle.whole.proofs.Numbers.Order.{<ℤ→≤ℤ, neg-down-back, neg-up-back}
 use Rattle.whole.specs.Values.{pairs}
-use Rattle.rules.proofs.Idle.Named.{crossed-cannot, crossed-named, evidence-cannot, evidence-named}
+use Rattle.rules.proofs.Idle.Named.{Stopped, crossed-cannot, crossed-named, evidence-cannot, evidence-named}
+use Rattle.rules.proofs.Idle.Named.{multipliersOn}
 use Rattle.rules.proofs.Answer.Run.{answer-run, crosses-exactly}
 use Rattle.rules.proofs.Answer.Cases.{lower-part, upper-part}
 use Rattle.rules.proofs.Idle.Alone.{alone-meets}
@@ -30,7 +31,6 @@ use Rattle.rules.proofs.Step.Cases.{Stepped, is-can, is-cannot, is-goes
 use Rattle.rules.proofs.Tableau.Relation.{relation-off, relation-own}
 use Rattle.rules.specs.Answer.{answerFrom, wordsOf}
 use Rattle.rules.specs.Facts.Answer.{laid}
-use Rattle.rules.specs.Facts.Blame.{Stopped, multipliersOn}
 use Rattle.rules.specs.Evidence.{lowerPart, upperPart, verdictOf}
 use Rattle.rules.specs.Keeping.Idle.{NoBlank, isNamed, isOther, multiplier, named, without}
 use Rattle.rules.specs.Keeping.Limits.{keeping, limitOf}

@@ -25,15 +25,15 @@ use Rattle.whole.proofs.Lists.Pigeons.{pigeons}
 use Rattle.rules.specs.Times.Walks.{Edges, EndsIn, Shortest, ClosesBelow}
 use Rattle.rules.specs.Times.Passes.{distance, through, betters, look, looks, passes, settled, distances, canMeet}
 use Rattle.rules.specs.Times.Cycle.{rowTold, Cycle, BadCycle}
-use Rattle.rules.specs.Times.Traces.{Still, Traced, Trail}
+use Rattle.rules.specs.Times.Traces.{Traced}
 use Rattle.whole.proofs.Lists.Tables.{replicate-at}
 use Rattle.rules.proofs.Times.Passes.Still.{settled-still, still-settled, still-shortest, shortest-only}
-use Rattle.rules.proofs.Times.Passes.Still.{still-open}
+use Rattle.rules.proofs.Times.Passes.Still.{Still, still-open}
 use Rattle.rules.proofs.Times.Passes.Still.{bad-closes, bad-no-still}
 use Rattle.rules.proofs.Times.Passes.Traced.{ButAt, put, put-put, traced-start, traced-kept, traced-taken}
 use Rattle.rules.proofs.Times.Passes.Traced.{traced-pass}
 use Rattle.rules.proofs.Times.Passes.Traced.{traced-still}
-use Rattle.rules.proofs.Times.Passes.Trail.{trail-start, trail-left, trail-more}
+use Rattle.rules.proofs.Times.Passes.Trail.{Trail, trail-start, trail-left, trail-more}
 use Rattle.rules.proofs.Times.Passes.Closed.{trail-cycle}
 
 pub cycle-short : {X : Type 0} (E : Edges X) (rows : List ℕ) → EndsIn E → Cycle E rows → length rows ≤ E .vertices

@@ -35,8 +35,7 @@ use Rattle.rules.specs.Times.Cycle.{rowTold, Cycle, around, BadCycle}
 use Rattle.rules.specs.Times.Words.{strictWord, lengthWord, AcceptedTimes, timeEdges}
 use Rattle.rules.specs.Times.Answer.{RowSays, MeetsRows, MeetsSmall, NoFractions, timeOf}
 use Rattle.rules.proofs.Times.Passes.Still.{bad-no-still}
-use Rattle.rules.specs.Times.Traces.{NoneOrOne}
-use Rattle.rules.proofs.Times.Smalls.{smalls-few}
+use Rattle.rules.proofs.Times.Smalls.{NoneOrOne, smalls-few}
 use Rattle.rules.proofs.Times.Decide.{can-still, distances-low, can-shortest, cannot-cycle}
 use Rattle.rules.proofs.Times.Refused.{vertices-some, accepted-ends, strict-is}
 

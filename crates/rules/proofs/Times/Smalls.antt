@@ -2,7 +2,7 @@
 -- shortest walk changes the small part by one at most, and ends at 0. So each is minus a number below the number of
 -- vertices (smalls-few), and a fraction 1 / n is small enough for all of them.
 use mathlib.Core.Path.{_≡_, refl, sym, _∙_, ap}
-use mathlib.Core.Logic.{inl, inr, _≢_}
+use mathlib.Core.Logic.{inl, inr, _≢_, _⊎_}
 use Prim.Native.Nat.{ℕ, zero, suc, _≤_, _<_, min}
 use native.Mathlib.Decide.{ℕ-discrete}
 use native.Mathlib.Nat.{add-zero}
@@ -13,8 +13,11 @@ use Rattle.whole.proofs.Values.Beside.{pairs-laws}
 use Rattle.whole.proofs.Lists.Pigeons.{pigeons}
 use Rattle.whole.proofs.Numbers.Sizes.{abs-neg}
 use Rattle.rules.specs.Times.Walks.{Edges, EndsIn, Walk, stay, on}
-use Rattle.rules.specs.Times.Traces.{NoneOrOne, Still}
-use Rattle.rules.proofs.Times.Passes.Still.{still-back}
+use Rattle.rules.proofs.Times.Passes.Still.{Still, still-back}
+
+-- what a row adds to the small part
+abbrev pub NoneOrOne : ℤ → Type 0
+NoneOrOne z = (z ≡ pos 0) ⊎ (z ≡ negℤ (pos 1))
 
 one-more : (q : ℕ) → negℤ (pos q) +ℤ negℤ (pos 1) ≡ negℤ (pos (suc q))
 one-more zero = refl

@@ -1,4 +1,4 @@
--- Every worked session is right, by computation.
+-- Every worked session is right, by computation; and so is what is shown of words.
 use mathlib.Core.Path.{refl}
 use Rattle.whole.specs.Below.{allBelow, foldBelow, lowest, someBelow}
 use Rattle.whole.specs.Divisors.{gcd, gcdTurns}
@@ -6,7 +6,7 @@ use Rattle.whole.specs.Numbers.{outside, within}
 use Rattle.whole.specs.Sums.{sumBy}
 use Rattle.whole.specs.Tables.{matrix, tableFrom}
 use Rattle.rules.specs.Answer.{answerFrom, wordsOf}
-use Rattle.rules.specs.Cases.Sessions.{SessionsRight, repliesTo, sessionCases}
+use Rattle.rules.specs.Cases.Sessions.{SessionsRight, ViolationsRight, repliesTo, sessionCases, violationCases}
 use Rattle.rules.specs.Evidence.{accepted, atLeast, atMost, checked, column, contradicts, fair, plainOf, showsCan}
 use Rattle.rules.specs.Evidence.{showsCannot, someStrict, strictNamed, surplus}
 use Rattle.rules.specs.Keeping.Limits.{kept}
@@ -14,11 +14,12 @@ use Rattle.rules.specs.Keeping.Words.{kindOf, liveKind, liveLimit, liveW
 use Rattle.rules.specs.Limit.{badKindWord, badLimitWord, bit, present}
 use Rattle.rules.specs.Problem.{mapped, problem}
 use Rattle.rules.specs.Refusal.{badCoefficient, badKind, badLength, badLimit, badSize, blankRow, first}
-use Rattle.rules.specs.Refusal.{problemTests, someBlank, tooFew, tooShort}
+use Rattle.rules.specs.Refusal.{problemRefusal, problemTests, someBlank, tooFew, tooShort}
 use Rattle.rules.specs.Run.{bound, choose, conflict, crossed, ending, run, spending}
 use Rattle.rules.specs.Runs.Session.{checkAnswer, flagged, inside, insideSeat, opened, rested, allInside}
 use Rattle.rules.specs.Runs.Session.{switchRefusal}
 use Rattle.rules.specs.Runs.Session.{switchTests, switched}
+use Rattle.rules.specs.Runs.Violation.{firstViolation, shownBy, violationOf}
 use Rattle.rules.specs.Step.{admit, broken, entering, evidence, leaving, limitAt, mayFall, mayRise, moved, over}
 use Rattle.rules.specs.Step.{pull, scaled, seated, shortfallBy, start, startEntry, startSeat, startValue, step}
 use Rattle.rules.specs.Step.{suits, under}
@@ -33,6 +34,14 @@ unfolding sessionCases repliesTo opened switched switchRefusal switchTests
     problem present bit mapped first liveWords liveWord liveLimit liveKind kindOf
     checked accepted showsCan showsCannot atLeast atMost plainOf fair strictNamed column surplus someStrict contradicts
     problemTests tooFew badSize badLength badCoefficient badKind badKindWord badLimit badLimitWord someBlank blankRow
-    tooShort
+    tooShort violationOf shownBy
     lowest someBelow allBelow foldBelow sumBy tableFrom matrix gcd gcdTurns within outside
 sessions-right = refl
+
+pub violations-right : ViolationsRight violationCases
+unfolding violationCases firstViolation violationOf shownBy
+    leaving broken under over scaled seated shortfallBy start startEntry startSeat startValue
+    problem present bit mapped first problemRefusal
+    problemTests tooFew badSize badLength badCoefficient badKind badKindWord badLimit badLimitWord someBlank blankRow
+    lowest someBelow allBelow sumBy tableFrom matrix within outside
+violations-right = refl

@@ -3,7 +3,6 @@
 -- increase, on its lower limit where to decrease; 0 elsewhere.
 --   Blame      that, of two lists of multipliers
 --   Blamed     of a step: the variable that leaves, that none enters, and the blame
---   Stopped    which limit stops a variable
 use mathlib.Core.List.{List}
 use mathlib.Core.Logic.{_≢_}
 use mathlib.Core.Option.{none, some}
@@ -34,13 +33,3 @@ pub record Blamed {X : Type 0} (𝓥 : Values X) (P : Problem X) (s : State X) (
   pub leaves : leaving 𝓥 P s ≡ some out
   pub none-enters : entering 𝓥 P s out ≡ none
   pub blame : Blame (vars P) (out .side) (out .variable) (s .tableau) ls us
-
--- the multipliers of a side
-abbrev pub multipliersOn : List ℤ → List ℤ → Side → List ℤ
-multipliersOn ls us below = ls
-multipliersOn ls us above = us
-
--- a limit of that side stops a variable with this entry, turned to rise
-abbrev pub Stopped : Side → ℤ → Type 0
-Stopped below z = z <ℤ pos 0
-Stopped above z = pos 0 <ℤ z

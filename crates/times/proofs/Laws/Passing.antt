@@ -29,7 +29,8 @@ use Rattle.rules.specs.Times.Passes.{through, betters, distance, distances}
 use Rattle.rules.specs.Times.Words.{timeEdges}
 use Rattle.rules.proofs.Times.Decide.{set-put, still-can, still-distance}
 use Rattle.rules.proofs.Times.Refused.{vertices-few, time-rows-few, accepted-ends}
-use Rattle.rules.specs.Times.Traces.{Still, Traced}
+use Rattle.rules.specs.Times.Traces.{Traced}
+use Rattle.rules.proofs.Times.Passes.Still.{Still}
 use Rattle.rules.proofs.Times.Passes.Traced.{ButAt, put, put-put, traced-start, traced-kept, traced-taken, traced-pass}
 use Rattle.rules.proofs.Times.Passes.Traced.{traced-still}
 use Rattle.lengths.specs.declared.Length.{Length}

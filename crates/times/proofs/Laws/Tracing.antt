@@ -23,8 +23,7 @@ use Rattle.rules.specs.Times.Cycle.{rowTold}
 use Rattle.rules.specs.Times.Words.{timeEdges}
 use Rattle.rules.proofs.Times.Passes.Closed.{trail-cycle}
 use Rattle.rules.proofs.Times.Refused.{vertices-few, time-rows-few, accepted-ends}
-use Rattle.rules.specs.Times.Traces.{Trail}
-use Rattle.rules.proofs.Times.Passes.Trail.{trail-start, trail-left, trail-ends, trail-more}
+use Rattle.rules.proofs.Times.Passes.Trail.{Trail, trail-start, trail-left, trail-ends, trail-more}
 use Rattle.times.specs.Steps.{lastRow, noRow, Looked, Closing, Went}
 
 module _ {ws : List ℤ} {last : List ℕ} {passes v : ℕ} (c : Closing ws last passes v) where

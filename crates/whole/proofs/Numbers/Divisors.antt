@@ -16,7 +16,7 @@ use native.Mathlib.Nat.{zero-lt-suc, one-mul}
 use lib.IntN.{ℤ, pos, natAbs}
 use lib.ListN.{length, getD}
 use Rattle.whole.specs.Below.{foldBelow}
-use Rattle.whole.specs.Divisors.{gcd, gcdTurns, gcdList}
+use Rattle.whole.specs.Divisors.{gcd, gcdTurns}
 
 -- one times a number
 pub by-one : (d a : ℕ) → d ∣ a → d ∣ 1 * a
@@ -121,6 +121,11 @@ pub fold-most : (k : ℕ) (x : ℕ → ℕ) (a : ℕ) → 0 < a → foldBelow k 
 fold-most k x a h = le-of-dvd h (fold-dvd k x a .0)
 
 -- ---- a list
+
+-- the divisor of a number and the sizes of a list's numbers
+unfoldable pub gcdList : ℕ → List ℤ → ℕ
+gcdList d [] = d
+gcdList d (z ∷ l) = gcdList (gcd (natAbs z) d) l
 
 gcdList-start : (d : ℕ) (l : List ℤ) → gcdList d l ∣ d
 unfolding gcdList

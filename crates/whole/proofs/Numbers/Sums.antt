@@ -21,7 +21,7 @@ use lib.ListN.{length, getD}
 use lib.Signed.{_≤ℤ_, _<ℤ_, ≤ℤ-refl}
 use lib.IntN.{ℤ, pos, _+ℤ_, _*ℤ_, +ℤ-idr, +ℤ-assoc}
 use Rattle.whole.specs.Numbers.{Within}
-use Rattle.whole.specs.Sums.{sum, sumBy, dot}
+use Rattle.whole.specs.Sums.{sum, sumBy}
 use Rattle.whole.proofs.Ring.Reify.{reify}
 use Rattle.whole.proofs.Ring.Nonneg.{NN, _⊞_, nn-nat}
 use Rattle.whole.proofs.Ring.Tools.{ring-at}
@@ -166,6 +166,12 @@ sum-within (suc k) {f} {b} h =
     within-le (within-+ (sum-within k (λ i l. h i (omega arith))) (h k (omega arith))) (omega arith)
 
 -- ---- lists
+
+-- the sum of the products of two lists, place by place, up to the end of the shorter
+unfoldable dot : List ℤ → List ℤ → ℤ
+dot [] y = pos 0
+dot (a ∷ x) [] = pos 0
+dot (a ∷ x) (b ∷ y) = a *ℤ b +ℤ dot x y
 
 dot-sum : (n : ℕ) (x y : List ℤ) → length x ≡ n → length y ≡ n →
     dot x y ≡ sum n (λ k. getD x k (pos 0) *ℤ getD y k (pos 0))

@@ -4,7 +4,7 @@ use mathlib.Core.Bool.{Bool, true, false}
 use mathlib.Core.List.{[], _∷_}
 use lib.IntN.{ℤ, pos, _+ℤ_, _*ℤ_, +ℤ-assoc, +ℤ-comm, +ℤ-idr, zero-*ℤ}
 use lib.Signed.{ltZ, _<ℤ_}
-use Rattle.whole.specs.Values.{Values, whole, turned, Laws}
+use Rattle.whole.specs.Values.{Values, whole, Laws}
 use Rattle.whole.proofs.Ring.Laws.{*ℤ-idl, *ℤ-distribl, *ℤ-distribr, *ℤ-assoc}
 use Rattle.whole.proofs.Ring.Reify.{reify}
 use Rattle.whole.proofs.Ring.Nonneg.{of-le, of-lt, slk}
@@ -12,7 +12,11 @@ use Rattle.whole.proofs.Ring.Tools.{le-at, lt-at}
 use Rattle.whole.proofs.Numbers.Order.{true→lt, false→le, lt→true, le→false, ≤ℤ-trans, ≤ℤ-antisym, <ℤ→≤ℤ}
 use Rattle.whole.proofs.Numbers.Order.{times-up, times-up-strict, times-down, times-down-strict}
 
--- with the order turned round all laws hold again
+-- values with their order turned round
+abbrev pub turned : {X : Type 0} → Values X → Values X
+turned 𝓥 = record { nil = 𝓥 .nil; plus = 𝓥 .plus; scale = 𝓥 .scale; less = λ x y. 𝓥 .less y x }
+
+-- then all laws hold again
 pub turned-laws : {X : Type 0} {𝓥 : Values X} → Laws 𝓥 → Laws (turned 𝓥)
 turned-laws L = record {
   plus-assoc = L .plus-assoc;

@@ -11,8 +11,9 @@ use lib.Seq.{getD-take, getD-drop, slice, length-slice}
 use Rattle.whole.specs.Values.{Laws, Values}
 use Rattle.rules.specs.Times.Walks.{Edges}
 use Rattle.rules.specs.Times.Cycle.{rowTold, Cycle, BadCycle}
-use Rattle.rules.specs.Times.Traces.{Bettered, Trail}
+use Rattle.rules.specs.Times.Traces.{Bettered}
 use Rattle.rules.proofs.Times.Passes.Falling.{falling-below}
+use Rattle.rules.proofs.Times.Passes.Trail.{Trail}
 
 -- row k of the rows from f up to t
 pub slice-at : (f t k : ℕ) (l : List ℕ) → k < t - f → rowTold (slice f t l) k ≡ rowTold l (f + k)

@@ -1,4 +1,5 @@
--- Distances that no row betters (`Still` of specs/Times/Traces).
+-- Distances that no row betters.
+--   Still                           that, of distances
 --   settled-still, still-settled    the test, and back
 --   still-walk, still-least         along a walk; from the added vertex
 --   still-shortest, shortest-only   lengths of walks that no row betters are the shortest distances; these are unique
@@ -19,7 +20,10 @@ use Rattle.whole.proofs.Values.Laws.{same-le, le-le, lt-irrefl, plus-le, nil-pl
 use Rattle.rules.specs.Times.Walks.{Edges, Walk, stay, on, Shortest, ClosesBelow}
 use Rattle.rules.specs.Times.Passes.{distance, through, betters, settled}
 use Rattle.rules.specs.Times.Cycle.{rowTold, Cycle, around, BadCycle}
-use Rattle.rules.specs.Times.Traces.{Still}
+
+module _ {X : Type 0} (𝓥 : Values X) (E : Edges X) where
+  abbrev pub Still : (ℕ → X) → Type 0
+  Still D = (i : ℕ) → i < E .count → Le 𝓥 (D (E .head i)) (through 𝓥 E D i)
 
 module _ {X : Type 0} (𝓥 : Values X) (E : Edges X) where
   pub settled-still : (ds : List X) → settled 𝓥 E ds ≡ true → Still 𝓥 E (distance 𝓥 E ds)

@@ -16,7 +16,8 @@ use Rattle.whole.proofs.Bools.{true-false}
 use Rattle.whole.proofs.Values.Laws.{same-le, le-le, lt-le-trans, le-lt-trans, weaken, plus-le, plus-lt}
 use Rattle.rules.specs.Times.Walks.{Edges, Walk, stay, on}
 use Rattle.rules.specs.Times.Passes.{through}
-use Rattle.rules.specs.Times.Traces.{Bettered, Still, Traced}
+use Rattle.rules.specs.Times.Traces.{Bettered, Traced}
+use Rattle.rules.proofs.Times.Passes.Still.{Still}
 
 -- f′ is f but at y, where it is a
 pub record ButAt {A : Type 0} (f f′ : ℕ → A) (y : ℕ) (a : A) : Type 0 where

@@ -2,6 +2,7 @@
 -- earlier at most, the tail of such a row was bettered too, so the way has at least as many rows as there were passes:
 -- of `top` places for rows, `spare` may stay empty. It ends at a vertex that no row has bettered, or meets one again;
 -- and it does meet one again if there are no more vertices than passes.
+--   Trail                      how far it has come
 --   trail-start, trail-more    its start; a vertex is marked and its row put down
 --   trail-left                 as long as it has met no vertex again, it has places left
 --   trail-ends                 where no row has bettered the vertex, only spare places are left
@@ -18,7 +19,20 @@ use Rattle.whole.specs.Values.{Values}
 use Rattle.whole.proofs.Lists.Pigeons.{pigeons}
 use Rattle.rules.specs.Times.Walks.{Edges, EndsIn}
 use Rattle.rules.specs.Times.Cycle.{rowTold}
-use Rattle.rules.specs.Times.Traces.{Bettered, Traced, Trail}
+use Rattle.rules.specs.Times.Traces.{Bettered, Traced}
+
+module _ {X : Type 0} (𝓥 : Values X) (E : Edges X) (time : ℕ → ℕ) (D : ℕ → X) where
+  -- The way has come to `here`, with j places left. `path` holds the rows that it took, from j up to `top`; `seen`
+  -- holds 1 + the place of the row that leads to a vertex, for each vertex that it met, and 0 for every other.
+  pub record Trail (top spare : ℕ) (path seen : List ℕ) (here j : ℕ) : Type 0 where
+    pub most : j ≤ top
+    pub vertex : here < E .vertices
+    pub late : (q : ℕ) → spare + suc q ≡ j → E .count * q < time here
+    pub brings : (q : ℕ) → j ≤ q → q < top → Bettered 𝓥 E time D (E .head (rowTold path q)) (rowTold path q)
+    pub linked : (q : ℕ) → j ≤ q → suc q < top → E .head (rowTold path q) ≡ E .tail (rowTold path (suc q))
+    pub starts : j < top → E .tail (rowTold path j) ≡ here
+    pub marked : (q : ℕ) → j ≤ q → q < top → rowTold seen (E .head (rowTold path q)) ≡ suc q
+    pub marks : (u q : ℕ) → rowTold seen u ≡ suc q → (j ≤ q) × (q < top) × (E .head (rowTold path q) ≡ u)
 
 zeros : (n u : ℕ) → rowTold (replicate n 0) u ≡ 0
 zeros n u = go (decLt u n)
