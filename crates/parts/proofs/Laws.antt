@@ -3,3 +3,4 @@ pub mod Weights
 pub mod Tests
 pub mod Halves
 pub mod Shown
+pub mod Read

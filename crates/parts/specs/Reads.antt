@@ -35,7 +35,14 @@ pub record Limited (l : Limits) : Type 0 where
   pub lowers-plain : l .strict ≡ false → (v : ℕ) → lowerGiven l v .strict ≡ false
   pub uppers-plain : l .strict ≡ false → (v : ℕ) → upperGiven l v .strict ≡ false
 
--- entries and limits within their ranges, and an answer that is long enough
+-- entries and limits within their ranges
+pub record Held (entries : List ℤ) (limits : Limits) (rows columns : ℕ) : Type 0 where
+  pub few-rows : rows ≤ mostRows
+  pub few-columns : columns ≤ mostColumns
+  pub entries-within : AllWithin entries largestCoefficient
+  pub limited : Limited limits
+
+-- .. and an answer that is long enough
 pub record Readable (entries : List ℤ) (limits : Limits) (rows columns : ℕ) (a : List ℤ) : Type 0 where
   pub few-rows : rows ≤ mostRows
   pub few-columns : columns ≤ mostColumns

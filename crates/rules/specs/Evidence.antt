@@ -1,4 +1,6 @@
 -- docs/RULES.md, "The evidence checker": its rule as a function that computes, and what its two kinds of evidence mean.
+-- Each kind of evidence is right, over any numbers (`rightCan`, `rightCannot`), and within the ranges of an answer's
+-- words (`rangedCan`, `rangedCannot`).
 use mathlib.Core.Path.{_≡_}
 use mathlib.Core.Bool.{Bool, true, false, cond, _&&_, _||_, not}
 use mathlib.Core.List.{List, [], _∷_, _++_}
@@ -6,9 +8,9 @@ use mathlib.Core.Option.{Option, none, some}
 use Prim.Native.Nat.{ℕ, _+_, _<_}
 use lib.IntN.{ℤ, pos, _+ℤ_, _-ℤ_, _*ℤ_}
 use lib.ListN.{length}
-use lib.Signed.{_≤ℤ_, _<ℤ_}
+use lib.Signed.{ltZ, _≤ℤ_, _<ℤ_}
 use Rattle.whole.specs.Below.{allBelow, someBelow}
-use Rattle.whole.specs.Numbers.{within, outside, eqZ, isPos}
+use Rattle.whole.specs.Numbers.{within, eqZ, isPos, isNeg}
 use Rattle.whole.specs.Sums.{sum}
 use Rattle.whole.specs.Values.{Values, pairs, total, whole, Le}
 use Rattle.rules.specs.Sizes.{mostRows, largestNumber, largestNumerator, largestSmall}
@@ -36,6 +38,10 @@ upperPart N a v = word a (3 + N + v)
 abbrev pub pairPart : ℕ → List ℤ → ℕ → ℤ × ℤ
 pairPart N a v = (lowerPart a v, upperPart N a v)
 
+-- at most the largest number
+abbrev pub modest : ℤ → Bool
+modest z = not (ltZ (pos largestNumber) z)
+
 -- ---- verdict 1
 
 -- row i, of any values x for the variables
@@ -56,17 +62,27 @@ unfoldable pub atMost : Option Limit → ℤ → ℤ × ℤ → Bool
 atMost none d x = true
 atMost (some u) d x = clears (u .strict) x (d *ℤ u .plain, pos 0)
 
+-- right: d is the denominator, x and y are the numerators and their small parts
+unfoldable pub rightCan : Problem Limit → ℤ → (ℕ → ℤ) → (ℕ → ℤ) → Bool
+rightCan P d x y =
+    isPos d
+    && allBelow (P .m) (λ i. eqZ (x (P .n + i)) (rowSum whole P x i))
+    && allBelow (P .m) (λ i. eqZ (y (P .n + i)) (rowSum whole P y i))
+    && allBelow (vars P) (λ v. atLeast (P .lower v) d (x v, y v) && atMost (P .upper v) d (x v, y v))
+
+-- within the ranges
+unfoldable pub rangedCan : Problem Limit → ℤ → (ℕ → ℤ) → (ℕ → ℤ) → Bool
+rangedCan P d x y =
+    modest d
+    && allBelow (vars P) (λ v. within largestNumerator (x v))
+    && allBelow (vars P) (λ v. within largestSmall (y v))
+
 unfoldable pub showsCan : Problem Limit → List ℤ → Bool
 showsCan P a =
     let d : ℤ = denominatorOf a in
     let x : ℕ → ℤ = lowerPart a in
     let y : ℕ → ℤ = upperPart (vars P) a in
-    not (outside 1 largestNumber d)
-    && allBelow (vars P) (λ v. within largestNumerator (x v))
-    && allBelow (vars P) (λ v. within largestSmall (y v))
-    && allBelow (P .m) (λ i. eqZ (x (P .n + i)) (rowSum whole P x i))
-    && allBelow (P .m) (λ i. eqZ (y (P .n + i)) (rowSum whole P y i))
-    && allBelow (vars P) (λ v. atLeast (P .lower v) d (x v, y v) && atMost (P .upper v) d (x v, y v))
+    rightCan P d x y && rangedCan P d x y
 
 -- ---- verdict 2
 
@@ -75,9 +91,14 @@ unfoldable pub plainOf : Option Limit → ℤ
 plainOf none = pos 0
 plainOf (some l) = l .plain
 
-unfoldable pub fair : Option Limit → ℤ → Bool
-fair none k = eqZ k (pos 0)
-fair (some l) k = not (outside 0 largestNumber k)
+-- a multiplier is at least 0, and 0 where its limit is missing
+unfoldable pub owed : Option Limit → ℤ → Bool
+owed none k = eqZ k (pos 0)
+owed (some l) k = not (isNeg k)
+
+-- .. and in its range
+abbrev pub fair : Option Limit → ℤ → Bool
+fair o k = owed o k && modest k
 
 -- a strict limit with a multiplier other than 0
 unfoldable pub strictNamed : Option Limit → ℤ → Bool
@@ -97,14 +118,23 @@ someStrict P lo up = someBelow (vars P) (λ v. strictNamed (P .lower v) (lo v) |
 unfoldable pub contradicts : ℤ → Bool → Bool
 contradicts total strict = isPos total || (eqZ total (pos 0) && strict)
 
+-- right: d stands where the denominator does, lo and up are the multipliers of the lower and the upper limits
+unfoldable pub rightCannot : Problem Limit → ℤ → (ℕ → ℤ) → (ℕ → ℤ) → Bool
+rightCannot P d lo up =
+    eqZ d (pos 0)
+    && allBelow (vars P) (λ v. owed (P .lower v) (lo v) && owed (P .upper v) (up v))
+    && allBelow (P .n) (λ j. eqZ (column P (λ v. lo v -ℤ up v) j) (pos 0))
+    && contradicts (surplus P lo up) (someStrict P lo up)
+
+-- within the ranges
+unfoldable pub rangedCannot : Problem Limit → (ℕ → ℤ) → (ℕ → ℤ) → Bool
+rangedCannot P lo up = allBelow (vars P) (λ v. modest (lo v) && modest (up v))
+
 unfoldable pub showsCannot : Problem Limit → List ℤ → Bool
 showsCannot P a =
     let lo : ℕ → ℤ = lowerPart a in
     let up : ℕ → ℤ = upperPart (vars P) a in
-    eqZ (denominatorOf a) (pos 0)
-    && allBelow (vars P) (λ v. fair (P .lower v) (lo v) && fair (P .upper v) (up v))
-    && allBelow (P .n) (λ j. eqZ (column P (λ v. lo v -ℤ up v) j) (pos 0))
-    && contradicts (surplus P lo up) (someStrict P lo up)
+    rightCannot P (denominatorOf a) lo up && rangedCannot P lo up
 
 -- ---- the checker: 1 to 6 and 10 by the problem, 7 too short, 8 accepted, 9 not
 

@@ -1,6 +1,6 @@
 -- `evidence::cannot_holds` meets its contract: what is read from accepted words holds their problem. Assumes nothing.
 use mathlib.Core.Path.{_∙_}
-use Rattle.evidence.proofs.Laws.Read.{cannot-read, words-readable}
+use Rattle.parts.proofs.Laws.Read.{cannot-read, words-readable}
 use Rattle.evidence.proofs.cannot_holds.Statement.{statement}
 use Rattle.evidence.proofs.cannot_holds.Tie as tie
 

@@ -6,37 +6,81 @@
 use mathlib.Core.Path.{_≡_, refl, ap, sym, _∙_}
 use mathlib.Core.Bool.{Bool, true, false, not, _&&_, _||_}
 use mathlib.Core.List.{List}
-use Prim.Native.Nat.{ℕ, _+_}
-use lib.IntN.{ℤ, pos, _*ℤ_}
+use Prim.Native.Nat.{ℕ, zero, suc, _+_, _<_}
+use native.Mathlib.Omega.{arith}
+use lib.IntN.{ℤ, negsuc, pos, _*ℤ_}
 use lib.ListN.{drop}
+use lib.Signed.{ltZ}
 use Rattle.whole.specs.Below.{allBelow}
 use Rattle.whole.specs.Numbers.{outside, eqZ, isPos, within}
 use Rattle.whole.specs.Sums.{sum}
-use Rattle.whole.proofs.Lists.Below.{some-empty}
-use Rattle.whole.proofs.Bools.{or-of}
-use Rattle.whole.proofs.Tells.{tells-eqZ}
+use Rattle.whole.proofs.Lists.Below.{all-each, all-of, some-empty}
+use Rattle.whole.proofs.Bools.{and-of, and-true, or-of, same-tests}
+use Rattle.whole.proofs.Tells.{tells-eqZ, tells-lt, tells-not, tells-true}
 use Rattle.rules.specs.Sizes.{largestNumber, largestNumerator, largestSmall}
 use Rattle.rules.specs.Limit.{Limit, present}
 use Rattle.rules.specs.Problem.{Problem}
 use Rattle.rules.specs.Evidence.{denominatorOf, lowerPart, upperPart, column, surplus, showsCan, showsCannot}
-use Rattle.rules.specs.Evidence.{contradicts, someStrict, strictNamed}
+use Rattle.rules.specs.Evidence.{contradicts, modest, owed, rangedCan, rangedCannot, rightCan, rightCannot, someStrict}
+use Rattle.rules.specs.Evidence.{strictNamed}
 use Rattle.layout.specs.Layout.{entryIn}
 use Rattle.tableau.specs.declared.Limits.{Limits}
-use Rattle.tableau.specs.Parts.{lowerGiven, upperGiven}
+use Rattle.tableau.specs.Parts.{lowerGiven, lowerOf, upperGiven, upperOf}
 use Rattle.parts.specs.Reads.{Readable, problemOf, numeratorsFit, rowUpTo, rowsHold, halfHolds, limitsUpTo}
 use Rattle.parts.specs.Reads.{limitsHold, multipliersFair, columnUpTo, columnsCancel, surplusUpTo, surplusOf}
 use Rattle.parts.specs.Reads.{namedAt, someNamed}
 use Rattle.parts.proofs.Laws.Halves.{second-half}
-use Rattle.parts.proofs.Laws.Tests.{or-none}
+use Rattle.parts.proofs.Laws.Tests.{not-either, or-none}
 
--- the tests by halves
-by-halves : (d n s r q l : Bool) → (d && n && s && r && q && l) ≡ (d && (n && r) && (s && q) && l)
-by-halves false n s r q l = refl
-by-halves true false s r q l = refl
-by-halves true true false true q l = refl
-by-halves true true false false q l = refl
-by-halves true true true true q l = refl
-by-halves true true true false q l = refl
+-- the tests by halves: p and m of the denominator, r and n of the numerators, q and s of the small parts, l of limits
+by-halves : (p r q l m n s : Bool) → (p && r && q && l && (m && n && s)) ≡ (p && m && (n && r) && (s && q) && l)
+by-halves p r q l m n s = same-tests _ _
+    (λ e. let (x, y) = and-true (p && r && q && l) (m && n && s) e in
+    let (a, d) = and-true (p && r && q) l x in let (b, c) = and-true (p && r) q a in
+    let (g, h) = and-true p r b in let (i, k) = and-true (m && n) s y in let (u, v) = and-true m n i in
+    and-of (and-of (and-of (and-of g u) (and-of v h)) (and-of k c)) d)
+    (λ e. let (x, d) = and-true (p && m && (n && r) && (s && q)) l e in
+    let (y, z) = and-true (p && m && (n && r)) (s && q) x in let (k, c) = and-true s q z in
+    let (w, t) = and-true (p && m) (n && r) y in let (v, h) = and-true n r t in let (g, u) = and-true p m w in
+    and-of (and-of (and-of (and-of g h) c) d) (and-of (and-of u v) k))
+
+-- the denominator's two sides
+one-side : (d : ℤ) → not (ltZ d (pos 1)) ≡ isPos d
+one-side (pos zero) = refl
+one-side (pos (suc n)) = tells-true (tells-not (tells-lt (suc n) 1)) (omega arith)
+    ∙ sym (tells-true (tells-lt 0 (suc n)) (omega arith))
+one-side (negsuc n) = refl
+
+both-sides : (d : ℤ) → not (outside 1 largestNumber d) ≡ (isPos d && modest d)
+unfolding outside
+both-sides d = not-either (ltZ d (pos 1)) (ltZ (pos largestNumber) d) ∙ ap (λ (b : Bool). b && modest d) (one-side d)
+
+-- multipliers: owed and modest, each for itself
+each-for-itself : (k : ℕ) (f g f′ g′ : ℕ → Bool) →
+    allBelow k (λ v. (f v && g v) && (f′ v && g′ v)) ≡ (allBelow k (λ v. f v && f′ v) && allBelow k (λ v. g v && g′ v))
+each-for-itself k f g f′ g′ = same-tests _ _
+    (λ e. and-of (all-of k _ (λ v h. let p = parts e v h in and-of (p .0 .0) (p .1 .0)))
+    (all-of k _ (λ v h. let p = parts e v h in and-of (p .0 .1) (p .1 .1))))
+    (λ e. let (a, b) = and-true (allBelow k (λ v. f v && f′ v)) (allBelow k (λ v. g v && g′ v)) e in
+    all-of k _ (λ v h. let (p, q) = and-true (f v) (f′ v) (all-each k (λ v. f v && f′ v) a v h) in
+    let (r, s) = and-true (g v) (g′ v) (all-each k (λ v. g v && g′ v) b v h) in and-of (and-of p r) (and-of q s)))
+  where
+    parts : allBelow k (λ v. (f v && g v) && (f′ v && g′ v)) ≡ true → (v : ℕ) → v < k →
+        ((f v ≡ true) × (g v ≡ true)) × ((f′ v ≡ true) × (g′ v ≡ true))
+    parts e v h =
+        let (a, b) = and-true (f v && g v) (f′ v && g′ v)
+        (all-each k (λ v. (f v && g v) && (f′ v && g′ v)) e v h) in
+        (and-true (f v) (g v) a, and-true (f′ v) (g′ v) b)
+
+-- the range of the multipliers, tested where they are
+range-first : (e o c k m : Bool) → (e && o && c && k && m) ≡ (e && (o && m) && c && k)
+range-first e o c k m = same-tests _ _
+    (λ q. let (x, t) = and-true (e && o && c && k) m q in let (y, w) = and-true (e && o && c) k x in
+    let (z, v) = and-true (e && o) c y in let (r, s) = and-true e o z in
+    and-of (and-of (and-of r (and-of s t)) v) w)
+    (λ q. let (x, w) = and-true (e && (o && m) && c) k q in let (y, v) = and-true (e && (o && m)) c x in
+    let (r, z) = and-true e (o && m) y in let (s, t) = and-true o m z in
+    and-of (and-of (and-of (and-of r s) v) w) t)
 
 -- ---- the last test of verdict 2
 
@@ -76,12 +120,14 @@ module _ {entries : List ℤ} {limits : Limits} {rows columns : ℕ} {a : List �
   all-limits = limitsHold limits a variables (denominatorOf a)
 
   tests : showsCan P a ≡ (denominatorFits && numeratorsHold && smallsHold && all-limits)
-  unfolding showsCan problemOf rowUpTo limitsUpTo
-  tests = ap (λ (y : ℕ → ℤ). denominatorFits && numeratorsFit largestNumerator a variables
-      && allBelow variables (λ v. within largestSmall (y v)) && rowsHold entries a rows columns
+  unfolding showsCan rightCan rangedCan problemOf rowUpTo limitsUpTo
+  tests = ap (λ (y : ℕ → ℤ). isPos (denominatorOf a) && rowsHold entries a rows columns
       && allBelow rows (λ i. eqZ (y (columns + i)) (sum columns (λ j. entryIn rows columns entries i j *ℤ y j)))
-      && all-limits) (sym (second-half a variables))
-      ∙ by-halves denominatorFits (numeratorsFit largestNumerator a variables) _ (rowsHold entries a rows columns) _ _
+      && all-limits && (modest (denominatorOf a) && numeratorsFit largestNumerator a variables
+      && allBelow variables (λ v. within largestSmall (y v)))) (sym (second-half a variables))
+      ∙ by-halves (isPos (denominatorOf a)) (rowsHold entries a rows columns) _ all-limits (modest (denominatorOf a))
+      (numeratorsFit largestNumerator a variables) _
+      ∙ ap (λ (b : Bool). b && numeratorsHold && smallsHold && all-limits) (sym (both-sides (denominatorOf a)))
 
   pub can-denominator : outside 1 largestNumber (denominatorOf a) ≡ true → showsCan P a ≡ false
   can-denominator d = tests ∙ (rw d refl)
@@ -104,8 +150,14 @@ module _ {entries : List ℤ} {limits : Limits} {rows columns : ℕ} {a : List �
 
   cannot-tests : showsCannot P a ≡ (eqZ (denominatorOf a) (pos 0) && multipliersFair limits a variables
       && columnsCancel entries a rows columns && contradicts total (someNamed limits a variables))
-  unfolding showsCannot problemOf multipliersFair columnUpTo surplusUpTo column surplus someStrict someNamed
-  cannot-tests = refl
+  unfolding showsCannot rightCannot rangedCannot problemOf multipliersFair columnUpTo surplusUpTo column surplus
+      someStrict someNamed
+  cannot-tests = range-first (eqZ (denominatorOf a) (pos 0)) _ (columnsCancel entries a rows columns)
+      (contradicts total (someNamed limits a variables)) _
+      ∙ ap (λ (b : Bool). eqZ (denominatorOf a) (pos 0) && b && columnsCancel entries a rows columns
+      && contradicts total (someNamed limits a variables))
+      (sym (each-for-itself variables (λ v. owed (lowerOf limits v) (lowerPart a v)) (λ v. modest (lowerPart a v))
+      (λ v. owed (upperOf limits v) (upperPart variables a v)) (λ v. modest (upperPart variables a v))))
 
   pub cannot-denominator : eqZ (denominatorOf a) (pos 0) ≡ false → showsCannot P a ≡ false
   cannot-denominator d = cannot-tests ∙ (rw d refl)

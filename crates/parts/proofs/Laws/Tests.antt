@@ -1,5 +1,5 @@
 -- Tests without a branch: each is asked for, and the answers are joined.
---   not-not, or-none                  a test that is denied twice, or joined with one that fails
+--   not-not, or-none, not-either       a test that is denied twice, or joined with one that fails; neither of two
 --   outside-largest                    a test of both sides is one of the size
 --   tests-more, finds-more             a loop's answer with one test more: all pass, or some test does
 --   clears-joined                      one pair against another, strictly or not
@@ -9,24 +9,26 @@ use mathlib.Core.Path.{_≡_, refl, _∙_, ap, ap₂, sym}
 use mathlib.Core.Bool.{Bool, true, false, not, _&&_, _||_}
 use Prim.Native.Nat.{ℕ, suc, zero, _+_}
 use native.Mathlib.Numerals.{add-one}
-use native.Mathlib.Omega.{arith}
-use borrow.Author.Tests.{ne-eqb}
 use lib.IntN.{ℤ, natAbs, negsuc, negℤ, pos, _*ℤ_}
 use lib.Signed.{ltZ, _≤ℤ_}
 use Rattle.whole.specs.Below.{allBelow, someBelow}
-use Rattle.whole.specs.Numbers.{outside, eqZ, within}
+use Rattle.whole.specs.Numbers.{outside, eqZ, isNeg, within}
 use Rattle.whole.specs.Values.{lexicographic}
 use Rattle.whole.proofs.Lists.Below.{some-more}
 use Rattle.whole.proofs.Bools.{true-false}
 use Rattle.whole.proofs.Numbers.Order.{<ℤ→≤ℤ, le→false, true→lt}
-use Rattle.whole.proofs.Tells.{outside-within}
+use Rattle.whole.proofs.Tells.{outside-within, tells-eqZ}
 use Rattle.rules.specs.Limit.{Limit, present}
 use Rattle.rules.specs.Sizes.{largestNumber}
-use Rattle.rules.specs.Evidence.{atLeast, atMost, clears, fair, strictNamed}
+use Rattle.rules.specs.Evidence.{atLeast, atMost, clears, fair, modest, owed, strictNamed}
 
 pub not-not : (b : Bool) → not (not b) ≡ b
 not-not true = refl
 not-not false = refl
+
+pub not-either : (a b : Bool) → not (a || b) ≡ (not a && not b)
+not-either true b = refl
+not-either false b = refl
 
 pub outside-largest : (k z : ℤ) → pos 0 ≤ℤ k → (ltZ z (negℤ k) || ltZ k z) ≡ not (within (natAbs k) z)
 outside-largest (pos n) z h = outside-within n z
@@ -85,15 +87,24 @@ module _ (l : Limit) (d x y : ℤ) {p : ℤ} {r : Bool} (e : p ≡ d *ℤ l .pla
 
 -- ---- a multiplier
 
+-- where it is 0 it is right and in its range
+fair-zero : (k : ℤ) (b : Bool) → (eqZ k (pos 0) ≡ true → b ≡ true) → (b || eqZ k (pos 0)) ≡ b
+fair-zero k b h = go (eqZ k (pos 0)) refl
+  where
+    go : (c : Bool) → eqZ k (pos 0) ≡ c → (b || eqZ k (pos 0)) ≡ b
+    go true e = rw (h e) refl
+    go false e = rw e (or-none b)
+
 pub fair-joined : (b : Bool) (l : Limit) (k : ℤ) →
     ((b && not (outside 0 largestNumber k)) || eqZ k (pos 0)) ≡ fair (present b l) k
-unfolding fair outside present
-fair-joined true l (pos zero) = refl
-fair-joined true l (pos (suc k)) =
-    ap (λ (b : Bool). not (outside 0 largestNumber (pos (suc k))) || b) (ne-eqb (suc k) 0 (λ e. omega arith))
-    ∙ or-none _
-fair-joined true l (negsuc k) = or-none _
-fair-joined false l k = refl
+unfolding owed outside present
+fair-joined true l k = ap (λ (c : Bool). c || eqZ k (pos 0)) (not-either (isNeg k) (ltZ (pos largestNumber) k))
+    ∙ fair-zero k (not (isNeg k) && modest k) (λ e. rw (tells-eqZ k (pos 0) .if-true e) refl)
+fair-joined false l k = go (eqZ k (pos 0)) refl
+  where
+    go : (b : Bool) → eqZ k (pos 0) ≡ b → b ≡ (b && modest k)
+    go true e = rw (tells-eqZ k (pos 0) .if-true e) refl
+    go false e = refl
 
 pub named-joined : (b : Bool) (l : Limit) (k : ℤ) →
     (b && (l .strict && not (eqZ k (pos 0)))) ≡ strictNamed (present b l) k

@@ -2,20 +2,22 @@
 --   multiplied                  every multiplier is within the largest number
 --   net-within                  a lower limit times its multiplier less an upper limit times its own
 use mathlib.Core.Path.{_≡_}
-use mathlib.Core.Bool.{Bool, true, false}
+use mathlib.Core.Bool.{Bool, true, false, not}
 use mathlib.Core.List.{List}
 use Prim.Native.Nat.{ℕ, _+_, _*_, _<_}
 use lib.Dec.{lit≤}
 use lib.IntN.{ℤ, pos, zero-*ℤ, _-ℤ_, _*ℤ_}
-use Rattle.whole.specs.Numbers.{Within}
+use lib.Signed.{ltZ}
+use Rattle.whole.specs.Numbers.{Within, eqZ, isNeg}
 use Rattle.whole.proofs.Lists.Below.{all-each}
 use Rattle.whole.proofs.Bools.{and-true, not-true}
-use Rattle.whole.proofs.Tells.{tells-eqZ, tells-outside}
+use Rattle.whole.proofs.Tells.{tells-eqZ}
+use Rattle.whole.proofs.Numbers.Order.{false→le}
 use Rattle.whole.proofs.Numbers.Tests.{under-size}
 use Rattle.whole.proofs.Numbers.Sizes.{within-*, within--}
 use Rattle.rules.specs.Sizes.{largestLimit, largestNumber}
 use Rattle.rules.specs.Limit.{Limit, present}
-use Rattle.rules.specs.Evidence.{lowerPart, upperPart, fair, plainOf}
+use Rattle.rules.specs.Evidence.{lowerPart, upperPart, fair, modest, owed, plainOf}
 use Rattle.amounts.specs.declared.Given.{Given}
 use Rattle.amounts.specs.Amounts.{limitIn}
 use Rattle.tableau.specs.declared.Limits.{Limits}
@@ -35,10 +37,12 @@ pub net-within : (l u : Given) (i k : ℤ) → Within (l .plain) largestLimit �
 net-within l u i k p q r s = within-- (weight-within (l .on) _ i p q) (weight-within (u .on) _ k r s)
 
 fair-within : (b : Bool) (l : Limit) (k : ℤ) → fair (present b l) k ≡ true → Within k largestNumber
-unfolding fair present
-fair-within true l k e = let h = tells-outside 0 largestNumber k .if-false (not-true _ e) in
-    record { within = under-size largestNumber 0 k (h .0) (h .1) }
-fair-within false l k e = rw (tells-eqZ k (pos 0) .if-true e) (record { within = lit≤ tt })
+unfolding owed present
+fair-within true l k e = let (p, q) = and-true (not (isNeg k)) (modest k) e in
+    record { within = under-size largestNumber 0 k (false→le {a = pos 0} {b = k} (not-true (isNeg k) p))
+        (false→le {a = k} {b = pos largestNumber} (not-true (ltZ (pos largestNumber) k) q)) }
+fair-within false l k e = let (p, q) = and-true (eqZ k (pos 0)) (modest k) e in
+    rw (tells-eqZ k (pos 0) .if-true p) (record { within = lit≤ tt })
 
 pub multiplied : (l : Limits) (a : List ℤ) (variables : ℕ) → multipliersFair l a variables ≡ true →
     Multiplied a variables

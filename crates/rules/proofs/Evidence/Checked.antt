@@ -41,7 +41,7 @@ abbrev AllOwn : List (Bool × ℕ) → Type 0
 AllOwn [] = Unit {0}
 AllOwn (t ∷ ts) = ((k : ℕ) → t .1 ≡ suc k → Own k) × AllOwn ts
 
-own-clash : {k : ℕ} → Own k → 6 ≤ k → k ≤ 8 → ⊥
+pub own-clash : {k : ℕ} → Own k → 6 ≤ k → k ≤ 8 → ⊥
 own-clash (inl b) l m = omega arith
 own-clash (inr b) l m = omega arith
 
@@ -51,7 +51,7 @@ first-own [] h k e = let z : ⊥ = omega arith in absurd z
 first-own ((true, j) ∷ ts) (o, h) k e = o k e
 first-own ((false, j) ∷ ts) (o, h) k e = first-own ts h k e
 
-first-three : (b c : Bool) → first ((b, 7) ∷ (c, 8) ∷ (true, 9) ∷ []) ≡ cond b 7 (cond c 8 9)
+pub first-three : (b c : Bool) → first ((b, 7) ∷ (c, 8) ∷ (true, 9) ∷ []) ≡ cond b 7 (cond c 8 9)
 unfolding first
 first-three true c = refl
 first-three false true = refl
@@ -95,7 +95,7 @@ module _ (ws a : List ℤ) where
       ((tooShort ws (length a), 7) ∷ (accepted (problem ws) a, 8) ∷ (true, 9) ∷ []) (numbered mostRows ws) e
       ∙ first-three (tooShort ws (length a)) (accepted (problem ws) a)
 
-  own : (k : ℕ) → problemRefusal ws ≡ suc k → Own k
+  pub own : (k : ℕ) → problemRefusal ws ≡ suc k → Own k
   unfolding problemRefusal problemTests
   own = first-own (problemTests mostRows ws) (
     λ k e. inl (omega arith),

@@ -24,7 +24,7 @@ use Rattle.whole.specs.Values.{whole}
 use Rattle.rules.specs.Evidence.{Above, Below, Clears, Rows, Unsatisfied, column, plainOf, surplus}
 use Rattle.rules.specs.Limit.{Limit}
 use Rattle.rules.specs.Problem.{Problem, vars}
-use Rattle.rules.specs.Facts.Evidence.{Contradiction, Multiplier, Multipliers, StrictNamed}
+use Rattle.rules.specs.Facts.Evidence.{Contradiction, Multiplier, Refutation, StrictNamed}
 
 -- sum over v of y v times x v is the sum over the columns of column j times x j
 pub rows-balance : {X : Type 0} (P : Problem X) (x y : ℕ → ℤ) → Rows whole P x →
@@ -120,7 +120,7 @@ module _ (d l a u b z : ℤ) where
 
 -- ---- all of them
 
-module _ (P : Problem Limit) (word : ℤ) (lo up : ℕ → ℤ) (S : Multipliers P word lo up) where
+module _ (P : Problem Limit) (word : ℤ) (lo up : ℕ → ℤ) (S : Refutation P word lo up) where
   pub farkas : Unsatisfied P
   unfolding surplus
   farkas d x M = go (S .contradiction)

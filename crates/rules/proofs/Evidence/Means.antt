@@ -44,7 +44,7 @@ module _ (ws a : List ℤ) (c : checked ws a ≡ 8) where
 
       go : Shown (problem ws) a → Meant (problem ws) a
       go (inl (v, S)) = met v (satisfied (problem ws) (denominatorOf a) (lowerPart a) uppers S)
-      go (inr (v, S)) = cannot-be-met v (farkas (problem ws) (denominatorOf a) (lowerPart a) uppers S)
+      go (inr (v, S)) = cannot-be-met v (farkas (problem ws) (denominatorOf a) (lowerPart a) uppers (S .right))
 
   pub can-means : verdictOf a ≡ pos 1 → MetSmall (problem ws) a
   can-means v = go accepted-means

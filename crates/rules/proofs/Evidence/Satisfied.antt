@@ -1,5 +1,6 @@
 -- Pairs and actual fractions: a fraction e / k put for the small amount makes pairs fractions.
 --   satisfied-by             pairs whose small parts are within K: every e / k up to 1 / (K + 1)
+--   solution-satisfied       what is right, with such small parts
 --   satisfied                the checker's pairs: up to 1 / 17,179,869,177
 --   low-passes, high-passes  where pairs meet the run's problem, they pass the checker's limits, which are weaker
 --   pairs-satisfied          so some fractions satisfy the problem
@@ -33,7 +34,7 @@ use Rattle.rules.specs.Evidence.{Satisfies, Unsatisfied}
 use Rattle.rules.specs.Problem.{Problem, vars, inner, mapped}
 use Rattle.rules.specs.Sizes.{largestSmall}
 use Rattle.rules.specs.Limit.{Limit, inset, lowerPair, upperPair}
-use Rattle.rules.specs.Facts.Evidence.{Numerators, Passes}
+use Rattle.rules.specs.Facts.Evidence.{Numerators, Passes, Solution}
 
 -- ---- the algebra: S is the largest small part, and e (S + 1) is at most k
 
@@ -112,10 +113,17 @@ module _ (P : Problem Limit) (d : ℤ) (x y : ℕ → ℤ) (K : ℕ) (d-pos : po
     uppers = λ v h. high v h (P .upper v) (uppers v h);
   }
 
+-- what is right, with small parts within K
+pub solution-satisfied : (P : Problem Limit) (d : ℤ) (x y : ℕ → ℤ) (K : ℕ) → Solution P d x y →
+    ((v : ℕ) → v < vars P → Within (y v) K) → (e k : ℤ) → pos 0 <ℤ e → (e *ℤ pos (suc K)) ≤ℤ k →
+    Satisfies P (k *ℤ d) (λ v. mixed e k (x v, y v))
+solution-satisfied P d x y K S small =
+    satisfied-by P d x y K (<ℤ-≤ℤ-trans (ltZ-yes {a = pos 0} {b = pos 1} tt) (S .least)) small
+    (S .rows) (S .small-rows) (S .lowers) (S .uppers)
+
 pub satisfied : (P : Problem Limit) (d : ℤ) (x y : ℕ → ℤ) → Numerators P d x y → (e k : ℤ) → pos 0 <ℤ e →
     (e *ℤ pos (suc largestSmall)) ≤ℤ k → Satisfies P (k *ℤ d) (λ v. mixed e k (x v, y v))
-satisfied P d x y Q = satisfied-by P d x y largestSmall (<ℤ-≤ℤ-trans (ltZ-yes {a = pos 0} {b = pos 1} tt) (Q .least))
-    (Q .smalls) (Q .rows) (Q .small-rows) (Q .lowers) (Q .uppers)
+satisfied P d x y Q = solution-satisfied P d x y largestSmall (Q .right) (Q .smalls)
 
 -- ---- what the run's pairs meet, the checker's limits hold of
 

@@ -24,7 +24,7 @@ use Rattle.rules.specs.Keeping.Limits.{kept}
 use Rattle.rules.specs.Limit.{Limit}
 use Rattle.rules.specs.Problem.{Problem, problem, vars}
 use Rattle.rules.specs.Refusal.{Accepted}
-use Rattle.rules.specs.Facts.Evidence.{Contradiction, Multiplier, Shown, ShowsCannot, StrictNamed}
+use Rattle.rules.specs.Facts.Evidence.{Contradiction, Multiplier, Refutation, Shown, ShowsCannot, StrictNamed}
 use Rattle.rules.specs.Sizes.{mostRows}
 
 -- ---- a limit, kept where its multiplier k is not 0
@@ -42,7 +42,7 @@ module _ (o : Option Limit) (k : ℤ) where
       go false e = inl (ap (λ b. kept (not b) o) e)
 
   multiplier-kept : Multiplier o k → Multiplier still k
-  multiplier-kept m = record { least = m .least; most = m .most; missing = λ e. go e kept-or-zero }
+  multiplier-kept m = record { least = m .least; missing = λ e. go e kept-or-zero }
     where
       go : still ≡ none → (still ≡ o) ⊎ (k ≡ pos 0) → k ≡ pos 0
       go e (inl q) = m .missing (sym q ∙ e)
@@ -79,7 +79,7 @@ module _ (P : Problem Limit) (a : List ℤ) where
   surplus-kept = sum-same (vars P) _ _ (λ v h.
       ap₂ _-ℤ_ (share-kept (P .lower v) (lo v)) (share-kept (P .upper v) (up v)))
 
-  named-multipliers : ShowsCannot P a → ShowsCannot (named a P) a
+  named-multipliers : Refutation P (denominatorOf a) lo up → Refutation (named a P) (denominatorOf a) lo up
   unfolding column
   named-multipliers S = record {
     no-denominator = S .no-denominator;
@@ -95,7 +95,7 @@ module _ (P : Problem Limit) (a : List ℤ) where
       go (inr (z, (v, h, inr s))) = inr (surplus-kept ∙ z, (v, h, inr (strict-kept (P .upper v) (up v) s)))
 
   pub named-clash-shown : ShowsCannot P a → Unsatisfied (named a P)
-  named-clash-shown S = farkas (named a P) (denominatorOf a) lo up (named-multipliers S)
+  named-clash-shown S = farkas (named a P) (denominatorOf a) lo up (named-multipliers (S .right))
 
 -- ---- of words
 

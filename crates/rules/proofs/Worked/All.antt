@@ -8,8 +8,9 @@ use Rattle.whole.specs.Tables.{matrix, tableFrom}
 use Rattle.rules.specs.Answer.{answer, answerFrom, wordsOf}
 use Rattle.rules.specs.Cases.All.{cases}
 use Rattle.rules.specs.Times.Cycle.{isBadCycle}
-use Rattle.rules.specs.Evidence.{accepted, atLeast, atMost, checked, column, contradicts, fair, plainOf}
-use Rattle.rules.specs.Evidence.{showsCan, showsCannot, someStrict, strictNamed, surplus}
+use Rattle.rules.specs.Evidence.{accepted, atLeast, atMost, checked, column, contradicts, owed, plainOf}
+use Rattle.rules.specs.Evidence.{rangedCan, rangedCannot, rightCan, rightCannot, showsCan, showsCannot}
+use Rattle.rules.specs.Evidence.{someStrict, strictNamed, surplus}
 use Rattle.rules.specs.Cases.Evidence.{evidenceCases}
 use Rattle.rules.specs.Cases.Expected.{AllRight, comesOut, wanted}
 use Rattle.rules.specs.Limit.{badKindWord, badLimitWord, bit, present}
@@ -36,7 +37,8 @@ unfolding cases limitCases evidenceCases timeCases comesOut wanted
     problem present bit mapped badKindWord
     refusal first problemTests tooFew badSize badLength badCoefficient badKind
     badLimit blankRow someBlank badLimitWord tooShort
-    checked accepted showsCan showsCannot atLeast atMost fair column surplus plainOf strictNamed someStrict contradicts
+    checked accepted showsCan showsCannot rightCan rightCannot rangedCan rangedCannot atLeast atMost owed column
+    surplus plainOf strictNamed someStrict contradicts
     timeRefusal timeTests badTimeSize badWordCount badEnd badStrict badRowLength noRoom
     timesAnswer timesOf cycleWords canMeet distances passes look settled isBadCycle
     lowest someBelow allBelow foldBelow sumBy tableFrom matrix gcd gcdTurns within outside

@@ -7,8 +7,9 @@ use Rattle.whole.specs.Sums.{sumBy}
 use Rattle.whole.specs.Tables.{matrix, tableFrom}
 use Rattle.rules.specs.Answer.{answerFrom, wordsOf}
 use Rattle.rules.specs.Cases.Sessions.{SessionsRight, ViolationsRight, repliesTo, sessionCases, violationCases}
-use Rattle.rules.specs.Evidence.{accepted, atLeast, atMost, checked, column, contradicts, fair, plainOf, showsCan}
-use Rattle.rules.specs.Evidence.{showsCannot, someStrict, strictNamed, surplus}
+use Rattle.rules.specs.Evidence.{accepted, atLeast, atMost, checked, column, contradicts, owed, plainOf}
+use Rattle.rules.specs.Evidence.{rangedCan, rangedCannot, rightCan, rightCannot, showsCan, showsCannot}
+use Rattle.rules.specs.Evidence.{someStrict, strictNamed, surplus}
 use Rattle.rules.specs.Keeping.Limits.{kept}
 use Rattle.rules.specs.Keeping.Words.{kindOf, liveKind, liveLimit, liveWord, liveWords}
 use Rattle.rules.specs.Limit.{badKindWord, badLimitWord, bit, present}
@@ -32,7 +33,8 @@ unfolding sessionCases repliesTo opened switched switchRefusal switchTests
     leaving broken under over entering suits mayRise mayFall pull moved limitAt admit evidence scaled seated shortfallBy
     start startEntry startSeat startValue pivot solved reduced relation divisor divisorSize small
     problem present bit mapped first liveWords liveWord liveLimit liveKind kindOf
-    checked accepted showsCan showsCannot atLeast atMost plainOf fair strictNamed column surplus someStrict contradicts
+    checked accepted showsCan showsCannot rightCan rightCannot rangedCan rangedCannot atLeast atMost plainOf owed
+    strictNamed column surplus someStrict contradicts
     problemTests tooFew badSize badLength badCoefficient badKind badKindWord badLimit badLimitWord someBlank blankRow
     tooShort violationOf shownBy
     lowest someBelow allBelow foldBelow sumBy tableFrom matrix gcd gcdTurns within outside

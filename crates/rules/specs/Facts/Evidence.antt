@@ -1,7 +1,8 @@
 -- docs/RULES.md, "The evidence checker", sentence by sentence in plain facts, with no test inside; and what an accepted
 -- answer means.
---   Numerators, ShowsCan         verdict 1: what is asked of denominator, numerators and small parts
---   Multipliers, ShowsCannot     verdict 2: what is asked of the multipliers
+--   Solution, Numerators, ShowsCan            verdict 1: denominator, numerators and small parts that are right; that
+--                                             are within the ranges too; in the words of an answer
+--   Refutation, Multipliers, ShowsCannot      verdict 2: the multipliers, likewise
 --   Shown                        the verdict with its evidence
 --   checkerTable                 the checker's number, line by line (specs/Facts/Refusal)
 --   MetSmall, MetActually, Meant     what the number 8 means
@@ -32,12 +33,9 @@ abbrev pub Passes : Bool → ℤ × ℤ → ℤ × ℤ → Type 0
 Passes true x y = Lt pairs x y
 Passes false x y = Le pairs x y
 
--- d is the denominator, x and y are the numerators and their small parts
-pub record Numerators (P : Problem Limit) (d : ℤ) (x y : ℕ → ℤ) : Type 0 where
+-- right: d is the denominator, x and y are the numerators and their small parts
+pub record Solution (P : Problem Limit) (d : ℤ) (x y : ℕ → ℤ) : Type 0 where
   pub least : pos 1 ≤ℤ d
-  pub most : d ≤ℤ pos largestNumber
-  pub numerators : (v : ℕ) → v < vars P → Within (x v) largestNumerator
-  pub smalls : (v : ℕ) → v < vars P → Within (y v) largestSmall
   pub rows : Rows whole P x
   pub small-rows : Rows whole P y
   pub lowers : (v : ℕ) → v < vars P → (l : Limit) → P .lower v ≡ some l →
@@ -45,12 +43,18 @@ pub record Numerators (P : Problem Limit) (d : ℤ) (x y : ℕ → ℤ) : Type 0
   pub uppers : (v : ℕ) → v < vars P → (u : Limit) → P .upper v ≡ some u →
       Passes (u .strict) (x v, y v) (d *ℤ u .plain, pos 0)
 
+-- .. and within the ranges
+pub record Numerators (P : Problem Limit) (d : ℤ) (x y : ℕ → ℤ) : Type 0 where
+  pub right : Solution P d x y
+  pub most : d ≤ℤ pos largestNumber
+  pub numerators : (v : ℕ) → v < vars P → Within (x v) largestNumerator
+  pub smalls : (v : ℕ) → v < vars P → Within (y v) largestSmall
+
 -- ---- verdict 2
 
 -- k is a multiplier of a limit that may be missing
 pub record Multiplier (limit : Option Limit) (k : ℤ) : Type 0 where
   pub least : pos 0 ≤ℤ k
-  pub most : k ≤ℤ pos largestNumber
   pub missing : limit ≡ none → k ≡ pos 0
 
 -- a strict limit with a multiplier other than 0
@@ -64,13 +68,19 @@ Contradiction P lo up = (pos 0 <ℤ surplus P lo up)
     ⊎ ((surplus P lo up ≡ pos 0)
     × ((v : ℕ) × (v < vars P) × (StrictNamed (P .lower v) (lo v) ⊎ StrictNamed (P .upper v) (up v))))
 
--- d is word 2
-pub record Multipliers (P : Problem Limit) (d : ℤ) (lo up : ℕ → ℤ) : Type 0 where
+-- right: d stands where the denominator does
+pub record Refutation (P : Problem Limit) (d : ℤ) (lo up : ℕ → ℤ) : Type 0 where
   pub no-denominator : d ≡ pos 0
   pub lowers : (v : ℕ) → v < vars P → Multiplier (P .lower v) (lo v)
   pub uppers : (v : ℕ) → v < vars P → Multiplier (P .upper v) (up v)
   pub cancels : (j : ℕ) → j < P .n → column P (λ v. lo v -ℤ up v) j ≡ pos 0
   pub contradiction : Contradiction P lo up
+
+-- .. and within the ranges
+pub record Multipliers (P : Problem Limit) (d : ℤ) (lo up : ℕ → ℤ) : Type 0 where
+  pub right : Refutation P d lo up
+  pub lowers-most : (v : ℕ) → v < vars P → lo v ≤ℤ pos largestNumber
+  pub uppers-most : (v : ℕ) → v < vars P → up v ≤ℤ pos largestNumber
 
 -- ---- the words of an answer
 

@@ -78,14 +78,16 @@ module _ (P : Problem Limit) (s : State (ℤ × ℤ)) (S : Sound pairs (inner P)
   can-shown e =
       let M = can-is-met pairs pairs-laws (inner P) s S e in
       record {
-        least = of-positive (common s) (S .rowed .positive);
+        right = record {
+          least = of-positive (common s) (S .rowed .positive);
+          rows = row-parts P (common s) (scaled pairs (inner P) s) M .0;
+          small-rows = row-parts P (common s) (scaled pairs (inner P) s) M .1;
+          lowers = low-passes P (common s) (scaled pairs (inner P) s) M;
+          uppers = high-passes P (common s) (scaled pairs (inner P) s) M;
+        };
         most = within-hi (in-range .0);
         numerators = numerator-within;
         smalls = small-within;
-        rows = row-parts P (common s) (scaled pairs (inner P) s) M .0;
-        small-rows = row-parts P (common s) (scaled pairs (inner P) s) M .1;
-        lowers = low-passes P (common s) (scaled pairs (inner P) s) M;
-        uppers = high-passes P (common s) (scaled pairs (inner P) s) M;
       }
     where
       of-positive : (d : ℤ) → pos 0 <ℤ d → pos 1 ≤ℤ d

@@ -8,6 +8,7 @@ use mathlib.Core.Path.{ap, refl, sym, _∙_, _≡_}
 use Prim.Native.Nat.{ℕ, _<_}
 use native.Mathlib.Decide.{ℕ-discrete}
 use lib.IntN.{*ℤ-zero, negℤ, pos, ℤ, _*ℤ_, _-ℤ_}
+use lib.Signed.{_≤ℤ_}
 use Rattle.whole.proofs.Ring.Reify.{reify}
 use Rattle.whole.proofs.Ring.Laws.{*ℤ-idr, neg-*ℤ}
 use Rattle.whole.proofs.Numbers.Sizes.{within-neg}
@@ -107,19 +108,27 @@ module _ (P : Problem Limit) (s : State (ℤ × ℤ)) (R : Rowed pairs (inner P)
       (λ v. positive (negℤ (pull (r .side) (relation (s .tableau) (r .variable) v))))
       (λ v. positive (pull (r .side) (relation (s .tableau) (r .variable) v)))
   cannot-shown = record {
-    no-denominator = refl;
-    lowers = λ v h. let k = positive-range largestNumber (negℤ (z v)) (within-neg (in-range v h)) in record {
-      least = k .0;
-      most = k .1;
-      missing = λ m. low-missing pairs pairs-laws (inner P) s R r L none-enter v h
-          (not-there lowerPair (P .lower v) m);
+    right = record {
+      no-denominator = refl;
+      lowers = λ v h. record {
+        least = low-range v h .0;
+        missing = λ m. low-missing pairs pairs-laws (inner P) s R r L none-enter v h
+            (not-there lowerPair (P .lower v) m);
+      };
+      uppers = λ v h. record {
+        least = high-range v h .0;
+        missing = λ m. high-missing pairs pairs-laws (inner P) s R r L none-enter v h
+            (not-there upperPair (P .upper v) m);
+      };
+      cancels = column-zero;
+      contradiction = stuck-contradicts P s R r L none-enter;
     };
-    uppers = λ v h. let k = positive-range largestNumber (z v) (in-range v h) in record {
-      least = k .0;
-      most = k .1;
-      missing = λ m. high-missing pairs pairs-laws (inner P) s R r L none-enter v h
-          (not-there upperPair (P .upper v) m);
-    };
-    cancels = column-zero;
-    contradiction = stuck-contradicts P s R r L none-enter;
+    lowers-most = λ v h. low-range v h .1;
+    uppers-most = λ v h. high-range v h .1;
   }
+    where
+      low-range : (v : ℕ) → v < vars P → (pos 0 ≤ℤ lo v) × (lo v ≤ℤ pos largestNumber)
+      low-range v h = positive-range largestNumber (negℤ (z v)) (within-neg (in-range v h))
+
+      high-range : (v : ℕ) → v < vars P → (pos 0 ≤ℤ hi v) × (hi v ≤ℤ pos largestNumber)
+      high-range v h = positive-range largestNumber (z v) (in-range v h)

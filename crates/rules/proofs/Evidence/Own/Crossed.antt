@@ -11,7 +11,7 @@ use Prim.Native.Nat.{ℕ, _+_, _<_}
 use native.Mathlib.Decide.{ℕ-discrete}
 use native.Mathlib.Omega.{arith}
 use lib.IntN.{*ℤ-zero, +ℤ-invr, negℤ, pos, ℤ, _*ℤ_, _+ℤ_, _-ℤ_}
-use lib.Signed.{leZ-yes, ltZ, _<ℤ_}
+use lib.Signed.{leZ-yes, ltZ, _<ℤ_, _≤ℤ_}
 use Rattle.whole.proofs.Ring.Nonneg.{of-lt, slk}
 use Rattle.whole.proofs.Bools.{true-false}
 use Rattle.whole.proofs.Numbers.Order.{false→le, true→lt, ≤ℤ-antisym}
@@ -25,6 +25,7 @@ use Rattle.rules.specs.Evidence.{column, plainOf, surplus}
 use Rattle.rules.specs.Limit.{Limit, inset, lowerPair, upperPair}
 use Rattle.rules.specs.Problem.{Problem, inner, mapped, vars}
 use Rattle.rules.specs.Facts.Evidence.{Contradiction, Multiplier, Multipliers}
+use Rattle.rules.specs.Sizes.{largestNumber}
 use Rattle.rules.specs.Step.{same}
 use Rattle.rules.specs.Facts.Run.{Crosses}
 
@@ -35,10 +36,16 @@ one-at limit v x e w = go (ℕ-discrete v w)
     go : Dec (v ≡ w) → Multiplier (limit w) (same v w)
     go (yes c) = rw (← c, same-self v) (record {
       least = leZ-yes tt;
-      most = leZ-yes tt;
       missing = λ q. absurd (Option·none-ne-some x (sym q ∙ e));
     })
-    go (no n) = rw (same-off v w n) (record { least = leZ-yes tt; most = leZ-yes tt; missing = λ q. refl })
+    go (no n) = rw (same-off v w n) (record { least = leZ-yes tt; missing = λ q. refl })
+
+one-most : (v w : ℕ) → same v w ≤ℤ pos largestNumber
+one-most v w = go (ℕ-discrete v w)
+  where
+    go : Dec (v ≡ w) → same v w ≤ℤ pos largestNumber
+    go (yes c) = rw (← c, same-self v) (leZ-yes tt)
+    go (no n) = rw (same-off v w n) (leZ-yes tt)
 
 -- the two limits of a variable that cross
 record Crossing (P : Problem Limit) (v : ℕ) : Type 0 where
@@ -115,11 +122,15 @@ module _ (P : Problem Limit) (v : ℕ) (h : v < vars P) (C : Crossing P v) where
 
   crossed-evidence : Multipliers P (pos 0) (same v) (same v)
   crossed-evidence = record {
-    no-denominator = refl;
-    lowers = λ w h. one-at (P .lower) v (C .low) (C .low-is) w;
-    uppers = λ w h. one-at (P .upper) v (C .high) (C .high-is) w;
-    cancels = λ j h. column-zero j;
-    contradiction = contradiction;
+    right = record {
+      no-denominator = refl;
+      lowers = λ w h. one-at (P .lower) v (C .low) (C .low-is) w;
+      uppers = λ w h. one-at (P .upper) v (C .high) (C .high-is) w;
+      cancels = λ j h. column-zero j;
+      contradiction = contradiction;
+    };
+    lowers-most = λ w h. one-most v w;
+    uppers-most = λ w h. one-most v w;
   }
 
 pub crossed-shown : (P : Problem Limit) (v : ℕ) → v < vars P → Crosses pairs (inner P) v →

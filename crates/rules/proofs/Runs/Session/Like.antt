@@ -33,14 +33,16 @@ module _ (n m : ℕ) (a b : ℕ → ℕ → ℤ) (l u l′ u′ : ℕ → Option
 
     numerators-alike : (d : ℤ) (x y : ℕ → ℤ) → Numerators P d x y → Numerators Q d x y
     numerators-alike d x y S = record {
-      least = S .least;
+      right = record {
+        least = S .right .least;
+        rows = rows-alike x (S .right .rows);
+        small-rows = rows-alike y (S .right .small-rows);
+        lowers = λ v h k e. S .right .lowers v h k (sym (E .lowers v h) ∙ e);
+        uppers = λ v h k e. S .right .uppers v h k (sym (E .uppers v h) ∙ e);
+      };
       most = S .most;
       numerators = S .numerators;
       smalls = S .smalls;
-      rows = rows-alike x (S .rows);
-      small-rows = rows-alike y (S .small-rows);
-      lowers = λ v h k e. S .lowers v h k (sym (E .lowers v h) ∙ e);
-      uppers = λ v h k e. S .uppers v h k (sym (E .uppers v h) ∙ e);
     }
 
     column-alike : (y : ℕ → ℤ) (j : ℕ) → j < n → column Q y j ≡ column P y j
@@ -55,11 +57,15 @@ module _ (n m : ℕ) (a b : ℕ → ℕ → ℤ) (l u l′ u′ : ℕ → Option
 
     multipliers-alike : (d : ℤ) (lo up : ℕ → ℤ) → Multipliers P d lo up → Multipliers Q d lo up
     multipliers-alike d lo up S = record {
-      no-denominator = S .no-denominator;
-      lowers = λ v h. subst (λ o. Multiplier o (lo v)) (sym (E .lowers v h)) (S .lowers v h);
-      uppers = λ v h. subst (λ o. Multiplier o (up v)) (sym (E .uppers v h)) (S .uppers v h);
-      cancels = λ j h. column-alike (λ v. lo v -ℤ up v) j h ∙ S .cancels j h;
-      contradiction = go (S .contradiction);
+      right = record {
+        no-denominator = S .right .no-denominator;
+        lowers = λ v h. subst (λ o. Multiplier o (lo v)) (sym (E .lowers v h)) (S .right .lowers v h);
+        uppers = λ v h. subst (λ o. Multiplier o (up v)) (sym (E .uppers v h)) (S .right .uppers v h);
+        cancels = λ j h. column-alike (λ v. lo v -ℤ up v) j h ∙ S .right .cancels j h;
+        contradiction = go (S .right .contradiction);
+      };
+      lowers-most = S .lowers-most;
+      uppers-most = S .uppers-most;
     }
       where
         go : Contradiction P lo up → Contradiction Q lo up
