@@ -6,6 +6,7 @@
 --   Termination  no arrangement comes twice, so the count is bounded and every run ends
 --   Answer       the words of an answer
 --   Evidence     the checker: what it accepts, what that means, and that it accepts the answers of the run (Own)
+--   Wide         the checker of wide evidence: what it accepts, and what that means
 --   Idle         nothing is idle in a "cannot"
 --   Plain        where no limit is strict, the run over pairs is the run over whole numbers
 --   Runs         runs that are cut, switched between, and replayed
@@ -23,6 +24,7 @@ pub mod Run
 pub mod Termination
 pub mod Answer
 pub mod Evidence
+pub mod Wide
 pub mod Idle
 pub mod Plain
 pub mod Runs

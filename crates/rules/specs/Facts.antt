@@ -10,6 +10,7 @@
 --   Runs       runs that are cut, switched between, and replayed
 --   Fractions  fractions over denominators of their own
 --   Evidence   the checker, sentence by sentence, and what an accepted answer means
+--   Wide       the checker of wide evidence, likewise
 pub mod Refusal
 pub mod Rule
 pub mod Blame
@@ -21,3 +22,4 @@ pub mod Answer
 pub mod Runs
 pub mod Fractions
 pub mod Evidence
+pub mod Wide

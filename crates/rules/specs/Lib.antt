@@ -12,6 +12,7 @@
 --   Plain     the run where no limit is strict
 --   Runs      runs that are cut, switched between, and replayed
 --   Evidence  the checker
+--   Wide      the checker of numbers of four words
 --   Keeping   a problem with some of its limits alone
 --   Times     time rows
 --   Program   bytes and text
@@ -31,6 +32,7 @@ pub mod Answer
 pub mod Plain
 pub mod Runs
 pub mod Evidence
+pub mod Wide
 pub mod Keeping
 pub mod Times
 pub mod Program

@@ -48,6 +48,24 @@ largestSmall = 17179869176
 abbrev pub largestShortfall : ℕ
 largestShortfall = 579820584690000
 
+-- ---- numbers of four words
+
+-- 2^32, by which each word but the lowest counts
+abbrev pub limbTurn : ℕ
+limbTurn = 4294967296
+
+-- of the three lower words; the least is 0
+abbrev pub largestLimb : ℕ
+largestLimb = 4294967295
+
+-- of the highest word; the least is one below its negative
+abbrev pub largestHead : ℕ
+largestHead = 2147483647
+
+-- 2^127: no number of four words is larger
+abbrev pub largestWide : ℕ
+largestWide = 170141183460469231731687303715884105728
+
 -- ---- time rows
 
 -- the least is 1
