@@ -1,0 +1,59 @@
+-- How large limbs are.
+--   sized-le, sized-zero, sized-plus, sized-less, sized-times      limb by limb
+--   sized-of                                     a number of one word
+--   settled-of                                   after carries the three lower limbs are below 2^32
+use mathlib.Core.Path.{_≡_}
+use Prim.Native.Nat.{ℕ, _*_, _+_, _≤_}
+use native.Mathlib.Omega.{arith}
+use lib.Dec.{lit≤}
+use lib.IntN.{pos, ℤ}
+use mir.Syntax.{w64}
+use mir.Val.{SFits}
+use Rattle.whole.proofs.Numbers.Halves.{rem-most}
+use Rattle.whole.proofs.Numbers.Sizes.{within-*, within-+, within--, within-le}
+use Rattle.whole.specs.Numbers.{Within}
+use Rattle.limbs.specs.Limbs.{Settled, Sized, lessOf, plusOf, secondOf, settledOf, thirdOf, timesOf, zeroWide}
+use Rattle.limbs.specs.declared.Wide.{Wide}
+
+pub sized-le : {w : Wide} {m n : ℕ} → Sized w m → m ≤ n → Sized w n
+sized-le h k = record {
+  size-a = within-le (h .size-a) k;
+  size-b = within-le (h .size-b) k;
+  size-c = within-le (h .size-c) k;
+  size-d = within-le (h .size-d) k;
+}
+
+pub sized-zero : (n : ℕ) → Sized zeroWide n
+sized-zero n = record {
+  size-a = record { within = omega arith };
+  size-b = record { within = omega arith };
+  size-c = record { within = omega arith };
+  size-d = record { within = omega arith };
+}
+
+pub sized-plus : {v w : Wide} {m n : ℕ} → Sized v m → Sized w n → Sized (plusOf v w) (m + n)
+sized-plus h k = record {
+  size-a = within-+ (h .size-a) (k .size-a);
+  size-b = within-+ (h .size-b) (k .size-b);
+  size-c = within-+ (h .size-c) (k .size-c);
+  size-d = within-+ (h .size-d) (k .size-d);
+}
+
+pub sized-less : {v w : Wide} {m n : ℕ} → Sized v m → Sized w n → Sized (lessOf v w) (m + n)
+sized-less h k = record {
+  size-a = within-- (h .size-a) (k .size-a);
+  size-b = within-- (h .size-b) (k .size-b);
+  size-c = within-- (h .size-c) (k .size-c);
+  size-d = within-- (h .size-d) (k .size-d);
+}
+
+pub sized-times : {k : ℤ} {w : Wide} {m n : ℕ} → Within k m → Sized w n → Sized (timesOf k w) (m * n)
+sized-times h k = record {
+  size-a = within-* h (k .size-a);
+  size-b = within-* h (k .size-b);
+  size-c = within-* h (k .size-c);
+  size-d = within-* h (k .size-d);
+}
+
+pub settled-of : (w : Wide) → Settled (settledOf w)
+settled-of w = record { under-a = rem-most (w .a); under-b = rem-most (secondOf w); under-c = rem-most (thirdOf w) }

@@ -1,0 +1,2 @@
+-- The laws of numbers of four limbs. Nothing is assumed.
+pub mod Laws
