@@ -2,11 +2,10 @@
 // multiples go limb by limb; only where a sign is asked for are carries taken, from low to high. Carries go toward 0: then
 // no limb but the highest is as large as 2^32, and the highest limb that is not 0 has the sign.
 ghost use mathlib.Core.Path.{_≡_};
-ghost use lib.IntN.{pos, ℤ};
-ghost use lib.Signed.{quotZ, remZ};
-ghost use Rattle.whole.specs.Numbers.{Within, eqZ};
-ghost use Rattle.rules.specs.Sizes.{limbTurn, largestLimit, largestLimb};
-ghost use Rattle.limbs.specs.Limbs.{Settled, Sized, lessOf, mostFactor, mostSum, ofNumber, pick, plusOf, signOf};
+ghost use lib.IntN.{pos};
+ghost use Rattle.whole.specs.Numbers.{Within, eqZ, isPos};
+ghost use Rattle.rules.specs.Sizes.{largestLimit};
+ghost use Rattle.limbs.specs.Limbs.{Sized, lessOf, mostFactor, mostSum, ofNumber, pick, plusOf, signOf};
 ghost use Rattle.limbs.specs.Limbs.{settledOf, timesOf, value, zeroWide};
 
 pub struct Wide {
@@ -124,5 +123,14 @@ impl Wide {
     {
         let sign = self.sign();
         sign == 0
+    }
+
+    // Whether it is above 0.
+    pub fn is_above(self) -> bool
+        requires { ⌜ Sized self mostSum ⌝ }
+        ensures { λ r. ⌜ r ≡ isPos (value self) ⌝ }
+    {
+        let sign = self.sign();
+        0 < sign
     }
 }

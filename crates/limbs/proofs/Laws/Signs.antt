@@ -1,20 +1,20 @@
 -- The sign of a number by its limbs.
 --   sign-over        a limb below 2^32 has the sign where what is above it is 0
 --   sign-limbs       so the highest limb that is not 0 has it
---   sign-zero        the sign is 0 exactly where the number is
+--   sign-zero, sign-above, sign-below       the sign is 0, above or below 0 exactly where the number is
 use mathlib.Core.List.{[], _∷_}
 use mathlib.Core.Path.{ap, refl, sym, _∙_, _≡_}
 use Prim.Native.Nat.{suc, zero, _<_}
 use native.Mathlib.Omega.{arith}
 use lib.Dec.{ltb→lt}
 use lib.IntN.{natAbs, negsuc, pos, ℤ, _*ℤ_, _+ℤ_}
-use lib.Signed.{<ℤ-irrefl, _<ℤ_}
+use lib.Signed.{<ℤ-irrefl, ltZ, _<ℤ_}
 use Rattle.whole.proofs.Numbers.Order.{Sign, minus, null, plus, sign}
 use Rattle.whole.proofs.Numbers.Sizes.{within-hi, within-lo}
 use Rattle.whole.proofs.Ring.Nonneg.{nn-nat, of-le, of-lt, slk, _⊞_, _⊠_}
 use Rattle.whole.proofs.Ring.Reify.{reify}
 use Rattle.whole.proofs.Ring.Tools.{lt-at, ring-at}
-use Rattle.whole.proofs.Tells.{tells-eqZ, tells-false}
+use Rattle.whole.proofs.Tells.{tells-eqZ, tells-false, tells-lt, tells-true}
 use Rattle.whole.specs.Numbers.{Within, eqZ}
 use Rattle.rules.specs.Sizes.{largestLimb, limbTurn}
 use Rattle.limbs.specs.Limbs.{Settled, pick, signOf, value}
@@ -72,3 +72,15 @@ sign-zero (pos (suc n)) = sym (tells-false (tells-eqZ (pos (suc n)) (pos 0)) (λ
     nonzero : suc n ≡ 0 → ⊥
     nonzero e = omega arith
 sign-zero (negsuc n) = refl
+
+pub sign-above : (z : ℤ) → ltZ (pos 0) (signOf z) ≡ ltZ (pos 0) z
+unfolding signOf
+sign-above (pos zero) = refl
+sign-above (pos (suc n)) = sym (tells-true (tells-lt 0 (suc n)) (omega arith))
+sign-above (negsuc n) = refl
+
+pub sign-below : (z : ℤ) → ltZ (signOf z) (pos 0) ≡ ltZ z (pos 0)
+unfolding signOf
+sign-below (pos zero) = refl
+sign-below (pos (suc n)) = sym (tells-false (tells-lt (suc n) 0) (omega arith))
+sign-below (negsuc n) = refl
