@@ -19,6 +19,7 @@ ghost use Rattle.bundle.specs.Contents.{contentsTold};
 ghost use Rattle.replay.specs.Replay.{replayedAs, toldOf};
 ghost use Rattle.traces.specs.Traces.{tracedAs};
 ghost use Rattle.exchange.specs.Sent.{sentBy};
+ghost use Rattle.rules.specs.Wide.{checkedWide};
 ghost use Rattle.slices.specs.Slices.{GoesOnAs, SliceStanding, StartsAs, begunAt, sliceOutputAt, wentOnAt};
 ghost use Rattle.session.specs.Sessions as sessions;
 ghost use Rattle.session.specs.Sessions.{ChecksAs, OpensAs, SwitchesAs, checkedAt, openedAt, switchedAt};
@@ -58,6 +59,14 @@ pub extern "C" fn scatterflock_check(words: &[i32], answer: &[i64]) -> u32
     ensures { λ r. ⌜ r ≡ checked (now (words .entry)) (now (answer .entry)) ⌝ }
 {
     evidence::check(words, answer)
+}
+
+// Judges an answer to a limit problem whose numbers have four words each.
+#[no_mangle]
+pub extern "C" fn scatterflock_check_wide(words: &[i32], answer: &[i64]) -> u32
+    ensures { λ r. ⌜ r ≡ checkedWide (now (words .entry)) (now (answer .entry)) ⌝ }
+{
+    wide::check(words, answer)
 }
 
 // Answers time rows.
