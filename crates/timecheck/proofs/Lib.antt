@@ -1,0 +1,2 @@
+-- The theory and the laws behind the checker of evidence about time rows. Nothing is assumed.
+pub mod Laws

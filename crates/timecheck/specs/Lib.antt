@@ -1,0 +1,3 @@
+-- docs/RULES.md, "Evidence about time rows".
+pub mod Check
+pub mod Walk
