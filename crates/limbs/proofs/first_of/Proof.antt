@@ -27,7 +27,7 @@ sign-is (negsuc k) r n = refl
 
 returns : tie.Need-returns
 returns c = let s = c .before in
-    simp (toZ-ofZ (s .fits .rest))
+    simp (toZ-ofZ (s .fits .rest), toZ-ofZ (s .fits .sign))
     (rest-is (s .args .sign) (s .args .rest) (test-eq w64 (s .fits .sign) zero-fits (c .if1 .taken)))
 
 returns-2 : tie.Need-returns-2

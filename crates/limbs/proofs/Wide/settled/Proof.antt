@@ -58,6 +58,14 @@ module _ (c : tie.Start) where
   fit-fourth : SFits w64 (w .d +ℤ quotZ (thirdOf w) (pos limbTurn))
   fit-fourth = fits-by fourth tt
 
+-- the promise first
+returns : tie.Need-returns
+returns c = let s = c .before .before .before .before .before .before .before .before .before .before in
+    simp (toZ-ofZ (fit-a s), toZ-ofZ (fit-b s), toZ-ofZ (fit-c s), toZ-ofZ (fit-d s), toZ-ofZ (quotient _ (fit-a s)),
+    toZ-ofZ (fit-second s), toZ-ofZ (quotient _ (fit-second s)), toZ-ofZ (fit-third s),
+    toZ-ofZ (quotient _ (fit-third s)), toZ-ofZ (fit-fourth s), toZ-ofZ (rest (w s .a)),
+    toZ-ofZ (rest (secondOf (w s))), toZ-ofZ (rest (thirdOf (w s))))
+
 rem-a : tie.Need-rem-a
 rem-a c = let s = c .before .before in (lit< tt, simp (toZ-ofZ (fit-a s)) (quotient _ (fit-a s)))
 
@@ -106,13 +114,6 @@ add-d c = let s = c .before .before .before .before .before .before .before .bef
     simp (toZ-ofZ (fit-a s), toZ-ofZ (fit-b s), toZ-ofZ (fit-c s), toZ-ofZ (fit-d s), toZ-ofZ (quotient _ (fit-a s)),
     toZ-ofZ (fit-second s), toZ-ofZ (quotient _ (fit-second s)), toZ-ofZ (fit-third s),
     toZ-ofZ (quotient _ (fit-third s))) (fit-fourth s)
-
-returns : tie.Need-returns
-returns c = let s = c .before .before .before .before .before .before .before .before .before .before in
-    simp (toZ-ofZ (fit-a s), toZ-ofZ (fit-b s), toZ-ofZ (fit-c s), toZ-ofZ (fit-d s), toZ-ofZ (quotient _ (fit-a s)),
-    toZ-ofZ (fit-second s), toZ-ofZ (quotient _ (fit-second s)), toZ-ofZ (fit-third s),
-    toZ-ofZ (quotient _ (fit-third s)), toZ-ofZ (fit-fourth s), toZ-ofZ (rest (w s .a)),
-    toZ-ofZ (rest (secondOf (w s))), toZ-ofZ (rest (thirdOf (w s))))
 
 pub settled-spec : {M : Type 1} → statement M
 settled-spec =
