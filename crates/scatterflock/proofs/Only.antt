@@ -2,7 +2,7 @@
 -- The contracts themselves are compared: κs are lifetimes, x the arguments, e what lent words hold at the exit.
 --   scatterflock-solve-only    the number, and every word of the output
 --   scatterflock-solve-within-only    the same within fewer rows
---   scatterflock-check-only, scatterflock-check-wide-only    the number
+--   scatterflock-check-only, scatterflock-check-wide-only, scatterflock-check-times-only    the number
 --   scatterflock-slice-start-only       the number and the state
 --   scatterflock-slice-continue-only    the number, whether there is an answer, the state, and every word of the output
 --   scatterflock-replay-only            what a trace comes to, in numbers
@@ -29,6 +29,7 @@ use Rattle.scatterflock.proofs.scatterflock_bundle_write.Reads as bundl
 use Rattle.scatterflock.proofs.scatterflock_day.Reads as day
 use Rattle.scatterflock.proofs.scatterflock_replay.Reads as replay
 use Rattle.scatterflock.proofs.scatterflock_sheet.Reads as sheet
+use Rattle.scatterflock.proofs.scatterflock_check_times.Reads as check-times
 use Rattle.scatterflock.proofs.scatterflock_check_wide.Reads as check-wide
 use Rattle.scatterflock.proofs.scatterflock_session_check.Reads as session-check
 use Rattle.scatterflock.proofs.scatterflock_session_open.Reads as session-open
@@ -58,6 +59,10 @@ scatterflock-check-only κs x a b e h k = h ∙ sym k
 pub scatterflock-check-wide-only : (κs : _) (x : _) (a b : _) (e : _) → check-wide.Post κs x a e →
     check-wide.Post κs x b e → a ≡ b
 scatterflock-check-wide-only κs x a b e h k = h ∙ sym k
+
+pub scatterflock-check-times-only : (κs : _) (x : _) (a b : _) (e : _) → check-times.Post κs x a e →
+    check-times.Post κs x b e → a ≡ b
+scatterflock-check-times-only κs x a b e h k = h ∙ sym k
 
 pub scatterflock-slice-start-only : (κs : _) (x : _) (a b : _) (e f : _) →
     slice-start.Post κs x a e → slice-start.Post κs x b f → a ≡ b

@@ -20,6 +20,7 @@ ghost use Rattle.replay.specs.Replay.{replayedAs, toldOf};
 ghost use Rattle.traces.specs.Traces.{tracedAs};
 ghost use Rattle.exchange.specs.Sent.{sentBy};
 ghost use Rattle.rules.specs.Wide.{checkedWide};
+ghost use Rattle.timecheck.specs.Check.{checkedTimes};
 ghost use Rattle.slices.specs.Slices.{GoesOnAs, SliceStanding, StartsAs, begunAt, sliceOutputAt, wentOnAt};
 ghost use Rattle.session.specs.Sessions as sessions;
 ghost use Rattle.session.specs.Sessions.{ChecksAs, OpensAs, SwitchesAs, checkedAt, openedAt, switchedAt};
@@ -75,6 +76,14 @@ pub extern "C" fn scatterflock_times(words: &[i32], out: &mut [i64]) -> u32
     ensures { λ r. ⌜ Timed (now (words .entry)) (now (out .entry)) r (now (out .exit)) ⌝ }
 {
     times::times(words, out)
+}
+
+// Judges an answer to time rows.
+#[no_mangle]
+pub extern "C" fn scatterflock_check_times(words: &[i32], answer: &[i64]) -> u32
+    ensures { λ r. ⌜ r ≡ checkedTimes (now (words .entry)) (now (answer .entry)) ⌝ }
+{
+    timecheck::check(words, answer)
 }
 
 // Starts a run that is made in slices.
