@@ -5,7 +5,6 @@
 --   zeroWide, plusOf, lessOf, timesOf, ofNumber      limb by limb
 --   settledOf                          after carries, toward 0
 --   signOf, pick                       a sign, and the first that is not 0
-use mathlib.Core.Path.{_≡_}
 use Prim.Native.Nat.{ℕ, zero, suc}
 use lib.IntN.{ℤ, pos, negsuc, _+ℤ_, _-ℤ_, _*ℤ_}
 use lib.Signed.{quotZ, remZ}

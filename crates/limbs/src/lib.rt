@@ -44,7 +44,12 @@ impl Wide {
     pub fn zero() -> Wide
         ensures { λ r. ⌜ r ≡ zeroWide ⌝ }
     {
-        Wide { a: 0, b: 0, c: 0, d: 0 }
+        Wide {
+            a: 0,
+            b: 0,
+            c: 0,
+            d: 0,
+        }
     }
 
     // A number of 64 bits.
@@ -53,7 +58,12 @@ impl Wide {
     {
         let low = z % Wide::TURN;
         let high = z / Wide::TURN;
-        Wide { a: low, b: high, c: 0, d: 0 }
+        Wide {
+            a: low,
+            b: high,
+            c: 0,
+            d: 0,
+        }
     }
 
     pub fn plus(self, other: Wide) -> Wide

@@ -7,6 +7,7 @@
 --   Satisfied  a fraction put for the small amount makes pairs fractions
 --   Means      what the number 8 means
 --   Own        the answers of the run are accepted
+--   Joined     tests without a branch
 pub mod Shows
 pub mod Same
 pub mod Checked
@@ -15,3 +16,4 @@ pub mod Separate
 pub mod Satisfied
 pub mod Means
 pub mod Own
+pub mod Joined

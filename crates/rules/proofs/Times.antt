@@ -8,6 +8,9 @@
 --   Unique   what the promise leaves open, and what not
 --   Told     the words of an answered output
 --   Separate  times over denominators of their own
+--   Checked  the number of the checker of evidence, exactly
+--   Shown    what its number 8 means
+--   Own      the answers of `times` get 8
 pub mod Refused
 pub mod Passes
 pub mod Decide
@@ -17,3 +20,6 @@ pub mod Tested
 pub mod Unique
 pub mod Told
 pub mod Separate
+pub mod Checked
+pub mod Shown
+pub mod Own

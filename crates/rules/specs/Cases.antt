@@ -1,11 +1,11 @@
 -- docs/RULES.md, "Runs worked by hand": words, and what is expected of them.
 --   Expected  the form of a case
 --   Limits    cases A to I, strict limits, edges
---   Evidence  strangers' answers
+--   Evidence  strangers' answers, with numbers of one word and of four
 --   Slices    runs in slices
 --   Sessions  sessions
 --   Replays   traces
---   Times     cases J to L, strict rows
+--   Times     cases J to L, strict rows, strangers' answers
 --   All       limit problems, evidence and time rows as one list
 --   Program   what is printed on them
 --   Bundle    files of many problems

@@ -1,6 +1,7 @@
 -- docs/RULES.md, "Wide evidence": an answer whose numbers have four words each, and its checker. Word 0 is the verdict
 -- and word 1 is not judged; then come 1 + 2N numbers: the denominator, N numerators or lower multipliers, N small parts
--- or upper multipliers. What is right is what is right of any numbers (Evidence); there is no range but that of the words.
+-- or upper multipliers. What is right is what is right of any numbers (Evidence); there is no range but that of the
+-- words.
 use mathlib.Core.Bool.{Bool, true, false, cond, not, _&&_, _||_}
 use mathlib.Core.List.{List, [], _∷_, _++_}
 use Prim.Native.Nat.{ℕ, zero, suc, _+_, _*_, _/_, _%_}
@@ -97,5 +98,5 @@ limbOf (negsuc n) (suc (suc zero)) = pos largestLimb -ℤ pos (n / limbTurn / li
 limbOf (negsuc n) (suc (suc (suc i))) = negsuc (n / limbTurn / limbTurn / limbTurn)
 
 -- the numbers of an answer stand one after the other from word 2 on, in both forms
-unfoldable pub widened : ℕ → List ℤ → List ℤ
-widened N a = word a 0 ∷ word a 1 ∷ table (4 * numbersOf N) (λ k. limbOf (word a (2 + k / 4)) (k % 4))
+unfoldable pub wideForm : ℕ → List ℤ → List ℤ
+wideForm N a = word a 0 ∷ word a 1 ∷ table (4 * numbersOf N) (λ k. limbOf (word a (2 + k / 4)) (k % 4))

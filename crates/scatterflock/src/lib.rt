@@ -20,7 +20,7 @@ ghost use Rattle.replay.specs.Replay.{replayedAs, toldOf};
 ghost use Rattle.traces.specs.Traces.{tracedAs};
 ghost use Rattle.exchange.specs.Sent.{sentBy};
 ghost use Rattle.rules.specs.Wide.{checkedWide};
-ghost use Rattle.timecheck.specs.Check.{checkedTimes};
+ghost use Rattle.rules.specs.Times.Check.{checkedTimes};
 ghost use Rattle.slices.specs.Slices.{GoesOnAs, SliceStanding, StartsAs, begunAt, sliceOutputAt, wentOnAt};
 ghost use Rattle.session.specs.Sessions as sessions;
 ghost use Rattle.session.specs.Sessions.{ChecksAs, OpensAs, SwitchesAs, checkedAt, openedAt, switchedAt};

@@ -1,10 +1,6 @@
---   Exactly    its number, exactly
---   Means      what the number 8 means
 --   Limbs      words of 64 bits as limbs
 --   Cycles     the test for a bad cycle over the words of an answer
 --   Only       that what the promise of `check` allows is one number
-pub mod Exactly
-pub mod Means
 pub mod Limbs
 pub mod Cycles
 pub mod Only

@@ -11,9 +11,9 @@ use Rattle.whole.specs.Numbers.{Within, isNeg}
 use Rattle.whole.specs.Sums.{sum}
 use Rattle.rules.specs.Problem.{mOf, word}
 use Rattle.rules.specs.Sizes.{largestLength, mostVertices}
+use Rattle.rules.specs.Times.Check.{rowNamed}
 use Rattle.rules.specs.Times.Words.{timeEdges}
 use Rattle.timerows.specs.Judged.{Fine}
-use Rattle.timecheck.specs.Check.{rowNamed}
 
 -- accepted rows, and an answer whose first words past word 1 are numbers of rows
 pub record Named (ws a : List ℤ) (count : ℕ) : Type 0 where

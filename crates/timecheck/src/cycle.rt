@@ -12,7 +12,7 @@ ghost use Rattle.rules.specs.Problem.{mOf, nOf, word};
 ghost use Rattle.rules.specs.Sizes.{mostVertices};
 ghost use Rattle.rules.specs.Times.Words.{timesLength};
 ghost use Rattle.timerows.specs.Judged.{Fine};
-ghost use Rattle.timecheck.specs.Check.{cycleShown, rowNamed};
+ghost use Rattle.rules.specs.Times.Check.{cycleShown, rowNamed};
 ghost use Rattle.timecheck.specs.Walk.{Named, Summable, headNamed, isBetween, linkedAt, newUpTo, tailNamed};
 ghost use Rattle.timecheck.specs.Walk.{wordSum};
 use timerows::rows::head;

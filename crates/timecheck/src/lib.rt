@@ -3,7 +3,7 @@
 //   times    times that meet every row
 //   cycle    a bad cycle
 ghost use mathlib.Core.Path.{_≡_};
-ghost use Rattle.timecheck.specs.Check.{checkedTimes};
+ghost use Rattle.rules.specs.Times.Check.{checkedTimes};
 use words::count_at;
 
 mod cycle;

@@ -13,7 +13,7 @@ ghost use Rattle.rules.specs.Sizes.{largestLength};
 ghost use Rattle.rules.specs.Times.Words.{timesLength};
 ghost use Rattle.limbs.specs.Limbs.{signOf};
 ghost use Rattle.timerows.specs.Judged.{Fine};
-ghost use Rattle.timecheck.specs.Check.{rowMet, timesShown};
+ghost use Rattle.rules.specs.Times.Check.{rowMet, timesShown};
 use limbs::Wide;
 use timerows::rows::head;
 use timerows::rows::tail;

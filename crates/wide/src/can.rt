@@ -4,7 +4,6 @@ ghost use mathlib.Core.Path.{_≡_};
 ghost use Prim.Native.Nat.{_+_, _*_, _≤_, _<_};
 ghost use lib.IntN.{pos};
 ghost use lib.ListN.{length};
-ghost use Rattle.whole.specs.Below.{allBelow};
 ghost use Rattle.whole.specs.Numbers.{Within, AllWithin, eqZ};
 ghost use Rattle.rules.specs.Sizes.{mostRows, mostColumns, mostVariables, largestCoefficient, largestLimit, limbTurn};
 ghost use Rattle.rules.specs.Evidence as evidence;

@@ -1,7 +1,7 @@
 // Verdict 2: multipliers of the limits whose sum is a contradiction.
 ghost use mathlib.Core.Path.{_≡_};
 ghost use Prim.Native.Nat.{_+_, _*_, _≤_, _<_};
-ghost use lib.IntN.{pos, _*ℤ_};
+ghost use lib.IntN.{_*ℤ_};
 ghost use lib.ListN.{length};
 ghost use Rattle.whole.specs.Numbers.{Within, AllWithin};
 ghost use Rattle.rules.specs.Sizes.{mostRows, mostColumns, mostVariables, largestCoefficient, largestLimit, limbTurn};

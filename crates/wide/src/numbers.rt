@@ -21,7 +21,12 @@ pub fn number_at(answer: &[i64], slot: usize) -> Wide
     let second = at + 1;
     let third = at + 2;
     let last = at + 3;
-    Wide { a: answer[at], b: answer[second], c: answer[third], d: answer[last] }
+    Wide {
+        a: answer[at],
+        b: answer[second],
+        c: answer[third],
+        d: answer[last],
+    }
 }
 
 fn limb_fits(z: i64) -> bool

@@ -1,6 +1,6 @@
 -- `can::clears` meets its contract. Assumes nothing.
 use mir.Facts.{toZ-ofZ}
-use Rattle.parts.proofs.Laws.Tests.{clears-joined}
+use Rattle.rules.proofs.Evidence.Joined.{clears-joined}
 use Rattle.can.proofs.clears.Statement.{statement}
 use Rattle.can.proofs.clears.Tie as tie
 

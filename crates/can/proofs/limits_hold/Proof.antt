@@ -14,7 +14,7 @@ use Rattle.rules.specs.Evidence.{atLeast, atMost, lowerPart, pairPart, upperPar
 use Rattle.tableau.specs.Parts.{lowerOf, upperOf}
 use Rattle.tableau.specs.declared.Limits.{Limits}
 use Rattle.parts.specs.Reads.{meetsBoth, limitsUpTo}
-use Rattle.parts.proofs.Laws.Tests.{tests-more}
+use Rattle.rules.proofs.Evidence.Joined.{tests-more}
 use Rattle.can.proofs.limits_hold.Statement.{statement}
 use Rattle.can.proofs.limits_hold.Tie as tie
 

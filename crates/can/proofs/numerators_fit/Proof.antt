@@ -14,7 +14,8 @@ use Rattle.whole.proofs.Lists.Below.{all-start}
 use Rattle.whole.proofs.Numbers.Sizes.{fits-by, within-neg}
 use Rattle.rules.specs.Evidence.{lowerPart}
 use Rattle.parts.specs.Reads.{numeratorsFit}
-use Rattle.parts.proofs.Laws.Tests.{not-not, outside-largest, tests-more}
+use Rattle.parts.proofs.Laws.Tests.{not-not, outside-largest}
+use Rattle.rules.proofs.Evidence.Joined.{tests-more}
 use Rattle.can.proofs.numerators_fit.Statement.{statement}
 use Rattle.can.proofs.numerators_fit.Tie as tie
 

@@ -14,7 +14,7 @@ use Rattle.whole.proofs.Lists.Below.{all-start}
 use Rattle.whole.proofs.Tells.{bits-eq}
 use Rattle.rules.specs.Evidence.{lowerPart}
 use Rattle.parts.specs.Reads.{rowSumAt}
-use Rattle.parts.proofs.Laws.Tests.{tests-more}
+use Rattle.rules.proofs.Evidence.Joined.{tests-more}
 use Rattle.can.proofs.rows_hold.Statement.{statement}
 use Rattle.can.proofs.rows_hold.Tie as tie
 

@@ -13,7 +13,7 @@ use Rattle.whole.specs.Numbers.{eqZ}
 use Rattle.whole.proofs.Lists.Below.{all-start}
 use Rattle.whole.proofs.Tells.{bits-eq}
 use Rattle.parts.specs.Reads.{columnAtEntries}
-use Rattle.parts.proofs.Laws.Tests.{tests-more}
+use Rattle.rules.proofs.Evidence.Joined.{tests-more}
 use Rattle.cannot.proofs.columns_cancel.Statement.{statement}
 use Rattle.cannot.proofs.columns_cancel.Tie as tie
 

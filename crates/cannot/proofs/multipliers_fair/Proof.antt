@@ -13,7 +13,7 @@ use Rattle.whole.proofs.Lists.Below.{all-start}
 use Rattle.rules.specs.Evidence.{fair, lowerPart, upperPart}
 use Rattle.tableau.specs.Parts.{lowerOf, upperOf}
 use Rattle.parts.specs.Reads.{fairAt, multipliersFair}
-use Rattle.parts.proofs.Laws.Tests.{tests-more}
+use Rattle.rules.proofs.Evidence.Joined.{tests-more}
 use Rattle.cannot.proofs.multipliers_fair.Statement.{statement}
 use Rattle.cannot.proofs.multipliers_fair.Tie as tie
 

@@ -13,7 +13,7 @@ use Rattle.whole.proofs.Lists.Below.{some-start}
 use Rattle.rules.specs.Evidence.{lowerPart, strictNamed, upperPart}
 use Rattle.tableau.specs.Parts.{lowerOf, upperOf}
 use Rattle.parts.specs.Reads.{namedAt, someNamed}
-use Rattle.parts.proofs.Laws.Tests.{finds-more}
+use Rattle.rules.proofs.Evidence.Joined.{finds-more}
 use Rattle.cannot.proofs.some_named.Statement.{statement}
 use Rattle.cannot.proofs.some_named.Tie as tie
 

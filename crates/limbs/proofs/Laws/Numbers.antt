@@ -3,7 +3,7 @@
 --   value-of                                             a number of one word
 --   quot-rem, value-settled                              carries change no number
 use mathlib.Core.List.{[], _∷_}
-use mathlib.Core.Path.{ap, ap₂, refl, sym, _∙_, _≡_}
+use mathlib.Core.Path.{ap, refl, _∙_, _≡_}
 use Prim.Native.Nat.{ℕ, suc, _*_, _+_, _/_, _%_}
 use native.Mathlib.Omega.{arith}
 use lib.IntN.{negsuc, negℤ, pos, ℤ, _*ℤ_, _+ℤ_, _-ℤ_}
@@ -11,7 +11,6 @@ use lib.Signed.{quotZ, remZ}
 use Rattle.whole.proofs.Ring.Reify.{reify}
 use Rattle.whole.proofs.Ring.Tools.{ring-at}
 use Rattle.rules.specs.Sizes.{limbTurn}
-use Rattle.rules.specs.Wide.{wideNumber}
 use Rattle.limbs.specs.Limbs.{lessOf, ofNumber, plusOf, secondOf, settledOf, thirdOf, timesOf, value, zeroWide}
 use Rattle.limbs.specs.declared.Wide.{Wide}
 

@@ -2,13 +2,9 @@
 --   sized-le, sized-zero, sized-plus, sized-less, sized-times      limb by limb
 --   sized-of                                     a number of one word
 --   settled-of                                   after carries the three lower limbs are below 2^32
-use mathlib.Core.Path.{_≡_}
 use Prim.Native.Nat.{ℕ, _*_, _+_, _≤_}
 use native.Mathlib.Omega.{arith}
-use lib.Dec.{lit≤}
-use lib.IntN.{pos, ℤ}
-use mir.Syntax.{w64}
-use mir.Val.{SFits}
+use lib.IntN.{ℤ}
 use Rattle.whole.proofs.Numbers.Halves.{rem-most}
 use Rattle.whole.proofs.Numbers.Sizes.{within-*, within-+, within--, within-le}
 use Rattle.whole.specs.Numbers.{Within}

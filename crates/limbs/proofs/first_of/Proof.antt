@@ -1,6 +1,6 @@
 -- `limbs::first_of` meets its contract. Assumes nothing.
 use mathlib.Core.Logic.{_≢_}
-use mathlib.Core.Path.{ap, refl, sym, _≡_}
+use mathlib.Core.Path.{ap, refl, _≡_}
 use Prim.Native.Nat.{suc, zero}
 use lib.Dec.{lit<}
 use lib.IntN.{negsuc, pos, ℤ}

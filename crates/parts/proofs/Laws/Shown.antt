@@ -30,7 +30,8 @@ use Rattle.parts.specs.Reads.{Readable, problemOf, numeratorsFit, rowUpT
 use Rattle.parts.specs.Reads.{limitsHold, multipliersFair, columnUpTo, columnsCancel, surplusUpTo, surplusOf}
 use Rattle.parts.specs.Reads.{namedAt, someNamed}
 use Rattle.parts.proofs.Laws.Halves.{second-half}
-use Rattle.parts.proofs.Laws.Tests.{not-either, or-none}
+use Rattle.parts.proofs.Laws.Tests.{not-either}
+use Rattle.rules.proofs.Evidence.Joined.{or-none}
 
 -- the tests by halves: p and m of the denominator, r and n of the numerators, q and s of the small parts, l of limits
 by-halves : (p r q l m n s : Bool) → (p && r && q && l && (m && n && s)) ≡ (p && m && (n && r) && (s && q) && l)

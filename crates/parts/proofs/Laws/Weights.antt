@@ -39,8 +39,10 @@ net-within l u i k p q r s = within-- (weight-within (l .on) _ i p q) (weight-wi
 fair-within : (b : Bool) (l : Limit) (k : ℤ) → fair (present b l) k ≡ true → Within k largestNumber
 unfolding owed present
 fair-within true l k e = let (p, q) = and-true (not (isNeg k)) (modest k) e in
-    record { within = under-size largestNumber 0 k (false→le {a = pos 0} {b = k} (not-true (isNeg k) p))
-        (false→le {a = k} {b = pos largestNumber} (not-true (ltZ (pos largestNumber) k) q)) }
+    record {
+      within = under-size largestNumber 0 k (false→le {a = pos 0} {b = k} (not-true (isNeg k) p))
+          (false→le {a = k} {b = pos largestNumber} (not-true (ltZ (pos largestNumber) k) q));
+    }
 fair-within false l k e = let (p, q) = and-true (eqZ k (pos 0)) (modest k) e in
     rw (tells-eqZ k (pos 0) .if-true p) (record { within = lit≤ tt })
 

@@ -42,7 +42,7 @@ use Rattle.rules.proofs.Times.Refused.{vertices-some, accepted-ends, st
 -- ---- a row, and the row as it is read
 
 -- z is at most c less s times e: so a row that is strict is met strictly
-row-read : (e s z c : ℤ) → pos 0 <ℤ e → (s ≡ pos 0) ⊎ (s ≡ pos 1) → z ≤ℤ (c -ℤ e *ℤ s) → RowSays (eqZ s (pos 1)) z c
+pub row-read : (e s z c : ℤ) → pos 0 <ℤ e → (s ≡ pos 0) ⊎ (s ≡ pos 1) → z ≤ℤ (c -ℤ e *ℤ s) → RowSays (eqZ s (pos 1)) z c
 row-read e s z c p (inl q) h =
     subst (λ s. z ≤ℤ (c -ℤ e *ℤ s) → RowSays (eqZ s (pos 1)) z c) (sym q)
     (λ h. le-at (e ∷ z ∷ c ∷ []) (of-le h) (search reify depth 30) slk) h

@@ -59,7 +59,7 @@ module _ (ws : List ℤ) where
 
 -- ---- the table
 
-times-tested : (ws : List ℤ) (room : ℕ) → Tested (timeTests ws room) (timesTable ws room)
+pub times-tested : (ws : List ℤ) (room : ℕ) → Tested (timeTests ws room) (timesTable ws room)
 unfolding timeTests
 times-tested ws room =
     tested (few-tells ws) (tested (times-size-tells ws) (tested (count-tells ws)

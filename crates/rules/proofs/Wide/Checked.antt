@@ -1,14 +1,14 @@
 -- The number of the checker of wide evidence, exactly: 1 to 6 and 10 by the problem, 7 for an answer too short, 8
 -- accepted, 9 not; nothing else.
 --   wide-exactly                   line by line: k where no earlier line of `wideTable` applies, and k's does
---   wide-by-problem, wide-by-answer     the number from the problem's refusal, and else from the two tests of the answer
+--   wide-by-problem, wide-by-answer     the number from the problem's refusal, and else from the answer's two tests
 --   wide-accepted                  8 exactly when its facts hold
 --   wide-same                      word 1 and the words past 6 + 8N never matter
 --   wide-only                      what is allowed to come out is one number
 use mathlib.Core.Bool.{Bool, cond, false, true, _&&_}
 use mathlib.Core.List.{List, [], _++_, _∷_}
 use mathlib.Core.Logic.{inl, inr, _↔_, _≢_}
-use mathlib.Core.Path.{ap, ap₂, refl, sym, _∙_, _≡_}
+use mathlib.Core.Path.{ap, refl, sym, _∙_, _≡_}
 use Prim.Native.Nat.{suc, zero, ℕ, _*_, _+_, _<_, _≤_}
 use native.Mathlib.Omega.{arith}
 use lib.IntN.{pos, ℤ}
@@ -30,10 +30,10 @@ use Rattle.rules.specs.Limit.{Limit}
 use Rattle.rules.specs.Facts.Refusal.{First}
 use Rattle.rules.specs.Facts.Wide.{Formed, RightWide, ShownWide, wideTable}
 use Rattle.rules.specs.Problem.{Problem, problem, vars, word}
-use Rattle.rules.specs.Refusal.{first, problemRefusal, problemTests}
+use Rattle.rules.specs.Refusal.{problemRefusal, problemTests}
 use Rattle.rules.specs.Sizes.{mostRows}
 use Rattle.rules.specs.Wide.{acceptedWide, checkedWide, limbAt, numberFits, numbersOf, shortWide, showsWide}
-use Rattle.rules.specs.Wide.{wellFormed, wideAt, wideDenominator, wideLength, wideLower, wideNumber, wideUpper}
+use Rattle.rules.specs.Wide.{wellFormed, wideAt, wideDenominator, wideLength, wideLower, wideUpper}
 
 -- ---- the test of the answer says what the plain facts do
 
@@ -62,7 +62,8 @@ module _ (P : Problem Limit) (a : List ℤ) where
 
   wide-test : ShownWide P a → acceptedWide P a ≡ true
   unfolding acceptedWide wellFormed showsWide
-  wide-test S = and-of (all-of (numbersOf (vars P)) (numberFits a) (λ slot h. fits-exactly a slot .1 (S .formed slot h)))
+  wide-test S = and-of
+      (all-of (numbersOf (vars P)) (numberFits a) (λ slot h. fits-exactly a slot .1 (S .formed slot h)))
       (go (S .shown))
     where
       go : RightWide P a → showsWide P a ≡ true
@@ -102,7 +103,7 @@ module _ (ws a : List ℤ) where
   unfolding checkedWide problemRefusal
   wide-by-answer e =
       first-passed 10 (problemTests mostRows ws)
-      ((shortWide ws (length a), 7) ∷ (acceptedWide (problem ws) a, 8) ∷ (true, 9) ∷ []) (numbered ws) e
+      ((shortWide ws (length a), 7) ∷ (acceptedWide (problem ws) a, 8) ∷ (true, 9) ∷ []) (numbered mostRows ws) e
       ∙ first-three (shortWide ws (length a)) (acceptedWide (problem ws) a)
 
   -- the number of an answer that is long enough
@@ -126,7 +127,8 @@ module _ (ws a : List ℤ) where
   )
     where
       told : problemRefusal ws ≡ 0 → (b c : Bool) → shortWide ws (length a) ≡ b → acceptedWide (problem ws) a ≡ c →
-          _≡_ {A = ℕ} (cond b 7 (cond c 8 9)) 8 → (problemRefusal ws ≡ 0) × (wideLength ws ≤ length a) × ShownWide (problem ws) a
+          _≡_ {A = ℕ} (cond b 7 (cond c 8 9)) 8 →
+          (problemRefusal ws ≡ 0) × (wideLength ws ≤ length a) × ShownWide (problem ws) a
       told r true c p q e = let z : ⊥ = omega arith in absurd z
       told r false true p q e = (r, tells-lt (length a) (wideLength ws) .if-false p, wide-facts (problem ws) a q)
       told r false false p q e = let z : ⊥ = omega arith in absurd z
@@ -149,8 +151,12 @@ module _ (P : Problem Limit) (a b : List ℤ) (same : (i : ℕ) → i < 6 + 8 * 
   limb-same slot i h k = same (2 + 4 * slot + i) (omega arith) (λ e. let z : ⊥ = omega arith in z)
 
   number-same : (slot : ℕ) → slot < numbersOf (vars P) → wideAt a slot ≡ wideAt b slot
-  number-same slot h = rw (limb-same slot 0 h (omega arith), limb-same slot 1 h (omega arith),
-      limb-same slot 2 h (omega arith), limb-same slot 3 h (omega arith)) refl
+  number-same slot h = rw (
+    limb-same slot 0 h (omega arith),
+    limb-same slot 1 h (omega arith),
+    limb-same slot 2 h (omega arith),
+    limb-same slot 3 h (omega arith),
+  ) refl
 
   formed-same : (slot : ℕ) → slot < numbersOf (vars P) → Formed a slot → Formed b slot
   formed-same slot h F = record {

@@ -5,7 +5,7 @@
 use mathlib.Core.List.{List}
 use mathlib.Core.Logic.{inl, inr}
 use mathlib.Core.Path.{_≡_}
-use Prim.Native.Nat.{ℕ, _+_}
+use Prim.Native.Nat.{_+_}
 use native.Mathlib.Omega.{arith}
 use Rattle.rules.proofs.Evidence.Farkas.{farkas}
 use Rattle.rules.proofs.Evidence.Satisfied.{solution-satisfied}

@@ -3,15 +3,15 @@
 --   wide-within           no such number is larger than 2^127
 --   limbs-are             a number's words stand for it
 --   limbs-in              and are in their ranges, where the number is within 2^126
---   widened-at            the numbers of an answer in wide form are those of the answer
+--   wide-form-at            the numbers of an answer in wide form are those of the answer
 use mathlib.Core.Bool.{true}
 use mathlib.Core.List.{List, [], _∷_}
 use mathlib.Core.Logic.{_↔_}
 use mathlib.Core.Path.{ap, refl, sym, _∙_, _≡_}
 use Prim.Native.Nat.{suc, zero, ℕ, _*_, _+_, _/_, _%_, _<_, _≤_}
 use native.Mathlib.Omega.{arith}
-use lib.Dec.{le→leb, lit≤}
-use lib.IntN.{negsuc, pos, ℤ, _*ℤ_, _+ℤ_, _-ℤ_, natAbs, negℤ}
+use lib.Dec.{le→leb}
+use lib.IntN.{negsuc, pos, ℤ, _*ℤ_, _+ℤ_, _-ℤ_, negℤ}
 use lib.Signed.{_≤ℤ_}
 use Rattle.whole.proofs.Lists.Tables.{table-at}
 use Rattle.whole.proofs.Numbers.Sizes.{within-of}
@@ -24,7 +24,8 @@ use Rattle.whole.specs.Tables.{table}
 use Rattle.rules.specs.Facts.Wide.{Formed, HeadIn, LimbIn}
 use Rattle.rules.specs.Problem.{word}
 use Rattle.rules.specs.Sizes.{largestHead, largestLimb, largestWide, limbTurn}
-use Rattle.rules.specs.Wide.{headFits, limbAt, limbFits, limbOf, numberFits, numbersOf, wideAt, wideNumber, widened}
+use Rattle.rules.specs.Wide.{headFits, limbAt, limbFits, limbOf, numberFits, numbersOf, wideAt, wideNumber}
+use Rattle.rules.specs.Wide.{wideForm}
 
 -- ---- the words of a number
 
@@ -82,7 +83,7 @@ below-zero : (n : ℕ) → negsuc n ≡ negℤ (pos 1) -ℤ pos n
 below-zero zero = refl
 below-zero (suc n) = ap (λ k. negsuc (suc k)) (let z : n ≡ 0 + n = omega arith in z)
 
-pub limbs-are : (z : ℤ) → wideNumber (limbOf z 0) (limbOf z 1) (limbOf z 2) (limbOf z 3) ≡ z
+limbs-are : (z : ℤ) → wideNumber (limbOf z 0) (limbOf z 1) (limbOf z 2) (limbOf z 3) ≡ z
 unfolding limbOf
 limbs-are (pos n) = ap pos (rest-sum n)
 limbs-are (negsuc n) =
@@ -106,7 +107,7 @@ limb-down n h = turned (pos n) (limb-up n h)
     )
 
 -- the words of a number in their ranges
-pub record LimbsIn (z : ℤ) : Type 0 where
+record LimbsIn (z : ℤ) : Type 0 where
   pub low-0 : LimbIn (limbOf z 0)
   pub low-1 : LimbIn (limbOf z 1)
   pub low-2 : LimbIn (limbOf z 2)
@@ -129,7 +130,7 @@ module _ (n : ℕ) (h : n ≤ quarter) where
   part-3 : n / limbTurn / limbTurn / limbTurn ≤ largestHead
   part-3 = omega arith
 
-pub limbs-in : (z : ℤ) → Within z quarter → LimbsIn z
+limbs-in : (z : ℤ) → Within z quarter → LimbsIn z
 unfolding limbOf
 limbs-in (pos n) h = let m : n ≤ quarter = h .within in record {
   low-0 = limb-up _ (part-0 n m);
@@ -150,8 +151,8 @@ limbs-in (negsuc n) h = let m : n ≤ quarter = under n (h .within) in record {
 -- ---- an answer in wide form
 
 module _ (N : ℕ) (a : List ℤ) (slot : ℕ) (h : slot < numbersOf N) where
-  limb-is : (i : ℕ) → i < 4 → limbAt (widened N a) slot i ≡ limbOf (word a (2 + slot)) i
-  unfolding widened
+  limb-is : (i : ℕ) → i < 4 → limbAt (wideForm N a) slot i ≡ limbOf (word a (2 + slot)) i
+  unfolding wideForm
   limb-is i k =
       ap (word (word a 0 ∷ word a 1 ∷ table (4 * numbersOf N) f)) (let z : 2 + 4 * slot + i ≡ suc (suc (4 * slot + i)) =
       omega arith in z)
@@ -162,12 +163,12 @@ module _ (N : ℕ) (a : List ℤ) (slot : ℕ) (h : slot < numbersOf N) where
       f : ℕ → ℤ
       f k = limbOf (word a (2 + k / 4)) (k % 4)
 
-  pub widened-at : wideAt (widened N a) slot ≡ word a (2 + slot)
-  widened-at = rw (limb-is 0 (omega arith), limb-is 1 (omega arith), limb-is 2 (omega arith), limb-is 3 (omega arith))
+  pub wide-form-at : wideAt (wideForm N a) slot ≡ word a (2 + slot)
+  wide-form-at = rw (limb-is 0 (omega arith), limb-is 1 (omega arith), limb-is 2 (omega arith), limb-is 3 (omega arith))
       (limbs-are (word a (2 + slot)))
 
-  pub widened-formed : Within (word a (2 + slot)) quarter → Formed (widened N a) slot
-  widened-formed w = let L = limbs-in (word a (2 + slot)) w in record {
+  pub wide-form-formed : Within (word a (2 + slot)) quarter → Formed (wideForm N a) slot
+  wide-form-formed w = let L = limbs-in (word a (2 + slot)) w in record {
     limb-0 = rw (limb-is 0 (omega arith)) (L .low-0);
     limb-1 = rw (limb-is 1 (omega arith)) (L .low-1);
     limb-2 = rw (limb-is 2 (omega arith)) (L .low-2);

@@ -10,8 +10,9 @@ use Rattle.whole.specs.Tables.{matrix, tableFrom}
 use Rattle.rules.specs.Answer.{answer, answerFrom, wordsOf, written}
 use Rattle.rules.specs.Cases.Edges.{checkCall, checkCalls, checkings, lent, sliceCall, sliceCalls, solverCall}
 use Rattle.rules.specs.Cases.Edges.{solverCalls, timeCall, timeCalls, wantedCall}
-use Rattle.rules.specs.Evidence.{accepted, atLeast, atMost, checked, column, contradicts, fair, plainOf}
-use Rattle.rules.specs.Evidence.{showsCan, showsCannot, someStrict, strictNamed, surplus}
+use Rattle.rules.specs.Evidence.{accepted, atLeast, atMost, checked, column, contradicts, owed, plainOf}
+use Rattle.rules.specs.Evidence.{rangedCan, rangedCannot, rightCan, rightCannot, showsCan, showsCannot}
+use Rattle.rules.specs.Evidence.{someStrict, strictNamed, surplus}
 use Rattle.rules.specs.Keeping.Limits.{kept}
 use Rattle.rules.specs.Limit.{badKindWord, badLimitWord, bit, present}
 use Rattle.rules.specs.Problem.{mapped, problem}
@@ -42,7 +43,8 @@ solver-edges = refl
 pub checker-edges : map (λ c. checked (c .words) (c .answer)) checkings ≡ map (λ c. c .number) checkings
 unfolding checkings lent problem present bit mapped badKindWord first problemTests tooFew badSize badLength
     badCoefficient badKind badLimit blankRow someBlank badLimitWord tooShort
-    checked accepted showsCan showsCannot atLeast atMost fair column surplus plainOf strictNamed someStrict contradicts
+    checked accepted showsCan showsCannot rightCan rightCannot rangedCan rangedCannot atLeast atMost owed column
+    surplus plainOf strictNamed someStrict contradicts
     lowest someBelow allBelow foldBelow sumBy within outside
 checker-edges = refl
 

@@ -28,7 +28,7 @@ use Rattle.rules.specs.Problem.{mOf, nOf, word}
 use Rattle.rules.specs.Times.Cycle.{isBadCycle, rowTold}
 use Rattle.rules.specs.Times.Walks.{Edges}
 use Rattle.rules.specs.Times.Words.{lengthWord, strictWord, timeEdges}
-use Rattle.timecheck.specs.Check.{cycleLength, cycleShown, isPast, isRow, rowNamed, rowsNamed}
+use Rattle.rules.specs.Times.Check.{cycleLength, cycleShown, isPast, isRow, rowNamed, rowsNamed}
 use Rattle.timecheck.specs.Walk.{linkedAt, newUpTo, wordSum}
 
 -- a word from 0 to m - 1 is the number of one of m rows

@@ -1,6 +1,5 @@
 -- A word of 64 bits as limbs: they stand for it, and are within 2^32 (stands-of).
-use mathlib.Core.Path.{_≡_}
-use Prim.Native.Nat.{suc, ℕ, _/_, _<_, _≤_}
+use Prim.Native.Nat.{ℕ, _/_, _<_, _≤_}
 use native.Mathlib.Omega.{arith}
 use lib.Dec.{lit≤}
 use lib.IntN.{natAbs, negsuc, pos, ℤ}

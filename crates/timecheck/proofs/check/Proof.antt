@@ -3,7 +3,7 @@ use mathlib.Core.Path.{_≡_, refl, ap, ap₂, sym, _∙_}
 use mathlib.Core.Bool.{Bool, cond, false, true}
 use mathlib.Core.List.{List}
 use mathlib.Core.Logic.{_≢_}
-use Prim.Native.Nat.{ℕ, zero, suc, _≤_}
+use Prim.Native.Nat.{ℕ, zero, suc}
 use native.Mathlib.Omega.{arith}
 use borrow.Author.Needs.{sfits-of}
 use lib.IntN.{ℤ, pos}
@@ -17,11 +17,10 @@ use Rattle.whole.proofs.Tells.{tells-eqZ, tells-false, tells-true}
 use Rattle.whole.specs.Numbers.{eqZ}
 use Rattle.rules.proofs.Times.Refused.{times-accepted-exactly}
 use Rattle.rules.specs.Evidence.{verdictOf}
-use Rattle.rules.specs.Problem.{mOf, nOf}
-use Rattle.rules.specs.Times.Words.{AcceptedTimes, timeRefusal, timesLength}
+use Rattle.rules.specs.Times.Words.{AcceptedTimes, timeRefusal}
 use Rattle.timerows.specs.Judged.{Fine}
-use Rattle.timecheck.specs.Check.{acceptedAnswer, checkedTimes, cycleShown, timesShown}
-use Rattle.timecheck.proofs.Laws.Exactly.{times-by-refusal, times-judged}
+use Rattle.rules.specs.Times.Check.{acceptedAnswer, checkedTimes, cycleShown, timesShown}
+use Rattle.rules.proofs.Times.Checked.{times-by-refusal, times-judged}
 use Rattle.timecheck.proofs.check.Statement.{statement}
 use Rattle.timecheck.proofs.check.Tie as tie
 

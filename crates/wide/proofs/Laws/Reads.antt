@@ -14,7 +14,7 @@ use Rattle.whole.proofs.Ring.Nonneg.{of-le, slk}
 use Rattle.whole.proofs.Ring.Reify.{reify}
 use Rattle.whole.proofs.Ring.Tools.{le-at}
 use Rattle.whole.specs.Numbers.{Within}
-use Rattle.rules.specs.Facts.Wide.{Formed, HeadIn, LimbIn}
+use Rattle.rules.specs.Facts.Wide.{HeadIn, LimbIn}
 use Rattle.rules.specs.Sizes.{largestLimb, limbTurn}
 use Rattle.rules.specs.Wide.{wideAt}
 use Rattle.limbs.proofs.Laws.Numbers.{value-less, value-plus, value-times}

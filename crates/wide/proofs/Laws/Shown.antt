@@ -11,7 +11,8 @@ use Rattle.rules.specs.Evidence.{column, contradicts, rightCan, rightCannot, so
 use Rattle.rules.specs.Wide.{wideDenominator, wideLower, wideUpper}
 use Rattle.parts.specs.Reads.{problemOf}
 use Rattle.tableau.specs.declared.Limits.{Limits}
-use Rattle.wide.specs.Reads.{allOwed, columnOf, columnsVanish, limitsMet, rowOf, rowsSolved, someMarked, surplusIn}
+use Rattle.wide.specs.Reads.{allOwed, columnOf, columnsVanish, limitsMet, rowOf, rowsSolved, someMarked}
+use Rattle.wide.specs.Reads.{surplusIn}
 
 module _ (entries : List ℤ) (limits : Limits) (rows columns : ℕ) (a : List ℤ) where
   abbrev N : ℕ

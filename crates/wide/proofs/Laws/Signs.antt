@@ -17,7 +17,7 @@ use Rattle.whole.specs.Numbers.{eqZ, isNeg}
 use Rattle.whole.specs.Values.{lexicographic}
 use Rattle.rules.specs.Evidence.{clears, owed}
 use Rattle.rules.specs.Limit.{Limit, present}
-use Rattle.parts.proofs.Laws.Tests.{or-none}
+use Rattle.rules.proofs.Evidence.Joined.{or-none}
 use Rattle.limbs.specs.Limbs.{signOf}
 use Rattle.limbs.proofs.Laws.Signs.{sign-above, sign-below, sign-zero}
 

@@ -60,11 +60,19 @@ add-d c = let s = c .before .before .before .before .before .before .before .bef
 returns : tie.Need-returns
 returns c = let s = c .before .before .before .before .before .before .before .before
     .before .before .before .before .before .before .before .before in simp (
-  toZ-ofZ (own-a s), toZ-ofZ (other-a s), toZ-ofZ (fit-a s),
-  toZ-ofZ (own-b s), toZ-ofZ (other-b s), toZ-ofZ (fit-b s),
-  toZ-ofZ (own-c s), toZ-ofZ (other-c s), toZ-ofZ (fit-c s),
-  toZ-ofZ (own-d s), toZ-ofZ (other-d s), toZ-ofZ (fit-d s),
-)
+      toZ-ofZ (own-a s),
+      toZ-ofZ (other-a s),
+      toZ-ofZ (fit-a s),
+      toZ-ofZ (own-b s),
+      toZ-ofZ (other-b s),
+      toZ-ofZ (fit-b s),
+      toZ-ofZ (own-c s),
+      toZ-ofZ (other-c s),
+      toZ-ofZ (fit-c s),
+      toZ-ofZ (own-d s),
+      toZ-ofZ (other-d s),
+      toZ-ofZ (fit-d s),
+    )
 
 pub plus-spec : {M : Type 1} → statement M
 plus-spec = tie.close (tie.spec add-a add-b add-c add-d returns)

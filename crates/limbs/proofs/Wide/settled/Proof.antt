@@ -61,10 +61,21 @@ module _ (c : tie.Start) where
 -- the promise first
 returns : tie.Need-returns
 returns c = let s = c .before .before .before .before .before .before .before .before .before .before in
-    simp (toZ-ofZ (fit-a s), toZ-ofZ (fit-b s), toZ-ofZ (fit-c s), toZ-ofZ (fit-d s), toZ-ofZ (quotient _ (fit-a s)),
-    toZ-ofZ (fit-second s), toZ-ofZ (quotient _ (fit-second s)), toZ-ofZ (fit-third s),
-    toZ-ofZ (quotient _ (fit-third s)), toZ-ofZ (fit-fourth s), toZ-ofZ (rest (w s .a)),
-    toZ-ofZ (rest (secondOf (w s))), toZ-ofZ (rest (thirdOf (w s))))
+    simp (
+      toZ-ofZ (fit-a s),
+      toZ-ofZ (fit-b s),
+      toZ-ofZ (fit-c s),
+      toZ-ofZ (fit-d s),
+      toZ-ofZ (quotient _ (fit-a s)),
+      toZ-ofZ (fit-second s),
+      toZ-ofZ (quotient _ (fit-second s)),
+      toZ-ofZ (fit-third s),
+      toZ-ofZ (quotient _ (fit-third s)),
+      toZ-ofZ (fit-fourth s),
+      toZ-ofZ (rest (w s .a)),
+      toZ-ofZ (rest (secondOf (w s))),
+      toZ-ofZ (rest (thirdOf (w s))),
+    )
 
 rem-a : tie.Need-rem-a
 rem-a c = let s = c .before .before in (lit< tt, simp (toZ-ofZ (fit-a s)) (quotient _ (fit-a s)))
@@ -92,28 +103,56 @@ div-third c = let s = c .before .before .before .before .before .before in (
 
 add-third : tie.Need-add-third
 add-third c = let s = c .before .before .before .before .before .before .before .before in
-    simp (toZ-ofZ (fit-a s), toZ-ofZ (fit-b s), toZ-ofZ (fit-c s), toZ-ofZ (quotient _ (fit-a s)),
-    toZ-ofZ (fit-second s), toZ-ofZ (quotient _ (fit-second s))) (fit-third s)
+    simp (
+      toZ-ofZ (fit-a s),
+      toZ-ofZ (fit-b s),
+      toZ-ofZ (fit-c s),
+      toZ-ofZ (quotient _ (fit-a s)),
+      toZ-ofZ (fit-second s),
+      toZ-ofZ (quotient _ (fit-second s)),
+    ) (fit-third s)
 
 rem-c : tie.Need-rem-c
 rem-c c = let s = c .before .before .before .before .before .before .before .before in (
   lit< tt,
-  simp (toZ-ofZ (fit-a s), toZ-ofZ (fit-b s), toZ-ofZ (fit-c s), toZ-ofZ (quotient _ (fit-a s)),
-      toZ-ofZ (fit-second s), toZ-ofZ (quotient _ (fit-second s)), toZ-ofZ (fit-third s)) (quotient _ (fit-third s)),
+  simp (
+    toZ-ofZ (fit-a s),
+    toZ-ofZ (fit-b s),
+    toZ-ofZ (fit-c s),
+    toZ-ofZ (quotient _ (fit-a s)),
+    toZ-ofZ (fit-second s),
+    toZ-ofZ (quotient _ (fit-second s)),
+    toZ-ofZ (fit-third s),
+  ) (quotient _ (fit-third s)),
 )
 
 div-d : tie.Need-div-d
 div-d c = let s = c .before .before .before .before .before .before .before .before in (
   lit< tt,
-  simp (toZ-ofZ (fit-a s), toZ-ofZ (fit-b s), toZ-ofZ (fit-c s), toZ-ofZ (quotient _ (fit-a s)),
-      toZ-ofZ (fit-second s), toZ-ofZ (quotient _ (fit-second s)), toZ-ofZ (fit-third s)) (quotient _ (fit-third s)),
+  simp (
+    toZ-ofZ (fit-a s),
+    toZ-ofZ (fit-b s),
+    toZ-ofZ (fit-c s),
+    toZ-ofZ (quotient _ (fit-a s)),
+    toZ-ofZ (fit-second s),
+    toZ-ofZ (quotient _ (fit-second s)),
+    toZ-ofZ (fit-third s),
+  ) (quotient _ (fit-third s)),
 )
 
 add-d : tie.Need-add-d
 add-d c = let s = c .before .before .before .before .before .before .before .before .before .before in
-    simp (toZ-ofZ (fit-a s), toZ-ofZ (fit-b s), toZ-ofZ (fit-c s), toZ-ofZ (fit-d s), toZ-ofZ (quotient _ (fit-a s)),
-    toZ-ofZ (fit-second s), toZ-ofZ (quotient _ (fit-second s)), toZ-ofZ (fit-third s),
-    toZ-ofZ (quotient _ (fit-third s))) (fit-fourth s)
+    simp (
+      toZ-ofZ (fit-a s),
+      toZ-ofZ (fit-b s),
+      toZ-ofZ (fit-c s),
+      toZ-ofZ (fit-d s),
+      toZ-ofZ (quotient _ (fit-a s)),
+      toZ-ofZ (fit-second s),
+      toZ-ofZ (quotient _ (fit-second s)),
+      toZ-ofZ (fit-third s),
+      toZ-ofZ (quotient _ (fit-third s)),
+    ) (fit-fourth s)
 
 pub settled-spec : {M : Type 1} → statement M
 settled-spec =

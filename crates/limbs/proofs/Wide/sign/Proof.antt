@@ -2,11 +2,10 @@
 -- no number. Assumes nothing.
 use mathlib.Core.Path.{_≡_, ap, ap₂, _∙_}
 use borrow.Author.Needs.{needs}
-use lib.IntN.{ℤ}
 use mir.Facts.{toZ-ofZ}
 use mir.Syntax.{w64}
 use mir.Val.{SFits}
-use Rattle.limbs.specs.Limbs.{Settled, pick, settledOf, signOf, value}
+use Rattle.limbs.specs.Limbs.{Settled, pick, signOf, value}
 use Rattle.limbs.specs.declared.Wide.{Wide}
 use Rattle.limbs.proofs.Laws.Numbers.{value-settled}
 use Rattle.limbs.proofs.Laws.Signs.{sign-limbs}

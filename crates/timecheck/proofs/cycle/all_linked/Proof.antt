@@ -1,12 +1,12 @@
 -- `timecheck::cycle::all_linked` meets its contract. The invariant: whether the rows passed lead to the next. The measure
 -- is how many are left. Assumes nothing.
 use mathlib.Core.Path.{_≡_, ap, sym, _∙_}
-use Prim.Native.Nat.{ℕ, suc, _+_, _-_, _≤_}
+use Prim.Native.Nat.{ℕ, suc, _-_, _≤_}
 use native.Mathlib.Numerals.{add-one}
 use native.Mathlib.Omega.{arith}
 use Rattle.whole.specs.Below.{allBelow}
 use Rattle.whole.proofs.Lists.Below.{all-start}
-use Rattle.parts.proofs.Laws.Tests.{tests-more}
+use Rattle.rules.proofs.Evidence.Joined.{tests-more}
 use Rattle.timecheck.specs.Walk.{linkedAt}
 use Rattle.timecheck.proofs.cycle.all_linked.Statement.{statement}
 use Rattle.timecheck.proofs.cycle.all_linked.Tie as tie

@@ -5,7 +5,7 @@ use Prim.Native.Nat.{_-_, _≤_}
 use native.Mathlib.Omega.{arith}
 use Rattle.whole.specs.Below.{allBelow}
 use Rattle.whole.proofs.Lists.Below.{all-start}
-use Rattle.parts.proofs.Laws.Tests.{tests-more}
+use Rattle.rules.proofs.Evidence.Joined.{tests-more}
 use Rattle.timecheck.specs.Walk.{newUpTo}
 use Rattle.timecheck.proofs.cycle.all_new.Statement.{statement}
 use Rattle.timecheck.proofs.cycle.all_new.Tie as tie

@@ -7,7 +7,7 @@ use native.Mathlib.Omega.{arith}
 use lib.Dec.{eqb}
 use Rattle.whole.proofs.Lists.Below.{all-start}
 use Rattle.rules.specs.Sizes.{mostVertices}
-use Rattle.parts.proofs.Laws.Tests.{tests-more}
+use Rattle.rules.proofs.Evidence.Joined.{tests-more}
 use Rattle.timecheck.specs.Walk.{newUpTo}
 use Rattle.timecheck.proofs.cycle.is_new.Statement.{statement}
 use Rattle.timecheck.proofs.cycle.is_new.Tie as tie

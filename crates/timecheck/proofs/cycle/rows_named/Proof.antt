@@ -4,14 +4,13 @@ use mathlib.Core.Path.{_≡_, ap, refl, sym, _∙_}
 use Prim.Native.Nat.{ℕ, _+_, _-_, _≤_}
 use native.Mathlib.Omega.{arith}
 use borrow.Author.Needs.{sfits-of}
-use lib.IntN.{ℤ}
 use mir.Facts.{toZ-ofZ}
 use mir.Syntax.{w64}
 use mir.Val.{SFits, toZ}
 use Rattle.whole.specs.Below.{allBelow}
 use Rattle.whole.proofs.Lists.Below.{all-start}
 use Rattle.rules.specs.Problem.{word}
-use Rattle.parts.proofs.Laws.Tests.{tests-more}
+use Rattle.rules.proofs.Evidence.Joined.{tests-more}
 use Rattle.timecheck.specs.Walk.{isBetween}
 use Rattle.timecheck.proofs.cycle.rows_named.Statement.{statement}
 use Rattle.timecheck.proofs.cycle.rows_named.Tie as tie

@@ -23,7 +23,7 @@ use Rattle.whole.specs.Numbers.{isNeg, outside}
 use Rattle.rules.proofs.Times.Refused.{strict-within, time-rows-few, vertices-few}
 use Rattle.rules.specs.Problem.{mOf, nOf, word}
 use Rattle.rules.specs.Sizes.{mostTimeRows, mostVertices}
-use Rattle.timecheck.specs.Check.{cycleLength, cycleShown, isPast, isRow}
+use Rattle.rules.specs.Times.Check.{cycleLength, cycleShown, isPast, isRow}
 use Rattle.timecheck.specs.Walk.{Named, Summable, isBetween, linkedAt, newUpTo, wordSum}
 use Rattle.timecheck.proofs.Laws.Cycles.{badSum, by-outside, by-rows, by-tests}
 use Rattle.timecheck.proofs.cycle.shows_cycle.Statement.{statement}
@@ -283,8 +283,12 @@ module _ (c : tie.After-is-bad) where
 
 returns-6 : tie.Need-returns-6
 returns-6 c = let b = c .before in let e = passed b in
-    sym (tests (base e) ∙ rw (all-link (linked (round e)), closed (round e), all-news e,
-    sym (bad-is b) ∙ not-true _ (c .if6 .taken)) refl)
+    sym (tests (base e) ∙ rw (
+      all-link (linked (round e)),
+      closed (round e),
+      all-news e,
+      sym (bad-is b) ∙ not-true _ (c .if6 .taken),
+    ) refl)
 
 module _ (c : tie.Else6) where
   abbrev apart : tie.Else5

@@ -1,5 +1,5 @@
 -- `timecheck::cycle::tail_at` meets its contract. Assumes nothing.
-use mathlib.Core.Path.{_≡_, ap, subst, sym, _∙_}
+use mathlib.Core.Path.{ap, subst, sym, _∙_}
 use Prim.Native.Nat.{ℕ, _<_}
 use Rattle.rules.specs.Problem.{mOf}
 use Rattle.rules.specs.Times.Words.{timeEdges}

@@ -6,7 +6,6 @@ use Prim.Native.Nat.{ℕ, _+_, _*_, _-_, _<_, _≤_}
 use native.Mathlib.Omega.{arith}
 use borrow.Author.Needs.{sfits-of}
 use lib.IntN.{ℤ, _+ℤ_}
-use lib.ListN.{length}
 use mir.Facts.{toZ-ofZ}
 use mir.Syntax.{w32, w64}
 use mir.Val.{SFits, toZ}
@@ -18,7 +17,7 @@ use Rattle.whole.specs.Sums.{sumBy}
 use Rattle.rules.proofs.Times.Refused.{time-rows-few}
 use Rattle.rules.specs.Problem.{mOf, word}
 use Rattle.rules.specs.Sizes.{largestLength, mostTimeRows, mostVertices}
-use Rattle.timecheck.specs.Check.{rowNamed}
+use Rattle.rules.specs.Times.Check.{rowNamed}
 use Rattle.timecheck.specs.Walk.{wordSum}
 use Rattle.timecheck.proofs.Laws.Cycles.{row-in}
 use Rattle.timecheck.proofs.cycle.word_sum.Statement.{statement}

@@ -2,7 +2,7 @@
 -- how many are left. Assumes nothing.
 use mathlib.Core.Bool.{Bool, _||_}
 use mathlib.Core.Path.{_≡_, ap, sym}
-use Prim.Native.Nat.{ℕ, _+_, _-_, _≤_}
+use Prim.Native.Nat.{_+_, _-_, _≤_}
 use native.Mathlib.Omega.{arith}
 use borrow.Author.Needs.{sfits-of}
 use lib.Dec.{lit<, ltb}
@@ -14,7 +14,7 @@ use Rattle.whole.specs.Numbers.{eqZ}
 use Rattle.whole.proofs.Lists.Below.{all-start}
 use Rattle.whole.proofs.Tells.{bits-eq}
 use Rattle.rules.specs.Problem.{word}
-use Rattle.parts.proofs.Laws.Tests.{tests-more}
+use Rattle.rules.proofs.Evidence.Joined.{tests-more}
 use Rattle.timecheck.proofs.cycle.zeros_after.Statement.{statement}
 use Rattle.timecheck.proofs.cycle.zeros_after.Tie as tie
 

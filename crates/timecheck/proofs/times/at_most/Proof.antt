@@ -2,7 +2,7 @@
 use mathlib.Core.Bool.{false}
 use lib.IntN.{pos}
 use mir.Facts.{toZ-ofZ}
-use Rattle.parts.proofs.Laws.Tests.{clears-joined}
+use Rattle.rules.proofs.Evidence.Joined.{clears-joined}
 use Rattle.timecheck.proofs.times.at_most.Statement.{statement}
 use Rattle.timecheck.proofs.times.at_most.Tie as tie
 

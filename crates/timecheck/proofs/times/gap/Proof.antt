@@ -1,5 +1,5 @@
 -- `timecheck::times::gap` meets its contract: in limbs no difference is too large. Assumes nothing.
-use mathlib.Core.Path.{_≡_, ap, _∙_}
+use mathlib.Core.Path.{ap, _∙_}
 use Prim.Native.Nat.{_+_}
 use borrow.Author.Needs.{needs}
 use lib.Dec.{lit≤}

@@ -21,10 +21,10 @@ use Rattle.rules.proofs.Times.Refused.{accepted-ends, strict-within, time-rows-
 use Rattle.rules.specs.Evidence.{clears}
 use Rattle.rules.specs.Problem.{mOf, nOf, word}
 use Rattle.rules.specs.Sizes.{largestLength, mostTimeRows, mostVertices}
-use Rattle.rules.specs.Times.Words.{AcceptedTimes, lengthWord, strictWord, timeEdges, timesLength}
+use Rattle.rules.specs.Times.Words.{AcceptedTimes, lengthWord, strictWord, timesLength}
 use Rattle.limbs.specs.Limbs.{signOf}
 use Rattle.wide.proofs.Laws.Signs.{clears-signs}
-use Rattle.timecheck.specs.Check.{rowMet}
+use Rattle.rules.specs.Times.Check.{rowMet}
 use Rattle.timecheck.proofs.times.row_met.Statement.{statement}
 use Rattle.timecheck.proofs.times.row_met.Tie as tie
 
@@ -259,13 +259,22 @@ module _ (c : tie.After-at-most) where
   fit-small = search needs
 
   plain-is : plain last .gap .result ≡ signOf (span (read last) -ℤ (p (read last) -ℤ q (read last)))
-  plain-is = simp (toZ-ofZ (p-fits (read last)), toZ-ofZ (q-fits (read last)),
-      toZ-ofZ (long-fits (words (read last))), toZ-ofZ (wide (long-fits (words (read last)))))
+  plain-is = simp (
+    toZ-ofZ (p-fits (read last)),
+    toZ-ofZ (q-fits (read last)),
+    toZ-ofZ (long-fits (words (read last))),
+    toZ-ofZ (wide (long-fits (words (read last)))),
+  )
       at (plain last .gap .ensures)
 
   small-is : small .gap2 .result ≡ signOf (negℤ (strict last) -ℤ (r last -ℤ t last))
-  small-is = simp (toZ-ofZ (r-fits last), toZ-ofZ (t-fits last), toZ-ofZ (strict-fits (marked last)),
-      toZ-ofZ (wide (strict-fits (marked last))), toZ-ofZ (turned-fits last)) at (small .gap2 .ensures)
+  small-is = simp (
+    toZ-ofZ (r-fits last),
+    toZ-ofZ (t-fits last),
+    toZ-ofZ (strict-fits (marked last)),
+    toZ-ofZ (wide (strict-fits (marked last))),
+    toZ-ofZ (turned-fits last),
+  ) at (small .gap2 .ensures)
       ∙ ap (λ (z : ℤ). signOf (z -ℤ (r last -ℤ t last))) (turned last (strict last))
 
   told : c .at-most .result ≡ clears false (p (read last) -ℤ q (read last), r last -ℤ t last)

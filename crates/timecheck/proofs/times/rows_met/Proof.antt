@@ -7,8 +7,8 @@ use Rattle.whole.specs.Below.{allBelow}
 use Rattle.whole.proofs.Lists.Below.{all-start}
 use Rattle.rules.proofs.Times.Refused.{time-rows-few}
 use Rattle.rules.specs.Sizes.{mostTimeRows}
-use Rattle.parts.proofs.Laws.Tests.{tests-more}
-use Rattle.timecheck.specs.Check.{rowMet}
+use Rattle.rules.proofs.Evidence.Joined.{tests-more}
+use Rattle.rules.specs.Times.Check.{rowMet}
 use Rattle.timecheck.proofs.times.rows_met.Statement.{statement}
 use Rattle.timecheck.proofs.times.rows_met.Tie as tie
 

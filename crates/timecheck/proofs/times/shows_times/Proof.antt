@@ -14,7 +14,7 @@ use Rattle.whole.specs.Below.{allBelow}
 use Rattle.rules.proofs.Times.Refused.{vertices-few}
 use Rattle.rules.specs.Problem.{nOf, word}
 use Rattle.rules.specs.Sizes.{mostVertices}
-use Rattle.timecheck.specs.Check.{rowMet, timesShown}
+use Rattle.rules.specs.Times.Check.{rowMet, timesShown}
 use Rattle.timecheck.proofs.times.shows_times.Statement.{statement}
 use Rattle.timecheck.proofs.times.shows_times.Tie as tie
 

@@ -13,7 +13,7 @@ use Rattle.limbs.specs.Limbs.{value}
 use Rattle.tableau.specs.Parts.{lowerOf, upperOf}
 use Rattle.tableau.specs.declared.Limits.{Limits}
 use Rattle.parts.specs.Reads.{meetsBoth}
-use Rattle.parts.proofs.Laws.Tests.{tests-more}
+use Rattle.rules.proofs.Evidence.Joined.{tests-more}
 use Rattle.wide.specs.Reads.{Stands, limitsMet}
 use Rattle.wide.proofs.Laws.Reads.{stands-in, stands-is}
 use Rattle.wide.proofs.can.limits_hold.Statement.{statement}

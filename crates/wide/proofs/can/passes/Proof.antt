@@ -1,7 +1,7 @@
 -- `wide::can::passes` meets its contract. Assumes nothing.
 use lib.IntN.{pos}
 use mir.Facts.{toZ-ofZ}
-use Rattle.parts.proofs.Laws.Tests.{clears-joined}
+use Rattle.rules.proofs.Evidence.Joined.{clears-joined}
 use Rattle.wide.proofs.can.passes.Statement.{statement}
 use Rattle.wide.proofs.can.passes.Tie as tie
 

@@ -1,5 +1,5 @@
 -- `wide::can::row_holds` meets its contract: the number equals the sum where their difference is 0. Assumes nothing.
-use mathlib.Core.Path.{_≡_, ap, _∙_}
+use mathlib.Core.Path.{ap, _∙_}
 use Prim.Native.Nat.{ℕ, _+_}
 use native.Mathlib.Omega.{arith}
 use lib.Dec.{lit≤}

@@ -1,6 +1,6 @@
 -- `wide::can::row_sum` meets its contract. The invariant: the sum stands for that of the columns passed, and its limbs
 -- are within so many times the largest coefficient times 2^32. The measure is the columns left. Assumes nothing.
-use mathlib.Core.Path.{_≡_, ap, refl, sym, _∙_}
+use mathlib.Core.Path.{_≡_, ap, sym, _∙_}
 use Prim.Native.Nat.{ℕ, _+_, _*_, _-_, _≤_, _<_}
 use native.Mathlib.Omega.{arith}
 use borrow.Author.Needs.{sfits-of}

@@ -4,7 +4,7 @@ use mathlib.Core.Path.{_≡_, ap, sym, _∙_}
 use Prim.Native.Nat.{ℕ, _-_, _≤_}
 use native.Mathlib.Omega.{arith}
 use Rattle.whole.proofs.Lists.Below.{all-start}
-use Rattle.parts.proofs.Laws.Tests.{tests-more}
+use Rattle.rules.proofs.Evidence.Joined.{tests-more}
 use Rattle.wide.specs.Reads.{rowsSolved}
 use Rattle.wide.proofs.can.rows_hold.Statement.{statement}
 use Rattle.wide.proofs.can.rows_hold.Tie as tie

@@ -8,7 +8,7 @@ use lib.IntN.{ℤ, pos}
 use Rattle.whole.specs.Numbers.{eqZ}
 use Rattle.whole.proofs.Lists.Below.{all-start}
 use Rattle.limbs.proofs.Laws.Sizes.{sized-le}
-use Rattle.parts.proofs.Laws.Tests.{tests-more}
+use Rattle.rules.proofs.Evidence.Joined.{tests-more}
 use Rattle.wide.specs.Reads.{columnsVanish}
 use Rattle.wide.proofs.cannot.columns_cancel.Statement.{statement}
 use Rattle.wide.proofs.cannot.columns_cancel.Tie as tie

@@ -11,7 +11,7 @@ use Rattle.rules.specs.Sizes.{limbTurn}
 use Rattle.rules.specs.Wide.{wideLower, wideUpper}
 use Rattle.tableau.specs.Parts.{lowerOf, upperOf}
 use Rattle.tableau.specs.declared.Limits.{Limits}
-use Rattle.parts.proofs.Laws.Tests.{finds-more}
+use Rattle.rules.proofs.Evidence.Joined.{finds-more}
 use Rattle.wide.specs.Reads.{Stands, someMarked}
 use Rattle.wide.proofs.Laws.Reads.{stands-in, stands-is}
 use Rattle.wide.proofs.cannot.some_named.Statement.{statement}

@@ -1,5 +1,5 @@
 -- `wide::cannot::weighed` meets its contract. Assumes nothing.
-use mathlib.Core.Path.{_≡_, ap, refl, sym, _∙_}
+use mathlib.Core.Path.{ap, refl, sym, _∙_}
 use mathlib.Core.Bool.{Bool}
 use borrow.Author.Needs.{needs}
 use lib.Dec.{lit≤}

@@ -6,7 +6,7 @@ use native.Mathlib.Omega.{arith}
 use Rattle.whole.specs.Below.{allBelow}
 use Rattle.whole.proofs.Lists.Below.{all-start}
 use Rattle.rules.specs.Wide.{numberFits}
-use Rattle.parts.proofs.Laws.Tests.{tests-more}
+use Rattle.rules.proofs.Evidence.Joined.{tests-more}
 use Rattle.wide.proofs.numbers.numbers_fit.Statement.{statement}
 use Rattle.wide.proofs.numbers.numbers_fit.Tie as tie
 

@@ -3,36 +3,24 @@
 --                    amount, makes of the pairs times that meet every row, a strict one strictly
 --   cycle-means      a cycle: no fractions meet every row
 use mathlib.Core.List.{List, [], _∷_}
-use mathlib.Core.Logic.{inl, inr, _⊎_}
-use mathlib.Core.Path.{subst, sym, _≡_}
-use Prim.Native.Nat.{ℕ, suc, _*_, _+_, _<_}
+use Prim.Native.Nat.{ℕ, _<_}
 use native.Mathlib.Omega.{arith}
 use lib.Dec.{le→leb}
 use lib.IntN.{negℤ, pos, ℤ, _*ℤ_, _+ℤ_, _-ℤ_}
-use lib.ListN.{length}
 use lib.Signed.{_<ℤ_, _≤ℤ_}
 use Rattle.whole.proofs.Numbers.Sizes.{within-hi, within-lo}
-use Rattle.whole.proofs.Ring.Nonneg.{nn-nat, of-le, of-lt, slk, _⊞_, _⊠_}
+use Rattle.whole.proofs.Ring.Nonneg.{of-le, of-lt, slk, _⊞_, _⊠_}
 use Rattle.whole.proofs.Ring.Reify.{reify}
-use Rattle.whole.proofs.Ring.Tools.{le-at, lt-at}
+use Rattle.whole.proofs.Ring.Tools.{le-at}
 use Rattle.whole.proofs.Values.Mixed.{mixed-le}
-use Rattle.whole.specs.Numbers.{Within, eqZ}
+use Rattle.whole.specs.Numbers.{Within}
 use Rattle.whole.specs.Values.{mixed}
-use Rattle.rules.proofs.Times.Means.{cycle-no-fractions}
+use Rattle.rules.proofs.Times.Means.{cycle-no-fractions, row-read}
 use Rattle.rules.proofs.Times.Refused.{accepted-ends, strict-is}
 use Rattle.rules.specs.Problem.{nOf}
-use Rattle.rules.specs.Times.Answer.{MeetsRows, NoFractions, RowSays, timeIn}
+use Rattle.rules.specs.Times.Answer.{MeetsRows, NoFractions, timeIn}
 use Rattle.rules.specs.Times.Words.{AcceptedTimes, lengthWord, strictWord, timeEdges}
-use Rattle.timecheck.specs.Check.{CycleShown, TimesShown, apartBy, rowsNamed}
-
--- z is at most c less s times e: so a row that is strict is met strictly
-row-read : (e s z c : ℤ) → pos 0 <ℤ e → (s ≡ pos 0) ⊎ (s ≡ pos 1) → z ≤ℤ (c -ℤ e *ℤ s) → RowSays (eqZ s (pos 1)) z c
-row-read e s z c p (inl q) h =
-    subst (λ s. z ≤ℤ (c -ℤ e *ℤ s) → RowSays (eqZ s (pos 1)) z c) (sym q)
-    (λ h. le-at (e ∷ z ∷ c ∷ []) (of-le h) (search reify depth 30) slk) h
-row-read e s z c p (inr q) h =
-    subst (λ s. z ≤ℤ (c -ℤ e *ℤ s) → RowSays (eqZ s (pos 1)) z c) (sym q)
-    (λ h. lt-at (e ∷ z ∷ c ∷ []) (of-le h ⊞ of-lt p) (search reify depth 30) slk) h
+use Rattle.rules.specs.Times.Check.{CycleShown, TimesShown, apartBy, rowsNamed}
 
 -- the difference of two mixed pairs, and a row's length less its small amount
 as-mixed : (e k p q r t c s : ℤ) → (k *ℤ (p -ℤ r) +ℤ e *ℤ (q -ℤ t)) ≤ℤ (k *ℤ c +ℤ e *ℤ negℤ s) →

@@ -1,12 +1,14 @@
--- docs/RULES.md, "Evidence about time rows": the checker's rule as a function that computes, and once more in plain facts.
+-- docs/RULES.md, "Evidence about time rows": the checker's rule as a function that computes, and once more in plain
+-- facts.
 --   timesShown, TimesShown     times: n, and pairs that meet every row
 --   cycleShown, CycleShown     a bad cycle: how many rows, the rows, and zeros
 --   checkedTimes               11 to 17 by the rows and the answer's length, 8 accepted, 9 not
+--   ShownTimes, timesCheckTable    its number, line by line (specs/Facts/Refusal)
 use mathlib.Core.Path.{_≡_}
 use mathlib.Core.Bool.{Bool, true, false, cond, not, _&&_, _||_}
 use mathlib.Core.List.{List, [], _∷_, _++_}
 use mathlib.Core.Logic.{_⊎_}
-use Prim.Native.Nat.{ℕ, _+_, _*_, _<_, _≤_}
+use Prim.Native.Nat.{ℕ, _+_, _*_, _<_}
 use lib.Dec.{ltb}
 use lib.IntN.{ℤ, natAbs, pos, _-ℤ_}
 use lib.ListN.{length}
@@ -15,12 +17,13 @@ use Rattle.whole.specs.Below.{allBelow}
 use Rattle.whole.specs.Numbers.{eqZ, isNeg, outside}
 use Rattle.whole.specs.Tables.{table}
 use Rattle.whole.specs.Values.{Le, pairs}
 use Rattle.rules.specs.Evidence.{clears, verdictOf}
+use Rattle.rules.specs.Facts.Refusal.{Line, lineOf}
 use Rattle.rules.specs.Problem.{mOf, nOf, word}
 use Rattle.rules.specs.Refusal.{first}
 use Rattle.rules.specs.Times.Answer.{timeIn}
 use Rattle.rules.specs.Times.Cycle.{BadCycle, isBadCycle}
-use Rattle.rules.specs.Times.Words.{timeEdges, timeTests}
+use Rattle.rules.specs.Times.Words.{timeEdges, timeTests, timesTable}
 
 -- ---- times
 
@@ -87,3 +90,8 @@ pub record CycleShown (ws a : List ℤ) : Type 0 where
 
 abbrev pub ShownTimes : List ℤ → List ℤ → Type 0
 ShownTimes ws a = ((verdictOf a ≡ pos 1) × TimesShown ws a) ⊎ ((verdictOf a ≡ pos 2) × CycleShown ws a)
+
+-- refusals 11 to 16, an answer too short, evidence, and nothing else
+abbrev pub timesCheckTable : List ℤ → List ℤ → List Line
+timesCheckTable ws a = timesTable ws (length a)
+    ++ (lineOf 8 (ShownTimes ws a) (¬ ShownTimes ws a) ∷ lineOf 9 (Unit {0}) ⊥ ∷ [])
