@@ -1,10 +1,11 @@
 -- The number that four limbs stand for, and what is done with the limbs. Limbs need not be in any range but that of
 -- what is done: sums of limbs within 2^60, multiples of limbs within 2^40.
 --   value                              the number
---   Sized, Settled                     how large limbs are; below 2^32 but for the highest
---   zeroWide, plusOf, lessOf, timesOf, ofNumber      limb by limb
+--   LimbsWithin, StandsFor, Carried    how large limbs are; what they stand for; below 2^32 but for the highest
+--   zeroWide, plusOf, lessOf, scaledOf, ofNumber      limb by limb
 --   settledOf                          after carries, toward 0
 --   signOf, pick                       a sign, and the first that is not 0
+use mathlib.Core.Path.{_≡_}
 use Prim.Native.Nat.{ℕ, zero, suc}
 use lib.IntN.{ℤ, pos, negsuc, _+ℤ_, _-ℤ_, _*ℤ_}
 use lib.Signed.{quotZ, remZ}
@@ -13,7 +14,7 @@ use Rattle.rules.specs.Sizes.{largestLimb, limbTurn}
 use Rattle.rules.specs.Wide.{wideNumber}
 use Rattle.limbs.specs.declared.Wide.{Wide}
 
--- 2^60 and 2^40
+-- 2^60, of sums, and 2^40, of what is multiplied
 abbrev pub mostSum : ℕ
 mostSum = 1152921504606846976
 
@@ -23,13 +24,19 @@ mostFactor = 1099511627776
 abbrev pub value : Wide → ℤ
 value w = wideNumber (w .a) (w .b) (w .c) (w .d)
 
-pub record Sized (w : Wide) (n : ℕ) : Type 0 where
+pub record LimbsWithin (w : Wide) (n : ℕ) : Type 0 where
   pub size-a : Within (w .a) n
   pub size-b : Within (w .b) n
   pub size-c : Within (w .c) n
   pub size-d : Within (w .d) n
 
-pub record Settled (w : Wide) : Type 0 where
+-- limbs within n that stand for a number
+pub record StandsFor (w : Wide) (z : ℤ) (n : ℕ) : Type 0 where
+  pub number : value w ≡ z
+  pub size : LimbsWithin w n
+
+-- after carries
+pub record Carried (w : Wide) : Type 0 where
   pub under-a : Within (w .a) largestLimb
   pub under-b : Within (w .b) largestLimb
   pub under-c : Within (w .c) largestLimb
@@ -43,8 +50,8 @@ plusOf v w = record { a = v .a +ℤ w .a; b = v .b +ℤ w .b; c = v .c +ℤ w .c
 abbrev pub lessOf : Wide → Wide → Wide
 lessOf v w = record { a = v .a -ℤ w .a; b = v .b -ℤ w .b; c = v .c -ℤ w .c; d = v .d -ℤ w .d }
 
-abbrev pub timesOf : ℤ → Wide → Wide
-timesOf k w = record { a = k *ℤ w .a; b = k *ℤ w .b; c = k *ℤ w .c; d = k *ℤ w .d }
+abbrev pub scaledOf : ℤ → Wide → Wide
+scaledOf k w = record { a = k *ℤ w .a; b = k *ℤ w .b; c = k *ℤ w .c; d = k *ℤ w .d }
 
 -- a number of one word
 abbrev pub ofNumber : ℤ → Wide

@@ -1,12 +1,12 @@
-// Numbers of four limbs: a + 2^32 b + 2^64 c + 2^96 d. A limb may be any number that leaves room, so that sums and small
-// multiples go limb by limb; only where a sign is asked for are carries taken, from low to high. Carries go toward 0: then
-// no limb but the highest is as large as 2^32, and the highest limb that is not 0 has the sign.
+// Numbers of four limbs: a + 2^32 b + 2^64 c + 2^96 d. A limb may be any number that leaves room, so that sums and
+// small multiples go limb by limb; only where a sign is asked for are carries taken, from low to high. Carries go toward
+// 0: then no limb but the highest is as large as 2^32, and the highest limb that is not 0 has the sign.
 ghost use mathlib.Core.Path.{_≡_};
 ghost use lib.IntN.{pos};
 ghost use Rattle.whole.specs.Numbers.{Within, eqZ, isPos};
 ghost use Rattle.rules.specs.Sizes.{largestLimit};
-ghost use Rattle.limbs.specs.Limbs.{Sized, lessOf, mostFactor, mostSum, ofNumber, pick, plusOf, signOf};
-ghost use Rattle.limbs.specs.Limbs.{settledOf, timesOf, value, zeroWide};
+ghost use Rattle.limbs.specs.Limbs.{LimbsWithin, lessOf, mostFactor, mostSum, ofNumber, pick, plusOf, signOf};
+ghost use Rattle.limbs.specs.Limbs.{settledOf, scaledOf, value, zeroWide};
 
 pub struct Wide {
     pub a: i64,
@@ -67,7 +67,7 @@ impl Wide {
     }
 
     pub fn plus(self, other: Wide) -> Wide
-        requires { ⌜ (Sized self mostSum) × (Sized other mostSum) ⌝ }
+        requires { ⌜ (LimbsWithin self mostSum) × (LimbsWithin other mostSum) ⌝ }
         ensures { λ r. ⌜ r ≡ plusOf self other ⌝ }
     {
         let a = self.a + other.a;
@@ -78,7 +78,7 @@ impl Wide {
     }
 
     pub fn less(self, other: Wide) -> Wide
-        requires { ⌜ (Sized self mostSum) × (Sized other mostSum) ⌝ }
+        requires { ⌜ (LimbsWithin self mostSum) × (LimbsWithin other mostSum) ⌝ }
         ensures { λ r. ⌜ r ≡ lessOf self other ⌝ }
     {
         let a = self.a - other.a;
@@ -90,8 +90,8 @@ impl Wide {
 
     // A small multiple.
     pub fn times(self, k: i32) -> Wide
-        requires { ⌜ (Sized self mostFactor) × (Within k largestLimit) ⌝ }
-        ensures { λ r. ⌜ r ≡ timesOf k self ⌝ }
+        requires { ⌜ (LimbsWithin self mostFactor) × (Within k largestLimit) ⌝ }
+        ensures { λ r. ⌜ r ≡ scaledOf k self ⌝ }
     {
         let by = k as i64;
         let a = by * self.a;
@@ -103,7 +103,7 @@ impl Wide {
 
     // The same number after its carries.
     fn settled(self) -> Wide
-        requires { ⌜ Sized self mostSum ⌝ }
+        requires { ⌜ LimbsWithin self mostSum ⌝ }
         ensures { λ r. ⌜ r ≡ settledOf self ⌝ }
     {
         let a = self.a % Wide::TURN;
@@ -117,7 +117,7 @@ impl Wide {
 
     // The sign of the number: -1, 0 or 1.
     pub fn sign(self) -> i64
-        requires { ⌜ Sized self mostSum ⌝ }
+        requires { ⌜ LimbsWithin self mostSum ⌝ }
         ensures { λ r. ⌜ r ≡ signOf (value self) ⌝ }
     {
         let s = self.settled();
@@ -128,7 +128,7 @@ impl Wide {
 
     // Whether it is 0.
     pub fn is_zero(self) -> bool
-        requires { ⌜ Sized self mostSum ⌝ }
+        requires { ⌜ LimbsWithin self mostSum ⌝ }
         ensures { λ r. ⌜ r ≡ eqZ (value self) (pos 0) ⌝ }
     {
         let sign = self.sign();
@@ -137,7 +137,7 @@ impl Wide {
 
     // Whether it is above 0.
     pub fn is_above(self) -> bool
-        requires { ⌜ Sized self mostSum ⌝ }
+        requires { ⌜ LimbsWithin self mostSum ⌝ }
         ensures { λ r. ⌜ r ≡ isPos (value self) ⌝ }
     {
         let sign = self.sign();

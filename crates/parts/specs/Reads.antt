@@ -36,7 +36,7 @@ pub record Limited (l : Limits) : Type 0 where
   pub uppers-plain : l .strict ≡ false → (v : ℕ) → upperGiven l v .strict ≡ false
 
 -- entries and limits within their ranges
-pub record Held (entries : List ℤ) (limits : Limits) (rows columns : ℕ) : Type 0 where
+pub record InRanges (entries : List ℤ) (limits : Limits) (rows columns : ℕ) : Type 0 where
   pub few-rows : rows ≤ mostRows
   pub few-columns : columns ≤ mostColumns
   pub entries-within : AllWithin entries largestCoefficient

@@ -1,6 +1,4 @@
---   Limbs      words of 64 bits as limbs
 --   Cycles     the test for a bad cycle over the words of an answer
 --   Only       that what the promise of `check` allows is one number
-pub mod Limbs
 pub mod Cycles
 pub mod Only

@@ -1,5 +1,4 @@
 -- The numbers of an answer as limbs, and the checker's sums and tests over them.
-use mathlib.Core.Path.{_≡_}
 use mathlib.Core.Bool.{Bool, _&&_, _||_}
 use mathlib.Core.List.{List}
 use Prim.Native.Nat.{ℕ, _+_, _*_, _<_}
@@ -13,7 +12,6 @@ use Rattle.rules.specs.Facts.Wide.{Formed}
 use Rattle.rules.specs.Wide.{limbAt, numbersOf, wideAt, wideLower, wideUpper}
 use Rattle.layout.specs.Layout.{entryIn}
 use Rattle.limbs.specs.declared.Wide.{Wide}
-use Rattle.limbs.specs.Limbs.{Sized, value}
 use Rattle.parts.specs.Reads.{meetsBoth}
 use Rattle.tableau.specs.declared.Limits.{Limits}
 use Rattle.tableau.specs.Parts.{lowerOf, upperOf}
@@ -30,11 +28,6 @@ wideIn a slot = record { a = limbAt a slot 0; b = limbAt a slot 1; c = limbAt a 
 pub record AllFormed (a : List ℤ) (numbers : ℕ) : Type 0 where
   pub each : (slot : ℕ) → slot < numbers → Formed a slot
 
--- limbs within n that stand for a number
-pub record Stands (w : Wide) (z : ℤ) (n : ℕ) : Type 0 where
-  pub number : value w ≡ z
-  pub size : Sized w n
-
 -- ---- verdict 1
 
 -- of a term of a row, and of a row
@@ -45,13 +38,13 @@ abbrev pub rowMost : ℕ
 rowMost = mostColumns * termMost
 
 -- row place i over the first k numbers from a slot on
-unfoldable pub rowOf : List ℤ → List ℤ → ℕ → ℕ → ℕ → ℕ → ℕ → ℤ
-rowOf entries a first rows columns i k = sum k (λ j. entryIn rows columns entries i j *ℤ wideAt a (first + j))
+unfoldable pub rowIn : List ℤ → List ℤ → ℕ → ℕ → ℕ → ℕ → ℕ → ℤ
+rowIn entries a first rows columns i k = sum k (λ j. entryIn rows columns entries i j *ℤ wideAt a (first + j))
 
 -- the first k rows hold of the numbers from a slot on
 unfoldable pub rowsSolved : List ℤ → List ℤ → ℕ → ℕ → ℕ → ℕ → Bool
 rowsSolved entries a first rows columns k =
-    allBelow k (λ i. eqZ (wideAt a (first + (columns + i))) (rowOf entries a first rows columns i columns))
+    allBelow k (λ i. eqZ (wideAt a (first + (columns + i))) (rowIn entries a first rows columns i columns))
 
 -- the first k of so many variables meet their limits
 unfoldable pub limitsMet : Limits → List ℤ → ℕ → ℤ → ℕ → Bool
@@ -75,12 +68,12 @@ abbrev pub columnMost : ℕ
 columnMost = (limbTurn + limbTurn) + mostRows * shareMost
 
 -- column place j of the multipliers put through the first k rows
-unfoldable pub columnOf : List ℤ → List ℤ → ℕ → ℕ → ℕ → ℕ → ℤ
-columnOf entries a rows columns k j = balanceIn a (columns + rows) j
+unfoldable pub columnIn : List ℤ → List ℤ → ℕ → ℕ → ℕ → ℕ → ℤ
+columnIn entries a rows columns k j = balanceIn a (columns + rows) j
     +ℤ sum k (λ i. entryIn rows columns entries i j *ℤ balanceIn a (columns + rows) (columns + i))
 
 unfoldable pub columnsVanish : List ℤ → List ℤ → ℕ → ℕ → ℕ → Bool
-columnsVanish entries a rows columns k = allBelow k (λ j. eqZ (columnOf entries a rows columns rows j) (pos 0))
+columnsVanish entries a rows columns k = allBelow k (λ j. eqZ (columnIn entries a rows columns rows j) (pos 0))
 
 -- of a limit's number times a multiplier, and of all
 abbrev pub weightMost : ℕ

@@ -10,9 +10,10 @@ ghost use Rattle.rules.specs.Evidence as evidence;
 ghost use Rattle.rules.specs.Evidence.{atLeast, atMost, rightCan};
 ghost use Rattle.rules.specs.Wide.{numbersOf, wideAt, wideDenominator, wideLower, wideUpper};
 ghost use Rattle.amounts.specs.Amounts.{limitIn};
-ghost use Rattle.limbs.specs.Limbs.{Sized, value};
-ghost use Rattle.parts.specs.Reads.{Held, Limited, problemOf};
-ghost use Rattle.wide.specs.Reads.{AllFormed, Stands, limitsMet, mostNumbers, rowMost, rowOf, rowsSolved};
+ghost use Rattle.limbs.specs.Limbs.{LimbsWithin, value};
+ghost use Rattle.parts.specs.Reads.{InRanges, Limited, problemOf};
+ghost use Rattle.wide.specs.Reads.{AllFormed, limitsMet, mostNumbers, rowMost, rowIn, rowsSolved};
+ghost use Rattle.limbs.specs.Limbs.{StandsFor};
 use crate::numbers::number_at;
 use amounts::Given;
 use layout::ColumnPlace;
@@ -34,7 +35,7 @@ fn row_sum(
     requires { ⌜ (first + columns ≤ mostNumbers) × (2 + 4 * (first + columns) ≤ length (now answer)) ⌝ }
     requires { ⌜ AllWithin (now entries) largestCoefficient ⌝ }
     requires { ⌜ AllFormed (now answer) (first + columns) ⌝ }
-    ensures { λ r. ⌜ Stands r (rowOf (now (entries .entry)) (now (answer .entry)) first rows columns (row .0) columns)
+    ensures { λ r. ⌜ StandsFor r (rowIn (now (entries .entry)) (now (answer .entry)) first rows columns (row .0) columns)
         rowMost ⌝ }
 {
     let mut sum = Wide::zero();
@@ -62,7 +63,7 @@ fn row_holds(
     requires { ⌜ AllWithin (now entries) largestCoefficient ⌝ }
     requires { ⌜ AllFormed (now answer) (first + (columns + rows)) ⌝ }
     ensures { λ r. ⌜ r ≡ eqZ (wideAt (now (answer .entry)) (first + (columns + row .0)))
-        (rowOf (now (entries .entry)) (now (answer .entry)) first rows columns (row .0) columns) ⌝ }
+        (rowIn (now (entries .entry)) (now (answer .entry)) first rows columns (row .0) columns) ⌝ }
 {
     let x = number_at(answer, first + (columns + row.0 as usize));
     let sum = row_sum(entries, answer, first, row, rows, columns);
@@ -103,7 +104,7 @@ fn passes(strict: bool, gap: i64, small: i64) -> bool
 
 // A numerator and its small part, over a denominator, against a limit that may be missing.
 fn at_least(common: Wide, x: Wide, small: Wide, limit: Given) -> bool
-    requires { ⌜ (Sized common limbTurn) × (Sized x limbTurn) × (Sized small limbTurn) ⌝ }
+    requires { ⌜ (LimbsWithin common limbTurn) × (LimbsWithin x limbTurn) × (LimbsWithin small limbTurn) ⌝ }
     requires { ⌜ Within (limit .plain) largestLimit ⌝ }
     ensures { λ r. ⌜ r ≡ atLeast (limitIn limit) (value common) (value x, value small) ⌝ }
 {
@@ -113,7 +114,7 @@ fn at_least(common: Wide, x: Wide, small: Wide, limit: Given) -> bool
 }
 
 fn at_most(common: Wide, x: Wide, small: Wide, limit: Given) -> bool
-    requires { ⌜ (Sized common limbTurn) × (Sized x limbTurn) × (Sized small limbTurn) ⌝ }
+    requires { ⌜ (LimbsWithin common limbTurn) × (LimbsWithin x limbTurn) × (LimbsWithin small limbTurn) ⌝ }
     requires { ⌜ Within (limit .plain) largestLimit ⌝ }
     ensures { λ r. ⌜ r ≡ atMost (limitIn limit) (value common) (value x, value small) ⌝ }
 {
@@ -127,7 +128,7 @@ fn at_most(common: Wide, x: Wide, small: Wide, limit: Given) -> bool
 fn limits_hold(limits: Limits, answer: &[i64], variables: usize, common: Wide) -> bool
     requires { ⌜ (variables ≤ mostVariables) × (6 + 8 * variables ≤ length (now answer)) ⌝ }
     requires { ⌜ AllFormed (now answer) (numbersOf variables) ⌝ }
-    requires { ⌜ Sized common limbTurn ⌝ }
+    requires { ⌜ LimbsWithin common limbTurn ⌝ }
     requires { ⌜ Limited limits ⌝ }
     ensures { λ r. ⌜ r ≡ limitsMet limits (now (answer .entry)) variables (value common) variables ⌝ }
 {
@@ -150,7 +151,7 @@ pub fn shows_can(
     columns: usize,
     answer: &[i64],
 ) -> bool
-    requires { ⌜ Held (now entries) limits rows columns ⌝ }
+    requires { ⌜ InRanges (now entries) limits rows columns ⌝ }
     requires { ⌜ 6 + 8 * (columns + rows) ≤ length (now answer) ⌝ }
     requires { ⌜ AllFormed (now answer) (numbersOf (columns + rows)) ⌝ }
     ensures { λ r. ⌜ r ≡ rightCan (problemOf (now (entries .entry)) limits rows columns)

@@ -9,9 +9,10 @@ ghost use Rattle.rules.specs.Evidence as evidence;
 ghost use Rattle.rules.specs.Evidence.{plainOf, rightCannot, strictNamed};
 ghost use Rattle.rules.specs.Wide.{numbersOf, wideDenominator, wideLower, wideUpper};
 ghost use Rattle.amounts.specs.Amounts.{limitIn};
-ghost use Rattle.limbs.specs.Limbs.{Sized, value};
-ghost use Rattle.parts.specs.Reads.{Held, Limited, problemOf};
-ghost use Rattle.wide.specs.Reads.{AllFormed, Stands, balanceIn, columnMost, columnOf, columnsVanish, someMarked};
+ghost use Rattle.limbs.specs.Limbs.{LimbsWithin, value};
+ghost use Rattle.parts.specs.Reads.{InRanges, Limited, problemOf};
+ghost use Rattle.wide.specs.Reads.{AllFormed, balanceIn, columnMost, columnIn, columnsVanish, someMarked};
+ghost use Rattle.limbs.specs.Limbs.{StandsFor};
 ghost use Rattle.wide.specs.Reads.{allOwed, surplusIn, surplusMost, weightMost};
 use crate::numbers::number_at;
 use amounts::Given;
@@ -23,7 +24,7 @@ use tableau::Tableau;
 
 // A multiplier is at least 0, and 0 where its limit is missing.
 fn owed(limit: Given, k: Wide) -> bool
-    requires { ⌜ Sized k limbTurn ⌝ }
+    requires { ⌜ LimbsWithin k limbTurn ⌝ }
     ensures { λ r. ⌜ r ≡ evidence.owed (limitIn limit) (value k) ⌝ }
 {
     let sign = k.sign();
@@ -50,7 +51,7 @@ fn multipliers_owed(limits: Limits, answer: &[i64], variables: usize) -> bool
 fn balance(answer: &[i64], variables: usize, v: usize) -> Wide
     requires { ⌜ (v < variables) × (variables ≤ mostVariables) × (6 + 8 * variables ≤ length (now answer)) ⌝ }
     requires { ⌜ AllFormed (now answer) (numbersOf variables) ⌝ }
-    ensures { λ r. ⌜ Stands r (balanceIn (now (answer .entry)) variables v) (limbTurn + limbTurn) ⌝ }
+    ensures { λ r. ⌜ StandsFor r (balanceIn (now (answer .entry)) variables v) (limbTurn + limbTurn) ⌝ }
 {
     let low = number_at(answer, 1 + v);
     let high = number_at(answer, 1 + variables + v);
@@ -69,7 +70,7 @@ fn column_sum(
         × (6 + 8 * (columns + rows) ≤ length (now answer)) ⌝ }
     requires { ⌜ AllWithin (now entries) largestCoefficient ⌝ }
     requires { ⌜ AllFormed (now answer) (numbersOf (columns + rows)) ⌝ }
-    ensures { λ r. ⌜ Stands r (columnOf (now (entries .entry)) (now (answer .entry)) rows columns rows (column .0))
+    ensures { λ r. ⌜ StandsFor r (columnIn (now (entries .entry)) (now (answer .entry)) rows columns rows (column .0))
         columnMost ⌝ }
 {
     let variables = columns + rows;
@@ -105,8 +106,8 @@ fn columns_cancel(
 
 // A multiplier times its limit's number, or 0 where that is missing.
 fn weighed(limit: Given, k: Wide) -> Wide
-    requires { ⌜ (Sized k limbTurn) × (Within (limit .plain) largestLimit) ⌝ }
-    ensures { λ r. ⌜ Stands r (plainOf (limitIn limit) *ℤ value k) weightMost ⌝ }
+    requires { ⌜ (LimbsWithin k limbTurn) × (Within (limit .plain) largestLimit) ⌝ }
+    ensures { λ r. ⌜ StandsFor r (plainOf (limitIn limit) *ℤ value k) weightMost ⌝ }
 {
     if limit.on {
         return k.times(limit.plain);
@@ -119,7 +120,7 @@ fn surplus(limits: Limits, answer: &[i64], variables: usize) -> Wide
     requires { ⌜ (variables ≤ mostVariables) × (6 + 8 * variables ≤ length (now answer)) ⌝ }
     requires { ⌜ AllFormed (now answer) (numbersOf variables) ⌝ }
     requires { ⌜ Limited limits ⌝ }
-    ensures { λ r. ⌜ Stands r (surplusIn limits (now (answer .entry)) variables variables) surplusMost ⌝ }
+    ensures { λ r. ⌜ StandsFor r (surplusIn limits (now (answer .entry)) variables variables) surplusMost ⌝ }
 {
     let mut sum = Wide::zero();
     for v in 0..variables {
@@ -134,7 +135,7 @@ fn surplus(limits: Limits, answer: &[i64], variables: usize) -> Wide
 
 // A strict limit has a multiplier other than 0.
 fn strict_named(limit: Given, k: Wide) -> bool
-    requires { ⌜ Sized k limbTurn ⌝ }
+    requires { ⌜ LimbsWithin k limbTurn ⌝ }
     ensures { λ r. ⌜ r ≡ strictNamed (limitIn limit) (value k) ⌝ }
 {
     limit.on & (limit.strict & !k.is_zero())
@@ -165,7 +166,7 @@ pub fn shows_cannot(
     columns: usize,
     answer: &[i64],
 ) -> bool
-    requires { ⌜ Held (now entries) limits rows columns ⌝ }
+    requires { ⌜ InRanges (now entries) limits rows columns ⌝ }
     requires { ⌜ 6 + 8 * (columns + rows) ≤ length (now answer) ⌝ }
     requires { ⌜ AllFormed (now answer) (numbersOf (columns + rows)) ⌝ }
     ensures { λ r. ⌜ r ≡ rightCannot (problemOf (now (entries .entry)) limits rows columns)

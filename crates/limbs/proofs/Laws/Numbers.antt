@@ -1,5 +1,5 @@
 -- The number that limbs stand for.
---   value-zero, value-plus, value-less, value-times      limb by limb is number by number
+--   value-plus, value-less, value-times      limb by limb is number by number
 --   value-of                                             a number of one word
 --   quot-rem, value-settled                              carries change no number
 use mathlib.Core.List.{[], _∷_}
@@ -11,14 +11,11 @@ use lib.Signed.{quotZ, remZ}
 use Rattle.whole.proofs.Ring.Reify.{reify}
 use Rattle.whole.proofs.Ring.Tools.{ring-at}
 use Rattle.rules.specs.Sizes.{limbTurn}
-use Rattle.limbs.specs.Limbs.{lessOf, ofNumber, plusOf, secondOf, settledOf, thirdOf, timesOf, value, zeroWide}
+use Rattle.limbs.specs.Limbs.{lessOf, ofNumber, plusOf, secondOf, settledOf, thirdOf, scaledOf, value}
 use Rattle.limbs.specs.declared.Wide.{Wide}
 
 abbrev T : ℤ
 T = pos limbTurn
-
-pub value-zero : value zeroWide ≡ pos 0
-value-zero = refl
 
 -- with any number for 2^32
 abbrev numberBy : ℤ → ℤ → ℤ → ℤ → ℤ → ℤ
@@ -40,7 +37,7 @@ value-plus v w = plus-by T (v .a) (v .b) (v .c) (v .d) (w .a) (w .b) (w .c) (w .
 pub value-less : (v w : Wide) → value (lessOf v w) ≡ value v -ℤ value w
 value-less v w = less-by T (v .a) (v .b) (v .c) (v .d) (w .a) (w .b) (w .c) (w .d)
 
-pub value-times : (k : ℤ) (w : Wide) → value (timesOf k w) ≡ k *ℤ value w
+pub value-times : (k : ℤ) (w : Wide) → value (scaledOf k w) ≡ k *ℤ value w
 value-times k w = times-by T k (w .a) (w .b) (w .c) (w .d)
 
 -- ---- carries
@@ -51,7 +48,7 @@ parts-of n = omega arith
 turned : (t r q : ℤ) → negℤ r +ℤ t *ℤ negℤ q ≡ negℤ (r +ℤ t *ℤ q)
 turned t r q = ring-at (t ∷ r ∷ q ∷ []) (search reify depth 30) refl
 
-pub quot-rem : (z : ℤ) → remZ z (pos limbTurn) +ℤ pos limbTurn *ℤ quotZ z (pos limbTurn) ≡ z
+quot-rem : (z : ℤ) → remZ z (pos limbTurn) +ℤ pos limbTurn *ℤ quotZ z (pos limbTurn) ≡ z
 quot-rem (pos n) = ap pos (parts-of n)
 quot-rem (negsuc n) = turned T (pos (suc n % limbTurn)) (pos (suc n / limbTurn))
     ∙ ap (λ k. negℤ (pos k)) (parts-of (suc n))

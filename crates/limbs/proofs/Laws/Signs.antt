@@ -17,7 +17,7 @@ use Rattle.whole.proofs.Ring.Tools.{lt-at, ring-at}
 use Rattle.whole.proofs.Tells.{tells-eqZ, tells-false, tells-lt, tells-true}
 use Rattle.whole.specs.Numbers.{Within, eqZ}
 use Rattle.rules.specs.Sizes.{largestLimb, limbTurn}
-use Rattle.limbs.specs.Limbs.{Settled, pick, signOf, value}
+use Rattle.limbs.specs.Limbs.{Carried, pick, signOf, value}
 use Rattle.limbs.specs.declared.Wide.{Wide}
 
 pub sign-up : (z : ℤ) → pos 0 <ℤ z → signOf z ≡ pos 1
@@ -45,7 +45,7 @@ over-down : (low z : ℤ) → Within low largestLimb → z <ℤ pos 0 → (low +
 over-down low z w h = lt-at (low ∷ z ∷ []) (of-le (within-hi w) ⊞ nn-nat limbTurn ⊠ of-lt h)
     (search reify depth 30 fits 20000) slk
 
-pub sign-over : (low z : ℤ) → Within low largestLimb → signOf (low +ℤ pos limbTurn *ℤ z) ≡ pick (signOf z) (signOf low)
+sign-over : (low z : ℤ) → Within low largestLimb → signOf (low +ℤ pos limbTurn *ℤ z) ≡ pick (signOf z) (signOf low)
 unfolding pick
 sign-over low z w = go (sign z)
   where
@@ -58,7 +58,7 @@ sign-over low z w = go (sign z)
         ∙ sym (ap (λ s. pick s (signOf low)) (sign-null z e))
     go (minus h) = sign-down _ (over-down low z w h) ∙ sym (ap (λ s. pick s (signOf low)) (sign-down z h))
 
-pub sign-limbs : (w : Wide) → Settled w →
+pub sign-limbs : (w : Wide) → Carried w →
     pick (pick (pick (signOf (w .d)) (signOf (w .c))) (signOf (w .b))) (signOf (w .a)) ≡ signOf (value w)
 sign-limbs w S = sym (sign-over (w .a) _ (S .under-a)
     ∙ ap (λ s. pick s (signOf (w .a))) (sign-over (w .b) _ (S .under-b)

@@ -1,6 +1,5 @@
 -- How large limbs are.
 --   sized-le, sized-zero, sized-plus, sized-less, sized-times      limb by limb
---   sized-of                                     a number of one word
 --   settled-of                                   after carries the three lower limbs are below 2^32
 use Prim.Native.Nat.{ℕ, _*_, _+_, _≤_}
 use native.Mathlib.Omega.{arith}
@@ -8,10 +7,11 @@ use lib.IntN.{ℤ}
 use Rattle.whole.proofs.Numbers.Halves.{rem-most}
 use Rattle.whole.proofs.Numbers.Sizes.{within-*, within-+, within--, within-le}
 use Rattle.whole.specs.Numbers.{Within}
-use Rattle.limbs.specs.Limbs.{Settled, Sized, lessOf, plusOf, secondOf, settledOf, thirdOf, timesOf, zeroWide}
+use Rattle.limbs.specs.Limbs.{Carried, LimbsWithin, lessOf, plusOf, secondOf, settledOf, thirdOf, scaledOf}
+use Rattle.limbs.specs.Limbs.{zeroWide}
 use Rattle.limbs.specs.declared.Wide.{Wide}
 
-pub sized-le : {w : Wide} {m n : ℕ} → Sized w m → m ≤ n → Sized w n
+pub sized-le : {w : Wide} {m n : ℕ} → LimbsWithin w m → m ≤ n → LimbsWithin w n
 sized-le h k = record {
   size-a = within-le (h .size-a) k;
   size-b = within-le (h .size-b) k;
@@ -19,7 +19,7 @@ sized-le h k = record {
   size-d = within-le (h .size-d) k;
 }
 
-pub sized-zero : (n : ℕ) → Sized zeroWide n
+pub sized-zero : (n : ℕ) → LimbsWithin zeroWide n
 sized-zero n = record {
   size-a = record { within = omega arith };
   size-b = record { within = omega arith };
@@ -27,7 +27,7 @@ sized-zero n = record {
   size-d = record { within = omega arith };
 }
 
-pub sized-plus : {v w : Wide} {m n : ℕ} → Sized v m → Sized w n → Sized (plusOf v w) (m + n)
+pub sized-plus : {v w : Wide} {m n : ℕ} → LimbsWithin v m → LimbsWithin w n → LimbsWithin (plusOf v w) (m + n)
 sized-plus h k = record {
   size-a = within-+ (h .size-a) (k .size-a);
   size-b = within-+ (h .size-b) (k .size-b);
@@ -35,7 +35,7 @@ sized-plus h k = record {
   size-d = within-+ (h .size-d) (k .size-d);
 }
 
-pub sized-less : {v w : Wide} {m n : ℕ} → Sized v m → Sized w n → Sized (lessOf v w) (m + n)
+pub sized-less : {v w : Wide} {m n : ℕ} → LimbsWithin v m → LimbsWithin w n → LimbsWithin (lessOf v w) (m + n)
 sized-less h k = record {
   size-a = within-- (h .size-a) (k .size-a);
   size-b = within-- (h .size-b) (k .size-b);
@@ -43,7 +43,7 @@ sized-less h k = record {
   size-d = within-- (h .size-d) (k .size-d);
 }
 
-pub sized-times : {k : ℤ} {w : Wide} {m n : ℕ} → Within k m → Sized w n → Sized (timesOf k w) (m * n)
+pub sized-times : {k : ℤ} {w : Wide} {m n : ℕ} → Within k m → LimbsWithin w n → LimbsWithin (scaledOf k w) (m * n)
 sized-times h k = record {
   size-a = within-* h (k .size-a);
   size-b = within-* h (k .size-b);
@@ -51,5 +51,5 @@ sized-times h k = record {
   size-d = within-* h (k .size-d);
 }
 
-pub settled-of : (w : Wide) → Settled (settledOf w)
+pub settled-of : (w : Wide) → Carried (settledOf w)
 settled-of w = record { under-a = rem-most (w .a); under-b = rem-most (secondOf w); under-c = rem-most (thirdOf w) }

@@ -30,7 +30,7 @@ use Rattle.tableau.specs.Start.{limitsFor, startEntries, startLaid}
 use Rattle.tableau.proofs.Laws.Fits.{Fitting, coefficient-start, coefficients-start, fitting-accepted}
 use Rattle.tableau.proofs.Laws.Fits.{serves-start}
 use Rattle.tableau.proofs.Laws.Read.{lower-of, upper-of}
-use Rattle.parts.specs.Reads.{Held, problemOf, Readable, meetsBoth}
+use Rattle.parts.specs.Reads.{InRanges, problemOf, Readable, meetsBoth}
 
 record ReadFrom (P : Problem Limit) (entries : List ℤ) (limits : Limits) (rows columns : ℕ) : Type 0 where
   entries-are : entries ≡ startEntries P
@@ -118,11 +118,11 @@ module _ (P : Problem Limit) (F : Fitting P) where
     held-is : problemOf entries limits rows columns ≡ read
     held-is = let e = R .entries-are in let l = R .limits-are in let m = R .rows-are in let n = R .columns-are in cc
 
-    held : Held entries limits rows columns
+    held : InRanges entries limits rows columns
     unfolding startLaid
     held = rw (R .entries-are, R .limits-are, R .rows-are, R .columns-are) start
       where
-        start : Held (startEntries P) (limitsFor P) (P .m) (P .n)
+        start : InRanges (startEntries P) (limitsFor P) (P .m) (P .n)
         start = record {
           few-rows = F .few-rows;
           few-columns = F .few-columns;
@@ -165,7 +165,7 @@ module _ {ws entries : List ℤ} {limits : Limits} {n m : ℕ} (F : Framed ws n 
     columns-are = F .columns-are ∙ sym (problem-n ws);
   }
 
-  pub words-held : Held entries limits m n
+  pub words-held : InRanges entries limits m n
   words-held = held (problem ws) (fitting-accepted ws A) words-read
 
   module _ (d : ℤ) (x y : ℕ → ℤ) where

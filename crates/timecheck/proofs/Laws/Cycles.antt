@@ -37,12 +37,12 @@ row-in (pos n) m l h = ltb→lt n m (h .lt)
 row-in (negsuc n) m l h = absurd (l .le)
 
 -- a sum below 0, or 0 with a strict row
-abbrev pub badSum : ℤ → ℤ → Bool
-badSum plain strict = ltZ plain (pos 0) || (not (ltZ (pos 0) plain) && ltZ (pos 0) strict)
+abbrev pub badRound : ℤ → ℤ → Bool
+badRound plain strict = ltZ plain (pos 0) || (not (ltZ (pos 0) plain) && ltZ (pos 0) strict)
 
 -- by the order of pairs
-bad-sum-is : (c s : ℤ) → pairs .less (c, negℤ s) (pos 0, pos 0) ≡ badSum c s
-bad-sum-is c s = ap (lexicographic (ltZ c (pos 0)) (ltZ (pos 0) c)) turned ∙ joined (ltZ c (pos 0)) (ltZ (pos 0) c) _
+bad-round-is : (c s : ℤ) → pairs .less (c, negℤ s) (pos 0, pos 0) ≡ badRound c s
+bad-round-is c s = ap (lexicographic (ltZ c (pos 0)) (ltZ (pos 0) c)) turned ∙ joined (ltZ c (pos 0)) (ltZ (pos 0) c) _
   where
     down : (s : ℤ) → negℤ s <ℤ pos 0 → pos 0 <ℤ s
     down s h = lt-at (s ∷ []) (of-lt h) (search reify depth 30) slk
@@ -106,7 +106,7 @@ module _ (ws a : List ℤ) where
 
     pub bad-tests : isBadCycle pairs (timeEdges ws) (rowsNamed a)
         ≡ (allBelow (k - 1) (λ j. linkedAt ws a j (suc j)) && linkedAt ws a (k - 1) 0
-        && allBelow k (λ j. newUpTo ws a j j) && badSum (wordSum ws a 5 k) (wordSum ws a 4 k))
+        && allBelow k (λ j. newUpTo ws a j j) && badRound (wordSum ws a 5 k) (wordSum ws a 4 k))
     unfolding isBadCycle newUpTo
     bad-tests = ap tests long ∙ rw listed (ap₂ (λ (x y : Bool). x && y) (ap₂ (λ (x y : Bool). x && y)
         (ap₂ (λ (x y : Bool). x && y) linked closed) apart) below)
@@ -128,8 +128,8 @@ module _ (ws a : List ℤ) where
             ap₂ (λ x y. not (eqb (E .tail x) (E .tail y))) (told i (omega arith)) (told j h)))
 
         below : pairs .less (total pairs k (λ j. E .size (rowTold (rowsNamed a) j))) (pos 0, pos 0)
-            ≡ badSum (wordSum ws a 5 k) (wordSum ws a 4 k)
-        below = ap (λ z. pairs .less z (pos 0, pos 0)) around-is ∙ bad-sum-is (wordSum ws a 5 k) (wordSum ws a 4 k)
+            ≡ badRound (wordSum ws a 5 k) (wordSum ws a 4 k)
+        below = ap (λ z. pairs .less z (pos 0, pos 0)) around-is ∙ bad-round-is (wordSum ws a 5 k) (wordSum ws a 4 k)
 
 -- ---- the rule as tests one after the other
 
@@ -146,6 +146,6 @@ module _ (ws a : List ℤ) where
     pub by-tests : 0 < cycleLength a → allBelow (cycleLength a) (isRow ws a) ≡ true → cycleShown ws a
         ≡ (allBelow (cycleLength a - 1) (λ j. linkedAt ws a j (suc j)) && linkedAt ws a (cycleLength a - 1) 0
         && allBelow (cycleLength a) (λ j. newUpTo ws a j j)
-        && badSum (wordSum ws a 5 (cycleLength a)) (wordSum ws a 4 (cycleLength a)) && allBelow (2 * nOf ws) (isPast a))
+        && badRound (wordSum ws a 5 (cycleLength a)) (wordSum ws a 4 (cycleLength a)) && allBelow (2 * nOf ws) (isPast a))
     unfolding cycleShown
     by-tests h r = rw (o, r) (ap (λ (b : Bool). b && allBelow (2 * nOf ws) (isPast a)) (bad-tests ws a h r))

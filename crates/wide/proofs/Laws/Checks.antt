@@ -1,6 +1,6 @@
 -- The checker's number by what was found out in turn.
---   too-short, ill-formed                       7; 9 for words out of their ranges
---   can-judged, cannot-judged, other-judged     by the verdict
+--   too-short-wide, ill-formed                       7; 9 for words out of their ranges
+--   can-wide, cannot-wide, other-wide     by the verdict
 --   formed-all                                  words in their ranges, of every number
 use mathlib.Core.Bool.{Bool, cond, false, true, _&&_}
 use mathlib.Core.List.{List}
@@ -30,9 +30,9 @@ module _ (ws a : List ℤ) (e : problemRefusal ws ≡ 0) where
   abbrev P : Problem Limit
   P = problem ws
 
-  pub too-short : length a < wideLength ws → checkedWide ws a ≡ 7
+  pub too-short-wide : length a < wideLength ws → checkedWide ws a ≡ 7
   unfolding shortWide
-  too-short h = wide-by-answer ws a e
+  too-short-wide h = wide-by-answer ws a e
       ∙ ap (λ b. cond b 7 (cond (acceptedWide P a) 8 9)) (tells-true (tells-lt (length a) (wideLength ws)) h)
 
   module _ (l : wideLength ws ≤ length a) where
@@ -55,15 +55,15 @@ module _ (ws a : List ℤ) (e : problemRefusal ws ≡ 0) where
       unfolding showsWide
       of-verdict b c p q = ap₂ (λ x y. cond x can (cond y cannot false)) p q
 
-      pub can-judged : verdictOf a ≡ pos 1 → checkedWide ws a ≡ cond can 8 9
-      can-judged v = by-tests true can f (of-verdict true _ (tells-true (tells-eqZ (verdictOf a) (pos 1)) v) refl)
+      pub can-wide : verdictOf a ≡ pos 1 → checkedWide ws a ≡ cond can 8 9
+      can-wide v = by-tests true can f (of-verdict true _ (tells-true (tells-eqZ (verdictOf a) (pos 1)) v) refl)
 
-      pub cannot-judged : verdictOf a ≢ pos 1 → verdictOf a ≡ pos 2 → checkedWide ws a ≡ cond cannot 8 9
-      cannot-judged n v = by-tests true cannot f
+      pub cannot-wide : verdictOf a ≢ pos 1 → verdictOf a ≡ pos 2 → checkedWide ws a ≡ cond cannot 8 9
+      cannot-wide n v = by-tests true cannot f
           (of-verdict false true (tells-false (tells-eqZ (verdictOf a) (pos 1)) n)
           (tells-true (tells-eqZ (verdictOf a) (pos 2)) v))
 
-      pub other-judged : verdictOf a ≢ pos 1 → verdictOf a ≢ pos 2 → checkedWide ws a ≡ 9
-      other-judged n m = by-tests true false f
+      pub other-wide : verdictOf a ≢ pos 1 → verdictOf a ≢ pos 2 → checkedWide ws a ≡ 9
+      other-wide n m = by-tests true false f
           (of-verdict false false (tells-false (tells-eqZ (verdictOf a) (pos 1)) n)
           (tells-false (tells-eqZ (verdictOf a) (pos 2)) m))

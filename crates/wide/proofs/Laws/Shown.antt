@@ -11,7 +11,7 @@ use Rattle.rules.specs.Evidence.{column, contradicts, rightCan, rightCannot, so
 use Rattle.rules.specs.Wide.{wideDenominator, wideLower, wideUpper}
 use Rattle.parts.specs.Reads.{problemOf}
 use Rattle.tableau.specs.declared.Limits.{Limits}
-use Rattle.wide.specs.Reads.{allOwed, columnOf, columnsVanish, limitsMet, rowOf, rowsSolved, someMarked}
+use Rattle.wide.specs.Reads.{allOwed, columnIn, columnsVanish, limitsMet, rowIn, rowsSolved, someMarked}
 use Rattle.wide.specs.Reads.{surplusIn}
 
 module _ (entries : List ℤ) (limits : Limits) (rows columns : ℕ) (a : List ℤ) where
@@ -21,14 +21,14 @@ module _ (entries : List ℤ) (limits : Limits) (rows columns : ℕ) (a : List �
   pub can-tests : rightCan (problemOf entries limits rows columns) (wideDenominator a) (wideLower a) (wideUpper N a)
       ≡ (isPos (wideDenominator a) && rowsSolved entries a 1 rows columns rows
       && rowsSolved entries a (1 + N) rows columns rows && limitsMet limits a N (wideDenominator a) N)
-  unfolding rightCan problemOf rowsSolved rowOf limitsMet
+  unfolding rightCan problemOf rowsSolved rowIn limitsMet
   can-tests = refl
 
   pub cannot-tests :
       rightCannot (problemOf entries limits rows columns) (wideDenominator a) (wideLower a) (wideUpper N a)
       ≡ (eqZ (wideDenominator a) (pos 0) && allOwed limits a N N && columnsVanish entries a rows columns columns
       && contradicts (surplusIn limits a N N) (someMarked limits a N N))
-  unfolding rightCannot problemOf allOwed columnsVanish columnOf surplusIn someMarked column surplus someStrict
+  unfolding rightCannot problemOf allOwed columnsVanish columnIn surplusIn someMarked column surplus someStrict
   cannot-tests = refl
 
 -- a total above 0; a total that is not 0; a total of 0

@@ -26,7 +26,7 @@ use Rattle.rules.proofs.Refusal.Exactly.{accepted-exactly}
 use Rattle.rules.proofs.Wide.Checked.{wide-by-problem}
 use Rattle.judge.specs.Words.{Framed}
 use Rattle.judge.proofs.Laws.Judged.{accepted-framed}
-use Rattle.wide.proofs.Laws.Checks.{can-judged, cannot-judged, formed-all, ill-formed, other-judged, too-short}
+use Rattle.wide.proofs.Laws.Checks.{can-wide, cannot-wide, formed-all, ill-formed, other-wide, too-short-wide}
 use Rattle.wide.proofs.check.Statement.{statement}
 use Rattle.wide.proofs.check.Tie as tie
 
@@ -96,7 +96,7 @@ add-if2 c = let F = framed c in omega (arith, F .few-columns, F .few-rows)
 
 returns-2 : tie.Need-returns-2
 returns-2 c = let b = c .before in
-    sym (too-short (words (start b)) (answer (start b)) (fine (b .before .before)) (rw (← long-here b) (c .if2 .taken)))
+    sym (too-short-wide (words (start b)) (answer (start b)) (fine (b .before .before)) (rw (← long-here b) (c .if2 .taken)))
 
 -- ---- the answer is long enough
 
@@ -169,7 +169,7 @@ can-holds-requires c κs = let f = c .before .before in let l = enough f in
 can-answers : (c : tie.After-can-holds) → let b = here (c .before .before .before) in
     checkedWide (words b) (answer b) ≡ cond (c .can-holds .result) 8 9
 can-answers c = let v = c .before in let f = v .before .before in let l = enough f in
-    can-judged (words (here f)) (answer (here f)) (not-refused l) (long l) (formed f) (one v)
+    can-wide (words (here f)) (answer (here f)) (not-refused l) (long l) (formed f) (one v)
     ∙ ap (λ (b : Bool). cond b 8 9) (sym (c .can-holds .ensures))
 
 returns-4 : tie.Need-returns-4
@@ -185,7 +185,7 @@ cannot-holds-requires c κs = let f = c .before .before .before in let l = enoug
 cannot-answers : (c : tie.After-cannot-holds) → let b = here (c .before .before .before .before) in
     checkedWide (words b) (answer b) ≡ cond (c .cannot-holds .result) 8 9
 cannot-answers c = let v = c .before in let f = v .before .before .before in let l = enough f in
-    cannot-judged (words (here f)) (answer (here f)) (not-refused l) (long l) (formed f) (not-one (v .before)) (two v)
+    cannot-wide (words (here f)) (answer (here f)) (not-refused l) (long l) (formed f) (not-one (v .before)) (two v)
     ∙ ap (λ (b : Bool). cond b 8 9) (sym (c .cannot-holds .ensures))
 
 returns-6 : tie.Need-returns-6
@@ -196,7 +196,7 @@ returns-7 c = sym (cannot-answers (c .before) ∙ ap (λ (b : Bool). cond b 8 9)
 
 returns-8 : tie.Need-returns-8
 returns-8 c = let f = c .before .before .before in let l = enough f in
-    sym (other-judged (words (here f)) (answer (here f)) (not-refused l) (long l) (formed f) (not-one (c .before))
+    sym (other-wide (words (here f)) (answer (here f)) (not-refused l) (long l) (formed f) (not-one (c .before))
     (λ e. c .if6 .left (ap (ofZ w64) e)))
 
 pub check-spec : {M : Type 1} → statement M

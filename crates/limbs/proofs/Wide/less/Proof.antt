@@ -49,13 +49,18 @@ sub-a : tie.Need-sub-a
 sub-a c = let s = c .before .before .before .before in simp (toZ-ofZ (own-a s), toZ-ofZ (other-a s)) (fit-a s)
 
 sub-b : tie.Need-sub-b
-sub-b c = let s = c .before .before .before .before .before .before .before .before in simp (toZ-ofZ (own-b s), toZ-ofZ (other-b s)) (fit-b s)
+sub-b c = let s = c .before .before .before .before .before .before .before .before in
+    simp (toZ-ofZ (own-b s), toZ-ofZ (other-b s)) (fit-b s)
 
 sub-c : tie.Need-sub-c
-sub-c c = let s = c .before .before .before .before .before .before .before .before .before .before .before .before in simp (toZ-ofZ (own-c s), toZ-ofZ (other-c s)) (fit-c s)
+sub-c c = let s = c .before .before .before .before .before .before .before .before
+    .before .before .before .before in
+    simp (toZ-ofZ (own-c s), toZ-ofZ (other-c s)) (fit-c s)
 
 sub-d : tie.Need-sub-d
-sub-d c = let s = c .before .before .before .before .before .before .before .before .before .before .before .before .before .before .before .before in simp (toZ-ofZ (own-d s), toZ-ofZ (other-d s)) (fit-d s)
+sub-d c = let s = c .before .before .before .before .before .before .before .before
+    .before .before .before .before .before .before .before .before in
+    simp (toZ-ofZ (own-d s), toZ-ofZ (other-d s)) (fit-d s)
 
 returns : tie.Need-returns
 returns c = let s = c .before .before .before .before .before .before .before .before

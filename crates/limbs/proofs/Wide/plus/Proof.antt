@@ -49,13 +49,18 @@ add-a : tie.Need-add-a
 add-a c = let s = c .before .before .before .before in simp (toZ-ofZ (own-a s), toZ-ofZ (other-a s)) (fit-a s)
 
 add-b : tie.Need-add-b
-add-b c = let s = c .before .before .before .before .before .before .before .before in simp (toZ-ofZ (own-b s), toZ-ofZ (other-b s)) (fit-b s)
+add-b c = let s = c .before .before .before .before .before .before .before .before in
+    simp (toZ-ofZ (own-b s), toZ-ofZ (other-b s)) (fit-b s)
 
 add-c : tie.Need-add-c
-add-c c = let s = c .before .before .before .before .before .before .before .before .before .before .before .before in simp (toZ-ofZ (own-c s), toZ-ofZ (other-c s)) (fit-c s)
+add-c c = let s = c .before .before .before .before .before .before .before .before
+    .before .before .before .before in
+    simp (toZ-ofZ (own-c s), toZ-ofZ (other-c s)) (fit-c s)
 
 add-d : tie.Need-add-d
-add-d c = let s = c .before .before .before .before .before .before .before .before .before .before .before .before .before .before .before .before in simp (toZ-ofZ (own-d s), toZ-ofZ (other-d s)) (fit-d s)
+add-d c = let s = c .before .before .before .before .before .before .before .before
+    .before .before .before .before .before .before .before .before in
+    simp (toZ-ofZ (own-d s), toZ-ofZ (other-d s)) (fit-d s)
 
 returns : tie.Need-returns
 returns c = let s = c .before .before .before .before .before .before .before .before

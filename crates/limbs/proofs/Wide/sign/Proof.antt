@@ -5,7 +5,7 @@ use borrow.Author.Needs.{needs}
 use mir.Facts.{toZ-ofZ}
 use mir.Syntax.{w64}
 use mir.Val.{SFits}
-use Rattle.limbs.specs.Limbs.{Settled, pick, signOf, value}
+use Rattle.limbs.specs.Limbs.{Carried, pick, signOf, value}
 use Rattle.limbs.specs.declared.Wide.{Wide}
 use Rattle.limbs.proofs.Laws.Numbers.{value-settled}
 use Rattle.limbs.proofs.Laws.Signs.{sign-limbs}
@@ -84,7 +84,7 @@ module _ (c : tie.After-first-of3) where
   all-is = simp (toZ-ofZ fit-next, toZ-ofZ fit-4) at (c .first-of3 .ensures)
       ∙ ap₂ pick next-is (simp (toZ-ofZ fit-a) at (last .sign-of4 .ensures))
 
-  settled : Settled w
+  settled : Carried w
   settled = rw (taken .settled .ensures) (settled-of (taken .before .args .self))
 
   same : value w ≡ value (taken .before .args .self)

@@ -25,7 +25,7 @@ use Rattle.rules.specs.Problem.{mOf, nOf, word}
 use Rattle.rules.specs.Sizes.{mostTimeRows, mostVertices}
 use Rattle.rules.specs.Times.Check.{cycleLength, cycleShown, isPast, isRow}
 use Rattle.timecheck.specs.Walk.{Named, Summable, isBetween, linkedAt, newUpTo, wordSum}
-use Rattle.timecheck.proofs.Laws.Cycles.{badSum, by-outside, by-rows, by-tests}
+use Rattle.timecheck.proofs.Laws.Cycles.{badRound, by-outside, by-rows, by-tests}
 use Rattle.timecheck.proofs.cycle.shows_cycle.Statement.{statement}
 use Rattle.timecheck.proofs.cycle.shows_cycle.Tie as tie
 
@@ -69,7 +69,7 @@ module _ (s : tie.Start) where
   news = allBelow K (λ j. newUpTo ws a j j)
 
   abbrev bad : Bool
-  bad = badSum (wordSum ws a 5 K) (wordSum ws a 4 K)
+  bad = badRound (wordSum ws a 5 K) (wordSum ws a 4 K)
 
 shared-slice-copy-out-named : tie.Need-shared-slice-copy-out-named
 shared-slice-copy-out-named c = omega (arith, c .pre .1)
@@ -278,7 +278,7 @@ module _ (c : tie.After-is-bad) where
 
   bad-is : c .is-bad .result ≡ bad (second (base passed))
   bad-is = simp (toZ-ofZ fit-plain, toZ-ofZ fit-strict) at (c .is-bad .ensures)
-      ∙ ap₂ badSum (simp (toZ-ofZ (read (counted (base passed)))) at (summed .before .word-sum .ensures))
+      ∙ ap₂ badRound (simp (toZ-ofZ (read (counted (base passed)))) at (summed .before .word-sum .ensures))
       (simp (toZ-ofZ (read (counted (base passed)))) at (summed .word-sum2 .ensures))
 
 returns-6 : tie.Need-returns-6

@@ -10,9 +10,9 @@ use mir.Val.{SFits}
 use Rattle.rules.specs.Sizes.{limbTurn}
 use Rattle.limbs.proofs.Laws.Sizes.{sized-le}
 use Rattle.limbs.specs.Limbs.{signOf}
-use Rattle.wide.proofs.Laws.Reads.{stands-is, stands-less}
-use Rattle.wide.specs.Reads.{Stands}
-use Rattle.timecheck.proofs.Laws.Limbs.{stands-of}
+use Rattle.limbs.proofs.Laws.Stands.{stands-is, stands-less}
+use Rattle.limbs.specs.Limbs.{StandsFor}
+use Rattle.limbs.proofs.Laws.Stands.{stands-of}
 use Rattle.timecheck.proofs.times.gap.Statement.{statement}
 use Rattle.timecheck.proofs.times.gap.Tie as tie
 
@@ -26,10 +26,10 @@ module _ (c : tie.After-of2) where
   abbrev start : tie.Start
   start = c .before .before
 
-  first : Stands (c .before .of .result) (start .args .a) limbTurn
+  first : StandsFor (c .before .of .result) (start .args .a) limbTurn
   first = stands-is (simp (toZ-ofZ (start .fits .a)) at (c .before .of .ensures)) (stands-of _ (start .fits .a))
 
-  second : Stands (c .of2 .result) (start .args .b) limbTurn
+  second : StandsFor (c .of2 .result) (start .args .b) limbTurn
   second = stands-is (simp (toZ-ofZ (start .fits .b)) at (c .of2 .ensures)) (stands-of _ (start .fits .b))
 
 less-requires : tie.Need-less-requires
@@ -42,10 +42,10 @@ module _ (c : tie.After-of3) where
   abbrev begun : tie.Start
   begun = start (c .before .before)
 
-  apart : Stands (c .before .less .result) (begun .args .a -ℤ begun .args .b) (limbTurn + limbTurn)
+  apart : StandsFor (c .before .less .result) (begun .args .a -ℤ begun .args .b) (limbTurn + limbTurn)
   apart = stands-is (c .before .less .ensures) (stands-less (first (c .before .before)) (second (c .before .before)))
 
-  third : Stands (c .of3 .result) (begun .args .c) limbTurn
+  third : StandsFor (c .of3 .result) (begun .args .c) limbTurn
   third = stands-is (simp (toZ-ofZ (begun .fits .c)) at (c .of3 .ensures)) (stands-of _ (begun .fits .c))
 
 less-requires-2 : tie.Need-less-requires-2
@@ -55,7 +55,7 @@ module _ (c : tie.After-less2) where
   abbrev s : tie.Start
   s = begun (c .before)
 
-  left : Stands (c .less2 .result) (s .args .c -ℤ (s .args .a -ℤ s .args .b)) (limbTurn + (limbTurn + limbTurn))
+  left : StandsFor (c .less2 .result) (s .args .c -ℤ (s .args .a -ℤ s .args .b)) (limbTurn + (limbTurn + limbTurn))
   left = stands-is (c .less2 .ensures) (stands-less (third (c .before)) (apart (c .before)))
 
 sign-requires : tie.Need-sign-requires

@@ -23,7 +23,7 @@ use Rattle.rules.specs.Problem.{mOf, nOf, word}
 use Rattle.rules.specs.Sizes.{largestLength, mostTimeRows, mostVertices}
 use Rattle.rules.specs.Times.Words.{AcceptedTimes, lengthWord, strictWord, timesLength}
 use Rattle.limbs.specs.Limbs.{signOf}
-use Rattle.wide.proofs.Laws.Signs.{clears-signs}
+use Rattle.limbs.proofs.Laws.Gaps.{clears-signs}
 use Rattle.rules.specs.Times.Check.{rowMet}
 use Rattle.timecheck.proofs.times.row_met.Statement.{statement}
 use Rattle.timecheck.proofs.times.row_met.Tie as tie

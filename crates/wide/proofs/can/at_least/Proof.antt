@@ -17,9 +17,10 @@ use Rattle.amounts.specs.declared.Given.{Given}
 use Rattle.limbs.specs.Limbs.{signOf, value}
 use Rattle.limbs.proofs.Laws.Sizes.{sized-le}
 use Rattle.parts.proofs.Laws.Tests.{at-least-joined}
-use Rattle.wide.specs.Reads.{Stands, weightMost}
-use Rattle.wide.proofs.Laws.Reads.{stands-is, stands-less, stands-times}
-use Rattle.wide.proofs.Laws.Signs.{clears-signs}
+use Rattle.wide.specs.Reads.{weightMost}
+use Rattle.limbs.specs.Limbs.{StandsFor}
+use Rattle.limbs.proofs.Laws.Stands.{stands-is, stands-less, stands-times}
+use Rattle.limbs.proofs.Laws.Gaps.{clears-signs}
 use Rattle.wide.proofs.can.at_least.Statement.{statement}
 use Rattle.wide.proofs.can.at_least.Tie as tie
 
@@ -34,7 +35,7 @@ module _ (c : tie.After-times) where
   abbrev start : tie.Start
   start = c .before .before
 
-  scaled : Stands (c .times .result) (start .args .limit .plain *ℤ value (start .args .common)) weightMost
+  scaled : StandsFor (c .times .result) (start .args .limit .plain *ℤ value (start .args .common)) weightMost
   scaled = stands-is (simp (toZ-ofZ (plain-fits (c .before))) at (c .times .ensures))
       (stands-times (start .pre .1) (record { number = refl; size = start .pre .0 .0 }))
 
@@ -45,7 +46,7 @@ module _ (c : tie.After-less) where
   abbrev begun : tie.Start
   begun = start (c .before)
 
-  gap : Stands (c .less .result)
+  gap : StandsFor (c .less .result)
       (value (begun .args .x) -ℤ begun .args .limit .plain *ℤ value (begun .args .common)) (limbTurn + weightMost)
   gap = stands-is (c .less .ensures) (stands-less (record { number = refl; size = begun .pre .0 .1 }) (scaled (c .before)))
 

@@ -14,9 +14,10 @@ use Rattle.amounts.specs.declared.Given.{Given}
 use Rattle.limbs.specs.Limbs.{signOf, value}
 use Rattle.limbs.proofs.Laws.Sizes.{sized-le}
 use Rattle.parts.proofs.Laws.Tests.{at-most-joined}
-use Rattle.wide.specs.Reads.{Stands, weightMost}
-use Rattle.wide.proofs.Laws.Reads.{stands-is, stands-less, stands-times, stands-zero}
-use Rattle.wide.proofs.Laws.Signs.{clears-signs}
+use Rattle.wide.specs.Reads.{weightMost}
+use Rattle.limbs.specs.Limbs.{StandsFor}
+use Rattle.limbs.proofs.Laws.Stands.{stands-is, stands-less, stands-times, stands-zero}
+use Rattle.limbs.proofs.Laws.Gaps.{clears-signs}
 use Rattle.wide.proofs.can.at_most.Statement.{statement}
 use Rattle.wide.proofs.can.at_most.Tie as tie
 
@@ -31,7 +32,7 @@ module _ (c : tie.After-times) where
   abbrev start : tie.Start
   start = c .before .before
 
-  scaled : Stands (c .times .result) (start .args .limit .plain *ℤ value (start .args .common)) weightMost
+  scaled : StandsFor (c .times .result) (start .args .limit .plain *ℤ value (start .args .common)) weightMost
   scaled = stands-is (simp (toZ-ofZ (plain-fits (c .before))) at (c .times .ensures))
       (stands-times (start .pre .1) (record { number = refl; size = start .pre .0 .0 }))
 
@@ -42,7 +43,7 @@ module _ (c : tie.After-less) where
   abbrev begun : tie.Start
   begun = start (c .before)
 
-  gap : Stands (c .less .result)
+  gap : StandsFor (c .less .result)
       (begun .args .limit .plain *ℤ value (begun .args .common) -ℤ value (begun .args .x)) (weightMost + limbTurn)
   gap = stands-is (c .less .ensures) (stands-less (scaled (c .before)) (record { number = refl; size = begun .pre .0 .1 }))
 
@@ -59,7 +60,7 @@ module _ (c : tie.After-less2) where
   abbrev opened : tie.Start
   opened = begun (c .before .before)
 
-  beside : Stands (c .less2 .result) (pos 0 -ℤ value (opened .args .small)) (0 + limbTurn)
+  beside : StandsFor (c .less2 .result) (pos 0 -ℤ value (opened .args .small)) (0 + limbTurn)
   beside = stands-is (c .less2 .ensures) (stands-less (stands-is (c .before .zero .ensures) (stands-zero 0))
       (record { number = refl; size = opened .pre .0 .2 }))
 

@@ -14,8 +14,10 @@ use Rattle.tableau.specs.Parts.{lowerOf, upperOf}
 use Rattle.tableau.specs.declared.Limits.{Limits}
 use Rattle.parts.specs.Reads.{meetsBoth}
 use Rattle.rules.proofs.Evidence.Joined.{tests-more}
-use Rattle.wide.specs.Reads.{Stands, limitsMet}
-use Rattle.wide.proofs.Laws.Reads.{stands-in, stands-is}
+use Rattle.wide.specs.Reads.{limitsMet}
+use Rattle.limbs.specs.Limbs.{StandsFor}
+use Rattle.wide.proofs.Laws.Reads.{stands-in}
+use Rattle.limbs.proofs.Laws.Stands.{stands-is}
 use Rattle.wide.proofs.can.limits_hold.Statement.{statement}
 use Rattle.wide.proofs.can.limits_hold.Tie as tie
 
@@ -62,10 +64,10 @@ module _ (c : tie.After-number-at2 Inv-loop μ-loop) where
   abbrev limits : Limits
   limits = start .args .t1
 
-  numerator : Stands (c .before .number-at .result) (wideLower (start .args .answer .now) v) limbTurn
+  numerator : StandsFor (c .before .number-at .result) (wideLower (start .args .answer .now) v) limbTurn
   numerator = stands-is (c .before .number-at .ensures) (stands-in (start .pre .1 .0) (1 + v) (omega arith))
 
-  small : Stands (c .number-at2 .result) (wideUpper (start .args .variables) (start .args .answer .now) v) limbTurn
+  small : StandsFor (c .number-at2 .result) (wideUpper (start .args .variables) (start .args .answer .now) v) limbTurn
   small = stands-is (c .number-at2 .ensures)
       (stands-in (start .pre .1 .0) (1 + start .args .variables + v) (omega arith))
 

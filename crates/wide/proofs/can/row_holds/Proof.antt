@@ -8,9 +8,11 @@ use Rattle.whole.specs.Numbers.{eqZ}
 use Rattle.rules.specs.Sizes.{limbTurn}
 use Rattle.rules.specs.Wide.{wideAt}
 use Rattle.limbs.proofs.Laws.Sizes.{sized-le}
-use Rattle.wide.specs.Reads.{Stands, rowMost, rowOf}
-use Rattle.wide.proofs.Laws.Reads.{formed-less, stands-in, stands-is, stands-less}
-use Rattle.wide.proofs.Laws.Signs.{gap-zero}
+use Rattle.wide.specs.Reads.{rowMost, rowIn}
+use Rattle.limbs.specs.Limbs.{StandsFor}
+use Rattle.wide.proofs.Laws.Reads.{formed-less, stands-in}
+use Rattle.limbs.proofs.Laws.Stands.{stands-is, stands-less}
+use Rattle.limbs.proofs.Laws.Gaps.{gap-zero}
 use Rattle.wide.proofs.can.row_holds.Statement.{statement}
 use Rattle.wide.proofs.can.row_holds.Tie as tie
 
@@ -33,7 +35,7 @@ module _ (c : tie.After-number-at) where
   abbrev slot : ℕ
   slot = start .args .first + (start .args .columns + start .args .row .0)
 
-  number : Stands (c .number-at .result) (wideAt (start .args .answer .now) slot) limbTurn
+  number : StandsFor (c .number-at .result) (wideAt (start .args .answer .now) slot) limbTurn
   number = stands-is (c .number-at .ensures) (stands-in (start .pre .1 .1 .1) slot (omega arith))
 
 row-sum-requires : tie.Need-row-sum-requires
@@ -57,9 +59,9 @@ module _ (c : tie.After-less) where
 
   abbrev row : ℤ
   row = let a = s .args in
-      rowOf (a .entries .now) (a .answer .now) (a .first) (a .rows) (a .columns) (a .row .0) (a .columns)
+      rowIn (a .entries .now) (a .answer .now) (a .first) (a .rows) (a .columns) (a .row .0) (a .columns)
 
-  gap : Stands (c .less .result) (x -ℤ row) (limbTurn + rowMost)
+  gap : StandsFor (c .less .result) (x -ℤ row) (limbTurn + rowMost)
   gap = stands-is (c .less .ensures) (stands-less (number (c .before .before)) (c .before .row-sum .ensures))
 
 is-zero-requires : tie.Need-is-zero-requires

@@ -19,15 +19,17 @@ use Rattle.rules.specs.Wide.{wideAt}
 use Rattle.layout.specs.Layout.{entryIn, mostEntries}
 use Rattle.layout.proofs.Laws.Layout.{flat-in}
 use Rattle.limbs.proofs.Laws.Sizes.{sized-le}
-use Rattle.wide.specs.Reads.{Stands, rowMost, rowOf, termMost}
-use Rattle.wide.proofs.Laws.Reads.{stands-for, stands-in, stands-is, stands-le, stands-plus, stands-times}
-use Rattle.wide.proofs.Laws.Reads.{stands-zero}
+use Rattle.wide.specs.Reads.{rowMost, rowIn, termMost}
+use Rattle.limbs.specs.Limbs.{StandsFor}
+use Rattle.wide.proofs.Laws.Reads.{stands-in}
+use Rattle.limbs.proofs.Laws.Stands.{stands-for, stands-is, stands-le, stands-plus, stands-times}
+use Rattle.limbs.proofs.Laws.Stands.{stands-zero}
 use Rattle.wide.proofs.can.row_sum.Statement.{statement}
 use Rattle.wide.proofs.can.row_sum.Tie as tie
 
 abbrev Inv-loop : tie.InvT-loop
 Inv-loop entries answer first row rows columns sum₀ j₀ sum j =
-    (j ≤ columns) × Stands sum (rowOf entries answer first rows columns (row .0) j) (j * termMost)
+    (j ≤ columns) × StandsFor sum (rowIn entries answer first rows columns (row .0) j) (j * termMost)
 
 abbrev μ-loop : tie.MeasureT-loop
 μ-loop entries answer first row rows columns sum₀ j₀ sum j = columns - j
@@ -36,7 +38,7 @@ zero-requires : tie.Need-zero-requires Inv-loop μ-loop
 zero-requires c κs = tt
 
 loop-holds : tie.Need-loop-holds Inv-loop μ-loop
-unfolding rowOf sumBy
+unfolding rowIn sumBy
 loop-holds c = (omega arith, stands-is (c .zero .ensures) (stands-zero (0 * termMost)))
 
 cast-t13 : tie.Need-cast-t13 Inv-loop μ-loop
@@ -82,7 +84,7 @@ module _ (c : tie.After-number-at Inv-loop μ-loop) where
   small : Within read largestCoefficient
   small = start .pre .1 .1 .0 .each _
 
-  number : Stands (c .number-at .result) (wideAt (start .args .answer .now) (start .args .first + j)) limbTurn
+  number : StandsFor (c .number-at .result) (wideAt (start .args .answer .now) (start .args .first + j)) limbTurn
   number = stands-is (c .number-at .ensures) (stands-in (start .pre .1 .1 .1) (start .args .first + j) (omega arith))
 
 times-requires : tie.Need-times-requires Inv-loop μ-loop
@@ -95,7 +97,7 @@ module _ (c : tie.After-times Inv-loop μ-loop) where
   abbrev before : tie.At-loop Inv-loop μ-loop
   before = seen .before .before .before .before
 
-  product : Stands (c .times .result)
+  product : StandsFor (c .times .result)
       (read seen *ℤ wideAt (start seen .args .answer .now) (start seen .args .first + j seen)) termMost
   product = stands-is (simp (toZ-ofZ (fit-entry seen)) at (c .times .ensures)) (stands-times (small seen) (number seen))
 
@@ -127,10 +129,10 @@ module _ (c : tie.After-plus Inv-loop μ-loop) where
 
   abbrev upTo : ℕ → ℤ
   upTo k = let a = s .args in
-      rowOf (a .entries .now) (a .answer .now) (a .first) (a .rows) (a .columns) (a .row .0) k
+      rowIn (a .entries .now) (a .answer .now) (a .first) (a .rows) (a .columns) (a .row .0) k
 
   more : upTo k +ℤ read (c .before .before) *ℤ wideAt (s .args .answer .now) (s .args .first + k) ≡ upTo (k + 1)
-  unfolding rowOf
+  unfolding rowIn
   more = ap (λ (i : ℕ). upTo k
       +ℤ getD (s .args .entries .now) i (pos 0) *ℤ wideAt (s .args .answer .now) (s .args .first + k))
       (c .before .before .before .before .place .ensures)
@@ -155,7 +157,7 @@ module _ (c : tie.After-loop Inv-loop μ-loop) where
 
 returns : tie.Need-returns Inv-loop μ-loop
 returns c = let o = c .before .before .before .args in
-    stands-for (ap (λ (k : ℕ). rowOf (o .entries .now) (o .answer .now) (o .first) (o .rows) (o .columns) (o .row .0) k)
+    stands-for (ap (λ (k : ℕ). rowIn (o .entries .now) (o .answer .now) (o .first) (o .rows) (o .columns) (o .row .0) k)
     (all c)) (stands-le (c .before .loop .inv .1) (most c))
 
 pub row-sum-spec : {M : Type 1} → statement M

@@ -10,8 +10,10 @@ use Rattle.whole.proofs.Bools.{not-false, not-true}
 use Rattle.rules.specs.Sizes.{limbTurn}
 use Rattle.rules.specs.Wide.{wideDenominator}
 use Rattle.limbs.proofs.Laws.Sizes.{sized-le}
-use Rattle.wide.specs.Reads.{Stands, limitsMet, rowsSolved}
-use Rattle.wide.proofs.Laws.Reads.{formed-less, stands-in, stands-is}
+use Rattle.wide.specs.Reads.{limitsMet, rowsSolved}
+use Rattle.limbs.specs.Limbs.{StandsFor}
+use Rattle.wide.proofs.Laws.Reads.{formed-less, stands-in}
+use Rattle.limbs.proofs.Laws.Stands.{stands-is}
 use Rattle.wide.proofs.Laws.Shown.{can-tests}
 use Rattle.wide.proofs.can.shows_can.Statement.{statement}
 use Rattle.wide.proofs.can.shows_can.Tie as tie
@@ -26,7 +28,7 @@ module _ (c : tie.After-number-at) where
   abbrev start : tie.Start
   start = c .before
 
-  common : Stands (c .number-at .result) (wideDenominator (start .args .answer .now)) limbTurn
+  common : StandsFor (c .number-at .result) (wideDenominator (start .args .answer .now)) limbTurn
   common = stands-is (c .number-at .ensures) (stands-in (start .pre .1 .1) 0 (omega arith))
 
 is-above-requires : tie.Need-is-above-requires

@@ -5,8 +5,9 @@ use lib.Dec.{lit≤}
 use Rattle.rules.specs.Sizes.{limbTurn}
 use Rattle.rules.specs.Wide.{wideLower, wideUpper}
 use Rattle.limbs.proofs.Laws.Sizes.{sized-le}
-use Rattle.wide.specs.Reads.{Stands}
-use Rattle.wide.proofs.Laws.Reads.{stands-in, stands-is, stands-less}
+use Rattle.limbs.specs.Limbs.{StandsFor}
+use Rattle.wide.proofs.Laws.Reads.{stands-in}
+use Rattle.limbs.proofs.Laws.Stands.{stands-is, stands-less}
 use Rattle.wide.proofs.cannot.balance.Statement.{statement}
 use Rattle.wide.proofs.cannot.balance.Tie as tie
 
@@ -29,10 +30,10 @@ module _ (c : tie.After-number-at2) where
   abbrev start : tie.Start
   start = c .before .before
 
-  low : Stands (c .before .number-at .result) (wideLower (start .args .answer .now) (start .args .v)) limbTurn
+  low : StandsFor (c .before .number-at .result) (wideLower (start .args .answer .now) (start .args .v)) limbTurn
   low = stands-is (c .before .number-at .ensures) (stands-in (start .pre .1) (1 + start .args .v) (omega arith))
 
-  high : Stands (c .number-at2 .result) (wideUpper (start .args .variables) (start .args .answer .now) (start .args .v))
+  high : StandsFor (c .number-at2 .result) (wideUpper (start .args .variables) (start .args .answer .now) (start .args .v))
       limbTurn
   high = stands-is (c .number-at2 .ensures)
       (stands-in (start .pre .1) (1 + start .args .variables + start .args .v) (omega arith))

@@ -19,15 +19,16 @@ use Rattle.rules.specs.Sizes.{largestCoefficient, limbTurn}
 use Rattle.layout.specs.Layout.{entryIn, mostEntries}
 use Rattle.layout.proofs.Laws.Layout.{flat-in}
 use Rattle.limbs.proofs.Laws.Sizes.{sized-le}
-use Rattle.wide.specs.Reads.{Stands, balanceIn, columnMost, columnOf, shareMost}
-use Rattle.wide.proofs.Laws.Reads.{stands-for, stands-is, stands-le, stands-plus, stands-times}
+use Rattle.wide.specs.Reads.{balanceIn, columnMost, columnIn, shareMost}
+use Rattle.limbs.specs.Limbs.{StandsFor}
+use Rattle.limbs.proofs.Laws.Stands.{stands-for, stands-is, stands-le, stands-plus, stands-times}
 use Rattle.wide.proofs.cannot.column_sum.Statement.{statement}
 use Rattle.wide.proofs.cannot.column_sum.Tie as tie
 
 abbrev Inv-loop : tie.InvT-loop
 Inv-loop entries answer rows columns column variables sum₀ i₀ sum i =
     (i ≤ rows)
-    × Stands sum (columnOf entries answer rows columns i (column .0)) ((limbTurn + limbTurn) + i * shareMost)
+    × StandsFor sum (columnIn entries answer rows columns i (column .0)) ((limbTurn + limbTurn) + i * shareMost)
 
 abbrev μ-loop : tie.MeasureT-loop
 μ-loop entries answer rows columns column variables sum₀ i₀ sum i = rows - i
@@ -42,7 +43,7 @@ balance-requires : tie.Need-balance-requires Inv-loop μ-loop
 balance-requires c κs = ((omega arith, omega arith, omega arith), c .before .pre .1 .1)
 
 loop-holds : tie.Need-loop-holds Inv-loop μ-loop
-unfolding columnOf sumBy
+unfolding columnIn sumBy
 loop-holds c = (omega arith, stands-for (sym (+ℤ-idr _)) (stands-le (c .balance .ensures) (lit≤ tt)))
 
 cast-t14 : tie.Need-cast-t14 Inv-loop μ-loop
@@ -105,7 +106,7 @@ module _ (c : tie.After-times Inv-loop μ-loop) where
   abbrev o : tie.Start Inv-loop μ-loop
   o = start seen
 
-  product : Stands (c .times .result)
+  product : StandsFor (c .times .result)
       (read seen *ℤ balanceIn (o .args .answer .now) (o .args .columns + o .args .rows) (o .args .columns + i seen))
       shareMost
   product =
@@ -142,10 +143,10 @@ module _ (c : tie.After-plus Inv-loop μ-loop) where
       *ℤ share (s .args .columns + k)
 
   abbrev upTo : ℕ → ℤ
-  upTo k = let a = s .args in columnOf (a .entries .now) (a .answer .now) (a .rows) (a .columns) k (a .column .0)
+  upTo k = let a = s .args in columnIn (a .entries .now) (a .answer .now) (a .rows) (a .columns) k (a .column .0)
 
   more : upTo k +ℤ read (c .before .before) *ℤ share (s .args .columns + k) ≡ upTo (k + 1)
-  unfolding columnOf
+  unfolding columnIn
   more = ap (λ (j : ℕ). upTo k +ℤ getD (s .args .entries .now) j (pos 0) *ℤ share (s .args .columns + k))
       (c .before .before .before .before .place .ensures)
       ∙ +ℤ-assoc (share (s .args .column .0)) _ (term k)
@@ -170,7 +171,7 @@ module _ (c : tie.After-loop Inv-loop μ-loop) where
 
 returns : tie.Need-returns Inv-loop μ-loop
 returns c = let o = c .before .before .before .before .args in
-    stands-for (ap (λ (k : ℕ). columnOf (o .entries .now) (o .answer .now) (o .rows) (o .columns) k (o .column .0))
+    stands-for (ap (λ (k : ℕ). columnIn (o .entries .now) (o .answer .now) (o .rows) (o .columns) k (o .column .0))
     (all c)) (stands-le (c .before .loop .inv .1) (most c))
 
 pub column-sum-spec : {M : Type 1} → statement M

@@ -11,8 +11,10 @@ use Rattle.rules.specs.Evidence.{contradicts}
 use Rattle.rules.specs.Sizes.{limbTurn}
 use Rattle.rules.specs.Wide.{wideDenominator}
 use Rattle.limbs.proofs.Laws.Sizes.{sized-le}
-use Rattle.wide.specs.Reads.{Stands, allOwed, columnsVanish, someMarked, surplusIn}
-use Rattle.wide.proofs.Laws.Reads.{stands-in, stands-is}
+use Rattle.wide.specs.Reads.{allOwed, columnsVanish, someMarked, surplusIn}
+use Rattle.limbs.specs.Limbs.{StandsFor}
+use Rattle.wide.proofs.Laws.Reads.{stands-in}
+use Rattle.limbs.proofs.Laws.Stands.{stands-is}
 use Rattle.wide.proofs.Laws.Shown.{cannot-tests, contradicts-above, contradicts-not, contradicts-zero}
 use Rattle.wide.proofs.cannot.shows_cannot.Statement.{statement}
 use Rattle.wide.proofs.cannot.shows_cannot.Tie as tie
@@ -27,7 +29,7 @@ module _ (c : tie.After-number-at) where
   abbrev start : tie.Start
   start = c .before
 
-  common : Stands (c .number-at .result) (wideDenominator (start .args .answer .now)) limbTurn
+  common : StandsFor (c .number-at .result) (wideDenominator (start .args .answer .now)) limbTurn
   common = stands-is (c .number-at .ensures) (stands-in (start .pre .1 .1) 0 (omega arith))
 
 is-zero-requires : tie.Need-is-zero-requires

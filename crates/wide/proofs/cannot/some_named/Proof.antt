@@ -12,8 +12,10 @@ use Rattle.rules.specs.Wide.{wideLower, wideUpper}
 use Rattle.tableau.specs.Parts.{lowerOf, upperOf}
 use Rattle.tableau.specs.declared.Limits.{Limits}
 use Rattle.rules.proofs.Evidence.Joined.{finds-more}
-use Rattle.wide.specs.Reads.{Stands, someMarked}
-use Rattle.wide.proofs.Laws.Reads.{stands-in, stands-is}
+use Rattle.wide.specs.Reads.{someMarked}
+use Rattle.limbs.specs.Limbs.{StandsFor}
+use Rattle.wide.proofs.Laws.Reads.{stands-in}
+use Rattle.limbs.proofs.Laws.Stands.{stands-is}
 use Rattle.wide.proofs.cannot.some_named.Statement.{statement}
 use Rattle.wide.proofs.cannot.some_named.Tie as tie
 
@@ -59,10 +61,10 @@ module _ (c : tie.After-number-at2 Inv-loop μ-loop) where
   abbrev limits : Limits
   limits = start .args .t1
 
-  low : Stands (c .before .number-at .result) (wideLower (start .args .answer .now) v) limbTurn
+  low : StandsFor (c .before .number-at .result) (wideLower (start .args .answer .now) v) limbTurn
   low = stands-is (c .before .number-at .ensures) (stands-in (start .pre .1) (1 + v) (omega arith))
 
-  high : Stands (c .number-at2 .result) (wideUpper (start .args .variables) (start .args .answer .now) v) limbTurn
+  high : StandsFor (c .number-at2 .result) (wideUpper (start .args .variables) (start .args .answer .now) v) limbTurn
   high = stands-is (c .number-at2 .ensures) (stands-in (start .pre .1) (1 + start .args .variables + v) (omega arith))
 
 strict-named-requires : tie.Need-strict-named-requires Inv-loop μ-loop

@@ -13,15 +13,17 @@ use Rattle.rules.specs.Wide.{wideLower, wideUpper}
 use Rattle.limbs.proofs.Laws.Sizes.{sized-le}
 use Rattle.tableau.specs.Parts.{lowerOf, upperOf}
 use Rattle.tableau.specs.declared.Limits.{Limits}
-use Rattle.wide.specs.Reads.{Stands, surplusIn, surplusMost, weightMost}
-use Rattle.wide.proofs.Laws.Reads.{stands-for, stands-in, stands-is, stands-le, stands-less, stands-plus}
-use Rattle.wide.proofs.Laws.Reads.{stands-zero}
+use Rattle.wide.specs.Reads.{surplusIn, surplusMost, weightMost}
+use Rattle.limbs.specs.Limbs.{StandsFor}
+use Rattle.wide.proofs.Laws.Reads.{stands-in}
+use Rattle.limbs.proofs.Laws.Stands.{stands-for, stands-is, stands-le, stands-less, stands-plus}
+use Rattle.limbs.proofs.Laws.Stands.{stands-zero}
 use Rattle.wide.proofs.cannot.surplus.Statement.{statement}
 use Rattle.wide.proofs.cannot.surplus.Tie as tie
 
 abbrev Inv-loop : tie.InvT-loop
 Inv-loop answer variables limits sum₀ v₀ sum v =
-    (v ≤ variables) × Stands sum (surplusIn limits answer variables v) (v * (weightMost + weightMost))
+    (v ≤ variables) × StandsFor sum (surplusIn limits answer variables v) (v * (weightMost + weightMost))
 
 abbrev μ-loop : tie.MeasureT-loop
 μ-loop answer variables limits sum₀ v₀ sum v = variables - v
@@ -65,10 +67,10 @@ module _ (c : tie.After-number-at2 Inv-loop μ-loop) where
   abbrev limits : Limits
   limits = start .args .t1
 
-  low : Stands (c .before .number-at .result) (wideLower (start .args .answer .now) v) limbTurn
+  low : StandsFor (c .before .number-at .result) (wideLower (start .args .answer .now) v) limbTurn
   low = stands-is (c .before .number-at .ensures) (stands-in (start .pre .1 .0) (1 + v) (omega arith))
 
-  high : Stands (c .number-at2 .result) (wideUpper (start .args .variables) (start .args .answer .now) v) limbTurn
+  high : StandsFor (c .number-at2 .result) (wideUpper (start .args .variables) (start .args .answer .now) v) limbTurn
   high = stands-is (c .number-at2 .ensures) (stands-in (start .pre .1 .0) (1 + start .args .variables + v) (omega arith))
 
 weighed-requires : tie.Need-weighed-requires Inv-loop μ-loop
@@ -104,11 +106,11 @@ module _ (c : tie.After-weighed2 Inv-loop μ-loop) where
   abbrev upTo : ℕ → ℤ
   upTo u = surplusIn (limits read) (s .args .answer .now) (s .args .variables) u
 
-  gained : Stands (c .before .before .weighed .result) (gain (v read)) weightMost
+  gained : StandsFor (c .before .before .weighed .result) (gain (v read)) weightMost
   gained = stands-for (ap (λ (z : ℤ). plainOf (lowerOf (limits read) (v read)) *ℤ z) (low read .number))
       (c .before .before .weighed .ensures)
 
-  lost : Stands (c .weighed2 .result) (loss (v read)) weightMost
+  lost : StandsFor (c .weighed2 .result) (loss (v read)) weightMost
   lost = stands-for (ap (λ (z : ℤ). plainOf (upperOf (limits read) (v read)) *ℤ z) (high read .number))
       (c .weighed2 .ensures)
 
@@ -119,7 +121,7 @@ less-requires : tie.Need-less-requires Inv-loop μ-loop
 less-requires c κs = (sized-le (gained c .size) (lit≤ tt), sized-le (lost c .size) (lit≤ tt))
 
 net : (c : tie.After-less Inv-loop μ-loop) →
-    Stands (c .less .result) (gain (c .before) (v (read (c .before))) -ℤ loss (c .before) (v (read (c .before))))
+    StandsFor (c .less .result) (gain (c .before) (v (read (c .before))) -ℤ loss (c .before) (v (read (c .before))))
     (weightMost + weightMost)
 net c = stands-is (c .less .ensures) (stands-less (gained (c .before)) (lost (c .before)))
 

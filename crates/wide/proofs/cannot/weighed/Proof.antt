@@ -13,7 +13,7 @@ use Rattle.amounts.specs.declared.Given.{Given}
 use Rattle.limbs.proofs.Laws.Sizes.{sized-le}
 use Rattle.limbs.specs.Limbs.{value}
 use Rattle.wide.specs.Reads.{weightMost}
-use Rattle.wide.proofs.Laws.Reads.{stands-for, stands-is, stands-times, stands-zero}
+use Rattle.limbs.proofs.Laws.Stands.{stands-for, stands-is, stands-times, stands-zero}
 use Rattle.wide.proofs.cannot.weighed.Statement.{statement}
 use Rattle.wide.proofs.cannot.weighed.Tie as tie
 
