@@ -1,7 +1,7 @@
 -- What the checker of a cycle computes, row by row of the answer.
-use mathlib.Core.Bool.{Bool, not, _&&_}
+use mathlib.Core.Bool.{Bool, not, _&&_, _||_}
 use mathlib.Core.List.{List}
-use Prim.Native.Nat.{ℕ, _+_, _*_, _<_, _≤_}
+use Prim.Native.Nat.{ℕ, suc, _+_, _*_, _-_, _<_, _≤_}
 use lib.Dec.{eqb}
 use lib.IntN.{ℤ, pos}
 use lib.ListN.{length}
@@ -11,7 +11,7 @@ use Rattle.whole.specs.Numbers.{Within, isNeg}
 use Rattle.whole.specs.Sums.{sum}
 use Rattle.rules.specs.Problem.{mOf, word}
 use Rattle.rules.specs.Sizes.{largestLength, mostVertices}
-use Rattle.rules.specs.Times.Check.{rowNamed}
+use Rattle.rules.specs.Times.Check.{cycleLength, rowNamed}
 use Rattle.rules.specs.Times.Words.{timeEdges}
 use Rattle.timerows.specs.Judged.{Fine}
 
@@ -41,9 +41,26 @@ linkedAt ws a j k = eqb (headNamed ws a j) (tailNamed ws a k)
 unfoldable pub newUpTo : List ℤ → List ℤ → ℕ → ℕ → Bool
 newUpTo ws a k i = allBelow i (λ j. not (eqb (tailNamed ws a j) (tailNamed ws a k)))
 
+-- each row but the last leads to the next; the last leads back; no two start at one vertex
+abbrev pub linksOn : List ℤ → List ℤ → Bool
+linksOn ws a = allBelow (cycleLength a - 1) (λ j. linkedAt ws a j (suc j))
+
+abbrev pub linksBack : List ℤ → List ℤ → Bool
+linksBack ws a = linkedAt ws a (cycleLength a - 1) 0
+
+abbrev pub allNew : List ℤ → List ℤ → Bool
+allNew ws a = allBelow (cycleLength a) (λ j. newUpTo ws a j j)
+
 -- word `at` of each row, summed
 unfoldable pub wordSum : List ℤ → List ℤ → ℕ → ℕ → ℤ
 wordSum ws a at k = sum k (λ j. word ws (at + 4 * rowNamed a j))
+
+-- a sum below 0, or 0 with a strict row
+abbrev pub badRound : ℤ → ℤ → Bool
+badRound plain strict = ltZ plain (pos 0) || (not (ltZ (pos 0) plain) && ltZ (pos 0) strict)
+
+abbrev pub badAround : List ℤ → List ℤ → Bool
+badAround ws a = badRound (wordSum ws a 5 (cycleLength a)) (wordSum ws a 4 (cycleLength a))
 
 -- these words are within the largest length
 pub record Summable (ws : List ℤ) (at : ℕ) : Type 0 where

@@ -1,11 +1,10 @@
 // A bad cycle: word 1 is how many rows, from 1 to n; then come the rows, and zeros.
 ghost use mathlib.Core.Path.{_≡_};
-ghost use mathlib.Core.Bool.{_||_, _&&_, not};
+ghost use mathlib.Core.Bool.{_||_};
 ghost use Prim.Native.Nat.{suc, _+_, _*_, _-_, _≤_, _<_};
 ghost use lib.Dec.{ltb};
 ghost use lib.IntN.{pos};
 ghost use lib.ListN.{length};
-ghost use lib.Signed.{ltZ};
 ghost use Rattle.whole.specs.Below.{allBelow};
 ghost use Rattle.whole.specs.Numbers.{eqZ};
 ghost use Rattle.rules.specs.Problem.{mOf, nOf, word};
@@ -13,8 +12,8 @@ ghost use Rattle.rules.specs.Sizes.{mostVertices};
 ghost use Rattle.rules.specs.Times.Words.{timesLength};
 ghost use Rattle.timerows.specs.Judged.{Fine};
 ghost use Rattle.rules.specs.Times.Check.{cycleShown, rowNamed};
-ghost use Rattle.timecheck.specs.Walk.{Named, Summable, headNamed, isBetween, linkedAt, newUpTo, tailNamed};
-ghost use Rattle.timecheck.specs.Walk.{wordSum};
+ghost use Rattle.timecheck.specs.Walk.{Named, Summable, badRound, headNamed, isBetween, linkedAt, newUpTo};
+ghost use Rattle.timecheck.specs.Walk.{tailNamed, wordSum};
 use timerows::rows::head;
 use timerows::rows::tail;
 use words::is_outside;
@@ -123,7 +122,7 @@ fn word_sum(rows: &[i32], answer: &[i64], count: usize, at: usize) -> i64
 
 // Lengths that sum below 0, or to 0 with a strict row.
 fn is_bad(plain: i64, strict: i64) -> bool
-    ensures { λ r. ⌜ r ≡ (ltZ plain (pos 0) || (not (ltZ (pos 0) plain) && ltZ (pos 0) strict)) ⌝ }
+    ensures { λ r. ⌜ r ≡ badRound plain strict ⌝ }
 {
     (plain < 0) | (!(0 < plain) & (0 < strict))
 }

@@ -1,5 +1,5 @@
-// Times: word 1 is n, and the pairs that follow meet every row. A difference of two words may have more than 64 bits: it
-// is taken in limbs.
+// Times: word 1 is n, and the pairs that follow meet every row. A difference of two words may have more than 64 bits:
+// it is taken in limbs.
 ghost use mathlib.Core.Path.{_≡_};
 ghost use mathlib.Core.Bool.{false};
 ghost use Prim.Native.Nat.{_≤_, _<_};

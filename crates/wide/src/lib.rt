@@ -1,5 +1,5 @@
-// The checker of wide evidence: accepts exactly what is right, in numbers of four words each, from anybody. It judges and
-// reads the problem as the narrow checker does, and shares nothing with search or run.
+// The checker of wide evidence: accepts exactly what is right, in numbers of four words each, from anybody. It judges
+// and reads the problem as the narrow checker does, and shares nothing with search or run.
 //   numbers   the numbers of an answer, and whether their words are in their ranges
 //   can       verdict 1
 //   cannot    verdict 2

@@ -2,43 +2,46 @@
 --   row-in         the number of a row
 --   by-outside, by-rows, by-tests      the rule of a cycle, test by test
 --   bad-tests      where all rows are listed and there is one: linked, closed, apart, and a sum below 0
+--   named-by       words that are numbers of rows name them
+--   lengths-summed, stricts-summed     the words of accepted rows can be summed
 use mathlib.Core.Bool.{Bool, false, not, true, _&&_, _||_}
 use mathlib.Core.List.{List, [], _∷_}
 use mathlib.Core.Path.{ap, ap₂, refl, sym, _∙_, _≡_}
-use Prim.Native.Nat.{suc, ℕ, _*_, _+_, _-_, _<_}
+use Prim.Native.Nat.{suc, ℕ, _*_, _+_, _-_, _<_, _≤_}
 use native.Mathlib.Omega.{arith}
-use lib.Dec.{eqb, ltb, ltb→lt}
+use lib.Dec.{eqb, lit≤, ltb, ltb→lt}
 use lib.IntN.{natAbs, negsuc, negℤ, pos, ℤ, _*ℤ_}
 use lib.ListN.{length}
 use lib.Signed.{ltZ, _<ℤ_, _≤ℤ_}
-use Rattle.whole.proofs.Bools.{and-true, same-tests, true-false}
+use Rattle.whole.proofs.Bools.{and-true, not-true, same-tests, true-false}
 use Rattle.whole.proofs.Lists.Below.{all-each, all-of, all-same}
 use Rattle.whole.proofs.Lists.Tables.{table-at, table-length}
-use Rattle.whole.proofs.Numbers.Order.{lt→true, true→lt}
+use Rattle.whole.proofs.Numbers.Order.{false→le, lt→true, true→lt}
+use Rattle.whole.proofs.Numbers.Sizes.{within-le}
 use Rattle.whole.proofs.Numbers.Sums.{sum-same, sum-times}
 use Rattle.whole.proofs.Ring.Nonneg.{of-lt, slk}
 use Rattle.whole.proofs.Ring.Reify.{reify}
 use Rattle.whole.proofs.Ring.Tools.{lt-at, ring-at}
 use Rattle.whole.proofs.Values.Mixed.{total-parts}
 use Rattle.whole.specs.Below.{allBelow}
-use Rattle.whole.specs.Numbers.{outside}
+use Rattle.whole.specs.Numbers.{isNeg, outside}
 use Rattle.whole.specs.Sums.{sum}
 use Rattle.whole.specs.Values.{lexicographic, pairs, total}
+use Rattle.rules.proofs.Times.Refused.{strict-within}
 use Rattle.rules.specs.Problem.{mOf, nOf, word}
+use Rattle.rules.specs.Sizes.{mostVertices}
 use Rattle.rules.specs.Times.Cycle.{isBadCycle, rowTold}
 use Rattle.rules.specs.Times.Walks.{Edges}
 use Rattle.rules.specs.Times.Words.{lengthWord, strictWord, timeEdges}
 use Rattle.rules.specs.Times.Check.{cycleLength, cycleShown, isPast, isRow, rowNamed, rowsNamed}
-use Rattle.timecheck.specs.Walk.{linkedAt, newUpTo, wordSum}
+use Rattle.timerows.specs.Judged.{Fine}
+use Rattle.timecheck.specs.Walk.{Named, Summable, allNew, badAround, badRound, linkedAt, linksBack, linksOn}
+use Rattle.timecheck.specs.Walk.{newUpTo, wordSum}
 
 -- a word from 0 to m - 1 is the number of one of m rows
 pub row-in : (z : ℤ) (m : ℕ) → pos 0 ≤ℤ z → z <ℤ pos m → natAbs z < m
 row-in (pos n) m l h = ltb→lt n m (h .lt)
 row-in (negsuc n) m l h = absurd (l .le)
-
--- a sum below 0, or 0 with a strict row
-abbrev pub badRound : ℤ → ℤ → Bool
-badRound plain strict = ltZ plain (pos 0) || (not (ltZ (pos 0) plain) && ltZ (pos 0) strict)
 
 -- by the order of pairs
 bad-round-is : (c s : ℤ) → pairs .less (c, negℤ s) (pos 0, pos 0) ≡ badRound c s
@@ -84,7 +87,8 @@ module _ (ws a : List ℤ) where
   around-is = total-parts k (λ j. E .size (rowTold (rowsNamed a) j))
       ∙ ap₂ (λ x y. (x, y))
       (sum-same k _ _ (λ j h. ap (lengthWord ws) (told j h)))
-      (sum-same k _ _ (λ j h. ap (λ i. negℤ (strictWord ws i)) (told j h)) ∙ negated (λ j. strictWord ws (rowNamed a j)))
+      (sum-same k _ _ (λ j h. ap (λ i. negℤ (strictWord ws i)) (told j h))
+      ∙ negated (λ j. strictWord ws (rowNamed a j)))
 
   module _ (some : 0 < k) (rows : allBelow k (isRow ws a) ≡ true) where
     abbrev tests : ℕ → Bool
@@ -104,9 +108,8 @@ module _ (ws a : List ℤ) where
     listed = all-of k _ (λ j h. ap (λ i. ltb i (mOf ws)) (told j h)
         ∙ in-rows (word a (2 + j)) (mOf ws) (all-each k (isRow ws a) rows j h))
 
-    pub bad-tests : isBadCycle pairs (timeEdges ws) (rowsNamed a)
-        ≡ (allBelow (k - 1) (λ j. linkedAt ws a j (suc j)) && linkedAt ws a (k - 1) 0
-        && allBelow k (λ j. newUpTo ws a j j) && badRound (wordSum ws a 5 k) (wordSum ws a 4 k))
+    bad-tests : isBadCycle pairs (timeEdges ws) (rowsNamed a)
+        ≡ (linksOn ws a && linksBack ws a && allNew ws a && badAround ws a)
     unfolding isBadCycle newUpTo
     bad-tests = ap tests long ∙ rw listed (ap₂ (λ (x y : Bool). x && y) (ap₂ (λ (x y : Bool). x && y)
         (ap₂ (λ (x y : Bool). x && y) linked closed) apart) below)
@@ -144,8 +147,29 @@ module _ (ws a : List ℤ) where
     by-rows r = rw (o, r) refl
 
     pub by-tests : 0 < cycleLength a → allBelow (cycleLength a) (isRow ws a) ≡ true → cycleShown ws a
-        ≡ (allBelow (cycleLength a - 1) (λ j. linkedAt ws a j (suc j)) && linkedAt ws a (cycleLength a - 1) 0
-        && allBelow (cycleLength a) (λ j. newUpTo ws a j j)
-        && badRound (wordSum ws a 5 (cycleLength a)) (wordSum ws a 4 (cycleLength a)) && allBelow (2 * nOf ws) (isPast a))
+        ≡ (linksOn ws a && linksBack ws a && allNew ws a && badAround ws a && allBelow (2 * nOf ws) (isPast a))
     unfolding cycleShown
     by-tests h r = rw (o, r) (ap (λ (b : Bool). b && allBelow (2 * nOf ws) (isPast a)) (bad-tests ws a h r))
+
+-- ---- what the code is told
+
+pub named-by : (ws a : List ℤ) → Fine ws → cycleLength a ≤ mostVertices → 2 + cycleLength a ≤ length a →
+    allBelow (cycleLength a) (isRow ws a) ≡ true → Named ws a (cycleLength a)
+named-by ws a F few long rows = record {
+  fine = F;
+  few = few;
+  long = long;
+  least = λ k h. false→le {a = pos 0} {b = word a (2 + k)} (not-true (isNeg (word a (2 + k))) (each k h .0));
+  most = λ k h. true→lt (each k h .1);
+}
+  where
+    each : (k : ℕ) → k < cycleLength a →
+        (not (isNeg (word a (2 + k))) ≡ true) × (ltZ (word a (2 + k)) (pos (mOf ws)) ≡ true)
+    each k h = and-true (not (isNeg (word a (2 + k)))) (ltZ (word a (2 + k)) (pos (mOf ws)))
+        (all-each (cycleLength a) (isRow ws a) rows k h)
+
+pub lengths-summed : (ws : List ℤ) → Fine ws → Summable ws 5
+lengths-summed ws F = record { low = lit≤ tt; each = F .lengths }
+
+pub stricts-summed : (ws : List ℤ) → Fine ws → Summable ws 4
+stricts-summed ws F = record { low = lit≤ tt; each = λ i h. within-le (strict-within F i h) (lit≤ tt) }

@@ -1,4 +1,5 @@
--- `timecheck::check` meets its contract: the refusal of the rows, then the rule of the answer's verdict. Assumes nothing.
+-- `timecheck::check` meets its contract: the refusal of the rows, then the rule of the answer's verdict. Assumes
+-- nothing.
 use mathlib.Core.Path.{_≡_, refl, ap, ap₂, sym, _∙_}
 use mathlib.Core.Bool.{Bool, cond, false, true}
 use mathlib.Core.List.{List}

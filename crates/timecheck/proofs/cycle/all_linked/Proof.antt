@@ -1,5 +1,5 @@
--- `timecheck::cycle::all_linked` meets its contract. The invariant: whether the rows passed lead to the next. The measure
--- is how many are left. Assumes nothing.
+-- `timecheck::cycle::all_linked` meets its contract. The invariant: whether the rows passed lead to the next. The
+-- measure is how many are left. Assumes nothing.
 use mathlib.Core.Path.{_≡_, ap, sym, _∙_}
 use Prim.Native.Nat.{ℕ, suc, _-_, _≤_}
 use native.Mathlib.Numerals.{add-one}

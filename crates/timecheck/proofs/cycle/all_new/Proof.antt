@@ -1,5 +1,5 @@
--- `timecheck::cycle::all_new` meets its contract. The invariant: whether the rows passed start at vertices of their own. The
--- measure is how many are left. Assumes nothing.
+-- `timecheck::cycle::all_new` meets its contract. The invariant: whether the rows passed start at vertices of their
+-- own. The measure is how many are left. Assumes nothing.
 use mathlib.Core.Path.{_≡_, sym}
 use Prim.Native.Nat.{_-_, _≤_}
 use native.Mathlib.Omega.{arith}

@@ -18,7 +18,8 @@ head-requires c κs = let s = c .before in let k = s .args .k in (
 )
 
 returns : tie.Need-returns
-returns c = c .head .ensures ∙ ap (λ (i : ℕ). timeEdges (c .before .before .args .rows .now) .head i) (c .before .row-at .ensures)
+returns c = c .head .ensures
+    ∙ ap (λ (i : ℕ). timeEdges (c .before .before .args .rows .now) .head i) (c .before .row-at .ensures)
 
 pub head-at-spec : {M : Type 1} → statement M
 head-at-spec = tie.close (tie.spec row-at-requires head-requires returns)

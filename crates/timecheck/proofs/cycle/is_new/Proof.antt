@@ -1,5 +1,5 @@
--- `timecheck::cycle::is_new` meets its contract. The invariant: whether none of the rows passed starts there. The measure
--- is how many are left. Assumes nothing.
+-- `timecheck::cycle::is_new` meets its contract. The invariant: whether none of the rows passed starts there. The
+-- measure is how many are left. Assumes nothing.
 use mathlib.Core.Bool.{not}
 use mathlib.Core.Path.{_≡_, ap, ap₂, sym, _∙_}
 use Prim.Native.Nat.{ℕ, _-_, _≤_, _<_}

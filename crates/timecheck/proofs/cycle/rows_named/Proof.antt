@@ -1,5 +1,5 @@
--- `timecheck::cycle::rows_named` meets its contract. The invariant: whether the words passed are from 0 to below `most`.
--- The measure is how many are left. Assumes nothing.
+-- `timecheck::cycle::rows_named` meets its contract. The invariant: whether the words passed are from 0 to below
+-- `most`. The measure is how many are left. Assumes nothing.
 use mathlib.Core.Path.{_≡_, ap, refl, sym, _∙_}
 use Prim.Native.Nat.{ℕ, _+_, _-_, _≤_}
 use native.Mathlib.Omega.{arith}

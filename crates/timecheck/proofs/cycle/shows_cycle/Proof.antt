@@ -1,31 +1,28 @@
 -- `timecheck::cycle::shows_cycle` meets its contract: the tests of the rule one after the other. Assumes nothing.
-use mathlib.Core.Bool.{Bool, false, not, true, _&&_}
+use mathlib.Core.Bool.{false, true, _&&_}
 use mathlib.Core.List.{List}
 use mathlib.Core.Path.{_≡_, ap, ap₂, refl, sym, _∙_}
-use Prim.Native.Nat.{ℕ, suc, _+_, _*_, _-_, _<_, _≤_}
+use Prim.Native.Nat.{ℕ, _+_, _*_, _<_, _≤_}
 use native.Mathlib.Omega.{arith}
 use borrow.Author.Needs.{needs, sfits-of}
 use lib.IntN.{ℤ, natAbs, pos}
-use lib.Dec.{lit≤}
 use lib.ListN.{length}
-use lib.Signed.{ltZ, _≤ℤ_}
+use lib.Signed.{_≤ℤ_}
 use mir.Facts.{fits-natAbs, toZ-ofZ}
 use mir.Syntax.{w64}
 use mir.Val.{SFits, ofZ, toZ}
-use Rattle.whole.proofs.Bools.{and-true, not-false, not-true}
-use Rattle.whole.proofs.Lists.Below.{all-each}
-use Rattle.whole.proofs.Numbers.Order.{false→le, true→lt}
-use Rattle.whole.proofs.Numbers.Sizes.{fits-abs, within-le}
+use Rattle.whole.proofs.Bools.{not-false, not-true}
+use Rattle.whole.proofs.Numbers.Sizes.{fits-abs}
 use Rattle.whole.proofs.Numbers.Tests.{above, not-neg, under-size}
 use Rattle.whole.proofs.Tells.{tells-outside}
 use Rattle.whole.specs.Below.{allBelow}
-use Rattle.whole.specs.Numbers.{isNeg, outside}
-use Rattle.rules.proofs.Times.Refused.{strict-within, time-rows-few, vertices-few}
-use Rattle.rules.specs.Problem.{mOf, nOf, word}
+use Rattle.whole.specs.Numbers.{outside}
+use Rattle.rules.proofs.Times.Refused.{time-rows-few, vertices-few}
+use Rattle.rules.specs.Problem.{nOf, word}
 use Rattle.rules.specs.Sizes.{mostTimeRows, mostVertices}
 use Rattle.rules.specs.Times.Check.{cycleLength, cycleShown, isPast, isRow}
-use Rattle.timecheck.specs.Walk.{Named, Summable, isBetween, linkedAt, newUpTo, wordSum}
-use Rattle.timecheck.proofs.Laws.Cycles.{badRound, by-outside, by-rows, by-tests}
+use Rattle.timecheck.specs.Walk.{Named, allNew, badAround, badRound, isBetween, linksBack, linksOn}
+use Rattle.timecheck.proofs.Laws.Cycles.{by-outside, by-rows, by-tests, lengths-summed, named-by, stricts-summed}
 use Rattle.timecheck.proofs.cycle.shows_cycle.Statement.{statement}
 use Rattle.timecheck.proofs.cycle.shows_cycle.Tie as tie
 
@@ -47,38 +44,11 @@ module _ (s : tie.Start) where
   rows-few : s .args .m ≤ mostTimeRows
   rows-few = rw (s .pre .0 .1) (time-rows-few (s .pre .0 .0))
 
-  n-fits : SFits w64 (pos (s .args .n))
-  n-fits = fits-abs (omega (arith, few))
-
-  m-fits : SFits w64 (pos (s .args .m))
-  m-fits = fits-abs (omega (arith, rows-few))
-
   n-is : toZ w64 (s .args .n) ≡ pos (s .args .n)
-  n-is = toZ-ofZ n-fits
+  n-is = toZ-ofZ {w = w64} (fits-abs {w = w64} (omega (arith, few)))
 
   m-is : toZ w64 (s .args .m) ≡ pos (s .args .m)
-  m-is = toZ-ofZ m-fits
-
-  abbrev links : Bool
-  links = allBelow (K - 1) (λ j. linkedAt ws a j (suc j))
-
-  abbrev closes : Bool
-  closes = linkedAt ws a (K - 1) 0
-
-  abbrev news : Bool
-  news = allBelow K (λ j. newUpTo ws a j j)
-
-  abbrev bad : Bool
-  bad = badRound (wordSum ws a 5 K) (wordSum ws a 4 K)
-
-shared-slice-copy-out-named : tie.Need-shared-slice-copy-out-named
-shared-slice-copy-out-named c = omega (arith, c .pre .1)
-
-cast-is-outside : tie.Need-cast-is-outside
-cast-is-outside c = omega (arith, few (c .before))
-
-is-outside-requires : tie.Need-is-outside-requires
-is-outside-requires c κs = tt
+  m-is = toZ-ofZ {w = w64} (fits-abs {w = w64} (omega (arith, rows-few)))
 
 fit : (c : tie.After-named) → SFits w64 (word (a (c .before)) 1)
 fit c = sfits-of (c .named .given)
@@ -159,23 +129,12 @@ module _ (c : tie.Else2) where
   rows : allBelow (K second) (isRow (ws second) (a second)) ≡ true
   rows = sym (rows-are (c .before)) ∙ not-false _ (c .if2 .left)
 
-  each : (k : ℕ) → k < K second → (not (isNeg (word (a second) (2 + k))) ≡ true)
-      × (ltZ (word (a second) (2 + k)) (pos (mOf (ws second))) ≡ true)
-  each k h = and-true (not (isNeg (word (a second) (2 + k)))) (ltZ (word (a second) (2 + k)) (pos (mOf (ws second))))
-      (all-each (K second) (isRow (ws second) (a second)) rows k h)
-
   named : Named (ws second) (a second) (K second)
-  named = record {
-    fine = second .pre .0 .0;
-    few = short counted;
-    long = long counted;
-    least = λ k h. false→le {a = pos 0} {b = word (a second) (2 + k)} (not-true (isNeg (word (a second) (2 + k)))
-        (each k h .0));
-    most = λ k h. true→lt (each k h .1);
-  }
+  named = named-by (ws second) (a second) (second .pre .0 .0) (short counted) (long counted) rows
 
   tests : cycleShown (ws second) (a second)
-      ≡ (links second && closes second && news second && bad second && allBelow (2 * nOf (ws second)) (isPast (a second)))
+      ≡ (linksOn (ws second) (a second) && linksBack (ws second) (a second) && allNew (ws second) (a second)
+      && badAround (ws second) (a second) && allBelow (2 * nOf (ws second)) (isPast (a second)))
   tests = by-tests (ws second) (a second) (inside counted) (some counted) rows
 
   here : 1 ≤ natAbs (toZ w64 (ofZ w64 (word (a second) 1)))
@@ -188,7 +147,7 @@ all-linked-requires : tie.Need-all-linked-requires
 all-linked-requires c κs = simp (toZ-ofZ (read (counted c))) (named c, let h = some (counted c) in omega (arith, h))
 
 module _ (c : tie.After-all-linked) where
-  links-are : c .all-linked .result ≡ links (second (c .before))
+  links-are : c .all-linked .result ≡ linksOn (ws (second (c .before))) (a (second (c .before)))
   links-are = simp (toZ-ofZ (read (counted (c .before)))) at (c .all-linked .ensures)
 
 returns-3 : tie.Need-returns-3
@@ -199,7 +158,7 @@ module _ (c : tie.Else3) where
   abbrev known : tie.Else2
   known = c .before .before
 
-  all-link : links (second known) ≡ true
+  all-link : linksOn (ws (second known)) (a (second known)) ≡ true
   all-link = sym (links-are (c .before)) ∙ not-false _ (c .if3 .left)
 
 sub-is-linked : tie.Need-sub-is-linked
@@ -210,7 +169,7 @@ is-linked-requires c κs = let h = some (counted (known c)) in
     simp (toZ-ofZ (read (counted (known c)))) (named (known c), (omega (arith, h), omega (arith, h)))
 
 module _ (c : tie.After-is-linked) where
-  closes-is : c .is-linked .result ≡ closes (second (known (c .before)))
+  closes-is : c .is-linked .result ≡ linksBack (ws (second (known (c .before)))) (a (second (known (c .before))))
   closes-is = simp (toZ-ofZ (read (counted (known (c .before))))) at (c .is-linked .ensures)
 
 returns-4 : tie.Need-returns-4
@@ -221,19 +180,20 @@ module _ (c : tie.Else4) where
   abbrev linked : tie.Else3
   linked = c .before .before
 
-  closed : closes (second (known linked)) ≡ true
+  closed : linksBack (ws (second (known linked))) (a (second (known linked))) ≡ true
   closed = sym (closes-is (c .before)) ∙ not-false _ (c .if4 .left)
 
 all-new-requires : tie.Need-all-new-requires
 all-new-requires c κs = let k = known (linked c) in simp (toZ-ofZ (read (counted k))) (named k)
 
 module _ (c : tie.After-all-new) where
-  news-are : c .all-new .result ≡ news (second (known (linked (c .before))))
+  news-are : let b = second (known (linked (c .before))) in c .all-new .result ≡ allNew (ws b) (a b)
   news-are = simp (toZ-ofZ (read (counted (known (linked (c .before)))))) at (c .all-new .ensures)
 
 returns-5 : tie.Need-returns-5
 returns-5 c = let b = c .before in let e = b .before in
-    sym (tests (known (linked e)) ∙ rw (all-link (linked e), closed e, sym (news-are b) ∙ not-true _ (c .if5 .taken)) refl)
+    sym (tests (known (linked e))
+    ∙ rw (all-link (linked e), closed e, sym (news-are b) ∙ not-true _ (c .if5 .taken)) refl)
 
 module _ (c : tie.Else5) where
   abbrev round : tie.Else4
@@ -242,26 +202,18 @@ module _ (c : tie.Else5) where
   abbrev base : tie.Else2
   base = known (linked round)
 
-  all-news : news (second base) ≡ true
+  all-news : allNew (ws (second base)) (a (second base)) ≡ true
   all-news = sym (news-are (c .before)) ∙ not-false _ (c .if5 .left)
 
-  lengths : Summable (ws (second base)) 5
-  lengths = record { low = lit≤ tt; each = second base .pre .0 .0 .lengths }
-
-  stricts : Summable (ws (second base)) 4
-  stricts = record {
-    low = lit≤ tt;
-    each = λ i h. within-le (strict-within (second base .pre .0 .0) i h) (lit≤ tt);
-  }
-
 word-sum-requires : tie.Need-word-sum-requires
-word-sum-requires c κs = simp (toZ-ofZ (read (counted (base c)))) (named (base c), lengths c)
+word-sum-requires c κs =
+    simp (toZ-ofZ (read (counted (base c))))
+    (named (base c), lengths-summed (ws (second (base c))) (second (base c) .pre .0 .0))
 
 word-sum-requires-2 : tie.Need-word-sum-requires-2
-word-sum-requires-2 c κs = let e = c .before in simp (toZ-ofZ (read (counted (base e)))) (named (base e), stricts e)
-
-is-bad-requires : tie.Need-is-bad-requires
-is-bad-requires c κs = tt
+word-sum-requires-2 c κs = let e = c .before in
+    simp (toZ-ofZ (read (counted (base e))))
+    (named (base e), stricts-summed (ws (second (base e))) (second (base e) .pre .0 .0))
 
 module _ (c : tie.After-is-bad) where
   abbrev summed : tie.After-word-sum2
@@ -276,7 +228,7 @@ module _ (c : tie.After-is-bad) where
   fit-strict : SFits w64 (summed .word-sum2 .result)
   fit-strict = search needs
 
-  bad-is : c .is-bad .result ≡ bad (second (base passed))
+  bad-is : c .is-bad .result ≡ badAround (ws (second (base passed))) (a (second (base passed)))
   bad-is = simp (toZ-ofZ fit-plain, toZ-ofZ fit-strict) at (c .is-bad .ensures)
       ∙ ap₂ badRound (simp (toZ-ofZ (read (counted (base passed)))) at (summed .before .word-sum .ensures))
       (simp (toZ-ofZ (read (counted (base passed)))) at (summed .word-sum2 .ensures))
@@ -297,7 +249,7 @@ module _ (c : tie.Else6) where
   abbrev last : tie.Start
   last = second (base apart)
 
-  is-bad : bad last ≡ true
+  is-bad : badAround (ws last) (a last) ≡ true
   is-bad = sym (bad-is (c .before)) ∙ not-false _ (c .if6 .left)
 
 mul-zeros-after : tie.Need-mul-zeros-after
@@ -317,9 +269,9 @@ pub shows-cycle-spec : {M : Type 1} → statement M
 shows-cycle-spec =
     tie.close
     (tie.spec
-    shared-slice-copy-out-named
-    cast-is-outside
-    is-outside-requires
+    (λ c. omega (arith, c .pre .1))
+    (λ c. omega (arith, few (c .before)))
+    (λ c κs. tt)
     returns
     cast-count
     cast-rows-named
@@ -335,7 +287,7 @@ shows-cycle-spec =
     returns-5
     word-sum-requires
     word-sum-requires-2
-    is-bad-requires
+    (λ c κs. tt)
     returns-6
     mul-zeros-after
     zeros-after-requires

@@ -18,7 +18,8 @@ tail-requires c κs = let s = c .before in let k = s .args .k in (
 )
 
 returns : tie.Need-returns
-returns c = c .tail .ensures ∙ ap (λ (i : ℕ). timeEdges (c .before .before .args .rows .now) .tail i) (c .before .row-at .ensures)
+returns c = c .tail .ensures
+    ∙ ap (λ (i : ℕ). timeEdges (c .before .before .args .rows .now) .tail i) (c .before .row-at .ensures)
 
 pub tail-at-spec : {M : Type 1} → statement M
 tail-at-spec = tie.close (tie.spec row-at-requires tail-requires returns)

@@ -1,5 +1,5 @@
--- `timecheck::cycle::word_sum` meets its contract. The invariant: the sum is that of the rows passed, each word within the
--- largest length. The measure is how many are left. Assumes nothing.
+-- `timecheck::cycle::word_sum` meets its contract. The invariant: the sum is that of the rows passed, each word within
+-- the largest length. The measure is how many are left. Assumes nothing.
 use mathlib.Core.List.{List}
 use mathlib.Core.Path.{_≡_, ap, refl, subst, sym, _∙_}
 use Prim.Native.Nat.{ℕ, _+_, _*_, _-_, _<_, _≤_}
@@ -105,7 +105,8 @@ module _ (c : tie.After-sum Inv-loop μ-loop) where
 
   fit-sum : SFits w64 (upTo (j row) +ℤ read)
   unfolding wordSum
-  fit-sum = rw more (fits-by (within-le (sum-within (j row + 1) (λ k h. within-term k (omega (arith, h, there)))) bound) tt)
+  fit-sum = rw more
+      (fits-by (within-le (sum-within (j row + 1) (λ k h. within-term k (omega (arith, h, there)))) bound) tt)
     where
       bound : (j row + 1) * largestLength ≤ mostVertices * largestLength
       bound = omega (arith, there, o .pre .0 .few)

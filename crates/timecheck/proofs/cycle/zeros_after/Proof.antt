@@ -1,5 +1,5 @@
--- `timecheck::cycle::zeros_after` meets its contract. The invariant: whether the words passed are rows or 0. The measure is
--- how many are left. Assumes nothing.
+-- `timecheck::cycle::zeros_after` meets its contract. The invariant: whether the words passed are rows or 0. The
+-- measure is how many are left. Assumes nothing.
 use mathlib.Core.Bool.{Bool, _||_}
 use mathlib.Core.Path.{_≡_, ap, sym}
 use Prim.Native.Nat.{_+_, _-_, _≤_}

@@ -85,15 +85,6 @@ module _ (c : tie.After-head) where
   y-in = subst₂ (λ v n. v < n) (sym (c .head .ensures)) (sym (vertices start))
       (accepted-ends (A start) .head-in (i start) (inside start))
 
-mul-strict : tie.Need-mul-strict
-mul-strict c = let s = start c in omega (arith, rows-long s, rows-few s)
-
-add-strict : tie.Need-add-strict
-add-strict c = let s = start c in omega (arith, rows-long s, rows-few s)
-
-mul-strict-2 : tie.Need-mul-strict-2
-mul-strict-2 c = let s = start c in omega (arith, rows-long s, rows-few s)
-
 shared-slice-copy-out-strict : tie.Need-shared-slice-copy-out-strict
 shared-slice-copy-out-strict c = let s = start c in omega (arith, rows-long s, rows-few s)
 
@@ -104,38 +95,17 @@ strict-fits c = sfits-of (c .strict .given)
 cast-strict : tie.Need-cast-strict
 cast-strict c = simp (toZ-ofZ (strict-fits c)) (wide (strict-fits c))
 
-mul-long : tie.Need-mul-long
-mul-long c = let s = start (c .before) in omega (arith, rows-long s, rows-few s)
-
-add-long : tie.Need-add-long
-add-long c = let s = start (c .before) in omega (arith, rows-long s, rows-few s)
-
-mul-long-2 : tie.Need-mul-long-2
-mul-long-2 c = let s = start (c .before) in omega (arith, rows-long s, rows-few s)
-
 shared-slice-copy-out-long : tie.Need-shared-slice-copy-out-long
 shared-slice-copy-out-long c = let s = start (c .before) in omega (arith, rows-long s, rows-few s)
 
-long-fits : (c : tie.After-long) → SFits w32 (lengthWord (ws (start (c .before .before))) (i (start (c .before .before))))
+long-fits : (c : tie.After-long) → let s = start (c .before .before) in SFits w32 (lengthWord (ws s) (i s))
 long-fits c = sfits-of (c .long .given)
 
 cast-long : tie.Need-cast-long
 cast-long c = simp (toZ-ofZ (long-fits c)) (wide (long-fits c))
 
-add-gap : tie.Need-add-gap
-add-gap c = let h = c .before .before in omega (arith, x-in h, few (start h))
-
-mul-gap : tie.Need-mul-gap
-mul-gap c = let h = c .before .before in omega (arith, x-in h, few (start h))
-
 shared-slice-copy-out-gap : tie.Need-shared-slice-copy-out-gap
 shared-slice-copy-out-gap c = let h = c .before .before in omega (arith, x-in h, few (start h), long (start h))
-
-add-gap-2 : tie.Need-add-gap-2
-add-gap-2 c = let h = c .before .before .before in omega (arith, y-in h, few (start h))
-
-mul-gap-2 : tie.Need-mul-gap-2
-mul-gap-2 c = let h = c .before .before .before in omega (arith, y-in h, few (start h))
 
 shared-slice-copy-out-gap-2 : tie.Need-shared-slice-copy-out-gap-2
 shared-slice-copy-out-gap-2 c = let h = c .before .before .before in
@@ -168,26 +138,8 @@ gap-requires : tie.Need-gap-requires
 gap-requires c κs = let s = start (ends c) in
     simp (toZ-ofZ (long-fits (words c)), toZ-ofZ (wide (long-fits (words c)))) (A s .lengths (i s) (inside s))
 
-add-gap-3 : tie.Need-add-gap-3
-add-gap-3 c = let h = ends (c .before) in omega (arith, x-in h, few (start h))
-
-add-gap-4 : tie.Need-add-gap-4
-add-gap-4 c = let h = ends (c .before) in omega (arith, x-in h, few (start h))
-
-mul-gap-3 : tie.Need-mul-gap-3
-mul-gap-3 c = let h = ends (c .before) in omega (arith, x-in h, few (start h))
-
 shared-slice-copy-out-gap-3 : tie.Need-shared-slice-copy-out-gap-3
 shared-slice-copy-out-gap-3 c = let h = ends (c .before) in omega (arith, x-in h, few (start h), long (start h))
-
-add-gap-5 : tie.Need-add-gap-5
-add-gap-5 c = let h = ends (c .before .before) in omega (arith, y-in h, few (start h))
-
-add-gap-6 : tie.Need-add-gap-6
-add-gap-6 c = let h = ends (c .before .before) in omega (arith, y-in h, few (start h))
-
-mul-gap-4 : tie.Need-mul-gap-4
-mul-gap-4 c = let h = ends (c .before .before) in omega (arith, y-in h, few (start h))
 
 shared-slice-copy-out-gap-4 : tie.Need-shared-slice-copy-out-gap-4
 shared-slice-copy-out-gap-4 c = let h = ends (c .before .before) in
@@ -238,9 +190,6 @@ gap-requires-2 : tie.Need-gap-requires-2
 gap-requires-2 c κs =
     simp (toZ-ofZ (strict-fits (marked c)), toZ-ofZ (wide (strict-fits (marked c))), toZ-ofZ (turned-fits c))
     (turned-within c)
-
-at-most-requires : tie.Need-at-most-requires
-at-most-requires c κs = tt
 
 module _ (c : tie.After-at-most) where
   abbrev small : tie.After-gap2
@@ -300,32 +249,32 @@ row-met-spec =
     (tie.spec
     tail-requires
     head-requires
-    mul-strict
-    add-strict
-    mul-strict-2
+    (λ c. let s = start c in omega (arith, rows-long s, rows-few s))
+    (λ c. let s = start c in omega (arith, rows-long s, rows-few s))
+    (λ c. let s = start c in omega (arith, rows-long s, rows-few s))
     shared-slice-copy-out-strict
     cast-strict
-    mul-long
-    add-long
-    mul-long-2
+    (λ c. let s = start (c .before) in omega (arith, rows-long s, rows-few s))
+    (λ c. let s = start (c .before) in omega (arith, rows-long s, rows-few s))
+    (λ c. let s = start (c .before) in omega (arith, rows-long s, rows-few s))
     shared-slice-copy-out-long
     cast-long
-    add-gap
-    mul-gap
+    (λ c. let h = c .before .before in omega (arith, x-in h, few (start h)))
+    (λ c. let h = c .before .before in omega (arith, x-in h, few (start h)))
     shared-slice-copy-out-gap
-    add-gap-2
-    mul-gap-2
+    (λ c. let h = c .before .before .before in omega (arith, y-in h, few (start h)))
+    (λ c. let h = c .before .before .before in omega (arith, y-in h, few (start h)))
     shared-slice-copy-out-gap-2
     gap-requires
-    add-gap-3
-    add-gap-4
-    mul-gap-3
+    (λ c. let h = ends (c .before) in omega (arith, x-in h, few (start h)))
+    (λ c. let h = ends (c .before) in omega (arith, x-in h, few (start h)))
+    (λ c. let h = ends (c .before) in omega (arith, x-in h, few (start h)))
     shared-slice-copy-out-gap-3
-    add-gap-5
-    add-gap-6
-    mul-gap-4
+    (λ c. let h = ends (c .before .before) in omega (arith, y-in h, few (start h)))
+    (λ c. let h = ends (c .before .before) in omega (arith, y-in h, few (start h)))
+    (λ c. let h = ends (c .before .before) in omega (arith, y-in h, few (start h)))
     shared-slice-copy-out-gap-4
     sub-gap
     gap-requires-2
-    at-most-requires
+    (λ c κs. tt)
     returns)

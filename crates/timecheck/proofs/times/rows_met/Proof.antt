@@ -1,5 +1,5 @@
--- `timecheck::times::rows_met` meets its contract. The invariant: whether the rows passed are met. The measure is how many
--- are left. Assumes nothing.
+-- `timecheck::times::rows_met` meets its contract. The invariant: whether the rows passed are met. The measure is how
+-- many are left. Assumes nothing.
 use mathlib.Core.Path.{_≡_, sym}
 use Prim.Native.Nat.{_-_, _≤_}
 use native.Mathlib.Omega.{arith}

@@ -1,6 +1,6 @@
 -- `wide::cannot::column_sum` meets its contract. The invariant: the sum stands for that of the column's own balance and
--- the rows passed, and its limbs are within 2^33 and so many times the largest coefficient times 2^33. The measure is the
--- rows left. Assumes nothing.
+-- the rows passed, and its limbs are within 2^33 and so many times the largest coefficient times 2^33. The measure is
+-- the rows left. Assumes nothing.
 use mathlib.Core.Path.{_≡_, ap, sym, _∙_}
 use Prim.Native.Nat.{ℕ, _+_, _*_, _-_, _≤_, _<_}
 use native.Mathlib.Omega.{arith}

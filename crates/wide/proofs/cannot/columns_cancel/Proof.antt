@@ -1,5 +1,5 @@
--- `wide::cannot::columns_cancel` meets its contract. The invariant: whether the columns passed cancel. The measure is how
--- many are left. Assumes nothing.
+-- `wide::cannot::columns_cancel` meets its contract. The invariant: whether the columns passed cancel. The measure is
+-- how many are left. Assumes nothing.
 use mathlib.Core.Path.{_≡_, ap, sym, _∙_}
 use Prim.Native.Nat.{ℕ, _-_, _≤_}
 use native.Mathlib.Omega.{arith}

@@ -1,5 +1,5 @@
--- `wide::cannot::multipliers_owed` meets its contract. The invariant: whether the multipliers of the variables passed are owed. The measure is how
--- many are left. Assumes nothing.
+-- `wide::cannot::multipliers_owed` meets its contract. The invariant: whether the multipliers of the variables passed
+-- are owed. The measure is how many are left. Assumes nothing.
 use mathlib.Core.Path.{_≡_, ap, ap₂, sym, _∙_}
 use mathlib.Core.Bool.{Bool, _&&_}
 use Prim.Native.Nat.{ℕ, _+_, _-_, _≤_}

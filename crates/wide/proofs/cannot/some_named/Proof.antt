@@ -1,5 +1,5 @@
--- `wide::cannot::some_named` meets its contract. The invariant: whether a strict limit of a variable passed is named. The measure is how
--- many are left. Assumes nothing.
+-- `wide::cannot::some_named` meets its contract. The invariant: whether a strict limit of a variable passed is named.
+-- The measure is how many are left. Assumes nothing.
 use mathlib.Core.Path.{_≡_, ap, ap₂, sym, _∙_}
 use mathlib.Core.Bool.{Bool, _||_}
 use Prim.Native.Nat.{ℕ, _+_, _-_, _≤_}
