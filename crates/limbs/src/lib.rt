@@ -1,6 +1,6 @@
 // Numbers of four limbs: a + 2^32 b + 2^64 c + 2^96 d. A limb may be any number that leaves room, so that sums and
-// small multiples go limb by limb; only where a sign is asked for are carries taken, from low to high. Carries go toward
-// 0: then no limb but the highest is as large as 2^32, and the highest limb that is not 0 has the sign.
+// small multiples go limb by limb; only where a sign is asked for are carries taken, from low to high. Carries go
+// toward 0: then no limb but the highest is as large as 2^32, and the highest limb that is not 0 has the sign.
 ghost use mathlib.Core.Path.{_≡_};
 ghost use lib.IntN.{pos};
 ghost use Rattle.whole.specs.Numbers.{Within, eqZ, isPos};

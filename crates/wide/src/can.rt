@@ -35,8 +35,8 @@ fn row_sum(
     requires { ⌜ (first + columns ≤ mostNumbers) × (2 + 4 * (first + columns) ≤ length (now answer)) ⌝ }
     requires { ⌜ AllWithin (now entries) largestCoefficient ⌝ }
     requires { ⌜ AllFormed (now answer) (first + columns) ⌝ }
-    ensures { λ r. ⌜ StandsFor r (rowIn (now (entries .entry)) (now (answer .entry)) first rows columns (row .0) columns)
-        rowMost ⌝ }
+    ensures { λ r. ⌜ StandsFor r
+        (rowIn (now (entries .entry)) (now (answer .entry)) first rows columns (row .0) columns) rowMost ⌝ }
 {
     let mut sum = Wide::zero();
     for j in 0..columns {

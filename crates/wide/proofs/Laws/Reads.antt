@@ -29,7 +29,7 @@ head-within z (l, m) = within-of
     (le-at (z ∷ []) (of-le m) (search reify depth 30) slk)
 
 module _ {a : List ℤ} {numbers : ℕ} (A : AllFormed a numbers) where
-  pub sized-in : (slot : ℕ) → slot < numbers → LimbsWithin (wideIn a slot) limbTurn
+  sized-in : (slot : ℕ) → slot < numbers → LimbsWithin (wideIn a slot) limbTurn
   sized-in slot h = let F = A .each slot h in record {
     size-a = limb-within _ (F .limb-0);
     size-b = limb-within _ (F .limb-1);

@@ -1,6 +1,6 @@
 -- What is right as tests one after the other, over the problem that was read.
 --   can-tests, cannot-tests      all tests of verdict 1 and of verdict 2
---   contradicts-by               the last test of verdict 2, by two tests of the total
+--   contradicts-above, contradicts-not, contradicts-zero     the last test of verdict 2, by two tests of the total
 use mathlib.Core.Bool.{Bool, false, true, _&&_}
 use mathlib.Core.List.{List}
 use mathlib.Core.Path.{refl, _≡_}

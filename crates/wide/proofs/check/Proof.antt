@@ -96,7 +96,8 @@ add-if2 c = let F = framed c in omega (arith, F .few-columns, F .few-rows)
 
 returns-2 : tie.Need-returns-2
 returns-2 c = let b = c .before in
-    sym (too-short-wide (words (start b)) (answer (start b)) (fine (b .before .before)) (rw (← long-here b) (c .if2 .taken)))
+    sym (too-short-wide (words (start b)) (answer (start b)) (fine (b .before .before))
+    (rw (← long-here b) (c .if2 .taken)))
 
 -- ---- the answer is long enough
 
@@ -125,7 +126,8 @@ numbers-fit-requires c κs = (omega (arith, few c), let h = c .if2 .left in omeg
 -- ---- the words of every number are in their ranges
 
 module _ (c : tie.After-numbers-fit) where
-  formed-is : c .numbers-fit .result ≡ wellFormed (vars (problem (words (begun (c .before))))) (answer (begun (c .before)))
+  formed-is : c .numbers-fit .result
+      ≡ wellFormed (vars (problem (words (begun (c .before))))) (answer (begun (c .before)))
   unfolding wellFormed
   formed-is = c .numbers-fit .ensures
       ∙ ap (λ k. allBelow (numbersOf k) (numberFits (answer (begun (c .before))))) (many (c .before .before))

@@ -48,7 +48,8 @@ module _ (c : tie.After-less) where
 
   gap : StandsFor (c .less .result)
       (value (begun .args .x) -ℤ begun .args .limit .plain *ℤ value (begun .args .common)) (limbTurn + weightMost)
-  gap = stands-is (c .less .ensures) (stands-less (record { number = refl; size = begun .pre .0 .1 }) (scaled (c .before)))
+  gap = stands-is (c .less .ensures)
+      (stands-less (record { number = refl; size = begun .pre .0 .1 }) (scaled (c .before)))
 
 sign-requires : tie.Need-sign-requires
 sign-requires c κs = sized-le (gap (c .before) .size) (lit≤ tt)

@@ -45,7 +45,8 @@ module _ (c : tie.After-less) where
 
   gap : StandsFor (c .less .result)
       (begun .args .limit .plain *ℤ value (begun .args .common) -ℤ value (begun .args .x)) (weightMost + limbTurn)
-  gap = stands-is (c .less .ensures) (stands-less (scaled (c .before)) (record { number = refl; size = begun .pre .0 .1 }))
+  gap = stands-is (c .less .ensures)
+      (stands-less (scaled (c .before)) (record { number = refl; size = begun .pre .0 .1 }))
 
 zero-requires : tie.Need-zero-requires
 zero-requires c κs = tt

@@ -107,11 +107,13 @@ module _ (c : tie.After-at-most Inv-loop μ-loop) where
 
   over : c .before .before .at-least .result ≡ atLeast (lowerOf (limits read) (v read)) d (x (v read), y (v read))
   over = c .before .before .at-least .ensures
-      ∙ ap₂ (λ (p q : ℤ). atLeast (lowerOf (limits read) (v read)) d (p, q)) (numerator read .number) (small read .number)
+      ∙ ap₂ (λ (p q : ℤ). atLeast (lowerOf (limits read) (v read)) d (p, q))
+      (numerator read .number) (small read .number)
 
   under : c .at-most .result ≡ atMost (upperOf (limits read) (v read)) d (x (v read), y (v read))
   under = c .at-most .ensures
-      ∙ ap₂ (λ (p q : ℤ). atMost (upperOf (limits read) (v read)) d (p, q)) (numerator read .number) (small read .number)
+      ∙ ap₂ (λ (p q : ℤ). atMost (upperOf (limits read) (v read)) d (p, q))
+      (numerator read .number) (small read .number)
 
 add-v : tie.Need-add-v Inv-loop μ-loop
 add-v c = omega arith

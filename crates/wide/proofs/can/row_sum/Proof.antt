@@ -145,7 +145,8 @@ loop-again : tie.Need-loop-again Inv-loop μ-loop
 loop-again c = (
   omega arith,
   stands-is (c .plus .ensures)
-      (stands-for (more c) (stands-le (stands-plus (before (c .before) .loop .inv .1) (product (c .before))) (wider c))),
+      (stands-for (more c)
+      (stands-le (stands-plus (before (c .before) .loop .inv .1) (product (c .before))) (wider c))),
 )
 
 module _ (c : tie.After-loop Inv-loop μ-loop) where

@@ -33,7 +33,8 @@ module _ (c : tie.After-number-at2) where
   low : StandsFor (c .before .number-at .result) (wideLower (start .args .answer .now) (start .args .v)) limbTurn
   low = stands-is (c .before .number-at .ensures) (stands-in (start .pre .1) (1 + start .args .v) (omega arith))
 
-  high : StandsFor (c .number-at2 .result) (wideUpper (start .args .variables) (start .args .answer .now) (start .args .v))
+  high : StandsFor (c .number-at2 .result)
+      (wideUpper (start .args .variables) (start .args .answer .now) (start .args .v))
       limbTurn
   high = stands-is (c .number-at2 .ensures)
       (stands-in (start .pre .1) (1 + start .args .variables + start .args .v) (omega arith))
@@ -47,4 +48,11 @@ returns c = stands-is (c .less .ensures) (stands-less (low (c .before)) (high (c
 pub balance-spec : {M : Type 1} → statement M
 balance-spec =
     tie.close
-    (tie.spec add-number-at number-at-requires add-number-at-2 add-number-at-3 number-at-requires-2 less-requires returns)
+    (tie.spec
+    add-number-at
+    number-at-requires
+    add-number-at-2
+    add-number-at-3
+    number-at-requires-2
+    less-requires
+    returns)

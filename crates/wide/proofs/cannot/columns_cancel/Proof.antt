@@ -59,4 +59,14 @@ returns c = let o = c .before .before .args in
 pub columns-cancel-spec : {M : Type 1} → statement M
 columns-cancel-spec =
     tie.close
-    (tie.spec Inv-loop μ-loop loop-holds cast-t9 column-sum-requires is-zero-requires add-j loop-less loop-again returns)
+    (tie.spec
+    Inv-loop
+    μ-loop
+    loop-holds
+    cast-t9
+    column-sum-requires
+    is-zero-requires
+    add-j
+    loop-less
+    loop-again
+    returns)

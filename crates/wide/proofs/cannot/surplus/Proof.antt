@@ -71,7 +71,8 @@ module _ (c : tie.After-number-at2 Inv-loop μ-loop) where
   low = stands-is (c .before .number-at .ensures) (stands-in (start .pre .1 .0) (1 + v) (omega arith))
 
   high : StandsFor (c .number-at2 .result) (wideUpper (start .args .variables) (start .args .answer .now) v) limbTurn
-  high = stands-is (c .number-at2 .ensures) (stands-in (start .pre .1 .0) (1 + start .args .variables + v) (omega arith))
+  high = stands-is (c .number-at2 .ensures)
+      (stands-in (start .pre .1 .0) (1 + start .args .variables + v) (omega arith))
 
 weighed-requires : tie.Need-weighed-requires Inv-loop μ-loop
 weighed-requires c κs = let r = c .before in (low r .size, start r .pre .1 .1 .lowers-within (v r))

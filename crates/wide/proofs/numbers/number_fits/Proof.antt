@@ -70,4 +70,10 @@ returns c = ap₂ (λ (p q : Bool). p && q)
 pub number-fits-spec : {M : Type 1} → statement M
 number-fits-spec =
     tie.close
-    (tie.spec number-at-requires limb-fits-requires limb-fits-requires-2 limb-fits-requires-3 head-fits-requires returns)
+    (tie.spec
+    number-at-requires
+    limb-fits-requires
+    limb-fits-requires-2
+    limb-fits-requires-3
+    head-fits-requires
+    returns)
