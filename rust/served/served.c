@@ -5,8 +5,9 @@
  *
  * A request is seven numbers of 64 bits: the function (0 solve, 1 check,
  * 2 times, 3 slice_start, 4 slice_continue, 5 session_open, 6 session_switch,
- * 7 session_check, 11 solve_within, 13 replay, 14 trace, 15 smtlib_write), how
- * many 32-bit words there are to read, how many 64-bit words the output (of check:
+ * 7 session_check, 11 solve_within, 13 replay, 14 trace, 15 smtlib_write,
+ * 16 check_wide, 17 check_times), how
+ * many 32-bit words there are to read, how many 64-bit words the output (of checks:
  * the answer; of a replay: the trace) has, and what else the function takes:
  * slice_continue the number of the slice and the pivots, session_switch and
  * session_check the number of the session, session_switch variable, upper and on,
@@ -216,9 +217,19 @@ static uint64_t answer(uint64_t function, size_t word_count, size_t out_count)
         return scatterflock_check(read, word_count, lent, out_count);
     case 2:
         return scatterflock_times(read, word_count, lent, out_count);
+    case 16:
+        return scatterflock_check_wide(read, word_count, lent, out_count);
+    case 17:
+        return scatterflock_check_times(read, word_count, lent, out_count);
     }
     stop("there is no such function");
     return 0;
+}
+
+/* Whether the function is lent no output, but an answer or a trace. */
+static bool only_reads(uint64_t function)
+{
+    return function == 1 || function == 13 || function == 16 || function == 17;
 }
 
 int main(void)
@@ -278,7 +289,7 @@ int main(void)
         look_at_guards(word_count, out_count);
         if (memcmp(words_before, words + GUARD, word_count * sizeof *words) != 0)
             stop("words that were lent to read have changed");
-        if ((request[0] == 1 || request[0] == 8) && memcmp(out_before, out + GUARD, out_count * sizeof *out) != 0)
+        if (only_reads(request[0]) && memcmp(out_before, out + GUARD, out_count * sizeof *out) != 0)
             stop("an answer or a trace that was lent to read has changed");
         give(reply, sizeof reply);
         give(out + GUARD, out_count * sizeof *out);

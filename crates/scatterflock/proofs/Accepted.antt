@@ -1,11 +1,13 @@
 -- What the solver and the check of a session leave is what the checker accepts, and what is traced is what a replay
 -- accepts, over the functions' promises alone.
 --   solved-accepted    the output of `scatterflock_solve` with verdict 1 or 2, handed to `scatterflock_check`, gives 8
+--   solved-wide        .. and so it does, put into wide form, handed to `scatterflock_check_wide`
+--   times-checked      the output of `scatterflock_times`, handed to `scatterflock_check_times`, gives 8
 --   trace-replayed     the words that `scatterflock_trace` wrote, handed to `scatterflock_replay`, give 0
 --   session-accepted   so does that of `scatterflock_session_check`, beside the words without the limits that are off
 use mathlib.Core.List.{List, _++_}
 use mathlib.Core.Logic.{inl, inr, _≢_, _⊎_}
-use mathlib.Core.Path.{ap, ap₂, subst, sym, _∙_, _≡_}
+use mathlib.Core.Path.{ap, ap₂, refl, subst, sym, _∙_, _≡_}
 use Prim.Native.Nat.{ℕ, _<_}
 use native.Mathlib.Omega.{arith}
 use lib.IntN.{pos, ℤ}
@@ -15,16 +17,21 @@ use Rattle.rules.proofs.Evidence.Own.Accepted.{written-accepted}
 use Rattle.rules.proofs.Runs.Replay.Own.{trace-front, traced-accepted}
 use Rattle.rules.proofs.Runs.Session.Checked.{shaped-checked}
 use Rattle.rules.proofs.Runs.Session.Demands.{eight-checked, fair-words}
+use Rattle.rules.proofs.Times.Own.{times-own}
+use Rattle.rules.proofs.Wide.Narrow.{wide-of-narrow}
 use Rattle.rules.specs.Answer.{written}
 use Rattle.rules.specs.Evidence.{checked, verdictOf}
 use Rattle.rules.specs.Facts.Answer.{Decided}
 use Rattle.rules.specs.Keeping.Words.{liveWords}
-use Rattle.rules.specs.Problem.{inner, problem}
+use Rattle.rules.specs.Problem.{inner, problem, varsOf}
 use Rattle.rules.specs.Refusal.{Accepted, refusal}
 use Rattle.rules.specs.Runs.Replay.{accepted, replayRefusal, replayedWords}
 use Rattle.rules.specs.Runs.Session.{Handed, Session, checkAnswer, checkLength, checkOutput, isOn}
 use Rattle.rules.specs.Runs.Trace.{ownStep, runCount, traceLength, traceOutput, traceRefusal, traceWords}
 use Rattle.rules.specs.Sizes.{mostRows}
+use Rattle.rules.specs.Times.Answer.{Timed}
+use Rattle.rules.specs.Times.Check.{checkedTimes}
+use Rattle.rules.specs.Wide.{checkedWide, wideForm}
 use Rattle.replay.specs.declared.Told.{Told}
 use Rattle.replay.specs.Replay.{replayedAs, toldOf}
 use Rattle.session.specs.declared.Checked.{Checked}
@@ -46,6 +53,18 @@ solved-accepted ws before after number judged n o j z d =
   where
     left : after ≡ written 0 ws before
     left = o ∙ ap (λ k. written k ws before) z
+
+pub solved-wide : (ws before after : List ℤ) (number judged : ℕ) →
+    number ≡ refusal ws (length before) → after ≡ written number ws before →
+    judged ≡ checkedWide ws (wideForm (varsOf ws) after) → number ≡ 0 → Decided after → judged ≡ 8
+solved-wide ws before after number judged n o j z d =
+    j ∙ wide-of-narrow ws after (solved-accepted ws before after number (checked ws after) n o refl z d)
+
+-- `number` and `after` are what the solver of time rows promises of `before`, `judged` what the checker promises
+pub times-checked : (ws before after : List ℤ) (number judged : ℕ) →
+    Timed ws before number after → judged ≡ checkedTimes ws after → number ≡ 0 → judged ≡ 8
+times-checked ws before after number judged x j z =
+    j ∙ times-own ws before after (subst (λ k. Timed ws before k after) z x)
 
 -- `r` and `after` are what the trace of these words promises of `before`, `told` what a replay promises of the words
 -- that were written
