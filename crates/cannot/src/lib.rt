@@ -52,6 +52,15 @@ fn balance(answer: &[i64], variables: usize, variable: Variable) -> i64
     answer[low] - answer[high]
 }
 
+// .. of a column's own variable. Variable j of a problem starts in column j: this is where the one becomes the other.
+fn own_balance(answer: &[i64], variables: usize, column: ColumnPlace) -> i64
+    requires { ⌜ (column .0 < variables) × (variables ≤ mostVariables) × (3 + 2 * variables ≤ length (now answer)) ⌝ }
+    requires { ⌜ Multiplied (now answer) variables ⌝ }
+    ensures { λ r. ⌜ r ≡ balanceAt (now (answer .entry)) variables (column .0) ⌝ }
+{
+    balance(answer, variables, Variable(column.0))
+}
+
 // A column of the multipliers put through the rows.
 fn column_sum(
     entries: &[i32; Tableau::MOST_ENTRIES],
@@ -67,7 +76,7 @@ fn column_sum(
     ensures { λ r. ⌜ r ≡ columnAtEntries (now (entries .entry)) (now (answer .entry)) rows columns (column .0) ⌝ }
 {
     let variables = columns + rows;
-    let mut sum = balance(answer, variables, Variable(column.0));
+    let mut sum = own_balance(answer, variables, column);
     for i in 0..rows {
         let k = layout::place(rows, columns, RowPlace(i as u8), column);
         let e = entries[k];

@@ -9,6 +9,7 @@
 --   scatterflock-trace-only             the number, how many words were written, and every word of the room
 --   scatterflock-session-open-only, scatterflock-session-switch-only    the number and the session
 --   scatterflock-session-check-only     the number, the session, and every word of the output
+--   scatterflock-first-violation-only, scatterflock-session-violation-only    what is shown
 --   scatterflock-bundle-read-only      what is told, and every word of both outputs
 --   scatterflock-bundle-write-only     the number, and every byte of the file
 --   scatterflock-day-only     the length of the text, and every byte of the slice
@@ -27,6 +28,7 @@ use Rattle.scatterflock.proofs.scatterflock_check.Reads as check
 use Rattle.scatterflock.proofs.scatterflock_bundle_read.Reads as bundle-read
 use Rattle.scatterflock.proofs.scatterflock_bundle_write.Reads as bundle-write
 use Rattle.scatterflock.proofs.scatterflock_day.Reads as day
+use Rattle.scatterflock.proofs.scatterflock_first_violation.Reads as first-violation
 use Rattle.scatterflock.proofs.scatterflock_replay.Reads as replay
 use Rattle.scatterflock.proofs.scatterflock_sheet.Reads as sheet
 use Rattle.scatterflock.proofs.scatterflock_check_times.Reads as check-times
@@ -34,6 +36,7 @@ use Rattle.scatterflock.proofs.scatterflock_check_wide.Reads as check-w
 use Rattle.scatterflock.proofs.scatterflock_session_check.Reads as session-check
 use Rattle.scatterflock.proofs.scatterflock_session_open.Reads as session-open
 use Rattle.scatterflock.proofs.scatterflock_session_switch.Reads as session-switch
+use Rattle.scatterflock.proofs.scatterflock_session_violation.Reads as session-violation
 use Rattle.scatterflock.proofs.scatterflock_slice_continue.Reads as slice-continue
 use Rattle.scatterflock.proofs.scatterflock_slice_start.Reads as slice-start
 use Rattle.scatterflock.proofs.scatterflock_smtlib_write.Reads as smtlib-write
@@ -91,6 +94,14 @@ scatterflock-session-switch-only κs x a b e f h k = h .0 ∙ sym (k .0)
 pub scatterflock-session-check-only : (κs : _) (x : _) (a b : _) (e f : _) →
     session-check.Post κs x a e → session-check.Post κs x b f → (a ≡ b) × (e .1 .0 .now ≡ f .1 .0 .now)
 scatterflock-session-check-only κs x a b e f h k = (h .0 ∙ sym (k .0), h .1 .0 ∙ sym (k .1 .0))
+
+pub scatterflock-first-violation-only : (κs : _) (x : _) (a b : _) (e f : _) →
+    first-violation.Post κs x a e → first-violation.Post κs x b f → a ≡ b
+scatterflock-first-violation-only κs x a b e f h k = h ∙ sym k
+
+pub scatterflock-session-violation-only : (κs : _) (x : _) (a b : _) (e f : _) →
+    session-violation.Post κs x a e → session-violation.Post κs x b f → a ≡ b
+scatterflock-session-violation-only κs x a b e f h k = h .0 ∙ sym (k .0)
 
 pub scatterflock-times-only : (κs : _) (x : _) (a b : _) (e f : _) → times.Post κs x a e → times.Post κs x b f →
     (a ≡ b) × ((e .1 .0 .now ≡ f .1 .0 .now) ⊎ BothNamed (x .0 .now) a (e .1 .0 .now) (f .1 .0 .now))

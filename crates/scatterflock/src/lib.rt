@@ -8,6 +8,7 @@ ghost use Rattle.rules.specs.Exchange.Script.{exchangeOutput, exchangeRefusal, 
 ghost use Rattle.rules.specs.Refusal.{refusal, refusalWithin, rowsWithin};
 ghost use Rattle.rules.specs.Runs.Replay.{replayRefusal, replayedWords};
 ghost use Rattle.rules.specs.Runs.Trace.{traceOutput, traceRefusal};
+ghost use Rattle.rules.specs.Runs.Violation.{firstViolation};
 ghost use Rattle.rules.specs.Times.Answer.{Timed};
 ghost use Rattle.rules.specs.Program.Bytes.{wordsFrom};
 ghost use Rattle.rules.specs.Program.Text.{printed};
@@ -24,6 +25,7 @@ ghost use Rattle.rules.specs.Times.Check.{checkedTimes};
 ghost use Rattle.slices.specs.Slices.{GoesOnAs, SliceStanding, StartsAs, begunAt, sliceOutputAt, wentOnAt};
 ghost use Rattle.session.specs.Sessions as sessions;
 ghost use Rattle.session.specs.Sessions.{ChecksAs, OpensAs, SwitchesAs, checkedAt, openedAt, switchedAt};
+ghost use Rattle.violations.specs.Violations.{ShowsAs, told, violationAt};
 use bundle::Contents;
 use exchange::Exchanged;
 use replay::Told;
@@ -35,6 +37,7 @@ use slices::Begun;
 use slices::Continued;
 use slices::Slice;
 use traces::Traced;
+use violations::Violation;
 
 // Answers a limit problem.
 #[no_mangle]
@@ -162,6 +165,24 @@ pub extern "C" fn scatterflock_session_check(session: Session, out: &mut [i64]) 
     ensures meaning { λ r. ⌜ ChecksAs session (now (out .entry)) r (now (out .exit)) ⌝ }
 {
     session.check(out)
+}
+
+// Shows the first violation at the start of a limit problem.
+#[no_mangle]
+pub extern "C" fn scatterflock_first_violation(words: &[i32]) -> Violation
+    ensures { λ r. ⌜ r ≡ told (firstViolation (now (words .entry))) ⌝ }
+{
+    violations::first(words)
+}
+
+// Shows the first violation of a session as it stands.
+#[no_mangle]
+pub extern "C" fn scatterflock_session_violation(session: Session) -> Violation
+    requires { ⌜ sessions.SessionStanding session ⌝ }
+    ensures exact { λ r. ⌜ r ≡ violationAt (session .tableau) ⌝ }
+    ensures meaning { λ r. ⌜ ShowsAs session r ⌝ }
+{
+    violations::standing(session)
 }
 
 // Reads a day's file.

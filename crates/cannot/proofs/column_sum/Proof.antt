@@ -31,18 +31,18 @@ abbrev μ-loop : tie.MeasureT-loop
 add-variables : tie.Need-add-variables Inv-loop μ-loop
 add-variables c = omega arith
 
-balance-requires : tie.Need-balance-requires Inv-loop μ-loop
-balance-requires c κs = ((omega arith, omega arith, omega arith), c .pre .1 .1)
+own-balance-requires : tie.Need-own-balance-requires Inv-loop μ-loop
+own-balance-requires c κs = ((omega arith, omega arith, omega arith), c .pre .1 .1)
 
-fit-first : (c : tie.After-balance Inv-loop μ-loop) → SFits w64 (c .balance .result)
+fit-first : (c : tie.After-own-balance Inv-loop μ-loop) → SFits w64 (c .own-balance .result)
 fit-first c = search needs
 
 loop-holds : tie.Need-loop-holds Inv-loop μ-loop
 unfolding columnUpTo sumBy
-loop-holds c = (omega arith, toZ-ofZ (fit-first c) ∙ c .balance .ensures ∙ sym (+ℤ-idr _))
+loop-holds c = (omega arith, toZ-ofZ (fit-first c) ∙ c .own-balance .ensures ∙ sym (+ℤ-idr _))
 
-cast-t13 : tie.Need-cast-t13 Inv-loop μ-loop
-cast-t13 c = omega arith
+cast-t12 : tie.Need-cast-t12 Inv-loop μ-loop
+cast-t12 c = omega arith
 
 place-requires : tie.Need-place-requires Inv-loop μ-loop
 place-requires c κs = (omega arith, omega arith, omega arith, omega arith)
@@ -75,19 +75,19 @@ module _ (c : tie.After-e Inv-loop μ-loop) where
 cast-sum : tie.Need-cast-sum Inv-loop μ-loop
 cast-sum c = simp (toZ-ofZ (fit-entry c)) (wide-entry c)
 
-add-t15 : tie.Need-add-t15 Inv-loop μ-loop
-add-t15 c = omega arith
+add-t14 : tie.Need-add-t14 Inv-loop μ-loop
+add-t14 c = omega arith
 
-cast-t13-2 : tie.Need-cast-t13-2 Inv-loop μ-loop
-cast-t13-2 c = omega arith
+cast-t12-2 : tie.Need-cast-t12-2 Inv-loop μ-loop
+cast-t12-2 c = omega arith
 
-balance-requires-2 : tie.Need-balance-requires-2 Inv-loop μ-loop
-balance-requires-2 c κs = (
+balance-requires : tie.Need-balance-requires Inv-loop μ-loop
+balance-requires c κs = (
   (omega arith, omega arith, omega arith),
   c .before .before .before .before .before .pre .1 .1,
 )
 
-module _ (c : tie.After-balance2 Inv-loop μ-loop) where
+module _ (c : tie.After-balance Inv-loop μ-loop) where
   abbrev start : tie.Start Inv-loop μ-loop
   start = c .before .before .before .before .before .before
 
@@ -108,12 +108,12 @@ module _ (c : tie.After-balance2 Inv-loop μ-loop) where
   abbrev read : ℤ
   read = entry (c .before)
 
-  fit-balance : SFits w64 (c .balance2 .result)
+  fit-balance : SFits w64 (c .balance .result)
   fit-balance = search needs
 
-  term-is : read *ℤ c .balance2 .result ≡ term i
+  term-is : read *ℤ c .balance .result ≡ term i
   term-is = ap₂ (λ (k : ℕ) (z : ℤ). getD (start .args .entries .now) k (pos 0) *ℤ z)
-      (c .before .before .place .ensures) (c .balance2 .ensures)
+      (c .before .before .place .ensures) (c .balance .ensures)
 
   within-balance : (v : ℕ) → v < variables →
       Within (balanceAt (start .args .answer .now) variables v) (largestNumber + largestNumber)
@@ -122,17 +122,17 @@ module _ (c : tie.After-balance2 Inv-loop μ-loop) where
   within-term : (k : ℕ) → k < start .args .rows → Within (term k) (largestCoefficient * (largestNumber + largestNumber))
   within-term k h = within-* (start .pre .1 .0 .each _) (within-balance (start .args .columns + k) (omega arith))
 
-  fit-term : SFits w64 (read *ℤ c .balance2 .result)
+  fit-term : SFits w64 (read *ℤ c .balance .result)
   fit-term = rw term-is (fits-by (within-term i (omega arith)) tt)
 
-  more : upTo i +ℤ read *ℤ c .balance2 .result ≡ upTo (i + 1)
+  more : upTo i +ℤ read *ℤ c .balance .result ≡ upTo (i + 1)
   unfolding columnUpTo
   more = ap (λ (z : ℤ). upTo i +ℤ z) term-is
       ∙ +ℤ-assoc (balanceAt (start .args .answer .now) variables (start .args .column .0)) _ (term i)
       ∙ ap (λ (z : ℤ). balanceAt (start .args .answer .now) variables (start .args .column .0) +ℤ z)
       (sym (sum-step i term))
 
-  fit-sum : SFits w64 (upTo i +ℤ read *ℤ c .balance2 .result)
+  fit-sum : SFits w64 (upTo i +ℤ read *ℤ c .balance .result)
   unfolding columnUpTo
   fit-sum = rw more (fits-by (within-+ (within-balance (start .args .column .0) (omega arith))
       (within-le (sum-within (i + 1) (λ k h. within-term k (omega arith))) bound)) tt)
@@ -190,16 +190,16 @@ column-sum-spec =
     Inv-loop
     μ-loop
     add-variables
-    balance-requires
+    own-balance-requires
     loop-holds
-    cast-t13
+    cast-t12
     place-requires
     mul-e
     element-copy-out-e
     cast-sum
-    add-t15
-    cast-t13-2
-    balance-requires-2
+    add-t14
+    cast-t12-2
+    balance-requires
     mul-sum
     add-sum
     add-i

@@ -1,0 +1,2 @@
+-- Laws of what is shown. Nothing is assumed.
+pub mod Laws
