@@ -243,7 +243,7 @@ uint32_t scatterflock_check(const int32_t *words, size_t word_count,
  * the promise leaves open.
  *
  * Returns 11 to 17 when the words or the room are refused: 11 fewer than two
- * words, 12 n or m out of range, 13 another count of words, 14 a vertex that
+ * words, 12 n or m not in its range, 13 another count of words, 14 a vertex that
  * is none, 15 a strict word that is not 0 or 1, 16 a length out of range, 17
  * out_count below 2 + 2 n. It is the first that applies, and every word of out
  * keeps what it had.
@@ -321,9 +321,9 @@ struct scatterflock_traced {
  *
  * A trace has three words for each pivot: the variable that leaves, the one
  * that enters, and the basic variables afterwards as a mask, variable v at bit
- * v. It is accepted exactly if each step is the one that the run completes
- * from there, and the run is over after the last: a run that goes out of range
- * is over at its last completed pivot, and limits that cross leave no pivot.
+ * v. It is accepted exactly if the run completes each of its steps in turn,
+ * and is over after the last: a run that goes out of range is over at its last
+ * completed pivot, and limits that cross leave no pivot.
  *
  * number is 0 if the trace is accepted. Else it is the number of the refusal as
  * in scatterflock_solve, 1 to 6 or 10; 51 if trace_count is no multiple of
@@ -422,6 +422,40 @@ struct scatterflock_switched scatterflock_session_switch(struct scatterflock_ses
  */
 struct scatterflock_checked scatterflock_session_check(struct scatterflock_session session,
                                                        int64_t *out, size_t out_count);
+
+/*
+ * The first violation: of the basic variables that are outside of a limit, the
+ * lowest-numbered, which a run would move first. Where violated is false, no basic variable is
+ * outside, and all other numbers are 0; so they are where refused is not 0.
+ */
+struct scatterflock_violation {
+    uint32_t refused;
+    uint32_t variable;
+    bool violated;
+    bool rises;          /* it is below its lower limit; else above its upper one */
+    int64_t denominator; /* above 0 */
+    int64_t shortfall;   /* how far from that limit, over the denominator; not below 0 */
+    int64_t small;       /* .. and how many small amounts more, over it too */
+};
+
+/*
+ * Shows the first violation at the start of a limit problem: the rows are basic,
+ * and the denominator is 1. Whether limits cross is not asked.
+ *
+ * In refused is 0, or the number of the refusal as in scatterflock_solve, 1 to 6
+ * or 10.
+ *
+ * The shortfall is at most 579,820,584,690,000. Where it is 0, small is above 0:
+ * then nothing but a small amount is lacking, for a strict limit. small is from
+ * -19,327,352,823 to 19,327,352,823.
+ */
+struct scatterflock_violation scatterflock_first_violation(const int32_t *words, size_t word_count);
+
+/*
+ * The same of a session as it stands: by the limits that are on, in the tableau
+ * from which the next scatterflock_session_check starts. In refused is 0.
+ */
+struct scatterflock_violation scatterflock_session_violation(struct scatterflock_session session);
 
 /*
  * A day's file is bytes: words of 32 bits, signed, the lowest byte first. Word

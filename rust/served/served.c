@@ -6,16 +6,18 @@
  * A request is seven numbers of 64 bits: the function (0 solve, 1 check,
  * 2 times, 3 slice_start, 4 slice_continue, 5 session_open, 6 session_switch,
  * 7 session_check, 11 solve_within, 13 replay, 14 trace, 15 smtlib_write,
- * 16 check_wide, 17 check_times), how
+ * 16 check_wide, 17 check_times, 19 first_violation, 20 session_violation), how
  * many 32-bit words there are to read, how many 64-bit words the output (of checks:
  * the answer; of a replay: the trace) has, and what else the function takes:
- * slice_continue the number of the slice and the pivots, session_switch and
- * session_check the number of the session, session_switch variable, upper and on,
+ * slice_continue the number of the slice and the pivots, session_switch,
+ * session_check and session_violation the number of the session, session_switch
+ * variable, upper and on,
  * solve_within the most rows, and smtlib_write how many bytes of the output are
  * lent. Then come those words. The reply is four numbers of 64 bits: what the
  * function returned, and of slices and sessions whether it answered, the number of
  * the one that came back and its count, of a replay 0, word and step, of a trace
- * and a text 0, 0 and its count; and then all words of the output. Numbers are
+ * and a text 0, 0 and its count; and then all words of the output. Those of a
+ * violation are its other six numbers. Numbers are
  * little-endian, as the machine's own. The words of a trace have 32 bits: they are
  * lent in a slice of their own. Requests with 8, 9, 10 or 12 are
  * bundle.c's.
@@ -205,6 +207,17 @@ static void write_smtlib(size_t word_count, size_t out_count, size_t room, uint6
     reply[3] = written.count;
 }
 
+static void show(struct scatterflock_violation shown, size_t out_count, uint64_t *reply)
+{
+    const int64_t numbers[] = { shown.variable, shown.violated, shown.rises,
+                                shown.denominator, shown.shortfall, shown.small };
+
+    if (out_count != sizeof numbers / sizeof *numbers)
+        stop("a violation has six numbers");
+    memcpy(out + GUARD, numbers, sizeof numbers);
+    reply[0] = shown.refused;
+}
+
 static uint64_t answer(uint64_t function, size_t word_count, size_t out_count)
 {
     const int32_t *read = words + GUARD;
@@ -281,6 +294,12 @@ int main(void)
             break;
         case 15:
             write_smtlib(word_count, out_count, request[3], reply);
+            break;
+        case 19:
+            show(scatterflock_first_violation(words + GUARD, word_count), out_count, reply);
+            break;
+        case 20:
+            show(scatterflock_session_violation(session_of(request[3])), out_count, reply);
             break;
         default:
             reply[0] = answer(request[0], word_count, out_count);

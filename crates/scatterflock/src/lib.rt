@@ -25,7 +25,7 @@ ghost use Rattle.rules.specs.Times.Check.{checkedTimes};
 ghost use Rattle.slices.specs.Slices.{GoesOnAs, SliceStanding, StartsAs, begunAt, sliceOutputAt, wentOnAt};
 ghost use Rattle.session.specs.Sessions as sessions;
 ghost use Rattle.session.specs.Sessions.{ChecksAs, OpensAs, SwitchesAs, checkedAt, openedAt, switchedAt};
-ghost use Rattle.violations.specs.Violations.{ShowsAs, told, violationAt};
+ghost use Rattle.violations.specs.Violations.{ShowsAs, shownAs, violationAt};
 use bundle::Contents;
 use exchange::Exchanged;
 use replay::Told;
@@ -170,7 +170,7 @@ pub extern "C" fn scatterflock_session_check(session: Session, out: &mut [i64]) 
 // Shows the first violation at the start of a limit problem.
 #[no_mangle]
 pub extern "C" fn scatterflock_first_violation(words: &[i32]) -> Violation
-    ensures { λ r. ⌜ r ≡ told (firstViolation (now (words .entry))) ⌝ }
+    ensures { λ r. ⌜ r ≡ shownAs (firstViolation (now (words .entry))) ⌝ }
 {
     violations::first(words)
 }

@@ -1,5 +1,5 @@
 -- docs/RULES.md, "The first violation", over the structs of the code.
---   told             the rules' violation, as the struct
+--   shownAs          the rules' violation, as the struct
 --   nothingAt        nothing is shown
 --   shownAt          by the row that the search found
 --   shownNext        by all that it found
@@ -25,8 +25,8 @@ use Rattle.session.specs.declared.Session.{Session}
 use Rattle.session.specs.Sessions.{SessionHolds}
 use Rattle.violations.specs.declared.Violation.{Violation}
 
-abbrev pub told : rules.Violation → Violation
-told f = record {
+abbrev pub shownAs : rules.Violation → Violation
+shownAs f = record {
   refused = f .refused;
   variable = f .variable;
   violated = f .violated;
@@ -37,7 +37,7 @@ told f = record {
 }
 
 abbrev pub nothingAt : ℕ → Violation
-nothingAt k = told (nothingShown k)
+nothingAt k = shownAs (nothingShown k)
 
 -- the variables of all rows, the common number, and the row with its side and its shortfall
 abbrev pub shownAt : List Variable → ℤ → Blocked → Violation
@@ -58,7 +58,7 @@ shownNext t (nexts.Pivot c) = shownAt (t .basic) (t .common)
     (record { row = c .row; rises = c .rises; shortfall = c .shortfall })
 
 unfoldable pub violationAt : Tableau → Violation
-violationAt t = told (shownBy (t .common) (leavingAt t))
+violationAt t = shownAs (shownBy (t .common) (leavingAt t))
 
 abbrev pub ShowsAs : Session → Violation → Type 0
-ShowsAs s r = (A : sessions.Session (ℤ × ℤ)) → SessionHolds A s → r ≡ told (sessionViolation A)
+ShowsAs s r = (A : sessions.Session (ℤ × ℤ)) → SessionHolds A s → r ≡ shownAs (sessionViolation A)

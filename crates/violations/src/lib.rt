@@ -6,7 +6,7 @@ ghost use Rattle.rules.specs.Runs.Violation.{firstViolation};
 ghost use Rattle.rules.specs.Sizes.{mostRows};
 ghost use Rattle.steps.specs.Step.{Held};
 ghost use Rattle.session.specs.Sessions.{SessionStanding};
-ghost use Rattle.violations.specs.Violations.{ShowsAs, nothingAt, shownAt, told, violationAt};
+ghost use Rattle.violations.specs.Violations.{ShowsAs, nothingAt, shownAt, shownAs, violationAt};
 use search::Blocked;
 use search::Next;
 use search::View;
@@ -95,7 +95,7 @@ fn outside(t: Tableau) -> Violation
 
 // Judges the words, and shows the first violation at the start of the problem that they are.
 pub fn first(words: &[i32]) -> Violation
-    ensures { λ r. ⌜ r ≡ told (firstViolation (now (words .entry))) ⌝ }
+    ensures { λ r. ⌜ r ≡ shownAs (firstViolation (now (words .entry))) ⌝ }
 {
     let begun = slices::start(words);
     if begun.refused != 0 {

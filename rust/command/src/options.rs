@@ -3,7 +3,7 @@
 use std::ffi::OsString;
 
 pub const HELP: &str = "\
-usage: scatterflock [--json | --page | --words] solve [--each] FILE
+usage: scatterflock [--json | --page | --words] solve [--each] [--first] FILE
        scatterflock [--json] check FILE ANSWER
        scatterflock [--json | --page] times FILE
        scatterflock words [--times] [--bytes] FILE
@@ -33,6 +33,7 @@ usage: scatterflock [--json | --page | --words] solve [--each] FILE
   --page    the answer as a page of HTML, with pictures, to look at or to print
   --words   the answer as bare numbers, which check takes too
   --each    for each limit of a clash, what the others come to without it
+  --first   the first limit that the run finds broken at its start, and by how much
   --times   the words of FILE are time rows, not limits
   --bytes   words, or a trace, as bytes, four each word, as a file .words has them
   --bare    the proved text of a day, or of its totals, as it is
@@ -83,6 +84,7 @@ pub struct Options {
     pub page: bool,
     pub words: bool,
     pub each: bool,
+    pub first: bool,
     pub times: bool,
     pub bytes: bool,
     pub bare: bool,
@@ -94,11 +96,12 @@ const COMMANDS: [&str; 12] = [
     "solve", "check", "times", "words", "smtlib", "edit", "day", "audit", "pack", "unpack",
     "trace", "replay",
 ];
-const OPTIONS: [&str; 10] = [
+const OPTIONS: [&str; 11] = [
     "--json",
     "--page",
     "--words",
     "--each",
+    "--first",
     "--times",
     "--bytes",
     "--bare",
@@ -116,7 +119,7 @@ fn near(word: &str, among: &[&'static str]) -> String {
 impl Options {
     pub fn read(words: &[OsString]) -> Result<Options, String> {
         let [mut json, mut page, mut words_too, mut each] = [false; 4];
-        let [mut times, mut bytes, mut bare] = [false; 3];
+        let [mut first, mut times, mut bytes, mut bare] = [false; 4];
         let mut edition = None;
         let mut is_over = false;
         let mut files = Vec::new();
@@ -130,6 +133,7 @@ impl Options {
                 Some("--page") if !is_over => page = true,
                 Some("--words") if !is_over => words_too = true,
                 Some("--each") if !is_over => each = true,
+                Some("--first") if !is_over => first = true,
                 Some("--times") if !is_over => times = true,
                 Some("--bytes") if !is_over => bytes = true,
                 Some("--bare") if !is_over => bare = true,
@@ -144,7 +148,9 @@ impl Options {
         }
         if let Some(action) = asked {
             let words = words_too;
-            return Ok(Options { action, json, page, words, each, times, bytes, bare, edition });
+            let options =
+                Options { action, json, page, words, each, first, times, bytes, bare, edition };
+            return Ok(options);
         }
         if files.is_empty() {
             return Err("there is no command".to_string());
@@ -197,6 +203,10 @@ impl Options {
         if each && !matches!(action, Action::Solve(_)) {
             return Err("--each is an option of solve".to_string());
         }
+        if first && (page || words_too || !matches!(action, Action::Solve(_))) {
+            let what = "--first is an option of solve, and not beside --page or --words";
+            return Err(what.to_string());
+        }
         if times && !matches!(action, Action::Words(_)) {
             return Err("--times is an option of words".to_string());
         }
@@ -232,7 +242,8 @@ impl Options {
         if edition.is_some() && !matches!(action, Action::Pack(..)) {
             return Err("--edition is an option of pack".to_string());
         }
-        Ok(Options { action, json, page, words: words_too, each, times, bytes, bare, edition })
+        let words = words_too;
+        Ok(Options { action, json, page, words, each, first, times, bytes, bare, edition })
     }
 }
 

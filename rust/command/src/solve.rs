@@ -3,6 +3,7 @@
 mod as_json;
 mod as_page;
 mod as_text;
+mod first;
 
 use crate::clash::{self, Counted};
 use crate::fraction::Fraction;
@@ -27,7 +28,7 @@ pub fn answer(input: Input, options: &Options) -> Result<Ended, Failure> {
     if options.words {
         return Ok(as_words(&problem, &answer));
     }
-    let shown = Shown { file, digest, text, problem, answer };
+    let shown = Shown { file, digest, text, problem, answer, with_first: options.first };
     if options.page {
         return Ok(match &shown.answer.verdict {
             Verdict::Cannot { lower, upper } => shown.cannot_page(&shown.counted([lower, upper])),
@@ -90,6 +91,8 @@ struct Shown {
     text: Option<String>,
     problem: Limits,
     answer: Answer,
+    /// Whether the first violation is told too.
+    with_first: bool,
 }
 
 /// For each limit of a clash the answer to the others that it names, and the
@@ -160,6 +163,7 @@ impl Shown {
                 text: None,
                 problem: rest,
                 answer,
+                with_first: false,
             };
             let side = match side {
                 Side::Lower => scatterflock::Side::Lower,
@@ -192,7 +196,8 @@ mod tests {
             let Ok(answer) = solved(&problem) else { panic!("it is answered, SEED={seed}") };
             let answered = answer.clone();
             let (file, digest) = (String::new(), String::new());
-            let shown = Shown { file, digest, text: None, problem, answer: answered };
+            let (text, with_first) = (None, false);
+            let shown = Shown { file, digest, text, problem, answer: answered, with_first };
             let Some(values) = Values::of(&shown.problem, &answer.verdict) else { continue };
             let Some(end) = shown.small_below(values) else { continue };
             let [end, over] = [end.numerator, end.denominator].map(i128::from);

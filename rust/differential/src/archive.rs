@@ -8,6 +8,7 @@ use served as raw;
 
 pub use raw::{bundle_read, bundle_write, day, sheet, Contents};
 pub use raw::{check, solve, solve_within, times};
+pub use raw::{first_violation, session_violation, Violation};
 pub use raw::{replay, trace};
 pub use raw::{session_check, session_open, session_switch, Session};
 pub use raw::{slice_continue, slice_start, Slice};

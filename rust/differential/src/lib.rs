@@ -1,5 +1,5 @@
 //! The archive against `reference`: solver, checker, slices, sessions, traces,
-//! SMT-LIB texts, time rows, days' files and their sheets, on random problems of
+//! first violations, SMT-LIB texts, time rows, days' files and their sheets, on random problems of
 //! every family, every word compared.
 //!
 //! - [`archive`]: the archive's functions, linked or served
@@ -10,6 +10,7 @@
 //! - `sessions`: one limit problem through a script of switches and checks
 //! - `traces`: one limit problem's own trace, and bent ones against its run
 //! - `smtlib`: one limit problem as SMT-LIB text
+//! - `violations`: the first violation of one limit problem, and of sessions
 //! - `times`: time rows through the time solver
 //! - `bundles`: a day's file through its reader, its writer and its text
 //! - `sheets`: a day's file through its auditor's sheet
@@ -26,3 +27,4 @@ pub mod slices;
 pub mod smtlib;
 pub mod times;
 pub mod traces;
+pub mod violations;

@@ -1,6 +1,6 @@
 //! Many problems, counted.
 
-use crate::{bundles, limits, sessions, sheets, slices, smtlib, times, traces};
+use crate::{bundles, limits, sessions, sheets, slices, smtlib, times, traces, violations};
 use problems::random::Random;
 use std::collections::BTreeMap;
 use std::fmt;
@@ -84,6 +84,19 @@ pub fn traces(seed: u64, problems: u64) -> Result<Report, String> {
             report.count_outcome(["leaving", "entering", "mask"][word as usize], 1);
         }
         report.count_calls(&outcome.calls);
+    }
+    Ok(report)
+}
+
+/// Compares the first violations of so many limit problems, the families in turn.
+pub fn violations(seed: u64, problems: u64) -> Result<Report, String> {
+    let mut report = Report::default();
+    for problem in 0..problems {
+        let family = in_turn(&problems::limits::Family::ALL, problem);
+        let outcome = violations::compare(&mut Random::of_problem(seed, problem), family)
+            .map_err(|what| format!("SEED={seed}, problem {problem}, {family:?}: {what}"))?;
+        let names = ["nothing", "below", "above", "by small amounts"];
+        report.count(outcome.number, names, outcome.shown as i64);
     }
     Ok(report)
 }

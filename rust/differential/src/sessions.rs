@@ -1,9 +1,11 @@
 //! One limit problem through a session: a random script of switches and checks.
-//! After each of them, and after the opening, all values are compared.
+//! After each of them, and after the opening, the first violation and all values
+//! are compared.
 
 use crate::archive;
 use crate::lent::{fresh, length, lent};
 use crate::limits::needed;
+use crate::violations;
 use problems::limits::Family;
 use problems::random::Random;
 use problems::sessions::{live_words, Operation, Writer};
@@ -148,10 +150,18 @@ impl Pair<'_> {
         Ok(())
     }
 
-    /// Looks at all values: on copies every limit is switched off, and a check
+    /// Looks at the first violation, and at all values: on copies every limit is switched off, and a check
     /// then tells D and each value as they stand. What a switch moves because
     /// limits that conflict no longer do, it moves on both copies.
     fn look(&mut self) -> Result<(), String> {
+        let first = self.expected.violation();
+        violations::same(archive::session_violation(self.found.clone()), Ok(first))?;
+        if first.is_some() {
+            self.count("violation shown");
+        }
+        if first.is_some_and(|first| first.over > 1) {
+            self.count("violation over D");
+        }
         let (mut found, mut expected) = (self.found.clone(), self.expected.clone());
         let variables = (self.words[0] + self.words[1]) as usize;
         for (variable, upper) in (0..variables).flat_map(|v| [(v, false), (v, true)]) {

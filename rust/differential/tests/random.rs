@@ -1,6 +1,6 @@
-//! Random problems, with a seed that is printed and can be given again: 380,000,
+//! Random problems, with a seed that is printed and can be given again: 400,000,
 //! 10,000 sessions, 7,000 days' files and 6,000 sheets a run where the archive is
-//! linked, 75,000, 2,000, 1,400 and 1,200 under an emulator.
+//! linked, 79,000, 2,000, 1,400 and 1,200 under an emulator.
 
 use differential::archive::LINKED;
 use differential::report;
@@ -10,6 +10,7 @@ const LIMIT_PROBLEMS: u64 = if LINKED { 200_000 } else { 40_000 };
 const SLICED_PROBLEMS: u64 = if LINKED { 60_000 } else { 10_000 };
 const SESSIONS: u64 = if LINKED { 10_000 } else { 2_000 };
 const TRACED_PROBLEMS: u64 = if LINKED { 60_000 } else { 10_000 };
+const SHOWN_PROBLEMS: u64 = if LINKED { 20_000 } else { 4_000 };
 const TIME_PROBLEMS: u64 = if LINKED { 60_000 } else { 15_000 };
 const FILES: u64 = if LINKED { 7_000 } else { 1_400 };
 const SHEETS: u64 = if LINKED { 6_000 } else { 1_200 };
@@ -68,6 +69,8 @@ fn sessions() {
         ("range", SESSIONS / 25),
         ("conflict ended", SESSIONS / 50),
         ("values seen", 25 * SESSIONS),
+        ("violation shown", SESSIONS),
+        ("violation over D", SESSIONS / 20),
     ] {
         assert!(report.of(outcome) > least, "{outcome}, SEED={seed}");
     }
@@ -100,6 +103,21 @@ fn traces() {
     }
     for number in [0, 7, 51, 52, 53, 54] {
         assert!(report.calls[&number] > TRACED_PROBLEMS / 20, "{number}, SEED={seed}");
+    }
+}
+
+#[test]
+fn first_violations() {
+    let seed = seed();
+    println!("SEED={seed}");
+    let report = report::violations(seed, SHOWN_PROBLEMS).unwrap_or_else(|what| panic!("{what}"));
+    println!("{report}");
+    for outcome in ["nothing", "below", "above", "by small amounts"] {
+        assert!(report.of(outcome) > SHOWN_PROBLEMS / 50, "{outcome}, SEED={seed}");
+    }
+    for number in (1..=6).chain([10]) {
+        let refused = report.of(&format!("refused {number}"));
+        assert!(refused > SHOWN_PROBLEMS / 1_000, "{number}, SEED={seed}");
     }
 }
 

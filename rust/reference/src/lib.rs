@@ -51,7 +51,7 @@ pub use decision::can_be_met;
 pub use evidence::check;
 pub use idle::{idle, named, Named};
 pub use program::respond;
-pub use run::{pivots, solve, solve_within, violations, Violation};
+pub use run::{first_violation, pivots, solve, solve_within, violations, Violation};
 pub use session::Session;
 pub use sheet::{sheet, sheet_text};
 pub use slices::{Continued, Slice};

@@ -53,6 +53,17 @@ pub fn violations(words: &[i32]) -> Vec<Violation> {
     found
 }
 
+/// The first violation at a problem's start, or none. Whether limits cross is
+/// not asked.
+///
+/// # Errors
+///
+/// The refusal of words that are no problem.
+pub fn first_violation(words: &[i32]) -> Result<Option<Violation>, u32> {
+    let problem = Problem::read(words)?;
+    Ok(State::start(&problem).first_violation())
+}
+
 /// Each pivot that a problem's run makes or tries, in order: the one that leads
 /// out of range too. Refused words and crossed limits have none.
 pub fn pivots(words: &[i32]) -> Vec<Pivot> {
@@ -108,7 +119,7 @@ enum Way {
     Down,
 }
 
-/// The lowest-numbered basic variable outside its limits, as a desk shows it.
+/// Of the basic variables that are outside, the lowest-numbered, as a desk shows it.
 #[derive(Debug, Clone, Copy, PartialEq, Eq)]
 pub struct Violation {
     /// Its number.
@@ -173,6 +184,10 @@ impl<'a> State<'a> {
     pub fn exchange(&self) -> Option<(Variable, Variable)> {
         let violated = self.lowest_violated()?;
         Some((violated.variable, self.lowest_suitable(violated)?))
+    }
+
+    pub fn first_violation(&self) -> Option<Violation> {
+        self.lowest_violated().map(|violated| self.told(violated))
     }
 
     fn lowest_violated(&self) -> Option<Violated> {

@@ -5,7 +5,7 @@
 use crate::answer::{Answer, Verdict};
 use crate::pair::Pair;
 use crate::problem::{Limits, Problem, Variable};
-use crate::run::{conflict_of_one, State, Step};
+use crate::run::{conflict_of_one, State, Step, Violation};
 use crate::tableau::Tableau;
 use std::collections::BTreeMap;
 
@@ -121,6 +121,11 @@ impl Session {
 
     fn state<'a>(&self, live: &'a Problem) -> State<'a> {
         State { problem: live, tableau: self.tableau.clone(), values: self.values.clone() }
+    }
+
+    /// The first violation as the session stands, by the live limits, or none.
+    pub fn violation(&self) -> Option<Violation> {
+        self.state(&self.live()).first_violation()
     }
 
     /// Whether a limit is on. One that is missing never is.

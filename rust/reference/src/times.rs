@@ -115,8 +115,8 @@ impl Graph {
         })
     }
 
-    /// The shortest distance to each vertex from a vertex outside with an edge
-    /// of length 0 to each, or `None` if there is no shortest one.
+    /// The shortest distance to each vertex from a vertex outside, which leads
+    /// to each by length 0, or `None` if there is no shortest one.
     ///
     /// After k rounds each number is the least length of a walk of at most k
     /// edges. Where no walk closes below 0, walks of n edges are not needed.

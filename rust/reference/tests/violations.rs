@@ -1,9 +1,9 @@
 //! The first violation of each step: which variable, on which side, and by how
 //! much over D.
 
-use problems::draft::{at_most, between, Draft, FREE};
+use problems::draft::{at_least, at_most, between, Draft, FREE};
 use problems::worked;
-use reference::{violations, Violation};
+use reference::{first_violation, violations, Session, Violation};
 
 fn below(variable: usize, shortfall: i128, over: i128) -> Violation {
     Violation { variable, below: true, over, shortfall: (shortfall, 0) }
@@ -58,4 +58,35 @@ fn a_shortfall_has_two_parts() {
 fn refused_words_have_no_step() {
     assert_eq!(violations(&[]), []);
     assert_eq!(violations(&worked::case_i().words), []);
+}
+
+/// Whatever the run makes of the problem: at its start, where it has a step, the
+/// first violation is the first step's; limits that cross are not asked.
+#[test]
+fn the_first_violation_is_that_of_the_start() {
+    for case in worked::limits() {
+        let crossed = matches!(case.name, "G" | "5 < x <= 5");
+        let first = first_violation(&case.words).unwrap();
+        assert!(crossed || first == violations(&case.words).first().copied(), "{}", case.name);
+    }
+    let rows: [&[i32]; 1] = [&[2]];
+    let crossed = Draft::new(1, &rows, &[FREE, between(3, -2)]).words();
+    assert_eq!(first_violation(&crossed), Ok(Some(below(1, 3, 1))));
+    assert_eq!(first_violation(&[]), Err(1));
+}
+
+/// Of a session: by the limits that are on, and over its D.
+#[test]
+fn a_session_shows_it_as_it_stands() {
+    let rows: [&[i32]; 2] = [&[1, 1], &[-1, 2]];
+    let limits = [at_most(-1), FREE, at_least(2), [5, 1, 0]];
+    let session = Session::open(&Draft::new(2, &rows, &limits).words()).unwrap();
+    assert_eq!(session.violation(), None);
+    let session = session.switch(2, false, true).unwrap().switch(3, false, true).unwrap();
+    assert_eq!(session.violation(), Some(below(2, 2, 1)));
+    let session = session.check(&mut [0; 11]).1;
+    assert_eq!(session.violation(), None);
+    let session = session.switch(0, true, true).unwrap();
+    let over_three = Violation { variable: 0, below: false, over: 3, shortfall: (6, -1) };
+    assert_eq!(session.violation(), Some(over_three));
 }

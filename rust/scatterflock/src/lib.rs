@@ -55,6 +55,8 @@
 //! - [`Session`]: limits that are switched on and off, and checked again
 //! - [`Replayed`], [`replay`], [`trace()`]: another solver's trace against a run,
 //!   and a run's own
+//! - [`Violation`], [`first_violation()`]: what a run would move first, and by how
+//!   much
 //! - [`TimeRows`], [`times()`]: time rows
 //! - [`Bundle`], [`day()`]: a day's problems in one file
 //! - [`Sheet`], [`sheet()`]: their totals, for an auditor
@@ -82,6 +84,7 @@ mod slice;
 mod smtlib;
 mod times;
 mod trace;
+mod violation;
 
 pub use answer::{check, solve, solve_within, Answer, Judgement, Verdict};
 pub use build_error::BuildError;
@@ -96,3 +99,4 @@ pub use sheet::{sheet, Named, Sheet};
 pub use slice::Slice;
 pub use times::{times, Schedule, Time};
 pub use trace::{replay, trace, Replayed, TraceWord};
+pub use violation::{first_violation, Violation};

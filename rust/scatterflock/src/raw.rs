@@ -4,10 +4,12 @@
 mod bundle;
 mod smtlib;
 mod traces;
+mod violation;
 
 pub use bundle::{bundle_read, bundle_write, day, sheet, Contents};
 pub use smtlib::{smtlib_write, Exchanged};
 pub use traces::{replay, trace, Replayed, Traced};
+pub use violation::{first_violation, session_violation, Violation};
 
 mod archive {
     use super::{Begun, Checked, Continued, Opened, Session, Slice, Switched};

@@ -108,6 +108,11 @@ impl Session {
         Answer::read(&out[..3 + 2 * self.on.len()])
     }
 
+    /// What the archive keeps of it.
+    pub(crate) fn raw(&self) -> raw::Session {
+        self.state.clone()
+    }
+
     /// The words of the problem with the limits that are on and no others:
     /// what an answer of [`check`](Session::check) is evidence about.
     #[must_use]

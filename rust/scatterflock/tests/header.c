@@ -1,6 +1,6 @@
 /*
  * Calls the archive through include/scatterflock.h and compares what it gives:
- * cases A, C and J of docs/RULES.md, case A in slices, its trace, the first session of
+ * cases A, C and J of docs/RULES.md, case A in slices, its trace, its first violation, the first session of
  * docs/formats/session.md, strict limits, answers that are right and wrong,
  * case A as SMT-LIB text in every room, refusals, and on x86-64 how long the records are that come back. It is C and
  * C++ at once, and header.rs compiles it as both, with MOST_SMTLIB by -D. Each
@@ -224,6 +224,35 @@ static void in_a_session(void)
     switched(opened.session, 1, false, true, 41);
 }
 
+static void shown(const char *call, struct scatterflock_violation found, uint32_t variable,
+                  bool rises, int64_t shortfall, int64_t small)
+{
+    bool right = found.refused == 0 && found.violated && found.variable == variable
+                 && found.rises == rises && found.denominator == 1
+                 && found.shortfall == shortfall && found.small == small;
+
+    number(call, right, 1);
+}
+
+/* The first violation: at the start of case A, of words that are refused, and of a session. */
+static void at_first(void)
+{
+    static const int32_t STRICT_ROW[] = {1, 1, 2, 1, 5, 0, 10, 0, 7};
+    struct scatterflock_violation none = scatterflock_first_violation(NINE_VARIABLES, COUNT(NINE_VARIABLES));
+    struct scatterflock_session session = scatterflock_session_open(A, COUNT(A)).session;
+
+    shown("first of A", scatterflock_first_violation(A, COUNT(A)), 2, true, 2, 0);
+    shown("first of 2 x < 7", scatterflock_first_violation(STRICT_ROW, COUNT(STRICT_ROW)), 1, false, 3, 1);
+    number("first of nine", none.refused, 2);
+    number("first of nine, violated", none.violated || none.rises || none.variable != 0, 0);
+    number("first of nine, numbers", none.denominator != 0 || none.shortfall != 0 || none.small != 0, 0);
+    number("first of a session", scatterflock_session_violation(session).violated, 0);
+    session = scatterflock_session_switch(session, 4, false, true).session;
+    shown("first of a session", scatterflock_session_violation(session), 4, true, 1, 0);
+    session = scatterflock_session_switch(session, 2, false, true).session;
+    shown("first of a session", scatterflock_session_violation(session), 2, true, 2, 0);
+}
+
 /* Case A as text, in every room up to a little more than it needs. */
 static void as_smtlib(void)
 {
@@ -340,6 +369,7 @@ int main(void)
     in_slices();
     in_a_trace();
     in_a_session();
+    at_first();
     as_smtlib();
     lengths();
     return differences == 0 ? 0 : 1;

@@ -7,9 +7,11 @@
 
 mod bundle;
 mod traces;
+mod violation;
 
 pub use bundle::{bundle_read, bundle_write, day, sheet, Contents};
 pub use traces::{replay, trace, Replayed, Traced};
+pub use violation::{first_violation, session_violation, Violation};
 
 use std::cell::RefCell;
 use std::io::{Read, Result, Write};
@@ -36,6 +38,8 @@ enum Function {
     Replay = 13,
     Trace = 14,
     SmtlibWrite = 15,
+    FirstViolation = 19,
+    SessionViolation = 20,
 }
 
 /// A run at some point, that the program keeps.

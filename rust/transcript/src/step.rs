@@ -121,8 +121,8 @@ pub fn scaled<X: Copy>(values: &Values<X>, p: &Problem<X>, s: &State<X>, v: usiz
     total(values, vars(p), |w| (values.scale)(entry(&s.tableau, v, w), seated(values, seat(s, w))))
 }
 
-/// 0 if the limits allow 0, else the lower limit if that is above 0, else the
-/// upper limit.
+/// 0 where the limits allow it, else the lower one where that is above 0, else
+/// the upper one.
 pub fn start_value<X: Copy>(values: &Values<X>, lower: Option<X>, upper: Option<X>) -> X {
     let nil = values.nil;
     match (lower, upper) {
@@ -224,7 +224,7 @@ pub fn may_rise<X: Copy>(values: &Values<X>, x: X, upper: Option<X>) -> bool {
     }
 }
 
-/// x may decrease: it is above its lower limit, or has none.
+/// Whether no lower limit stops x: there is none, or x is above it.
 pub fn may_fall<X: Copy>(values: &Values<X>, x: X, lower: Option<X>) -> bool {
     match lower {
         None => true,

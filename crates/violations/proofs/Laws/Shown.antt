@@ -1,10 +1,9 @@
 -- What the search finds in a tableau that stands for a state is what the rules show of that state.
 --   next-shown       by place: the row's variable is the leaving one
 --   violation-is     by variable
---   row-found        the row that is found is one of the tableau's
---   start-shown      at the start of accepted words
---   start-refused    words that are refused
---   shows-as         of a session
+--   row-stuck, row-chosen    the row that is found is a place
+--   start-held, start-shown, start-refused    the start of accepted words, what is shown of it; words that are refused
+--   standing-held, shows-as    of a session
 use mathlib.Core.Bool.{true}
 use mathlib.Core.List.{List}
 use mathlib.Core.Logic.{_≢_}
@@ -21,30 +20,28 @@ use Rattle.rules.specs.Facts.Rule.{Left}
 use Rattle.rules.specs.Facts.State.{Rowed}
 use Rattle.rules.specs.Problem.{Problem, inner, problem}
 use Rattle.rules.specs.Refusal.{problemRefusal}
-use Rattle.rules.specs.Runs.Session as sessions
 use Rattle.rules.specs.Runs.Session.{liveOf}
 use Rattle.rules.specs.Runs.Slices.{begun}
 use Rattle.rules.specs.Runs.Violation.{firstViolation, hasToRise, shownBy, startShown, violationOf}
 use Rattle.rules.specs.Sizes.{mostRows}
 use Rattle.rules.specs.Step.{Leaving, Side, State, above, below, common, entering, leaving, start}
 use Rattle.tableau.specs.declared.Tableau.{Tableau}
-use Rattle.tableau.specs.declared.Variable.{Variable}
-use Rattle.tableau.specs.Parts.{basicAt, rowOf}
+use Rattle.tableau.specs.Parts.{rowOf}
 use Rattle.tableau.specs.Stands.{HasRow, Stands}
 use Rattle.search.specs.declared.Blocked.{Blocked}
 use Rattle.search.specs.declared.Choice.{Choice}
 use Rattle.search.specs.declared.Next.{Next}
 use Rattle.search.specs.declared.Next.the-variants as nexts
-use Rattle.search.specs.Search.{blockedAt, leavingAt, nextAt}
+use Rattle.search.specs.Search.{blockedAt, nextAt}
 use Rattle.search.proofs.Laws.Stands.{leaving-is, next-blocked, next-chosen, next-none}
 use Rattle.sides.specs.Sides.{rising}
 use Rattle.steps.specs.Step.{Held}
 use Rattle.slices.specs.declared.Begun.{Begun}
 use Rattle.slices.specs.Slices.{SliceHolds, StartsAs, startedWords}
 use Rattle.session.specs.declared.Session.{Session}
-use Rattle.session.specs.Sessions.{SessionHolds, SessionStanding}
+use Rattle.session.specs.Sessions.{SessionStanding}
 use Rattle.violations.specs.declared.Violation.{Violation}
-use Rattle.violations.specs.Violations.{ShowsAs, nothingAt, shownAt, shownNext, told, violationAt}
+use Rattle.violations.specs.Violations.{ShowsAs, nothingAt, shownAt, shownNext, shownAs, violationAt}
 
 rising-is : (σ : Side) → rising σ ≡ hasToRise σ
 rising-is below = refl
@@ -53,9 +50,9 @@ rising-is above = refl
 -- ---- by variable
 
 module _ (P : Problem (ℤ × ℤ)) (t : Tableau) (s : State (ℤ × ℤ)) (St : Stands P t s) (R : Rowed pairs P s) where
-  pub violation-is : violationAt t ≡ told (violationOf P s)
+  pub violation-is : violationAt t ≡ shownAs (violationOf P s)
   unfolding violationAt violationOf
-  violation-is = ap₂ (λ d o. told (shownBy d o)) (St .numbers .common-is) (leaving-is P t s St R)
+  violation-is = ap₂ (λ d o. shownAs (shownBy d o)) (St .numbers .common-is) (leaving-is P t s St R)
 
   -- ---- by place
 
@@ -74,7 +71,7 @@ module _ (P : Problem (ℤ × ℤ)) (t : Tableau) (s : State (ℤ × ℤ)) (St :
       denominator = t .common;
       shortfall = r .shortfall .0;
       small = r .shortfall .1;
-    }) (its .holds) (rising-is (r .side)) ∙ ap (λ o. told (shownBy (t .common) o)) (sym (leaving-is P t s St R ∙ e))
+    }) (its .holds) (rising-is (r .side)) ∙ ap (λ o. shownAs (shownBy (t .common) o)) (sym (leaving-is P t s St R ∙ e))
 
     row-in : rowOf t (r .variable) < mostRows
     row-in = let a = its .in-rows in let b = St .sized .few-rows in omega arith
@@ -103,7 +100,7 @@ module _ (P : Problem (ℤ × ℤ)) (t : Tableau) (s : State (ℤ × ℤ)) (St :
 
       go : (o : Option (Leaving (ℤ × ℤ))) → leaving pairs P s ≡ o → Found (nextAt t)
       go none e = subst Found (sym (next-none P t s St R e)) (
-        ap (λ o. told (shownBy (t .common) o)) (sym (leaving-is P t s St R ∙ e)),
+        ap (λ o. shownAs (shownBy (t .common) o)) (sym (leaving-is P t s St R ∙ e)),
         (λ b z. let y : _≡_ {A = ℕ} 0 1 = cc in zero-one y),
         (λ c z. let y : _≡_ {A = ℕ} 0 1 = cc in zero-one y),
       )
@@ -144,22 +141,22 @@ module _ (ws : List ℤ) (r : Begun) (A : StartsAs ws r) where
     ranged = h .ranged;
   }
 
-  pub start-shown : r .refused ≡ 0 → violationAt (r .slice .tableau) ≡ told (firstViolation ws)
+  pub start-shown : r .refused ≡ 0 → violationAt (r .slice .tableau) ≡ shownAs (firstViolation ws)
   unfolding begun firstViolation
   start-shown z = let h = starts z in
       violation-is (inner (problem ws)) (r .slice .tableau) (start pairs (inner (problem ws))) (h .stands)
       (on-way-rowed (begun pairs (inner (problem ws))) (h .on-way))
-      ∙ ap told (by-number (problemRefusal ws) (sym (A .number) ∙ z))
+      ∙ ap shownAs (by-number (problemRefusal ws) (sym (A .number) ∙ z))
     where
       by-number : (k : ℕ) → k ≡ 0 → violationOf (inner (problem ws)) (start pairs (inner (problem ws)))
           ≡ startShown k ws
       by-number zero e = refl
       by-number (suc k) e = let y : ⊥ = omega arith in absurd y
 
-  pub start-refused : (k : ℕ) → r .refused ≡ k → k ≢ 0 → nothingAt k ≡ told (firstViolation ws)
+  pub start-refused : (k : ℕ) → r .refused ≡ k → k ≢ 0 → nothingAt k ≡ shownAs (firstViolation ws)
   unfolding firstViolation
   start-refused zero e n = absurd (n refl)
-  start-refused (suc k) e n = ap (λ k. told (startShown k ws)) (sym e ∙ A .number)
+  start-refused (suc k) e n = ap (λ k. shownAs (startShown k ws)) (sym e ∙ A .number)
 
 -- ---- of a session
 

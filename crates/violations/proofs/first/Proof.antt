@@ -15,7 +15,8 @@ nothing-requires c κs = search needs
 returns : tie.Need-returns
 returns c = let o = c .before .before .before in
     c .nothing .ensures
-    ∙ start-refused (o .before .args .words .now) (o .start .result) (o .start .ensures .1) _ refl (c .before .if1 .taken)
+    ∙ start-refused (o .before .args .words .now) (o .start .result) (o .start .ensures .1) _ refl
+    (c .before .if1 .taken)
 
 outside-requires : tie.Need-outside-requires
 outside-requires c κs = let o = c .before .before .before in

@@ -1,5 +1,4 @@
 -- `violations::standing` meets its contract: what is shown of the session's tableau. Assumes nothing.
-use borrow.Author.Needs.{needs}
 use Rattle.violations.proofs.Laws.Shown.{shows-as, standing-held}
 use Rattle.violations.proofs.standing.Statement.{statement}
 use Rattle.violations.proofs.standing.Tie as tie

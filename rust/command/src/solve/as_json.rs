@@ -44,7 +44,7 @@ impl Shown {
         }))
     }
 
-    fn limit_json(&self, variable: usize, side: Side) -> Vec<(&'static str, String)> {
+    pub(super) fn limit_json(&self, variable: usize, side: Side) -> Vec<(&'static str, String)> {
         let limit = self.problem.limits[variable][side as usize];
         let said = self.problem.limit_text(variable, side).unwrap_or_default();
         let line = limit.and_then(|limit| limit.line);
@@ -66,6 +66,7 @@ impl Shown {
             ("checked", is_checked.to_string()),
         ];
         all.extend(fields.iter().cloned());
+        all.extend(self.first_json().map(|first| ("first", first)));
         all.push(("left_out", json::left_out(self.text.as_deref())));
         Ended::saying(json::object(&all), status)
     }

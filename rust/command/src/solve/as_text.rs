@@ -12,7 +12,10 @@ impl Shown {
     fn accepted(&self) -> String {
         let pivots = pivots(self.answer.pivots);
         let left_out = left_out(self.text.as_deref(), "limits");
-        format!("{left_out}# The proved checker has accepted this answer. It took {pivots}.\n")
+        let first = self.first_line();
+        format!(
+            "{first}{left_out}# The proved checker has accepted this answer. It took {pivots}.\n"
+        )
     }
 
     pub(super) fn can(&self, values: Values) -> Ended {
@@ -182,7 +185,8 @@ impl Shown {
         let pivots = pivots(self.answer.pivots);
         let said = format!(
             "range\n\n# After {pivots} a number grew beyond 2147483647, and the run ended.\n\
-             # That says nothing about the limits: they may be such as can be met, or not.\n"
+             # That says nothing about the limits: they may be such as can be met, or not.\n{}",
+            self.first_line()
         );
         Ended::saying(said, RANGE)
     }

@@ -80,7 +80,7 @@ fn damaged_texts_never_panic() {
                 statuses[status as usize] += 1;
                 continue;
             }
-            _ if random.percent(50) => &["solve", "--each", json, "-"],
+            _ if random.percent(50) => &["solve", "--each", "--first", json, "-"],
             _ => &["solve", json, "-"],
         };
         let (output, errors, status) = ran(words, &text);

@@ -3,6 +3,7 @@
 mod answers;
 mod clashes;
 mod damaged;
+mod first;
 #[path = "../json/mod.rs"]
 mod json;
 mod pages;

@@ -29,6 +29,8 @@ fn usage_and_files() {
         (&["replay", "-"], 4, "replay takes two files"),
         (&["replay", "-", "-"], 4, "not both"),
         (&["times", "--each", "-"], 4, "--each is an option of solve"),
+        (&["--page", "solve", "--first", "-"], 4, "--first is an option of solve, and not beside"),
+        (&["trace", "--first", "-"], 4, "--first is an option of solve, and not beside"),
         (&["solve", "no-such-file"], 5, "it cannot be read"),
         (&["solve", "."], 5, "it cannot be read"),
         (&["solve", "--", "--json"], 5, "it cannot be read"),
