@@ -60,6 +60,7 @@ fn quoted_texts_are_the_files() {
     };
     assert!(quotes(&page, "problems/oven.txt"));
     assert!(quotes(&page, "problems/solder.txt"));
+    assert!(quotes(&page, "problems/steps.txt"));
     assert!(quotes(&page, "problems/starts.txt"));
     assert!(quotes(&page, "problems/stamps.txt"));
     assert!(quotes(&readme, "problems/oven.txt"));

@@ -1,5 +1,5 @@
-//! Texts with one slip each: none that is in a name, no unit, and no sign of
-//! another key is answered with another meaning. Of other slips the share that is
+//! Texts with one slip each: none that is in a name, of a constant too, no unit, and
+//! no sign of another key is answered with another meaning. Of other slips the share that is
 //! answered is printed, and docs/formats/text.md tells it.
 
 use problems::limits::Family;
@@ -32,6 +32,8 @@ struct Count {
 }
 
 const NAMES: [&str; 8] = ["zone1", "zone2", "zone3", "inlet", "outlet", "heater", "board", "fan_4"];
+/// Names of constants.
+const CONSTANTS: [&str; 4] = ["step", "least", "top_2", "margin"];
 const UNITS: [&str; 12] =
     ["degC", "C", "K", "min", "minutes", "s", "kW", "\u{b0}C", "%", "deg", "mm", "Pa"];
 
@@ -61,6 +63,7 @@ fn text(random: &mut Random) -> String {
             .collect();
         rows.text()
     };
+    let text = with_constants(random, &text);
     let text = if text.starts_with("times") { with_clock(random, &text) } else { text };
     let mut said = "# An oven.\n\n".to_string();
     for line in text.lines() {
@@ -68,6 +71,25 @@ fn text(random: &mut Random) -> String {
         said += if random.percent(30) { "   # as agreed\n" } else { "\n" };
     }
     said
+}
+
+/// The same text with some of its numbers as constants.
+fn with_constants(random: &mut Random, text: &str) -> String {
+    let (mut said, mut defined) = (text.to_string(), String::new());
+    let is_number = |place: &(usize, usize)| text[place.0..place.1].parse::<u32>().is_ok();
+    let words = pieces(text, |c| c.is_ascii_alphanumeric() || c == '_');
+    let mut names = CONSTANTS.iter();
+    for place in words.into_iter().rev().filter(is_number) {
+        if random.percent(80) {
+            continue;
+        }
+        let Some(name) = names.next() else { break };
+        said = with(&said, place, name);
+        defined += &format!("let {name} = {}\n", &text[place.0..place.1]);
+    }
+    let is_opening = |line: &&str| line.starts_with("names ") || line.starts_with("times ");
+    let opening: usize = said.lines().take_while(is_opening).map(|line| line.len() + 1).sum();
+    with(&said, (opening, opening), &defined)
 }
 
 /// The same text with some of its numbers as clock times.
@@ -122,7 +144,7 @@ fn slip(random: &mut Random, text: &str) -> Option<(&'static str, String)> {
     let words = pieces(text, |c| c.is_ascii_alphanumeric() || c == '_');
     let is_name = |&(from, to): &(usize, usize)| {
         let word = &text[from..to];
-        NAMES.contains(&word) || word.starts_with("start")
+        NAMES.contains(&word) || CONSTANTS.contains(&word) || word.starts_with("start")
     };
     let is_number =
         |&(from, to): &(usize, usize)| text[from..to].bytes().all(|c| c.is_ascii_digit());

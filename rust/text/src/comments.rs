@@ -1,9 +1,11 @@
 //! Comments that read as a limit.
 
+use crate::constants::WORD;
+use crate::labels::Labels;
 use crate::names::Names;
 use crate::opening::{self, Holds};
 use crate::statement::statement;
-use crate::tokens::lines;
+use crate::tokens::{lines, Line};
 
 /// How many places of a comment are looked at, from its end: more than a limit has
 /// words.
@@ -16,17 +18,21 @@ const MOST_PLACES: usize = 64;
 pub fn left_out(text: &str) -> Vec<usize> {
     let Some(holds) = Holds::of(text) else { return vec![] };
     let mut all = lines(text).peekable();
-    let Ok(names) = opening::names(text, &mut all, holds, usize::MAX) else { return vec![] };
+    let Ok(mut names) = opening::names(text, &mut all, holds, usize::MAX) else { return vec![] };
+    for line in all.flatten().map(Line::with_minutes).filter(|line| line.begins_with(WORD)) {
+        // One that is at fault is told elsewhere, and no comment uses it.
+        let _ = names.constants.define(&line, &names.list, &Labels::default());
+    }
     let comments = text.split('\n').enumerate().filter_map(|(place, line)| {
         let mut comments = line.split('#').skip(1);
-        comments.any(|comment| ends_in_limit(comment, &names)).then_some(place + 1)
+        comments.any(|comment| ends_in_limit(comment, &mut names)).then_some(place + 1)
     });
     comments.collect()
 }
 
-/// Whether a comment reads as a limit from one of its words on, or from a name
-/// that its last word is glued to.
-fn ends_in_limit(comment: &str, names: &Names) -> bool {
+/// Whether a comment reads as a limit from one of its words on, or from a name or
+/// a constant that its last word is glued to.
+fn ends_in_limit(comment: &str, names: &mut Names) -> bool {
     if !comment.contains(['<', '>', '=']) {
         return false;
     }
@@ -36,15 +42,17 @@ fn ends_in_limit(comment: &str, names: &Names) -> bool {
         let is_inside = is_part(before) && is_part(c);
         let is_word = !c.is_whitespace() && !is_inside;
         before = c;
-        is_word || names.list.iter().any(|name| comment[at..].starts_with(name))
+        let mut known = names.list.iter().map(String::as_str).chain(names.constants.names());
+        is_word || known.any(|name| comment[at..].starts_with(name))
     });
     let starts: Vec<usize> = starts.map(|(at, _)| at).collect();
     let mut last = starts.iter().rev().take(MOST_PLACES);
     last.any(|&at| reads_as_limit(&comment[at..], names).is_some())
 }
 
-fn reads_as_limit(text: &str, names: &Names) -> Option<()> {
+fn reads_as_limit(text: &str, names: &mut Names) -> Option<()> {
     let line = lines(text).next()?.ok()?.with_minutes();
+    let line = names.constants.put_in(line).ok()?;
     let said = statement(&line, usize::from(line.begins_with("row"))).ok()?;
     let is_limit = said.lower.is_some() || said.upper.is_some();
     let known = said.terms.iter().all(|term| names.list.contains(&term.name));
@@ -65,5 +73,9 @@ mod tests {
         assert_eq!(left_out("times a b\na - b <= 1\n  # b < a\n"), [3]);
         assert_eq!(left_out("times a b\na - b <= 1 # as agreedb - a < 3\n"), [2]);
         assert_eq!(left_out("# x >= 1\n"), []);
+        let constants =
+            "names a\nlet low = 2\na >= low # a <= high\nlet high = 9 # of lowhigh >= a\n\
+                         # a <= hig\n# let low = 3\na < high\n";
+        assert_eq!(left_out(constants), [3, 4]);
     }
 }

@@ -7,6 +7,7 @@
 //! - `names`, [`nearest`]: declared names, and the one that was probably meant
 //! - `statement`: sums of names and numbers, and the signs between them
 //! - `labels`: names of lines
+//! - `constants`: names of numbers
 //! - [`left_out`]: comments that read as a limit
 //! - [`limits`]: a limit problem as text
 //! - [`times`]: time rows as text
@@ -15,6 +16,7 @@
 
 pub mod answer;
 mod comments;
+mod constants;
 mod exact;
 mod fault;
 mod labels;

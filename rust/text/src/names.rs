@@ -1,12 +1,13 @@
 //! The names of a text: those that its first lines declare, and no others.
 
 use crate::answer::SMALL;
+use crate::constants::Constants;
 use crate::fault::Fault;
 use crate::near::nearest;
 use crate::tokens::{Kind, Line};
 
 /// Words that begin a line of their own kind, and are no names.
-pub const RESERVED: [&str; 4] = ["names", "times", "free", "row"];
+pub const RESERVED: [&str; 5] = ["names", "times", "free", "row", "let"];
 
 /// How many names are listed where one is not among them.
 const MOST_LISTED: usize = 8;
@@ -16,12 +17,13 @@ pub struct Names {
     pub list: Vec<String>,
     /// The line and the column where each is declared.
     pub places: Vec<(usize, usize)>,
+    pub constants: Constants,
     most: usize,
 }
 
 impl Names {
-    pub fn new(most: usize) -> Names {
-        Names { list: Vec::new(), places: Vec::new(), most }
+    pub fn new(most: usize, constants: Constants) -> Names {
+        Names { list: Vec::new(), places: Vec::new(), constants, most }
     }
 
     /// Takes the names of a line `names x y`, or `times x y`.
@@ -31,12 +33,7 @@ impl Names {
             return Err(line.fault(*column, what));
         }
         for (name, column) in after_first(line)? {
-            if let Some(word) = reserved(name) {
-                let what = format!("{name} is no name: {word} begins a line of its own kind");
-                return Err(line.fault(column, what));
-            }
-            if name.eq_ignore_ascii_case(SMALL) {
-                let what = format!("{name} is no name: answers call an amount so");
+            if let Some(what) = unfit(name) {
                 return Err(line.fault(column, what));
             }
             if let Some(before) = self.list.iter().position(|other| other == name) {
@@ -47,7 +44,7 @@ impl Names {
                 let what = format!("{name} and {other} differ in small and capital letters alone");
                 return Err(line.fault(column, what));
             }
-            if let Some(other) = self.list.iter().find(|other| outline(other) == outline(name)) {
+            if let Some(other) = self.list.iter().find(|other| are_alike(other, name)) {
                 let what = format!("{name} and {other} look alike");
                 return Err(line.fault(column, what));
             }
@@ -82,8 +79,12 @@ impl Names {
                 false => format!("{name} is no name: write {word}, at the beginning of a line"),
             };
         }
+        if self.constants.names().any(|other| other == name) {
+            return format!("{name} is a constant, and none of the names");
+        }
         let start = format!("{name} is not among the names");
-        if let Some(near) = nearest(name, self.list.iter().map(String::as_str)) {
+        let known = self.list.iter().map(String::as_str).chain(self.constants.names());
+        if let Some(near) = nearest(name, known) {
             return format!("{start}; is it {near}?");
         }
         if is_counted {
@@ -104,6 +105,20 @@ impl Names {
 /// The word that this is, but for small and capital letters.
 fn reserved(name: &str) -> Option<&'static str> {
     RESERVED.into_iter().find(|word| word.eq_ignore_ascii_case(name))
+}
+
+/// What is wrong with a name, whatever other names there are.
+pub fn unfit(name: &str) -> Option<String> {
+    if let Some(word) = reserved(name) {
+        return Some(format!("{name} is no name: {word} begins a line of its own kind"));
+    }
+    let is_amount = name.eq_ignore_ascii_case(SMALL);
+    is_amount.then(|| format!("{name} is no name: answers call an amount so"))
+}
+
+/// Whether two names are the same, or are taken for each other.
+pub fn are_alike(one: &str, other: &str) -> bool {
+    one.eq_ignore_ascii_case(other) || outline(one) == outline(other)
 }
 
 /// A name, but for letters that are taken for digits.

@@ -1,5 +1,6 @@
 //! The lines that open a text: they say what it holds, and declare its names.
 
+use crate::constants::{self, Constants};
 use crate::fault::Fault;
 use crate::names::{Names, RESERVED};
 use crate::near::nearest;
@@ -53,7 +54,7 @@ pub fn names<'a>(
     if Holds::of(text) != Some(holds) {
         return Err(unopened(text, holds));
     }
-    let mut names = Names::new(most);
+    let mut names = Names::new(most, Constants::new(text));
     while let Some(line) =
         from.next_if(|line| line.as_ref().map_or(true, |line| line.begins_with(holds.word())))
     {
@@ -150,9 +151,10 @@ fn first_place(text: &str) -> Option<(usize, usize)> {
 }
 
 /// The names of the lines that have a sign, in the order of their first use, but
-/// for those that look like a unit, or like a slip in a name that is used more
-/// often: they are told once the others are declared.
+/// for constants, and for those that look like a unit, or like a slip in a name that
+/// is used more often: they are told once the others are declared.
 fn said(lines: &[Line]) -> Vec<&str> {
+    let constants = constants::all_defined(lines);
     let mut found: Vec<(&str, usize, bool)> = Vec::new();
     for line in lines {
         if !line.tokens.iter().any(|token| matches!(token.kind, Kind::Sign(_))) {
@@ -160,7 +162,7 @@ fn said(lines: &[Line]) -> Vec<&str> {
         }
         for (place, token) in line.tokens.iter().enumerate() {
             let Kind::Name(name) = &token.kind else { continue };
-            if RESERVED.contains(&name.as_str()) {
+            if RESERVED.contains(&name.as_str()) || constants.contains(&name.as_str()) {
                 continue;
             }
             let before = place.checked_sub(1).map(|before| &line.tokens[before].kind);

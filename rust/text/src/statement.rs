@@ -10,7 +10,7 @@ use crate::exact::Exact;
 use crate::fault::Fault;
 use crate::tokens::{Kind, Line, Sign, Token};
 use misleading::misleading;
-use side::{side, sum, Side};
+use side::{alone, side, sum, Side};
 
 /// The largest coefficient of a name.
 pub const LARGEST_COEFFICIENT: i64 = 1_000;
@@ -90,6 +90,15 @@ pub fn statement(line: &Line, skipped: usize) -> Result<Statement, Fault> {
         return Err(line.fault(tokens[0].column, "there is no name in this line"));
     }
     Ok(found)
+}
+
+/// The number that stands behind the first tokens of a line, and nothing else; how
+/// it is written is told where there is none.
+pub fn number(line: &Line, skipped: usize, written: &str) -> Result<Exact, Fault> {
+    match misleading(line, &line.tokens[1..]) {
+        Some(fault) => Err(fault),
+        None => alone(line, &line.tokens[skipped..], written),
+    }
 }
 
 /// Left, a sign, right: the names go to the left, the numbers to the right.

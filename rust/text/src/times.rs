@@ -1,5 +1,6 @@
 //! Time rows as text, and their words.
 
+use crate::constants;
 use crate::exact::{multiple, Exact, LARGEST_DENOMINATOR};
 use crate::fault::Fault;
 use crate::labels::Labels;
@@ -53,7 +54,7 @@ pub struct Row {
 /// The first fault, with line and column.
 pub fn read(text: &str) -> Result<Times, Fault> {
     let mut lines = lines(text).peekable();
-    let names = opening::names(text, &mut lines, Holds::Times, MOST_VERTICES)?;
+    let mut names = opening::names(text, &mut lines, Holds::Times, MOST_VERTICES)?;
     let mut free = vec![false; names.list.len()];
     let (mut found, mut labels) = (Vec::new(), Labels::default());
     for line in lines {
@@ -66,6 +67,11 @@ pub fn read(text: &str) -> Result<Times, Fault> {
             names.free(&line)?.into_iter().for_each(|(name, _)| free[name] = true);
             continue;
         }
+        if line.begins_with(constants::WORD) {
+            names.constants.define(&line, &names.list, &labels)?;
+            continue;
+        }
+        let line = names.constants.put_in(line)?;
         let is_alone = line.begins_with("row");
         if is_alone && line.tokens.len() == 1 {
             return Err(line.fault(line.end, "a difference is missing after row"));
@@ -73,6 +79,7 @@ pub fn read(text: &str) -> Result<Times, Fault> {
         let said = statement(&line, usize::from(is_alone))?;
         say(&line, &said, is_alone, &names, &mut found)?;
     }
+    names.constants.unused()?;
     let found = Times { labels, ..whole(names.list.clone(), &found)? };
     if let Some(name) = found.unlimited().into_iter().find(|&name| !free[name]) {
         let (name, (line, column)) = (&names.list[name], names.places[name]);

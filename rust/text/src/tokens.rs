@@ -6,6 +6,7 @@
 mod number;
 mod strange;
 
+use crate::exact::Exact;
 use crate::fault::Fault;
 use number::number;
 use strange::{is_space, is_unseen, no_meaning, unseen};
@@ -27,6 +28,8 @@ pub enum Kind {
     Decimal(i64, i64),
     /// A clock time, in minutes.
     Clock(i64),
+    /// The number of a constant, put in its place.
+    Constant(Exact),
     Name(String),
     Plus,
     Minus,
@@ -45,7 +48,8 @@ pub struct Token {
 impl Kind {
     /// Whether it is a number, whole or not.
     pub fn is_number(&self) -> bool {
-        matches!(self, Kind::Number(_) | Kind::Decimal(..) | Kind::Clock(_))
+        let is_constant = matches!(self, Kind::Constant(_));
+        is_constant || matches!(self, Kind::Number(_) | Kind::Decimal(..) | Kind::Clock(_))
     }
 }
 

@@ -75,6 +75,18 @@ fn lines_and_their_words() {
         ("x y", "x - y < 5\ny - x <= 4\nfree x y", vec![2, 1, 1, -1, 0, 0, 0, 0, 0, 0, 11, -4, 5]),
         ("x y", "x - y <= 5\ny < x + 4\nfree x y", vec![2, 1, 1, -1, 0, 0, 0, 0, 0, 0, 7, -4, 5]),
         ("x\nnames y # two\n", "x = 1\ny = 2", vec![2, 0, 3, 1, 1, 3, 2, 2]),
+        ("x", "let low = 93.5\nx >= low", vec![1, 0, 1, 187, 0]),
+        ("x", "let low = -1/3 # a third\nlow <= x <= -low", vec![1, 0, 3, -1, 1]),
+        ("x", "let low = +20\nlet high = 40\nlow <= x < high", vec![1, 0, 11, 20, 40]),
+        ("x", "let some = -7\nx + some >= 13", vec![1, 0, 1, 20, 0]),
+        (
+            "a b",
+            "let times3 = 3\nlet two = 2\nfree b a\ntimes3 a - two*b <= 400",
+            vec![2, 1, 3, -2, 0, 0, 0, 0, 0, 0, 2, 0, 400],
+        ),
+        ("x y", "x = 1\nlet s = 62.5\ny = 2\nrow x - y <= s", {
+            vec![2, 1, 2, -2, 3, 1, 1, 3, 2, 2, 2, 0, 125]
+        }),
     ] {
         assert_eq!(said(names, lines), expected, "{lines}");
     }
@@ -93,6 +105,8 @@ fn lines_and_their_words() {
         ("a b c", "free c\nb - a <= 1", vec![3, 1, 1, 0, 0, 1]),
         ("a b", "06:30 <= a - b < 23:59", vec![2, 2, 1, 0, 0, -390, 0, 1, 1, 1439]),
         ("a b", "a - b = 00:30 + 0.5", vec![2, 2, 1, 0, 0, -61, 0, 1, 0, 61]),
+        ("a b", "let open = 06:30\na - b >= open", vec![2, 1, 1, 0, 0, -390]),
+        ("a b", "let gap = 2.5\na + gap <= b\nb <= a + 3", vec![2, 2, 0, 1, 0, -5, 1, 0, 0, 6]),
     ] {
         let text = format!("times {names}\n{lines}");
         assert_eq!(time_text::read(&text).unwrap().words(), expected, "{text}");
@@ -181,6 +195,52 @@ fn all_time_rows_come_round() {
         come += 1;
     }
     assert!(come > 400, "{come} came round");
+}
+
+/// The text with some of its numbers as constants, each defined before its use.
+fn with_constants(random: &mut Random, text: &str) -> String {
+    let (mut said, mut count) = (String::new(), 0);
+    for line in text.lines() {
+        let (mut put, mut defined) = (Vec::new(), String::new());
+        for word in line.split(' ') {
+            // A minus that is glued to its number stays where it is, or goes along.
+            let digits = word.trim_start_matches('-');
+            let number = if random.percent(50) { word } else { digits };
+            let is_number = number.trim_start_matches('-').parse::<f64>().is_ok();
+            if !is_number || random.percent(30) {
+                put.push(word.to_string());
+                continue;
+            }
+            let name = format!("constant_{count}");
+            defined += &format!("let {name} = {number}\n");
+            put.push(format!("{}{name}", &word[..word.len() - number.len()]));
+            count += 1;
+        }
+        said += &format!("{defined}{}\n", put.join(" "));
+    }
+    said
+}
+
+#[test]
+fn constants_are_read_as_their_numbers() {
+    let seed = seed();
+    println!("SEED={seed}");
+    let mut used = 0;
+    for problem in 0..1_000 {
+        let mut random = Random::of_problem(seed, problem);
+        let family = Family::ALL[random.below(Family::ALL.len())];
+        let Some(mut shown) = Limits::from_words(&family.words(&mut random)) else { continue };
+        shown.parts = random.pick(&[1, 2, 4, 3, 7]);
+        let text = shown.text();
+        let Ok(meant) = limits::read(&text) else { continue };
+        let constant = with_constants(&mut random, &text);
+        used += constant.matches("let ").count();
+        let read = limits::read(&constant)
+            .unwrap_or_else(|fault| panic!("{fault}, SEED={seed}: {constant}"));
+        assert_eq!(read.words(), meant.words(), "SEED={seed}: {constant}");
+        assert_eq!(read.text(), meant.text(), "SEED={seed}: {constant}");
+    }
+    assert!(used > 2_000, "{used} constants were used");
 }
 
 #[test]

@@ -7,6 +7,7 @@ mod given;
 mod whole;
 
 use super::{Limits, Own, MOST_ROWS, MOST_VARIABLES};
+use crate::constants;
 use crate::exact::Exact;
 use crate::fault::Fault;
 use crate::labels::Labels;
@@ -58,6 +59,11 @@ pub fn read(text: &str) -> Result<Limits, Fault> {
             reading.free(&line)?;
             continue;
         }
+        if line.begins_with(constants::WORD) {
+            reading.names.constants.define(&line, &reading.names.list, &reading.labels)?;
+            continue;
+        }
+        let line = reading.names.constants.put_in(line)?;
         let skipped = usize::from(is_free) + usize::from(is_alone);
         if skipped > 0 && line.tokens.len() == skipped {
             return Err(line.fault(line.end, "a sum is missing after row"));
@@ -75,6 +81,7 @@ pub fn read(text: &str) -> Result<Limits, Fault> {
             _ => reading.say(&line, said, is_alone)?,
         }
     }
+    reading.names.constants.unused()?;
     let found = reading.whole()?;
     reading.unlimited(&found).map_or(Ok(found), Err)
 }

@@ -54,6 +54,12 @@ pub fn misleading(line: &Line, tokens: &[Token]) -> Option<Fault> {
         }
         _ => false,
     })?;
-    let what = "a range is written 20 <= x <= 40; for a difference write the number";
+    let is_constant = |token: &Token| matches!(token.kind, Kind::Constant(_));
+    let what = match range.iter().any(is_constant) {
+        true => {
+            "a range is written low <= x <= high; add a constant on the other side to take it off"
+        }
+        false => "a range is written 20 <= x <= 40; for a difference write the number",
+    };
     Some(line.fault(range[0].column, what))
 }

@@ -43,12 +43,23 @@ fn unjoined(before: &Kind, next: &Kind) -> String {
         (Kind::Name(name), Kind::Number(number)) => {
             format!("a name has no space in it: {name}{number}; or a sign, + or -, is missing")
         }
-        (before, next) if before.is_number() && next.is_number() => {
+        (before, next) if are_numbers(before, next) && is_constant(before, next) => {
+            "a number and a constant are not multiplied; or a sign, + or -, is missing".to_string()
+        }
+        (before, next) if are_numbers(before, next) => {
             "a number has no space in it, or a sign, + or -, is missing before this".to_string()
         }
         (_, Kind::Times | Kind::Over) => PRODUCT.to_string(),
         _ => "a sign, + or -, is missing before this".to_string(),
     }
+}
+
+fn are_numbers(one: &Kind, other: &Kind) -> bool {
+    one.is_number() && other.is_number()
+}
+
+fn is_constant(one: &Kind, other: &Kind) -> bool {
+    matches!(one, Kind::Constant(_)) || matches!(other, Kind::Constant(_))
 }
 
 /// Words that ask for the best of all answers.
@@ -84,15 +95,11 @@ fn term(
     if let Some(Token { kind: Kind::Times | Kind::Over, column }) = rest.get(length) {
         return Err(line.fault(*column, PRODUCT));
     }
-    let fine = Exact::fine(size.0, size.1);
-    let size = fine.ok_or_else(|| line.fault(rest[0].column, TOO_FINE))?;
     let (largest, what) = match name {
         Some(_) => (LARGEST_COEFFICIENT, "a coefficient is from -1000 to 1000"),
         None => (LARGEST_LIMIT, "a limit is from -30000 to 30000"),
     };
-    if size.is_beyond(largest) {
-        return Err(line.fault(rest[0].column, format!("{size} is out of range: {what}")));
-    }
+    let size = within(line, rest[0].column, size, largest, what)?;
     let signed = if sign < 0 { size.turned() } else { size };
     match name {
         Some(name) => side.terms.push(Term {
@@ -104,6 +111,42 @@ fn term(
         None => side.number = sum(line, rest[0].column, side.number, signed)?,
     }
     Ok(length)
+}
+
+/// One number over another, where it is not too fine and not beyond the largest.
+fn within(
+    line: &Line,
+    column: usize,
+    (above, below): (i64, i64),
+    largest: i64,
+    what: &str,
+) -> Result<Exact, Fault> {
+    let size = Exact::fine(above, below).ok_or_else(|| line.fault(column, TOO_FINE))?;
+    match size.is_beyond(largest) {
+        true => Err(line.fault(column, format!("{size} is out of range: {what}"))),
+        false => Ok(size),
+    }
+}
+
+/// The number that these tokens are, with its sign, and nothing else.
+pub fn alone(line: &Line, tokens: &[Token], written: &str) -> Result<Exact, Fault> {
+    let sign = matches!(tokens.first().map(|token| &token.kind), Some(Kind::Plus | Kind::Minus));
+    let is_turned = sign && tokens[0].kind == Kind::Minus;
+    let rest = &tokens[usize::from(sign)..];
+    let kinds: Vec<&Kind> = rest.iter().take(3).map(|token| &token.kind).collect();
+    let (Some(size), length) = number(&kinds) else {
+        return Err(line.fault(rest.first().map_or(line.end, |token| token.column), written));
+    };
+    if let Some(token) = rest.get(length) {
+        let what = match token.kind {
+            Kind::Name(_) => "a unit is left out, or stands in a comment",
+            _ => written,
+        };
+        return Err(line.fault(token.column, what));
+    }
+    let what = "a constant is from -30000 to 30000";
+    let size = within(line, rest[0].column, size, LARGEST_LIMIT, what)?;
+    Ok(if is_turned { size.turned() } else { size })
 }
 
 const TOO_FINE: &str = "that is too fine: thousandths are the smallest parts of a number";
@@ -122,6 +165,7 @@ fn number(kinds: &[&Kind]) -> (Option<(i64, i64)>, usize) {
         }
         [Kind::Number(whole), ..] => (Some((*whole, 1)), 1),
         [Kind::Decimal(digits, ten), ..] => (Some((*digits, *ten)), 1),
+        [Kind::Constant(exact), ..] => (Some((exact.numerator, exact.denominator)), 1),
         _ => (None, 0),
     }
 }

@@ -1,6 +1,7 @@
 //! Each way to be wrong has its own words, line and column.
 
 mod answers;
+mod constants;
 mod habits;
 mod limits;
 mod names;
