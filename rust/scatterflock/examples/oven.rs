@@ -12,8 +12,8 @@ pub fn main() -> Result<(), BuildError> {
         let mut step = [0; 4];
         step[zone - 1] = -1;
         step[zone] = 1;
-        let sum = 4 + problem.rows().len();
-        problem = problem.row(&step)?.between(sum, -50, 50)?;
+        let sum = problem.add_row(&step)?;
+        problem = problem.between(sum, -50, 50)?;
     }
 
     let answer = problem.solve();

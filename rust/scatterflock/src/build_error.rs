@@ -5,7 +5,7 @@ use std::error::Error;
 use std::fmt;
 
 /// Why a problem, or time rows, cannot be built so.
-#[derive(Debug, Clone, Copy, PartialEq, Eq, Hash)]
+#[derive(Debug, Clone, PartialEq, Eq, Hash)]
 #[non_exhaustive]
 pub enum BuildError {
     /// The number of variables is out of its range.
@@ -29,6 +29,12 @@ pub enum BuildError {
     Limit(i32),
     /// The variable has a limit on this side already.
     LimitTwice(usize),
+    /// No variable has this name.
+    NoName(String),
+    /// A name is given to two variables, or comes twice in a sum.
+    NameTwice(String),
+    /// A limit has a range without ends, and would say nothing.
+    Unlimited,
     /// The number of points in time is out of its range.
     Vertices(usize),
     /// There is no room for one more time row.
@@ -58,6 +64,9 @@ impl fmt::Display for BuildError {
             BuildError::LimitTwice(number) => {
                 write!(to, "variable {number} has a limit on that side already")
             }
+            BuildError::NoName(name) => write!(to, "there is no variable {name}"),
+            BuildError::NameTwice(name) => write!(to, "{name} comes twice"),
+            BuildError::Unlimited => to.write_str("a limit has a lower or an upper end, or both"),
             BuildError::Vertices(n) => {
                 write!(to, "{n} points in time: there are 1 to {MOST_VERTICES}")
             }

@@ -49,7 +49,8 @@
 //! ```
 //!
 //! - [`Problem`], [`solve()`], [`solve_within`], [`check`]: limit problems, answers
-//!   and their judgement; [`Problem::to_smtlib`]: one as text for other solvers
+//!   and their judgement; [`Problem::named`]: one by names; [`Problem::to_smtlib`]:
+//!   one as text for other solvers
 //! - [`Fractions`]: values as numbers over one denominator
 //! - [`Slice`]: a run that is made some pivots at a time
 //! - [`Session`]: limits that are switched on and off, and checked again
@@ -65,6 +66,9 @@
 //! - [`sizes`]: how large everything may be
 //! - [`raw`]: the archive's functions as they are, over lent words
 //!
+//! Problems as people write them, with names and decimals, are read by the library
+//! `rust/text`: the words of what it reads are those of [`Problem::from_words`].
+//!
 //! The archive is linked into the program. Where it is taken from, build.rs
 //! says.
 
@@ -73,6 +77,7 @@ mod build_error;
 mod bundle;
 mod bundle_refusal;
 mod fractions;
+mod named;
 mod problem;
 pub mod raw;
 mod refusal;

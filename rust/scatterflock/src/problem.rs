@@ -4,7 +4,9 @@ use crate::answer::{check, solve, solve_within, Answer, Judgement, Verdict};
 use crate::build_error::BuildError;
 use crate::raw;
 use crate::refusal::Refusal;
+use crate::session::Session;
 use crate::sizes::{LARGEST_COEFFICIENT, LARGEST_LIMIT, MOST_ROWS, MOST_VARIABLES};
+use crate::slice::Slice;
 
 /// A limit: how far a value may go.
 #[derive(Debug, Clone, Copy, PartialEq, Eq, Hash)]
@@ -29,7 +31,8 @@ pub enum Side {
 ///
 /// A problem of n variables begins with these, numbered from 0. Each row that
 /// is added is one more variable, the sum of the row: n, n + 1 and so on.
-/// Every one of them can have a lower and an upper limit.
+/// Every one of them can have a lower and an upper limit. Variables can have names
+/// in place of numbers: [`Problem::named`].
 ///
 /// ```
 /// use scatterflock::{Problem, Verdict};
@@ -65,6 +68,8 @@ pub enum Side {
 #[derive(Debug, Clone, PartialEq, Eq, Hash)]
 pub struct Problem {
     variables: usize,
+    /// The name of each variable, or none at all.
+    pub(crate) names: Vec<String>,
     rows: Vec<Vec<i32>>,
     /// Lower and upper limit of each variable, then of each row.
     limits: Vec<[Option<Limit>; 2]>,
@@ -80,7 +85,8 @@ impl Problem {
         if !(1..=MOST_VARIABLES).contains(&variables) {
             return Err(BuildError::Variables(variables));
         }
-        Ok(Problem { variables, rows: Vec::new(), limits: vec![[None; 2]; variables] })
+        let (names, rows, limits) = (Vec::new(), Vec::new(), vec![[None; 2]; variables]);
+        Ok(Problem { variables, names, rows, limits })
     }
 
     /// The problem that these words hold (docs/formats/problem.md).
@@ -119,6 +125,7 @@ impl Problem {
         let (coefficients, limits) = words[2..].split_at(rows * variables);
         Problem {
             variables,
+            names: Vec::new(),
             rows: coefficients.chunks_exact(variables).map(<[i32]>::to_vec).collect(),
             limits: limits
                 .chunks_exact(3)
@@ -127,13 +134,34 @@ impl Problem {
         }
     }
 
-    /// Adds a row: a coefficient for each variable.
+    /// Adds a row: a coefficient for each variable. [`add_row`](Problem::add_row)
+    /// hands back its number.
     ///
     /// # Errors
     ///
     /// There are at most 24 rows, with as many coefficients as the problem has
     /// variables, each from -1,000 to 1,000 and not all of them 0.
     pub fn row(mut self, coefficients: &[i32]) -> Result<Problem, BuildError> {
+        self.add_row(coefficients)?;
+        Ok(self)
+    }
+
+    /// Adds a row, and hands back the number of the variable that is its sum.
+    ///
+    /// ```
+    /// use scatterflock::Problem;
+    ///
+    /// let mut problem = Problem::new(2)?;
+    /// let sum = problem.add_row(&[1, 1])?;
+    /// let problem = problem.at_least(sum, 2)?;
+    /// assert_eq!(sum, 2);
+    /// # Ok::<(), scatterflock::BuildError>(())
+    /// ```
+    ///
+    /// # Errors
+    ///
+    /// As for [`row`](Problem::row). Then nothing changes.
+    pub fn add_row(&mut self, coefficients: &[i32]) -> Result<usize, BuildError> {
         if self.rows.len() == MOST_ROWS {
             return Err(BuildError::Rows);
         }
@@ -152,7 +180,7 @@ impl Problem {
         }
         self.rows.push(coefficients.to_vec());
         self.limits.push([None; 2]);
-        Ok(self)
+        Ok(self.limits.len() - 1)
     }
 
     /// Gives a variable, or the sum of a row, a lower limit.
@@ -162,7 +190,7 @@ impl Problem {
     /// The variable is one of the problem's and has no lower limit yet, and
     /// the limit is from -30,000 to 30,000.
     pub fn at_least(self, variable: usize, limit: i32) -> Result<Problem, BuildError> {
-        self.limit(variable, 0, Limit { number: limit, is_strict: false })
+        self.give(variable, 0, Limit { number: limit, is_strict: false })
     }
 
     /// Gives a variable, or the sum of a row, a strict lower limit: the value
@@ -172,7 +200,7 @@ impl Problem {
     ///
     /// As for [`at_least`](Problem::at_least).
     pub fn above(self, variable: usize, limit: i32) -> Result<Problem, BuildError> {
-        self.limit(variable, 0, Limit { number: limit, is_strict: true })
+        self.give(variable, 0, Limit { number: limit, is_strict: true })
     }
 
     /// Gives a variable, or the sum of a row, an upper limit.
@@ -181,7 +209,7 @@ impl Problem {
     ///
     /// As for [`at_least`](Problem::at_least).
     pub fn at_most(self, variable: usize, limit: i32) -> Result<Problem, BuildError> {
-        self.limit(variable, 1, Limit { number: limit, is_strict: false })
+        self.give(variable, 1, Limit { number: limit, is_strict: false })
     }
 
     /// Gives a variable, or the sum of a row, a strict upper limit: the value
@@ -191,7 +219,7 @@ impl Problem {
     ///
     /// As for [`at_least`](Problem::at_least).
     pub fn below(self, variable: usize, limit: i32) -> Result<Problem, BuildError> {
-        self.limit(variable, 1, Limit { number: limit, is_strict: true })
+        self.give(variable, 1, Limit { number: limit, is_strict: true })
     }
 
     /// Gives both limits.
@@ -213,7 +241,12 @@ impl Problem {
         self.between(variable, value, value)
     }
 
-    fn limit(mut self, variable: usize, side: usize, limit: Limit) -> Result<Problem, BuildError> {
+    pub(crate) fn give(
+        mut self,
+        variable: usize,
+        side: usize,
+        limit: Limit,
+    ) -> Result<Problem, BuildError> {
         let Some(limits) = self.limits.get_mut(variable) else {
             return Err(BuildError::NoVariable(variable));
         };
@@ -272,6 +305,18 @@ impl Problem {
     /// [`Refusal::Sizes`], where it has more.
     pub fn solve_within(&self, most_rows: usize) -> Result<Answer, Refusal> {
         solve_within(most_rows, &self.words())
+    }
+
+    /// A session of it. Every limit is off.
+    #[must_use]
+    pub fn session(&self) -> Session {
+        Session::open(&self.words()).expect("a problem that was built is not refused")
+    }
+
+    /// Its run, before any pivot.
+    #[must_use]
+    pub fn slice(&self) -> Slice {
+        Slice::start(&self.words()).expect("a problem that was built is not refused")
     }
 
     /// Checks an answer's words, anybody's.

@@ -68,6 +68,40 @@ impl Session {
         self.switch(variable, side, true)
     }
 
+    /// Switches on every limit that is off.
+    ///
+    /// ```
+    /// use scatterflock::{Problem, Side};
+    ///
+    /// let mut oven = Problem::named(&["zone1", "zone2"])?;
+    /// oven.limit(&[("zone1", 1)], ..=60)?;
+    /// oven.limit(&[("zone2", 1)], 120..)?;
+    /// let step = oven.limit(&[("zone2", 1), ("zone1", -1)], ..=50)?;
+    ///
+    /// let mut session = oven.session();
+    /// session.switch_all_on();
+    /// assert!(session.check().evidence().is_some_and(|words| words[0] == 2));
+    /// session.switch_off(step, Side::Upper)?;
+    /// assert!(session.check().fractions().is_some());
+    /// # Ok::<(), Box<dyn std::error::Error>>(())
+    /// ```
+    ///
+    /// # Panics
+    ///
+    /// If a limit that is there and off could not be switched on: that it can is
+    /// proved.
+    pub fn switch_all_on(&mut self) {
+        let first = self.words.len() - 3 * self.on.len();
+        for variable in 0..self.on.len() {
+            for side in [Side::Lower, Side::Upper] {
+                let is_there = self.words[first + 3 * variable] & PRESENT[side as usize] != 0;
+                if is_there && !self.is_on(variable, side) {
+                    self.switch_on(variable, side).expect("it is there, and off");
+                }
+            }
+        }
+    }
+
     /// Switches a limit off.
     ///
     /// # Errors

@@ -178,4 +178,7 @@ fn texts_of_what_cannot_be_built() {
     assert_eq!(text(BuildError::LimitTwice(3)), "variable 3 has a limit on that side already");
     let long = "30001: the length of a time row is from -30,000 to 30,000";
     assert_eq!(text(BuildError::Length(30_001)), long);
+    assert_eq!(text(BuildError::NoName("zon1".to_string())), "there is no variable zon1");
+    assert_eq!(text(BuildError::NameTwice("x".to_string())), "x comes twice");
+    assert_eq!(text(BuildError::Unlimited), "a limit has a lower or an upper end, or both");
 }

@@ -25,3 +25,5 @@ impl fmt::Display for Fault {
         write!(to, "{}:{}: {}", self.line, self.column, self.what)
     }
 }
+
+impl std::error::Error for Fault {}

@@ -1,4 +1,19 @@
-//! Limits, time rows and answers as text, as docs/formats/text.md has them.
+//! Limits, time rows and answers as text, as docs/formats/text.md has them: a
+//! library, for programs that read such texts themselves. It needs nothing else, the
+//! archive neither. The words of what is read are those that the wrapper
+//! `rust/scatterflock` takes.
+//!
+//! ```
+//! let read = text::limits::read("names x y\nx >= 2.5\ny = 3\nx + y <= 6\n")?;
+//! assert_eq!(read.words(), [2, 1, 1, 1, 1, 5, 0, 3, 6, 6, 2, 0, 12]);
+//! // Values and limits are counted in halves, and are shown as the text has them.
+//! assert_eq!(read.parts, 2);
+//! assert_eq!(read.limit_text(0, text::limits::Side::Lower), Some("x >= 2.5".to_string()));
+//!
+//! let fault = text::limits::read("names x\nx >= 2.5 degC\n").unwrap_err();
+//! assert_eq!((fault.line, fault.column), (2, 10));
+//! # Ok::<(), text::Fault>(())
+//! ```
 //!
 //! - `exact`: numbers of a text, decimals and fractions among them
 //! - `fault`: what is wrong, with line and column
