@@ -576,6 +576,85 @@ struct scatterflock_exchanged scatterflock_smtlib_write(const int32_t *words, si
 size_t scatterflock_sheet(const uint8_t *file, size_t file_count,
                           uint8_t *text, size_t text_room);
 
+/*
+ * What a number says that one of the functions returned: of SCATTERFLOCK_BLANK_ROW
+ * "all coefficients of a row are 0". For a number that none of them returns it is
+ * null. It is no function of the libraries: this file is all that it needs.
+ */
+static inline const char *scatterflock_number_text(uint32_t number)
+{
+    switch (number) {
+    case SCATTERFLOCK_ANSWERED:
+        return "answered";
+    case SCATTERFLOCK_FEW_WORDS:
+        return "the words end before both sizes are told";
+    case SCATTERFLOCK_SIZES:
+        return "there must be 1 to 8 variables and 0 to 24 rows, or fewer where fewer are allowed";
+    case SCATTERFLOCK_LENGTH:
+        return "the sizes ask for another number of words";
+    case SCATTERFLOCK_COEFFICIENT:
+        return "a coefficient is not from -1,000 to 1,000";
+    case SCATTERFLOCK_KIND:
+        return "a kind of limit is not from 0 to 15, or marks a missing limit as strict";
+    case SCATTERFLOCK_LIMIT:
+        return "a limit is not from -30,000 to 30,000, or a missing one is not written as 0";
+    case SCATTERFLOCK_BLANK_ROW:
+        return "all coefficients of a row are 0";
+    case SCATTERFLOCK_SHORT:
+        return "there is no room for a whole answer";
+    case SCATTERFLOCK_ACCEPTED:
+        return "accepted";
+    case SCATTERFLOCK_REJECTED:
+        return "not accepted";
+    case SCATTERFLOCK_TIMES_FEW_WORDS:
+        return "the words end before both sizes are told";
+    case SCATTERFLOCK_TIMES_SIZES:
+        return "there must be 1 to 64 vertices and 0 to 256 rows";
+    case SCATTERFLOCK_TIMES_LENGTH:
+        return "the sizes ask for another number of words";
+    case SCATTERFLOCK_TIMES_VERTEX:
+        return "a row names a vertex that there is not";
+    case SCATTERFLOCK_TIMES_STRICT:
+        return "a row is neither marked strict by 1 nor not strict by 0";
+    case SCATTERFLOCK_TIMES_BOUND:
+        return "a row's number is not from -30,000 to 30,000";
+    case SCATTERFLOCK_TIMES_SHORT:
+        return "there is no room for a whole answer";
+    case SCATTERFLOCK_BUNDLE_SIZE:
+        return "a day's file has 2 to 16,384 words of four bytes each";
+    case SCATTERFLOCK_BUNDLE_EDITION:
+        return "there is no such edition: a day's file has edition 1 or 2";
+    case SCATTERFLOCK_BUNDLE_BODIES:
+        return "there must be 0 to 64 bodies in edition 1, 0 to 48 in edition 2";
+    case SCATTERFLOCK_BUNDLE_TABLE:
+        return "the file ends before it has told where each body is";
+    case SCATTERFLOCK_BUNDLE_PAIR:
+        return "a body has a negative length, or does not start where the one before it ends";
+    case SCATTERFLOCK_BUNDLE_TOTAL:
+        return "the bodies do not have as many words as there are";
+    case SCATTERFLOCK_BUNDLE_SHORT:
+        return "there is no room for all of it";
+    case SCATTERFLOCK_SWITCH_NO_VARIABLE:
+        return "there is no such variable";
+    case SCATTERFLOCK_SWITCH_NO_LIMIT:
+        return "the variable has no such limit";
+    case SCATTERFLOCK_SWITCH_ALREADY_ON:
+        return "the limit is on already";
+    case SCATTERFLOCK_SWITCH_ALREADY_OFF:
+        return "the limit is off already";
+    case SCATTERFLOCK_TRACE_LEFT_OVER:
+        return "the words are not three for each step";
+    case SCATTERFLOCK_TRACE_WRONG:
+        return "a step is not the run's own";
+    case SCATTERFLOCK_TRACE_EARLY:
+        return "the run goes on after the last step";
+    case SCATTERFLOCK_TRACE_PAST:
+        return "the run is over before the last step";
+    default:
+        return NULL;
+    }
+}
+
 #ifdef __cplusplus
 }
 #endif

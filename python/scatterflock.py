@@ -30,6 +30,42 @@ from pathlib import Path
 MOST_ROWS, MOST_ANSWER, MOST_TIMES, STATE_WORDS = 24, 67, 130, 187
 CAN, CANNOT, RANGE = 1, 2, 3
 
+# What each number says: the words of scatterflock_number_text in the header.
+TEXTS = {
+    1: "the words end before both sizes are told",
+    2: "there must be 1 to 8 variables and 0 to 24 rows, or fewer where fewer are allowed",
+    3: "the sizes ask for another number of words",
+    4: "a coefficient is not from -1,000 to 1,000",
+    5: "a kind of limit is not from 0 to 15, or marks a missing limit as strict",
+    6: "a limit is not from -30,000 to 30,000, or a missing one is not written as 0",
+    7: "there is no room for a whole answer",
+    8: "accepted",
+    9: "not accepted",
+    10: "all coefficients of a row are 0",
+    11: "the words end before both sizes are told",
+    12: "there must be 1 to 64 vertices and 0 to 256 rows",
+    13: "the sizes ask for another number of words",
+    14: "a row names a vertex that there is not",
+    15: "a row is neither marked strict by 1 nor not strict by 0",
+    16: "a row's number is not from -30,000 to 30,000",
+    17: "there is no room for a whole answer",
+    30: "a day's file has 2 to 16,384 words of four bytes each",
+    31: "there is no such edition: a day's file has edition 1 or 2",
+    32: "there must be 0 to 64 bodies in edition 1, 0 to 48 in edition 2",
+    33: "the file ends before it has told where each body is",
+    34: "a body has a negative length, or does not start where the one before it ends",
+    35: "the bodies do not have as many words as there are",
+    36: "there is no room for all of it",
+    41: "there is no such variable",
+    42: "the variable has no such limit",
+    43: "the limit is on already",
+    44: "the limit is off already",
+    51: "the words are not three for each step",
+    52: "a step is not the run's own",
+    53: "the run goes on after the last step",
+    54: "the run is over before the last step",
+}
+
 
 class _Session(Structure):
     _fields_ = [("tableau", c_uint64 * STATE_WORDS)]
@@ -83,7 +119,7 @@ class Refused(ValueError):
     """Words that are no problem, or a switch that there is not: the number says why."""
 
     def __init__(self, number):
-        super().__init__(f"refused {number}")
+        super().__init__(f"refused {number}: {TEXTS.get(number, 'nothing is known of this number')}")
         self.number = number
 
 

@@ -62,7 +62,8 @@
 //! - [`Bundle`], [`day()`]: a day's problems in one file
 //! - [`Sheet`], [`sheet()`]: their totals, for an auditor
 //! - [`Refusal`], [`TimesRefusal`], [`SwitchRefusal`], [`BundleRefusal`]: why
-//!   words, switches or files are refused
+//!   words, switches or files are refused; [`number_text`]: what any number of the
+//!   archive says
 //! - [`sizes`]: how large everything may be
 //! - [`raw`]: the archive's functions as they are, over lent words
 //!
@@ -78,6 +79,7 @@ mod bundle;
 mod bundle_refusal;
 mod fractions;
 mod named;
+mod numbers;
 mod problem;
 pub mod raw;
 mod refusal;
@@ -96,6 +98,7 @@ pub use build_error::BuildError;
 pub use bundle::{day, Bundle};
 pub use bundle_refusal::BundleRefusal;
 pub use fractions::Fractions;
+pub use numbers::number_text;
 pub use problem::{Limit, Problem, Side};
 pub use refusal::{Refusal, SwitchRefusal, TimesRefusal};
 pub use rows::TimeRows;

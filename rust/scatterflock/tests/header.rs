@@ -4,7 +4,7 @@
 //! twice: with the archive that is linked here, and with the code for x86-64
 //! under an emulator.
 
-use scatterflock::{raw, sizes, BundleRefusal, Refusal, SwitchRefusal, TimesRefusal};
+use scatterflock::{number_text, raw, sizes, BundleRefusal, Refusal, SwitchRefusal, TimesRefusal};
 use std::collections::BTreeMap;
 use std::fs;
 use std::path::{Path, PathBuf};
@@ -100,6 +100,34 @@ fn the_names_of_the_header_are_those_of_the_crate() {
     }
     let small = format!("#define SCATTERFLOCK_LARGEST_SMALL INT64_C({})", sizes::LARGEST_SMALL);
     assert!(header.lines().any(|line| line.starts_with(&small)), "{small}");
+}
+
+#[test]
+fn each_number_has_the_same_words_in_c_and_in_python() {
+    let header = read("include/scatterflock.h");
+    let returned = header.split("/* What the functions return. More refusals may come. */");
+    let listed = returned.last().unwrap().split("};").next().unwrap();
+    let mut numbers: Vec<u32> = listed
+        .lines()
+        .filter_map(|line| line.split_once(" = "))
+        .map(|(_, number)| number.split([',', ' ']).next().unwrap().parse().unwrap())
+        .collect();
+    numbers.sort_unstable();
+    assert!(numbers.len() > 30, "{numbers:?}");
+    let told = |number: &u32| number_text(*number).map(|text| format!("{number} {text}\n"));
+    let expected: String = numbers.iter().filter_map(told).collect();
+    assert_eq!(expected, (0..200).filter_map(|number| told(&number)).collect::<String>());
+    assert_eq!(expected.lines().count(), numbers.len(), "{expected}");
+    for (compiler, language, standard) in [("gcc", "c", "-std=c99"), ("g++", "c++", "-std=c++11")] {
+        let options = ["-x", language, standard];
+        let name = format!("texts-{language}");
+        assert_eq!(machines()[0].runs(compiler, &options, "tests/texts.c", &name), expected);
+    }
+    let module = read("python/scatterflock.py");
+    let table = module.split("TEXTS = {\n").nth(1).unwrap().split("}\n").next().unwrap();
+    let table: String =
+        table.lines().map(|line| line.trim().replace(": \"", " ").replace("\",", "\n")).collect();
+    assert_eq!(format!("0 answered\n{table}"), expected);
 }
 
 #[test]
