@@ -15,6 +15,17 @@ Texts go through the command, which alone reads them:
     >>> solve_file("problems/oven.txt")["verdict"]
     'can'
 
+  solve, solve_within, check     the words of a problem, its answer, and whether an answer is right
+  times                          time rows
+  Problem, Answer                the same by names
+  Session, Slice                 limits switched on and off; a run some pivots at a time
+  replay, trace                  another solver's pivots against the run, and the run's own
+  to_smtlib                      a problem as SMT-LIB text
+  Bundle, day, sheet, totals     a day's file: its bodies, the text of their answers, and the auditor's sheet
+  solve_file, times_file         texts, through the command
+
+What is refused raises Refused, with the number and what it says.
+
 Needs libscatterflock.so.0: the one that SCATTERFLOCK_LIBRARY names, the one that was installed with this
 file, or the one that the loader finds. SCATTERFLOCK_COMMAND names the command likewise. No other package
 is needed.
@@ -23,11 +34,13 @@ import ctypes
 import json
 import os
 import subprocess
-from ctypes import POINTER, Structure, c_bool, c_int32, c_int64, c_size_t, c_uint32, c_uint64
+from ctypes import POINTER, Structure, c_bool, c_int32, c_int64, c_size_t, c_uint8, c_uint32, c_uint64
 from fractions import Fraction
 from pathlib import Path
 
-MOST_ROWS, MOST_ANSWER, MOST_TIMES, STATE_WORDS = 24, 67, 130, 187
+MOST_VARIABLES, MOST_ROWS, MOST_ANSWER, MOST_TIMES, STATE_WORDS = 8, 24, 67, 130, 187
+MOST_SMTLIB = 31 + 81 * (MOST_VARIABLES + MOST_ROWS) + (21 + 16 * MOST_VARIABLES) * MOST_ROWS
+MOST_BODIES, FIRST_ROWS, MOST_FILE_WORDS, MOST_DAY_TEXT, MOST_SHEET = 64, 16, 16384, 125120, 857
 CAN, CANNOT, RANGE = 1, 2, 3
 
 # What each number says: the words of scatterflock_number_text in the header.
@@ -87,6 +100,18 @@ class _Continued(Structure):
     _fields_ = [("refused", c_uint32), ("answered", c_bool), ("slice", _Slice)]
 
 
+class _Replayed(Structure):
+    _fields_ = [("number", c_uint32), ("word", c_uint32), ("step", c_size_t)]
+
+
+class _Counted(Structure):  # traced, exchanged
+    _fields_ = [("refused", c_uint32), ("count", c_size_t)]
+
+
+class _Contents(Structure):
+    _fields_ = [("refused", c_uint32), ("edition", c_uint32), ("bodies", c_size_t)]
+
+
 def _installed(variable, *place):
     """What a variable of the environment names, or what was installed with this file, or the bare name."""
     there = Path(__file__).resolve().parent.joinpath("../../..", *place)
@@ -95,7 +120,7 @@ def _installed(variable, *place):
 
 def _load():
     library = ctypes.CDLL(_installed("SCATTERFLOCK_LIBRARY", "lib", "libscatterflock.so.0"))
-    i32, i64 = POINTER(c_int32), POINTER(c_int64)
+    i32, i64, u32, u8 = POINTER(c_int32), POINTER(c_int64), POINTER(c_uint32), POINTER(c_uint8)
     for name, result, arguments in [
         ("solve", c_uint32, [i32, c_size_t, i64, c_size_t]),
         ("solve_within", c_uint32, [c_uint32, i32, c_size_t, i64, c_size_t]),
@@ -106,6 +131,13 @@ def _load():
         ("session_open", _Handed, [i32, c_size_t]),
         ("session_switch", _Handed, [_Session, c_uint32, c_bool, c_bool]),
         ("session_check", _Handed, [_Session, i64, c_size_t]),
+        ("replay", _Replayed, [i32, c_size_t, u32, c_size_t]),
+        ("trace", _Counted, [i32, c_size_t, u32, c_size_t]),
+        ("smtlib_write", _Counted, [i32, c_size_t, u8, c_size_t]),
+        ("bundle_read", _Contents, [u8, c_size_t, i32, c_size_t, i32, c_size_t]),
+        ("bundle_write", c_uint32, [c_uint32, i32, c_size_t, i32, c_size_t, u8, c_size_t]),
+        ("day", c_size_t, [u8, c_size_t, u8, c_size_t]),
+        ("sheet", c_size_t, [u8, c_size_t, u8, c_size_t]),
     ]:
         function = getattr(library, "scatterflock_" + name)
         function.restype, function.argtypes = result, arguments
@@ -145,6 +177,14 @@ def _longs(words):
     return (c_int64 * max(1, len(words)))(*words), len(words)
 
 
+def _bytes(file):
+    file = bytes(file)
+    return (c_uint8 * max(1, len(file))).from_buffer_copy(file or b"\0"), len(file)
+
+
+# Limit problems and time rows.
+
+
 def solve(words, most_rows=MOST_ROWS):
     """The words of the answer to a problem of up to so many rows. Raises Refused."""
     if most_rows < 0:
@@ -157,6 +197,11 @@ def solve(words, most_rows=MOST_ROWS):
     return list(out[: 3 + 2 * (words[0] + words[1])])
 
 
+def solve_within(most_rows, words):
+    """The same, in the order of the header and of the Rust crate."""
+    return solve(words, most_rows)
+
+
 def check(words, answer):
     """Whether the proved checker takes this for evidence. Raises Refused."""
     number = _library.scatterflock_check(*_words(words), *_longs(answer))
@@ -166,11 +211,159 @@ def check(words, answer):
 
 
 def times(words):
+    """The words of the answer to time rows. Raises Refused."""
     out = (c_int64 * MOST_TIMES)()
     number = _library.scatterflock_times(*_words(words), out, MOST_TIMES)
     if number:
         raise Refused(number)
     return list(out[: 2 + 2 * words[0]])
+
+
+# Traces: three words for each pivot, who leaves, who enters, and the basic variables afterwards as a mask.
+
+
+class Replayed:
+    """How a trace compares with the run: true where it is the run's own. Of a step that is wrong `step` is its
+    number, from 0, and `word` the place of its first wrong word, from 0; else both are None."""
+
+    def __init__(self, number, step, word):
+        self.number = number
+        self.step, self.word = (step, word) if number == WRONG_STEP else (None, None)
+
+    def __bool__(self):
+        return self.number == 0
+
+    def __repr__(self):
+        where = f"step {self.step}, word {self.word}: " if self.number == WRONG_STEP else ""
+        return "accepted" if self else where + TEXTS[self.number]
+
+
+WRONG_STEP = 52
+
+
+def replay(words, trace):
+    """Holds a trace, a list of three numbers each, against the run of a problem. Raises Refused."""
+    flat = [word for step in trace for word in step]
+    lent = (c_uint32 * max(1, len(flat)))(*[_count(word, 32) for word in flat])
+    told = _library.scatterflock_replay(*_words(words), lent, len(flat))
+    if told.number not in (0, 51, WRONG_STEP, 53, 54):
+        raise Refused(told.number)
+    return Replayed(told.number, told.step, told.word)
+
+
+def trace(words):
+    """The steps of the run of a problem. Raises Refused."""
+    room = 3 * solve(words)[1]
+    out = (c_uint32 * max(1, room))()
+    done = _library.scatterflock_trace(*_words(words), out, room)
+    if done.refused:
+        raise Refused(done.refused)
+    return [tuple(out[at : at + 3]) for at in range(0, done.count, 3)]
+
+
+# SMT-LIB.
+
+
+def to_smtlib(words):
+    """The SMT-LIB text of a problem, version 2, logic QF_LRA. Raises Refused."""
+    out = (c_uint8 * MOST_SMTLIB)()
+    done = _library.scatterflock_smtlib_write(*_words(words), out, MOST_SMTLIB)
+    if done.refused:
+        raise Refused(done.refused)
+    return bytes(out[: done.count]).decode("ascii")
+
+
+# Days' files.
+
+
+def _printed(function, file, room):
+    out = (c_uint8 * room)()
+    count = function(*_bytes(file), out, room)
+    return bytes(out[:count]).decode("ascii")
+
+
+def day(file):
+    """The text of all answers of a day's file, from its bytes. One that is refused is a line of it."""
+    return _printed(_library.scatterflock_day, file, MOST_DAY_TEXT)
+
+
+def sheet(file):
+    """The auditor's sheet of a day's file, as text."""
+    return _printed(_library.scatterflock_sheet, file, MOST_SHEET)
+
+
+def totals(file):
+    """The auditor's sheet as numbers: bodies, can, cannot, range, refused by number, pivots, largest, body (None
+    where there is no answer), and named, how often the lower and the upper limit of each variable is. Raises
+    Refused."""
+    found = {"refused": {}, "named": []}
+    for line in sheet(file).splitlines():
+        first, *rest = line.split()
+        if first == "refused" and len(rest) == 1:
+            raise Refused(int(rest[0]))
+        if first == "refused":
+            found["refused"][int(rest[0])] = int(rest[1])
+        elif first == "largest":
+            found["largest"] = int(rest[0])
+            found["body"] = None if rest[2] == "none" else int(rest[2])
+        elif first.isdigit():
+            found["named"].append((int(rest[1]), int(rest[3])))
+        else:
+            found[first] = int(rest[0])
+    return found
+
+
+class Bundle:
+    """A day's file: its edition, and the words of each of its bodies. Without an edition it is 1, or 2 where some
+    body has more than 16 rows and edition 2 takes it. Raises Refused."""
+
+    def __init__(self, bodies, edition=None):
+        self.bodies = [list(body) for body in bodies]
+        is_second = any(_refused(body, FIRST_ROWS) != _refused(body, MOST_ROWS) for body in self.bodies)
+        self.edition = (2 if is_second else 1) if edition is None else edition
+        self.write()
+
+    @classmethod
+    def read(cls, file):
+        """The bundle of a file's bytes."""
+        lengths, words = (c_int32 * MOST_BODIES)(), (c_int32 * MOST_FILE_WORDS)()
+        told = _library.scatterflock_bundle_read(*_bytes(file), lengths, MOST_BODIES, words, MOST_FILE_WORDS)
+        if told.refused:
+            raise Refused(told.refused)
+        bodies, at = [], 0
+        for length in lengths[: told.bodies]:
+            bodies.append(words[at : at + length])
+            at += length
+        return cls(bodies, told.edition)
+
+    def write(self):
+        """The bytes of its file."""
+        room = 4 * MOST_FILE_WORDS
+        out = (c_uint8 * room)()
+        lengths, words = [len(body) for body in self.bodies], [word for body in self.bodies for word in body]
+        number = _library.scatterflock_bundle_write(
+            _count(self.edition, 32), *_words(lengths), *_words(words), out, room
+        )
+        if number:
+            raise Refused(number)
+        return bytes(out[: 4 * (2 + 2 * len(lengths) + len(words))])
+
+    def day(self):
+        return day(self.write())
+
+    def sheet(self):
+        return sheet(self.write())
+
+    def totals(self):
+        return totals(self.write())
+
+
+def _refused(words, most_rows):
+    # An answer without room is refused last of all, with 7.
+    return _library.scatterflock_solve_within(most_rows, *_words(words), (c_int64 * 1)(), 0)
+
+
+# Texts.
 
 
 def _asked(action, file):
@@ -194,12 +387,28 @@ def times_file(file):
     return _asked("times", file)
 
 
+# Sessions and slices.
+
+
 class Session:
+    """A problem whose limits are switched on and off; at first all are off. Each check goes on from the last one."""
+
     def __init__(self, words):
         opened = _library.scatterflock_session_open(*_words(words))
         if opened.refused:
             raise Refused(opened.refused)
-        self._state, self._count = opened.session, words[0] + words[1]
+        self._state, self._count, self._kinds = opened.session, words[0] + words[1], words[-3 * sum(words[:2]) :: 3]
+
+    def switch_all_on(self):
+        """Switches on every limit that is off."""
+        for variable, kind in enumerate(self._kinds):
+            for upper in (False, True):
+                if kind & (2 if upper else 1):
+                    try:
+                        self.switch(variable, upper, True)
+                    except Refused as refused:
+                        if refused.number != ALREADY_ON:
+                            raise
 
     def switch(self, variable, upper, on):
         done = _library.scatterflock_session_switch(self._state, _count(variable, 32), upper, on)
@@ -216,7 +425,12 @@ class Session:
         return list(out[: 3 + 2 * self._count])
 
 
+ALREADY_ON = 43
+
+
 class Slice:
+    """The run of a problem, some pivots at a time: go_on gives None until there is an answer."""
+
     def __init__(self, words):
         begun = _library.scatterflock_slice_start(*_words(words))
         if begun.refused:
@@ -230,6 +444,9 @@ class Slice:
             raise Refused(done.refused)
         self._state = done.slice
         return list(out[: 3 + 2 * self._count]) if done.answered else None
+
+
+# Problems by names.
 
 
 class Answer:
@@ -268,6 +485,8 @@ class Answer:
 
 
 class Problem:
+    """A problem whose variables have names, "zone1 zone2" or a list."""
+
     def __init__(self, names):
         self.names = names.split() if isinstance(names, str) else list(names)
         if twice := [name for at, name in enumerate(self.names) if name in self.names[:at]]:
@@ -315,3 +534,18 @@ class Problem:
         if answer[0] != RANGE and not check(words, answer):
             raise AssertionError("the checker does not accept this answer")
         return Answer(self, answer)
+
+    def session(self):
+        return Session(self.words)
+
+    def slice(self):
+        return Slice(self.words)
+
+    def trace(self):
+        return trace(self.words)
+
+    def replay(self, steps):
+        return replay(self.words, steps)
+
+    def to_smtlib(self):
+        return to_smtlib(self.words)
