@@ -23,6 +23,7 @@ mod table;
 mod traces;
 
 use contenders::CONTENDERS;
+use progress::Progress;
 use std::io::{self, ErrorKind, Write};
 use std::process::ExitCode;
 
@@ -42,29 +43,40 @@ fn print(to: &mut impl Write) -> io::Result<()> {
     let seed = problems::random::seed_or(SEED);
     writeln!(to, "SEED={seed}, ns a problem, least of {} rounds", measure::ROUNDS)?;
     writeln!(to, "{}", table::heading(CONTENDERS))?;
-    for set in sets::limits(seed) {
-        let times = measure::solve(CONTENDERS, &set);
-        writeln!(to, "{}", table::line("solve", &set.name, &times, &set.pivots()))?;
-    }
-    for set in sets::limits(seed) {
-        let times = measure::check(CONTENDERS, &set);
-        writeln!(to, "{}", table::line("check", &set.name, &times, ""))?;
-    }
-    for set in sets::times(seed) {
-        let times = measure::times(CONTENDERS, &set);
-        writeln!(to, "{}", table::line("times", set.name, &times, ""))?;
-    }
+    each("solve", sets::limits(seed), to, |set| {
+        let times = measure::solve(CONTENDERS, set);
+        table::line("solve", &set.name, &times, &set.pivots())
+    })?;
+    each("check", sets::limits(seed), to, |set| {
+        let times = measure::check(CONTENDERS, set);
+        table::line("check", &set.name, &times, "")
+    })?;
+    each("times", sets::times(seed), to, |set| {
+        let times = measure::times(CONTENDERS, set);
+        table::line("times", set.name, &times, "")
+    })?;
     writeln!(to, "\n{}", edits::heading())?;
-    for set in edits::sets(seed) {
-        writeln!(to, "{}", set.line())?;
-    }
+    each("edits", edits::sets(seed), to, |set| set.line())?;
     writeln!(to, "\n{}", days::heading())?;
-    for set in days::sets(seed) {
-        writeln!(to, "{}", set.line())?;
-    }
+    each("days", days::sets(seed), to, |set| set.line())?;
     writeln!(to, "\n{}", traces::heading())?;
-    for set in sets::limits(seed) {
-        writeln!(to, "{}", traces::line(&set))?;
+    each("traces", sets::limits(seed), to, traces::line)
+}
+
+/// Prints the line of each set; while it is measured a terminal says which one it is.
+fn each<T>(
+    what: &str,
+    sets: impl IntoIterator<Item = T>,
+    to: &mut impl Write,
+    line: impl Fn(&T) -> String,
+) -> io::Result<()> {
+    let sets: Vec<T> = sets.into_iter().collect();
+    let mut progress = Progress::new(what, sets.len() as u64);
+    for set in &sets {
+        progress.step_at_once();
+        let line = line(set);
+        progress.clear();
+        writeln!(to, "{line}")?;
     }
     Ok(())
 }

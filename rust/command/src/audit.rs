@@ -5,6 +5,7 @@ use crate::input;
 use crate::options::Options;
 use crate::table::table;
 use crate::{json, Ended, Failure, CAN, REFUSED};
+use progress::Progress;
 use scatterflock::{Named, Sheet};
 use std::ffi::OsStr;
 use std::io::Read;
@@ -17,7 +18,9 @@ pub fn run(file: &OsStr, options: &Options, stdin: &mut dyn Read) -> Result<Ende
         return Ok(Ended::saying(text, status));
     }
     let bundle = read(&bytes)?;
+    let line = Progress::begun(&format!("audit: {} bodies", bundle.bodies().count()));
     let (edition, sheet) = (bundle.edition(), bundle.sheet());
+    drop(line);
     let said =
         if options.json { as_json(&name, edition, &sheet) } else { as_text(edition, &sheet) };
     Ok(Ended::saying(said, CAN))

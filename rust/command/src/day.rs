@@ -4,6 +4,7 @@ use crate::input::{self, Content, Input};
 use crate::options::Options;
 use crate::problem;
 use crate::{json, solve, Ended, Failure, CAN, CANNOT, RANGE, REFUSED};
+use progress::Progress;
 use scatterflock::{Bundle, BundleRefusal, Problem, Refusal};
 use std::ffi::OsStr;
 use std::io::Read;
@@ -14,10 +15,17 @@ pub fn run(file: &OsStr, options: &Options, stdin: &mut dyn Read) -> Result<Ende
         return Ok(bare(&bytes));
     }
     let bundle = read(&bytes)?;
-    let told = bundle.bodies().map(|words| told(&name, &bundle, words, options));
+    let bodies = under_way("day", &bundle);
+    let told = bodies.map(|words| told(&name, &bundle, words, options));
     let told = told.collect::<Result<Vec<Ended>, Failure>>()?;
     let day = Day { file: name, bundle, told };
     Ok(if options.json { day.as_json() } else { day.as_text() })
+}
+
+/// The bodies of a bundle. Where they take long, a terminal says which one it is.
+fn under_way<'a>(work: &str, bundle: &'a Bundle) -> impl Iterator<Item = &'a [i32]> {
+    let mut progress = Progress::new(work, bundle.bodies().count() as u64);
+    bundle.bodies().inspect(move |_| progress.step())
 }
 
 /// The bundle of a file.

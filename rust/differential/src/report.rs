@@ -2,6 +2,7 @@
 
 use crate::{bundles, limits, sessions, sheets, slices, smtlib, times, traces, violations};
 use problems::random::Random;
+use progress::counted;
 use std::collections::BTreeMap;
 use std::fmt;
 
@@ -25,7 +26,7 @@ pub struct Report {
 /// problem of which seed differs, and how.
 pub fn limits(seed: u64, problems: u64) -> Result<Report, String> {
     let mut report = Report::default();
-    for problem in 0..problems {
+    for problem in counted("limits", problems) {
         let family = in_turn(&problems::limits::Family::ALL, problem);
         let outcome = limits::compare(&mut Random::of_problem(seed, problem), family)
             .map_err(|what| format!("SEED={seed}, problem {problem}, {family:?}: {what}"))?;
@@ -40,7 +41,7 @@ pub fn limits(seed: u64, problems: u64) -> Result<Report, String> {
 /// Compares so many limit problems in slices, the families in turn.
 pub fn slices(seed: u64, problems: u64) -> Result<Report, String> {
     let mut report = Report::default();
-    for problem in 0..problems {
+    for problem in counted("slices", problems) {
         let family = in_turn(&problems::limits::Family::ALL, problem);
         let outcome = slices::compare(&mut Random::of_problem(seed, problem), family)
             .map_err(|what| format!("SEED={seed}, problem {problem}, {family:?}: {what}"))?;
@@ -54,7 +55,7 @@ pub fn slices(seed: u64, problems: u64) -> Result<Report, String> {
 /// is counted is each check by its verdict, and each refused opening.
 pub fn sessions(seed: u64, problems: u64) -> Result<Report, String> {
     let mut report = Report::default();
-    for problem in 0..problems {
+    for problem in counted("sessions", problems) {
         let family = in_turn(&problems::limits::Family::ALL, problem);
         let outcome = sessions::compare(&mut Random::of_problem(seed, problem), family)
             .map_err(|what| format!("SEED={seed}, problem {problem}, {family:?}: {what}"))?;
@@ -73,7 +74,7 @@ pub fn sessions(seed: u64, problems: u64) -> Result<Report, String> {
 /// have pivots.
 pub fn traces(seed: u64, problems: u64) -> Result<Report, String> {
     let mut report = Report::default();
-    for problem in 0..problems {
+    for problem in counted("traces", problems) {
         let family = in_turn(&problems::limits::Family::ALL, problem);
         let outcome = traces::compare(&mut Random::of_problem(seed, problem), family)
             .map_err(|what| format!("SEED={seed}, problem {problem}, {family:?}: {what}"))?;
@@ -104,7 +105,7 @@ pub fn violations(seed: u64, problems: u64) -> Result<Report, String> {
 /// Compares the SMT-LIB texts of so many limit problems, the families in turn.
 pub fn smtlib(seed: u64, problems: u64) -> Result<Report, String> {
     let mut report = Report::default();
-    for problem in 0..problems {
+    for problem in counted("smtlib", problems) {
         let family = in_turn(&problems::limits::Family::ALL, problem);
         let number = smtlib::compare(&mut Random::of_problem(seed, problem), family)
             .map_err(|what| format!("SEED={seed}, problem {problem}, {family:?}: {what}"))?;
@@ -116,7 +117,7 @@ pub fn smtlib(seed: u64, problems: u64) -> Result<Report, String> {
 /// Compares so many time rows, the families in turn.
 pub fn times(seed: u64, problems: u64) -> Result<Report, String> {
     let mut report = Report::default();
-    for problem in 0..problems {
+    for problem in counted("times", problems) {
         let family = in_turn(&problems::times::Family::ALL, problem);
         let outcome = times::compare(&mut Random::of_problem(seed, problem), family)
             .map_err(|what| format!("SEED={seed}, problem {problem}, {family:?}: {what}"))?;
@@ -130,7 +131,7 @@ pub fn times(seed: u64, problems: u64) -> Result<Report, String> {
 /// one, each body, each with the line of a refusal, and each with more than 16 rows.
 pub fn bundles(seed: u64, files: u64) -> Result<Report, String> {
     let mut report = Report::default();
-    for file in 0..files {
+    for file in counted("days", files) {
         let family = in_turn(&problems::bundles::Family::ALL, file);
         let outcome = bundles::compare(&mut Random::of_problem(seed, file), family)
             .map_err(|what| format!("SEED={seed}, file {file}, {family:?}: {what}"))?;
@@ -151,7 +152,7 @@ pub fn bundles(seed: u64, files: u64) -> Result<Report, String> {
 /// the sums of the figures of all sheets, and the sheets that name no body.
 pub fn sheets(seed: u64, files: u64) -> Result<Report, String> {
     let mut report = Report::default();
-    for file in 0..files {
+    for file in counted("sheets", files) {
         let outcome = sheets::compare(&mut Random::of_problem(seed, file))
             .map_err(|what| format!("SEED={seed}, file {file}: {what}"))?;
         report.count(outcome.number, ["sheets", "", "", ""], 0);
