@@ -1,6 +1,9 @@
 //! `scatterflock audit`: the totals of all bodies of a day's file.
 
+mod as_page;
+
 use crate::day::read;
+use crate::digest::digest;
 use crate::input;
 use crate::options::Options;
 use crate::table::table;
@@ -18,6 +21,9 @@ pub fn run(file: &OsStr, options: &Options, stdin: &mut dyn Read) -> Result<Ende
         return Ok(Ended::saying(text, status));
     }
     let bundle = read(&bytes)?;
+    if options.page {
+        return as_page::page(&name, &digest(&bytes), &bundle);
+    }
     let line = Progress::begun(&format!("audit: {} bodies", bundle.bodies().count()));
     let (edition, sheet) = (bundle.edition(), bundle.sheet());
     drop(line);

@@ -1,5 +1,10 @@
 //! `scatterflock day`: the answers to all bodies of a day's file.
 
+mod as_page;
+
+pub use as_page::bodies;
+
+use crate::digest::digest;
 use crate::input::{self, Content, Input};
 use crate::options::Options;
 use crate::problem;
@@ -15,6 +20,9 @@ pub fn run(file: &OsStr, options: &Options, stdin: &mut dyn Read) -> Result<Ende
         return Ok(bare(&bytes));
     }
     let bundle = read(&bytes)?;
+    if options.page {
+        return as_page::page(&name, &digest(&bytes), &bundle);
+    }
     let bodies = under_way("day", &bundle);
     let told = bodies.map(|words| told(&name, &bundle, words, options));
     let told = told.collect::<Result<Vec<Ended>, Failure>>()?;

@@ -9,8 +9,8 @@ usage: scatterflock [--json | --page | --words] solve [--each] [--first] FILE
        scatterflock words [--times] [--bytes] FILE
        scatterflock smtlib FILE
        scatterflock edit FILE
-       scatterflock [--json | --bare] day DAY
-       scatterflock [--json | --bare] audit DAY
+       scatterflock [--json | --page | --bare] day DAY
+       scatterflock [--json | --page | --bare] audit DAY
        scatterflock pack [--edition=N] DAY FILE..
        scatterflock unpack [--bytes] DAY FOLDER
        scatterflock [--json] trace [--bytes] FILE
@@ -42,7 +42,8 @@ usage: scatterflock [--json | --page | --words] solve [--each] [--first] FILE
 A FILE is a text that declares its names and has one limit a line,
 
     names zone1 zone2 solder
-    zone1 >= 20
+    let low = 20.5                # a constant
+    zone1 >= low
     3 zone1 - 2 zone2 <= 412.5    # a comment
     zone2 = zone1 + 45
     solder < 217                  # strict: 217 itself is left out
@@ -191,8 +192,15 @@ impl Options {
             ("help", _) => Action::Help,
             _ => return Err(format!("there is no command {name}{}", near(&name, &COMMANDS))),
         };
-        if page && (json || each || !matches!(action, Action::Solve(_) | Action::Times(_))) {
-            let what = "--page is an option of solve and times, and not beside --json or --each";
+        let has_page = match action {
+            Action::Day(_) | Action::Audit(_) => !bare,
+            Action::Solve(_) | Action::Times(_) => true,
+            _ => false,
+        };
+        if page && (json || each || !has_page) {
+            let what =
+                "--page is an option of solve, times, day and audit, and not beside --json, \
+                        --each or --bare";
             return Err(what.to_string());
         }
         if words_too && (json || page || each || !matches!(action, Action::Solve(_))) {

@@ -2,6 +2,8 @@
 //! and prints on paper. No script, no font and no picture comes from elsewhere.
 //!
 //! - `bars`: what the limits of a clash ask for, and what they allow
+//! - `bodies`: the bodies of a day's file, a line and a part each
+//! - `counts`: how many there are of each kind
 //! - `scale`: values between their limits
 //! - `timeline`: points in time
 
@@ -9,22 +11,25 @@ use std::time::{SystemTime, UNIX_EPOCH};
 use text::Exact;
 
 pub mod bars;
+pub mod bodies;
+pub mod counts;
 pub mod scale;
 pub mod timeline;
 
 const STYLE: &str = "\
 body{font:16px/1.45 sans-serif;color:#111;max-width:52em;margin:2em auto;padding:0 1em}
-h1{font-size:1.5em;margin:0 0 .3em}p{margin:.4em 0}h2{font-size:1.1em;margin:1.6em 0 .4em}
+h1{font-size:1.5em;margin:0 0 .3em}p{margin:.4em 0}h2{font-size:1.1em;margin:1.6em 0 .4em}h3{font-size:1em;margin:1em 0 .3em}
+a{color:inherit}section{border-top:1px solid #111;margin-top:1.6em}
 .verdict{border:2px solid #111;border-radius:.3em;padding:0 .4em;margin-left:.5em}
 .cannot{background:#111;color:#fff}
 table{border-collapse:collapse}td,th{padding:.15em .9em .15em 0;text-align:left;vertical-align:top}
 td.n,th.n{text-align:right;font-variant-numeric:tabular-nums}
-tr.sum td{border-top:1px solid #111}
+tr.sum td{border-top:1px solid #111}td:first-child{white-space:nowrap}
 pre{font:14px/1.5 monospace;margin:0}pre b{background:#fde9a9;color:#111}
 svg{display:block;max-width:100%;height:auto}svg text{font:13px sans-serif;fill:#111}svg text.small{font-size:11px}
 footer{margin-top:2em;color:#444;font-size:.9em}
 @media print{body{margin:0;max-width:none;font-size:9.5pt;line-height:1.3}pre{font-size:8.5pt}
-h2{margin:1em 0 .2em;break-after:avoid}table,svg,pre{break-inside:avoid}footer{margin-top:1em}
+h2,h3{margin:1em 0 .2em;break-after:avoid}table,svg,pre{break-inside:avoid}footer{margin-top:1em}
 pre b,.cannot{-webkit-print-color-adjust:exact;print-color-adjust:exact}}";
 
 /// A text inside of HTML.
@@ -68,22 +73,29 @@ fn day(number: u64) -> String {
     format!("{year}-{month:02}-{day:02}")
 }
 
-/// The whole page. The digest is that of the file.
+/// Parts of a page, each under its title where it has one.
+pub fn under_titles(level: &str, sections: &[(&str, String)]) -> String {
+    let said = sections.iter().map(|(title, inner)| match *title {
+        "" => inner.clone(),
+        title => format!("<{level}>{title}</{level}>\n{inner}"),
+    });
+    said.collect()
+}
+
+/// The whole page of an answer. The digest is that of the file.
 pub fn page(file: &str, digest: &str, verdict: &str, sections: &[(&str, String)]) -> String {
+    marked(file, digest, (verdict, verdict), &under_titles("h2", sections))
+}
+
+/// The whole page, with words beside the name of the file, and how they are shown.
+pub fn marked(file: &str, digest: &str, (class, verdict): (&str, &str), said: &str) -> String {
     let file = safe(file);
-    let said: String = sections
-        .iter()
-        .map(|(title, inner)| match *title {
-            "" => inner.clone(),
-            title => format!("<h2>{title}</h2>\n{inner}"),
-        })
-        .collect();
     let version = env!("CARGO_PKG_VERSION");
     format!(
         "<!doctype html>\n<html lang=\"en\">\n<head>\n<meta charset=\"utf-8\">\n\
          <meta name=\"viewport\" content=\"width=device-width\">\n<title>{file}: {verdict}</title>\n\
          <style>\n{STYLE}\n</style>\n</head>\n<body>\n\
-         <h1>{file}<span class=\"verdict {verdict}\">{verdict}</span></h1>\n{said}\
+         <h1>{file}<span class=\"verdict {class}\">{verdict}</span></h1>\n{said}\
          <footer>scatterflock {version}, {}. SHA-256 of {file}: <code>{digest}</code></footer>\n</body>\n</html>\n",
         today()
     )
@@ -91,6 +103,12 @@ pub fn page(file: &str, digest: &str, verdict: &str, sections: &[(&str, String)]
 
 /// Rows of cells under heads. A head that begins with `#` is one of numbers.
 pub fn cells(heads: &[&str], rows: &[Vec<String>], last_is_sum: bool) -> String {
+    let rows = rows.iter().map(|row| row.iter().map(|cell| safe(cell)).collect());
+    linked_cells(heads, &rows.collect::<Vec<Vec<String>>>(), last_is_sum)
+}
+
+/// The same, of cells that are HTML already.
+pub fn linked_cells(heads: &[&str], rows: &[Vec<String>], last_is_sum: bool) -> String {
     let class = |at: usize| if heads[at].starts_with('#') { " class=\"n\"" } else { "" };
     let head: String = heads
         .iter()
@@ -103,7 +121,7 @@ pub fn cells(heads: &[&str], rows: &[Vec<String>], last_is_sum: bool) -> String 
         let row: String = row
             .iter()
             .enumerate()
-            .map(|(at, cell)| format!("<td{}>{}</td>", class(at), safe(cell)))
+            .map(|(at, cell)| format!("<td{}>{cell}</td>", class(at)))
             .collect();
         said += &format!("<tr{sum}>{row}</tr>\n");
     }

@@ -9,6 +9,7 @@ use crate::clash::{self, Counted};
 use crate::fraction::Fraction;
 use crate::input::Input;
 use crate::options::Options;
+use crate::page::bodies::Body;
 use crate::problem::{all_limits, problem, refused_words, Values};
 use crate::{input, own, Ended, Failure, CAN, CANNOT, RANGE};
 use scatterflock::{Answer, Judgement, Problem, Verdict};
@@ -30,11 +31,7 @@ pub fn answer(input: Input, options: &Options) -> Result<Ended, Failure> {
     }
     let shown = Shown { file, digest, text, problem, answer, with_first: options.first };
     if options.page {
-        return Ok(match &shown.answer.verdict {
-            Verdict::Cannot { lower, upper } => shown.cannot_page(&shown.counted([lower, upper])),
-            verdict => Values::of(&shown.problem, verdict)
-                .map_or_else(|| shown.range_page(), |values| shown.can_page(values)),
-        });
+        return Ok(shown.paged());
     }
     if let Some(values) = Values::of(&shown.problem, &shown.answer.verdict) {
         return Ok(if options.json { shown.can_json(values) } else { shown.can(values) });
@@ -52,6 +49,34 @@ pub fn answer(input: Input, options: &Options) -> Result<Ended, Failure> {
         (_, false) => shown.range(),
         (_, true) => shown.range_json(),
     })
+}
+
+/// The answer to a body of a day's file, for the page of all of them.
+pub fn body(input: Input, words: String) -> Result<Body, Failure> {
+    let (file, problem) = problem(input)?;
+    let answer = solved(&problem)?;
+    let shown = Shown { file, digest: String::new(), text: None, problem, answer };
+    let (told, line) = match &shown.answer.verdict {
+        Verdict::Cannot { lower, upper } => {
+            let counted = shown.counted([lower, upper]);
+            let named = counted
+                .iter()
+                .filter_map(|&(variable, side, _)| shown.problem.limit_text(variable, side));
+            let line = named.collect::<Vec<String>>().join(", ");
+            (shown.cannot(&counted, None), line)
+        }
+        verdict => match Values::of(&shown.problem, verdict) {
+            Some(values) => {
+                let names = shown.problem.names.iter().enumerate();
+                let named = names.map(|(at, name)| format!("{name} = {}", values.at(at)));
+                (shown.can(values), named.collect::<Vec<String>>().join(", "))
+            }
+            None => (shown.range(), "a number became too large".to_string()),
+        },
+    };
+    let (status, answer) = (told.status, String::from_utf8_lossy(&told.output).into_owned());
+    let (sections, problem) = (shown.sections(), shown.problem.text());
+    Ok(Body { status, words, line, sections, problem, answer })
 }
 
 /// The answer, which the checker has accepted where it is evidence, and which is

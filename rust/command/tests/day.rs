@@ -233,7 +233,7 @@ fn what_is_not_packed() {
         (&["--json", "--bare", "day", "-"], 4, "--bare is an option of day"),
         (&["--bare", "solve", "-"], 4, "--bare is an option of day"),
         (&["--each", "day", "-"], 4, "--each is an option of solve"),
-        (&["--page", "day", "-"], 4, "--page is an option of solve and times"),
+        (&["--page", "pack", &out, &text], 4, "--page is an option of solve, times, day"),
         (&["unpak", &out, "x"], 4, "is it unpack?"),
     ] {
         let (output, errors, found) = ran(words, b"");

@@ -8,12 +8,28 @@ use crate::page::scale::{scale, Dot};
 use crate::page::{cells, drawn, numbered, page, safe};
 use crate::problem::{all_limits, called, left_out, Values};
 use crate::{Ended, CAN, CANNOT, RANGE};
+use scatterflock::Verdict;
 use text::limits::Side;
 use text::Exact;
 
 impl Shown {
-    fn paged(&self, verdict: &str, sections: &[(&str, String)], status: u8) -> Ended {
-        Ended::saying(page(&self.file, &self.digest, verdict, sections), status)
+    /// The answer as a page.
+    pub(super) fn paged(&self) -> Ended {
+        let (verdict, status) = match &self.answer.verdict {
+            Verdict::Can { .. } => ("can", CAN),
+            Verdict::Cannot { .. } => ("cannot", CANNOT),
+            _ => ("range", RANGE),
+        };
+        Ended::saying(page(&self.file, &self.digest, verdict, &self.sections()), status)
+    }
+
+    /// The parts of the page, with their titles.
+    pub(super) fn sections(&self) -> Vec<(&'static str, String)> {
+        match &self.answer.verdict {
+            Verdict::Cannot { lower, upper } => self.cannot_page(&self.counted([lower, upper])),
+            verdict => Values::of(&self.problem, verdict)
+                .map_or_else(|| self.range_page(), |values| self.can_page(values)),
+        }
     }
 
     fn accepted_page(&self) -> String {
@@ -46,7 +62,7 @@ impl Shown {
         Dot { label, value: drawn(plain), said: format!("{value}{read}"), limits }
     }
 
-    pub(super) fn can_page(&self, values: Values) -> Ended {
+    fn can_page(&self, values: Values) -> Vec<(&'static str, String)> {
         let n = self.problem.names.len();
         let own: Vec<Dot> = (0..n).map(|variable| self.dot(values, variable)).collect();
         let sums = n..self.problem.limits.len();
@@ -65,7 +81,7 @@ impl Shown {
         }
         sections.push(("To check it by hand", self.by_hand(values)));
         sections.push(self.problem_page(|_| false));
-        self.paged("can", &sections, CAN)
+        sections
     }
 
     /// Each limit with the values put in.
@@ -102,7 +118,7 @@ impl Shown {
         cells(&["#line", "limit", "with the values", "comes to"], &rows.collect::<Vec<_>>(), false)
     }
 
-    pub(super) fn cannot_page(&self, counted: &[Counted]) -> Ended {
+    fn cannot_page(&self, counted: &[Counted]) -> Vec<(&'static str, String)> {
         let (each, sum) = added_up(&self.problem, counted);
         let line = |variable: usize, side: Side| {
             self.problem.limits[variable][side as usize].and_then(|limit| limit.line)
@@ -142,7 +158,7 @@ impl Shown {
         let named: Vec<usize> = counted.iter().filter_map(|&(v, side, _)| line(v, side)).collect();
         let start = "<p>No values meet the limits below together, and each of them is needed for \
                      that: drop any one, and the others below can be met.</p>\n";
-        let sections = [
+        vec![
             ("", format!("{start}{}", self.accepted_page())),
             ("What they ask for, and what they allow", bars(&parts.collect::<Vec<Part>>())),
             (
@@ -154,14 +170,12 @@ impl Shown {
                 format!("{loose}{beyond}"),
             ),
             self.problem_page(|number| named.contains(&number)),
-        ];
-        self.paged("cannot", &sections, CANNOT)
+        ]
     }
 
-    pub(super) fn range_page(&self) -> Ended {
+    fn range_page(&self) -> Vec<(&'static str, String)> {
         let said = "<p>A number grew beyond 2147483647, and the run ended. That says nothing \
                     about the limits.</p>\n";
-        let sections = [("", said.to_string()), self.problem_page(|_| false)];
-        self.paged("range", &sections, RANGE)
+        vec![("", said.to_string()), self.problem_page(|_| false)]
     }
 }

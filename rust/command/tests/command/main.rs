@@ -4,6 +4,7 @@ mod answers;
 mod clashes;
 mod damaged;
 mod first;
+mod day_pages;
 #[path = "../json/mod.rs"]
 mod json;
 mod pages;

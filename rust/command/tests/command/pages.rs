@@ -38,12 +38,7 @@ fn pages() {
         assert!(page.contains(told) && !page.contains("<&>") && !page.contains("http"), "{page}");
         assert!(page.contains("SHA-256 of standard input: <code>") && page.len() < 30_000);
         assert!(!input.contains("# x <= 4") || page.contains("limits in line 5"), "{page}");
-        for tag in ["svg", "table", "pre", "body", "text", "p"] {
-            let [opened, closed] = [format!("<{tag}"), format!("</{tag}>")];
-            let spaced = |text: &str| text.matches(&format!("{opened} ")).count();
-            let count = page.matches(&format!("{opened}>")).count() + spaced(&page);
-            assert_eq!(count, page.matches(&closed).count(), "{tag}: {page}");
-        }
+        is_closed(&page);
     }
     // A line that has a name is called by it in each table.
     for (action, text, cell, count) in [
@@ -57,18 +52,27 @@ fn pages() {
         assert_eq!((cells(cell), cells("3") > 0, cells("2")), (count, true, 0), "{page}");
     }
     let (_, errors, status) = ran(&["--page", "check", "a", "b"], b"");
-    assert!(status == 4 && errors.contains("--page is an option of solve and times"), "{errors}");
+    assert!(status == 4 && errors.contains("--page is an option of solve, times, day"), "{errors}");
 }
 
-/// The largest page is small, and a browser shows its words. Where none is
-/// installed the test says so.
+/// The largest page is small, and a browser shows its words.
 #[test]
 fn a_browser_shows_the_page() {
     let file = files::top().join("problems/oven-eight.txt");
     let (page, _, _) = ran(&["--page", "solve", file.to_str().unwrap()], b"");
     assert!(page.len() < 30_000, "{} bytes", page.len());
+    shows(
+        "page",
+        &page,
+        &["oven-eight.txt", ">can</span>", "940/3 (about 313.333333)", "SHA-256 of"],
+    );
+}
+
+/// A browser shows the page: these words are in it, and a picture of it can be
+/// taken. Where none is installed that is said.
+pub fn shows(name: &str, page: &str, words: &[&str]) {
     let room = PathBuf::from(env!("CARGO_TARGET_TMPDIR"));
-    let (html, picture) = (room.join("page.html"), room.join("page.png"));
+    let (html, picture) = (room.join(format!("{name}.html")), room.join(format!("{name}.png")));
     fs::write(&html, page).unwrap();
     let browser = |words: &[String]| {
         let fixed = [
@@ -81,19 +85,30 @@ fn a_browser_shows_the_page() {
             "--disable-component-update",
             "--host-resolver-rules=MAP * ~NOTFOUND",
         ];
-        let room = format!("--user-data-dir={}", room.join("browser").display());
+        let room = format!("--user-data-dir={}", room.join(format!("browser-{name}")).display());
         let address = format!("file://{}", html.display());
         Command::new("chromium").args(fixed).arg(room).args(words).arg(address).output()
     };
     let Ok(shown) = browser(&["--dump-dom".to_string()]) else {
-        println!("chromium is not installed: no browser has looked at the page");
+        println!("chromium is not installed: no browser has looked at the page {name}");
         return;
     };
     let shown = String::from_utf8_lossy(&shown.stdout).into_owned();
-    for words in ["oven-eight.txt", ">can</span>", "940/3 (about 313.333333)", "SHA-256 of"] {
+    for words in words {
         assert!(shown.contains(words), "no {words} in\n{shown}");
     }
     browser(&[format!("--screenshot={}", picture.display())]).unwrap();
     let taken = fs::read(&picture).unwrap();
     assert!(taken.starts_with(b"\x89PNG") && taken.len() > 20_000, "{} bytes", taken.len());
+}
+
+/// Each tag that is opened is closed.
+pub fn is_closed(page: &str) {
+    let tags = ["svg", "table", "tr", "td", "pre", "body", "text", "p", "a", "section", "h2", "h3"];
+    for tag in tags {
+        let [opened, closed] = [format!("<{tag}"), format!("</{tag}>")];
+        let spaced = page.matches(&format!("{opened} ")).count();
+        let count = page.matches(&format!("{opened}>")).count() + spaced;
+        assert_eq!(count, page.matches(&closed).count(), "{tag}: {page}");
+    }
 }
