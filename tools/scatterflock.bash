@@ -4,10 +4,10 @@ _scatterflock() {
     case $word in
         -*) COMPREPLY=($(compgen -W '--json --page --words --each --first --times --bytes --bare --edition=1 --edition=2 --help --version' -- "$word")) ;;
         *)
-            if [[ " ${COMP_WORDS[*]:1:COMP_CWORD-1} " =~ \ (solve|check|times|words|smtlib|edit|day|pack|unpack|trace|replay)\  ]]; then
+            if [[ " ${COMP_WORDS[*]:1:COMP_CWORD-1} " =~ \ (solve|check|times|words|smtlib|edit|day|audit|pack|unpack|trace|replay)\  ]]; then
                 COMPREPLY=($(compgen -f -- "$word"))
             else
-                COMPREPLY=($(compgen -W 'solve check times words smtlib edit day pack unpack trace replay help' -- "$word"))
+                COMPREPLY=($(compgen -W 'solve check times words smtlib edit day audit pack unpack trace replay help' -- "$word"))
             fi ;;
     esac
 }

@@ -97,161 +97,160 @@ const COMMANDS: [&str; 12] = [
     "solve", "check", "times", "words", "smtlib", "edit", "day", "audit", "pack", "unpack",
     "trace", "replay",
 ];
-const OPTIONS: [&str; 11] = [
-    "--json",
-    "--page",
-    "--words",
-    "--each",
-    "--first",
-    "--times",
-    "--bytes",
-    "--bare",
-    "--edition",
-    "--help",
-    "--version",
+
+/// An option, the commands that have it, and the options that it does not stand
+/// beside.
+type Rule = (&'static str, &'static str, &'static str);
+
+const RULES: [Rule; 9] = [
+    ("--json", "solve check times day audit trace replay", ""),
+    ("--page", "solve times day audit", "--json --each --bare"),
+    ("--words", "solve", "--json --page --each"),
+    ("--each", "solve", ""),
+    ("--first", "solve", "--page --words"),
+    ("--times", "words", ""),
+    ("--bytes", "words trace unpack", "--json"),
+    ("--bare", "day audit", "--json"),
+    ("--edition", "pack", ""),
 ];
 
+/// What is wrong with an option beside the others that a command is given.
+fn broken((option, of, not_beside): Rule, command: &str, given: &[&str]) -> Option<String> {
+    let [of, not_beside]: [Vec<&str>; 2] =
+        [of, not_beside].map(|words| words.split_whitespace().collect());
+    let is_beside = |others: &Vec<&str>| others.iter().any(|other| given.contains(other));
+    if !given.contains(&option) || of.contains(&command) && !is_beside(&not_beside) {
+        return None;
+    }
+    let beside = match not_beside[..] {
+        [] => String::new(),
+        _ => format!(", and not beside {}", listed(&not_beside, "or")),
+    };
+    Some(format!("{option} is an option of {}{beside}", listed(&of, "and")))
+}
+
+/// Words in a row: `solve, times and day`.
+fn listed(words: &[&str], last: &str) -> String {
+    match words {
+        [others @ .., before, end] => {
+            [others, &[&format!("{before} {last} {end}")]].concat().join(", ")
+        }
+        words => words.concat(),
+    }
+}
+
 /// The question whether another word was meant.
-fn near(word: &str, among: &[&'static str]) -> String {
-    let near = text::nearest(word, among.iter().copied());
+fn near(word: &str, among: impl Iterator<Item = &'static str>) -> String {
+    let near = text::nearest(word, among);
     near.map_or(String::new(), |near| format!("; is it {near}?"))
+}
+
+/// The words of the command line, apart.
+#[derive(Default)]
+struct Apart {
+    given: Vec<&'static str>,
+    edition: Option<u32>,
+    /// Help or version, whichever comes first.
+    asked: Option<Action>,
+    others: Vec<OsString>,
+}
+
+impl Apart {
+    fn of(words: &[OsString]) -> Result<Apart, String> {
+        let mut apart = Apart::default();
+        let mut is_over = false;
+        for word in words {
+            let option = word.to_str().filter(|word| !is_over && word.starts_with('-'));
+            match option {
+                None | Some("-") => apart.others.push(word.clone()),
+                Some("--") => is_over = true,
+                Some("--help" | "-h") => apart.asked = apart.asked.or(Some(Action::Help)),
+                Some("--version" | "-V") => apart.asked = apart.asked.or(Some(Action::Version)),
+                Some(option) => apart.take(option)?,
+            }
+        }
+        Ok(apart)
+    }
+
+    fn take(&mut self, option: &str) -> Result<(), String> {
+        if option.starts_with("--edition") {
+            self.edition = Some(edition_of(option)?);
+        }
+        let name = option.split('=').next().filter(|name| *name == option || *name == "--edition");
+        let Some(rule) = RULES.iter().find(|rule| Some(rule.0) == name) else {
+            let others = RULES.iter().map(|rule| rule.0).chain(["--help", "--version"]);
+            return Err(format!("there is no option {option}{}", near(option, others)));
+        };
+        self.given.push(rule.0);
+        Ok(())
+    }
 }
 
 impl Options {
     pub fn read(words: &[OsString]) -> Result<Options, String> {
-        let [mut json, mut page, mut words_too, mut each] = [false; 4];
-        let [mut first, mut times, mut bytes, mut bare] = [false; 4];
-        let mut edition = None;
-        let mut is_over = false;
-        let mut files = Vec::new();
-        let mut asked = None;
-        for word in words {
-            match word.to_str() {
-                Some("--") if !is_over => is_over = true,
-                Some("--help" | "-h") if !is_over => asked = asked.or(Some(Action::Help)),
-                Some("--version" | "-V") if !is_over => asked = asked.or(Some(Action::Version)),
-                Some("--json") if !is_over => json = true,
-                Some("--page") if !is_over => page = true,
-                Some("--words") if !is_over => words_too = true,
-                Some("--each") if !is_over => each = true,
-                Some("--first") if !is_over => first = true,
-                Some("--times") if !is_over => times = true,
-                Some("--bytes") if !is_over => bytes = true,
-                Some("--bare") if !is_over => bare = true,
-                Some(option) if !is_over && option.starts_with("--edition") => {
-                    edition = Some(edition_of(option)?);
-                }
-                Some(option) if !is_over && option.starts_with('-') && option != "-" => {
-                    return Err(format!("there is no option {option}{}", near(option, &OPTIONS)));
-                }
-                _ => files.push(word.clone()),
+        let Apart { given, edition, asked, mut others } = Apart::of(words)?;
+        let action = match asked {
+            Some(action) => action,
+            None if others.is_empty() => return Err("there is no command".to_string()),
+            None => {
+                let name = others.remove(0).to_string_lossy().into_owned();
+                let action = action(&name, others)?;
+                let broken = RULES.into_iter().find_map(|rule| broken(rule, &name, &given));
+                broken.map_or(Ok(action), Err)?
             }
-        }
-        if let Some(action) = asked {
-            let words = words_too;
-            let options =
-                Options { action, json, page, words, each, first, times, bytes, bare, edition };
-            return Ok(options);
-        }
-        if files.is_empty() {
-            return Err("there is no command".to_string());
-        }
-        let name = files.remove(0).to_string_lossy().into_owned();
-        let action = match (name.as_str(), <[OsString; 1]>::try_from(files)) {
-            ("solve", Ok([file])) => Action::Solve(file),
-            ("times", Ok([file])) => Action::Times(file),
-            ("words", Ok([file])) => Action::Words(file),
-            ("smtlib", Ok([file])) => Action::Smtlib(file),
-            ("edit", Ok([file])) if file == "-" => {
-                return Err(
-                    "edit reads commands from standard input, and FILE is another".to_string()
-                )
-            }
-            ("edit", Ok([file])) => Action::Edit(file),
-            ("day", Ok([file])) => Action::Day(file),
-            ("trace", Ok([file])) => Action::Trace(file),
-            ("audit", Ok([file])) => Action::Audit(file),
-            ("check", Err(files)) if files.len() == 2 => {
-                Action::Check(files[0].clone(), files[1].clone())
-            }
-            ("replay", Err(files)) if files.len() == 2 => {
-                Action::Replay(files[0].clone(), files[1].clone())
-            }
-            ("unpack", Err(files)) if files.len() == 2 => {
-                Action::Unpack(files[0].clone(), files[1].clone())
-            }
-            ("pack", Err(files)) if files.len() >= 2 => {
-                Action::Pack(files[0].clone(), files[1..].to_vec())
-            }
-            ("solve" | "times" | "words" | "smtlib" | "edit" | "day" | "audit" | "trace", _) => {
-                return Err(format!("{name} takes one file"))
-            }
-            ("pack", _) => return Err("pack takes the file to write, and then files".to_string()),
-            ("unpack", _) => return Err("unpack takes a file and a folder".to_string()),
-            ("check" | "replay", _) => return Err(format!("{name} takes two files")),
-            ("help", _) => Action::Help,
-            _ => return Err(format!("there is no command {name}{}", near(&name, &COMMANDS))),
         };
-        let has_page = match action {
-            Action::Day(_) | Action::Audit(_) => !bare,
-            Action::Solve(_) | Action::Times(_) => true,
-            _ => false,
-        };
-        if page && (json || each || !has_page) {
-            let what =
-                "--page is an option of solve, times, day and audit, and not beside --json, \
-                        --each or --bare";
-            return Err(what.to_string());
+        let has = |option: &str| given.contains(&option);
+        Ok(Options {
+            action,
+            json: has("--json"),
+            page: has("--page"),
+            words: has("--words"),
+            each: has("--each"),
+            first: has("--first"),
+            times: has("--times"),
+            bytes: has("--bytes"),
+            bare: has("--bare"),
+            edition,
+        })
+    }
+}
+
+/// What a command does with these files.
+fn action(name: &str, mut files: Vec<OsString>) -> Result<Action, String> {
+    let count = files.len();
+    let count_stdin = files.iter().filter(|file| *file == "-").count();
+    let mut next = || files.remove(0);
+    match (name, count) {
+        ("solve", 1) => Ok(Action::Solve(next())),
+        ("times", 1) => Ok(Action::Times(next())),
+        ("words", 1) => Ok(Action::Words(next())),
+        ("smtlib", 1) => Ok(Action::Smtlib(next())),
+        ("edit", 1) if count_stdin == 1 => {
+            Err("edit reads commands from standard input, and FILE is another".to_string())
         }
-        if words_too && (json || page || each || !matches!(action, Action::Solve(_))) {
-            return Err(
-                "--words is an option of solve, and not beside --json or --each".to_string()
-            );
+        ("edit", 1) => Ok(Action::Edit(next())),
+        ("day", 1) => Ok(Action::Day(next())),
+        ("audit", 1) => Ok(Action::Audit(next())),
+        ("trace", 1) => Ok(Action::Trace(next())),
+        ("check" | "replay", 2) if count_stdin == 2 => {
+            Err("one of the two files can be standard input, not both".to_string())
         }
-        if each && !matches!(action, Action::Solve(_)) {
-            return Err("--each is an option of solve".to_string());
+        ("check", 2) => Ok(Action::Check(next(), next())),
+        ("replay", 2) => Ok(Action::Replay(next(), next())),
+        ("unpack", 2) => Ok(Action::Unpack(next(), next())),
+        ("pack", 2..) => {
+            let day = next();
+            match files.iter().filter(|file| *file == "-").count() {
+                0 | 1 => Ok(Action::Pack(day, files)),
+                _ => Err("one of the files can be standard input, not more".to_string()),
+            }
         }
-        if first && (page || words_too || !matches!(action, Action::Solve(_))) {
-            let what = "--first is an option of solve, and not beside --page or --words";
-            return Err(what.to_string());
-        }
-        if times && !matches!(action, Action::Words(_)) {
-            return Err("--times is an option of words".to_string());
-        }
-        let has_bytes = matches!(action, Action::Words(_) | Action::Trace(_) | Action::Unpack(..));
-        if bytes && !has_bytes {
-            return Err("--bytes is an option of words, of trace and of unpack".to_string());
-        }
-        if bytes && json && matches!(action, Action::Trace(_)) {
-            return Err("--bytes does not go beside --json".to_string());
-        }
-        if bare && (json || !matches!(action, Action::Day(_) | Action::Audit(_))) {
-            return Err("--bare is an option of day and audit, and not beside --json".to_string());
-        }
-        if json && matches!(action, Action::Pack(..) | Action::Unpack(..)) {
-            return Err("--json is no option of pack and unpack".to_string());
-        }
-        if json && matches!(action, Action::Words(_)) {
-            return Err("--json is no option of words".to_string());
-        }
-        if json && matches!(action, Action::Edit(_)) {
-            return Err("--json is no option of edit".to_string());
-        }
-        if json && matches!(action, Action::Smtlib(_)) {
-            return Err("--json is no option of smtlib".to_string());
-        }
-        if matches!(&action, Action::Check(a, b) | Action::Replay(a, b) if a == "-" && b == "-") {
-            return Err("one of the two files can be standard input, not both".to_string());
-        }
-        let is_stdin = |file: &&OsString| *file == "-";
-        if matches!(&action, Action::Pack(_, files) if files.iter().filter(is_stdin).count() > 1) {
-            return Err("one of the files can be standard input, not more".to_string());
-        }
-        if edition.is_some() && !matches!(action, Action::Pack(..)) {
-            return Err("--edition is an option of pack".to_string());
-        }
-        let words = words_too;
-        Ok(Options { action, json, page, words, each, first, times, bytes, bare, edition })
+        ("pack", _) => Err("pack takes the file to write, and then files".to_string()),
+        ("unpack", _) => Err("unpack takes a file and a folder".to_string()),
+        ("check" | "replay", _) => Err(format!("{name} takes two files")),
+        ("help", _) => Ok(Action::Help),
+        _ if COMMANDS.contains(&name) => Err(format!("{name} takes one file")),
+        _ => Err(format!("there is no command {name}{}", near(name, COMMANDS.into_iter()))),
     }
 }
 

@@ -226,7 +226,7 @@ fn what_is_not_packed() {
         (&["pack", &out], 4, "pack takes the file to write, and then files"),
         (&["pack"], 4, "pack takes the file to write"),
         (&["pack", &out, "-", "-"], 4, "one of the files can be standard input"),
-        (&["--json", "pack", &out, &text], 4, "--json is no option of pack"),
+        (&["--json", "pack", &out, &text], 4, "--json is an option of solve, check"),
         (&["unpack", &out], 4, "unpack takes a file and a folder"),
         (&["unpack", "not-there.day", &out], 5, "not-there.day: it cannot be read"),
         (&["day"], 4, "day takes one file"),

@@ -28,7 +28,7 @@ fn limits_switched_by_line() {
     assert!(said.starts_with(&format!("{clash}can ")) && status == 1, "{said}");
     for (words, what) in [
         (&["edit", "-"][..], "commands from standard input"),
-        (&["--json", "edit", "a"], "--json is no option of edit"),
+        (&["--json", "edit", "a"], "--json is an option of solve, check"),
     ] {
         let (_, errors, status) = ran(words, b"");
         assert!(status == 4 && errors.contains(what), "{errors}");

@@ -23,7 +23,7 @@ fn usage_and_files() {
         (&["check", "-"], 4, "check takes two files"),
         (&["check", "-", "-"], 4, "not both"),
         (&["solve", "--fast", "-"], 4, "there is no option --fast"),
-        (&["solve", "--bytes", "-"], 4, "--bytes is an option of words, of trace"),
+        (&["solve", "--bytes", "-"], 4, "--bytes is an option of words, trace and unpack"),
         (&["trace", "--times", "-"], 4, "--times is an option of words"),
         (&["trace"], 4, "trace takes one file"),
         (&["replay", "-"], 4, "replay takes two files"),
@@ -40,7 +40,8 @@ fn usage_and_files() {
         assert!(errors.contains(what), "{words:?}: {errors}");
     }
     let (output, _, status) = ran(&["words", "--json", "-"], b"");
-    assert_eq!((output.as_str(), status), ("{\"error\":\"--json is no option of words\"}\n", 4));
+    let what = "--json is an option of solve, check, times, day, audit, trace and replay";
+    assert_eq!((output, status), (format!("{{\"error\":\"{what}\"}}\n"), 4));
     let (_, errors, status) = ran(&["solve", "-"], &vec![b'#'; 2 << 20]);
     assert!(status == 5 && errors.contains("longer"), "{errors}");
     let wide = |text: &str| text.encode_utf16().flat_map(u16::to_le_bytes).collect::<Vec<u8>>();
@@ -71,6 +72,55 @@ fn usage_and_files() {
         errors.starts_with("standard input:2:3: this byte is no text: save it as UTF-8"),
         "{errors}"
     );
+}
+
+/// Every option with every command: taken by those whose usage has it, and by no
+/// others.
+#[test]
+fn options_are_taken_as_the_usage_has_them() {
+    let help = ran(&["--help"], b"").0;
+    let usage = help.lines().take_while(|line| !line.is_empty());
+    let usage: Vec<&str> = usage.map(|line| line.split_once("scatterflock ").unwrap().1).collect();
+    let commands = ["solve", "check", "times", "words", "smtlib", "edit", "day", "audit", "pack"];
+    let options = ["--json", "--page", "--words", "--each", "--times", "--bytes", "--bare"];
+    let mut taken = 0;
+    for command in commands.into_iter().chain(["unpack", "trace", "replay"]) {
+        let line = usage.iter().find(|line| line.split(' ').any(|word| word == command)).unwrap();
+        let files = line.split(&format!("{command} ")).nth(1).unwrap().split(' ');
+        let files = files.filter(|word| !word.starts_with('[') && !word.ends_with(']')).count();
+        for option in options.into_iter().chain(["--edition=1"]) {
+            let words = [&[option, command], &["no-such-folder/a"; 2][..files]].concat();
+            let (_, errors, _) = ran(&words, b"");
+            let name = option.split('=').next().unwrap();
+            let is_taken = !errors.contains(&format!("{name} is an option of "));
+            let is_told = line.split(['[', ']', ' ', '=']).any(|word| word == name);
+            assert_eq!(is_taken, is_told, "{words:?}: {errors}");
+            taken += usize::from(is_taken);
+        }
+    }
+    assert_eq!(taken, 20);
+}
+
+/// The man page and the completion know every command and every option.
+#[test]
+fn the_man_page_and_the_completion_have_all_words() {
+    let help = ran(&["--help"], b"").0;
+    let words = help.split([' ', '\n', '[', ']', ',', '=']);
+    let options = words.filter(|word| word.starts_with("--") && word.len() > 2);
+    let commands = help.lines().filter_map(|line| line.strip_prefix("  ")?.split(' ').next());
+    let commands = commands.filter(|word| word.starts_with(|c: char| c.is_ascii_lowercase()));
+    let [page, completion] = ["docs/scatterflock.1", "tools/scatterflock.bash"]
+        .map(|file| fs::read_to_string(files::top().join(file)).unwrap().replace('\\', ""));
+    let mut count = 0;
+    for word in options.chain(commands) {
+        let is_in = |text: &str| {
+            text.split(|c: char| !c.is_ascii_alphanumeric() && c != '-').any(|part| part == word)
+        };
+        assert!(is_in(&page), "docs/scatterflock.1 has no {word}");
+        assert!(is_in(&completion), "tools/scatterflock.bash has no {word}");
+        count += 1;
+    }
+    assert!(count > 30, "{count} words");
 }
 
 #[test]
