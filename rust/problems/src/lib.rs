@@ -11,10 +11,12 @@
 //! - `damage`: words that are nearly right, and words that are not
 //! - `evidence`: answers that are nearly right
 //! - `times`: random time rows, by family
+//! - `times_evidence`: times and cycles that are nearly right
 //! - `sessions`: scripts of switches and checks
 //! - `bundles`: days' files, and calls of their writer
 //! - `traces`: worked traces, and such that are nearly right
 //! - `audits`: days' files as an auditor has them
+//! - `wide`: dense problems beyond the range, and wide evidence that is nearly right
 
 pub mod audits;
 pub mod bundles;
@@ -29,5 +31,7 @@ pub mod random;
 pub mod sessions;
 pub mod strict;
 pub mod times;
+pub mod times_evidence;
 pub mod traces;
+pub mod wide;
 pub mod worked;

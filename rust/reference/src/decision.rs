@@ -1,6 +1,7 @@
 //! Whether fractions meet a problem, however large the numbers grow.
 //!
-//! The steps are those of the run, and there is no range. The common number of
+//! The steps are those of the run, or the same by the highest numbers in place of
+//! the lowest, which end as well; and there is no range. The common number of
 //! the tableau is not reduced: each entry is then a determinant of coefficients,
 //! with at most 8 rows and columns, so that it has less than 93 bits and every
 //! division is exact.
@@ -12,8 +13,18 @@ use std::collections::BTreeMap;
 /// A plain part and a small one.
 type Whole = (i128, i128);
 
+/// Which numbers leave and enter first.
+#[derive(Debug, Clone, Copy, PartialEq, Eq)]
+pub enum Numbers {
+    /// As the rule has it.
+    Lowest,
+    /// The other way round: another run, with the same verdict.
+    Highest,
+}
+
 struct Tableau<'a> {
     problem: &'a Problem,
+    numbers: Numbers,
     common: i128,
     /// `common` times a basic variable is the sum of its entries, each times its
     /// nonbasic variable.
@@ -27,19 +38,31 @@ pub fn can_be_met(words: &[i32]) -> bool {
     Problem::read(words).is_ok_and(|problem| is_met(&problem))
 }
 
+/// The same by a run of these numbers, and how many pivots it took. There is
+/// nothing to say of refused words.
+pub fn decided(words: &[i32], numbers: Numbers) -> Option<(bool, u64)> {
+    Problem::read(words).ok().map(|problem| ended(&problem, numbers))
+}
+
 /// The same of what the words say.
 pub fn is_met(problem: &Problem) -> bool {
+    ended(problem, Numbers::Lowest).0
+}
+
+fn ended(problem: &Problem, numbers: Numbers) -> (bool, u64) {
     if problem.limits.iter().any(Limits::crossed) {
-        return false;
+        return (false, 0);
     }
-    let mut tableau = Tableau::start(problem);
+    let mut tableau = Tableau::start(problem, numbers);
+    let mut pivots = 0;
     while let Some((leaving, rises)) = tableau.leaving() {
         let Some(entering) = tableau.entering(leaving, rises) else {
-            return false;
+            return (false, pivots);
         };
         tableau.exchange(leaving, entering, rises);
+        pivots += 1;
     }
-    true
+    (true, pivots)
 }
 
 fn least(limits: &Limits) -> Option<Whole> {
@@ -56,7 +79,7 @@ fn times(factor: i128, (plain, small): Whole) -> Whole {
 
 impl<'a> Tableau<'a> {
     /// A row without a limit asks for nothing, and is left out.
-    fn start(problem: &'a Problem) -> Tableau<'a> {
+    fn start(problem: &'a Problem, numbers: Numbers) -> Tableau<'a> {
         let nearest = |limits: &Limits| match (least(limits), most(limits)) {
             (Some(least), _) if least > (0, 0) => least,
             (_, Some(most)) if most < (0, 0) => most,
@@ -70,15 +93,16 @@ impl<'a> Tableau<'a> {
         let entries = |row: &Vec<i128>| row.iter().copied().enumerate().collect();
         Tableau {
             problem,
+            numbers,
             common: 1,
             rows: rows.map(|(variable, row)| (variable, entries(row))).collect(),
             values: (0..problem.n).zip(problem.limits.iter().map(nearest)).collect(),
         }
     }
 
-    /// The lowest basic variable outside its limits, and whether it has to rise.
+    /// The first basic variable outside its limits, and whether it has to rise.
     fn leaving(&self) -> Option<(Variable, bool)> {
-        self.rows.iter().find_map(|(&variable, row)| {
+        let outside = |(&variable, row): (&Variable, &BTreeMap<Variable, i128>)| {
             let limits = &self.problem.limits[variable];
             let terms = row.iter().map(|(other, &entry)| times(entry, self.values[other]));
             let value = terms.fold((0, 0), |sum, term| (sum.0 + term.0, sum.1 + term.1));
@@ -89,10 +113,14 @@ impl<'a> Tableau<'a> {
             } else {
                 None
             }
-        })
+        };
+        match self.numbers {
+            Numbers::Lowest => self.rows.iter().find_map(outside),
+            Numbers::Highest => self.rows.iter().rev().find_map(outside),
+        }
     }
 
-    /// The lowest nonbasic variable that can move it the right way.
+    /// The first nonbasic variable that can move it the right way.
     fn entering(&self, leaving: Variable, rises: bool) -> Option<Variable> {
         let suits = |(variable, &entry): &(&Variable, &i128)| {
             let limits = &self.problem.limits[**variable];
@@ -103,7 +131,12 @@ impl<'a> Tableau<'a> {
                 _ => least(limits).is_none_or(|least| value > least),
             }
         };
-        self.rows[&leaving].iter().find(suits).map(|(&variable, _)| variable)
+        let row = &self.rows[&leaving];
+        let found = match self.numbers {
+            Numbers::Lowest => row.iter().find(suits),
+            Numbers::Highest => row.iter().rev().find(suits),
+        };
+        found.map(|(&variable, _)| variable)
     }
 
     /// The two change places, and the leaving one takes its limit.

@@ -16,10 +16,13 @@
 //! - `answer`: how a run ended, and the words that say so
 //! - `evidence`: the checker, which uses nothing of the run
 //! - `actual`: the fractions that an answer stands for
-//! - `decision`: whether fractions meet a problem, however large the numbers
+//! - `decision`: whether fractions meet a problem, however large the numbers, by
+//!   the rule's own steps or by those of the highest numbers
 //! - `wide`: the one division that this takes
 //! - `idle`: whether a "cannot" names a limit for nothing
-//! - `times`: time rows, and a judge of anybody's answer to them
+//! - `wide_evidence`: the checker of wide evidence, in halves of its own
+//! - `times`: time rows, and a judge of the time solver's output
+//! - `times_evidence`: the checker of anybody's times and cycles
 //! - `program`: the text that the program prints
 //! - `bundle`: a day's file, read, written and printed
 //! - `smtlib`: a limit problem as SMT-LIB text
@@ -42,12 +45,14 @@ mod slices;
 mod smtlib;
 mod tableau;
 mod times;
+mod times_evidence;
 mod trace;
 mod wide;
+mod wide_evidence;
 
 pub use actual::meets;
 pub use bundle::{bundle_read, bundle_write, day, day_text, Contents};
-pub use decision::can_be_met;
+pub use decision::{can_be_met, decided, Numbers};
 pub use evidence::check;
 pub use idle::{idle, named, Named};
 pub use program::respond;
@@ -58,4 +63,6 @@ pub use slices::{Continued, Slice};
 pub use smtlib::smtlib_write;
 pub use tableau::Pivot;
 pub use times::{times, times_is_right};
+pub use times_evidence::check_times;
 pub use trace::{replay, trace, Replayed};
+pub use wide_evidence::check_wide;

@@ -19,17 +19,17 @@ type Length = (i64, i64);
 
 /// A time row as an edge.
 #[derive(Debug, Clone, Copy, PartialEq, Eq)]
-struct Edge {
-    from: usize,
-    to: usize,
-    c: i64,
-    is_strict: bool,
+pub struct Edge {
+    pub from: usize,
+    pub to: usize,
+    pub c: i64,
+    pub is_strict: bool,
 }
 
 #[derive(Debug, Clone, PartialEq, Eq)]
-struct Graph {
-    vertices: usize,
-    edges: Vec<Edge>,
+pub struct Graph {
+    pub vertices: usize,
+    pub edges: Vec<Edge>,
 }
 
 /// Writes times or a cycle and returns 0, or returns the number of the
@@ -88,7 +88,7 @@ pub fn times_is_right(rows: &[i32], before: &[i64], after: &[i64], returned: u32
 
 impl Graph {
     /// The edges of the rows, or the number that refuses them.
-    fn read(words: &[i32]) -> Result<Graph, u32> {
+    pub fn read(words: &[i32]) -> Result<Graph, u32> {
         if words.len() < 2 {
             return Err(11);
         }
@@ -201,7 +201,8 @@ impl Graph {
         }
     }
 
-    fn allows_cycle(&self, count: i64, words: &[i64]) -> bool {
+    /// Whether so many of these words are the rows of a bad cycle, and the others 0.
+    pub fn allows_cycle(&self, count: i64, words: &[i64]) -> bool {
         let Ok(count) = usize::try_from(count) else {
             return false;
         };
