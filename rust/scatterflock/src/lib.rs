@@ -51,6 +51,8 @@
 //! - [`Problem`], [`solve()`], [`solve_within`], [`check`]: limit problems, answers
 //!   and their judgement; [`Problem::named`]: one by names; [`Problem::to_smtlib`]:
 //!   one as text for other solvers
+//! - [`Problem::decide`], [`WideAnswer`], [`check_wide`]: the same in numbers of
+//!   128 bits, where a run would leave its range
 //! - [`Fractions`]: values as numbers over one denominator
 //! - [`Slice`]: a run that is made some pivots at a time
 //! - [`Session`]: limits that are switched on and off, and checked again
@@ -58,7 +60,7 @@
 //!   and a run's own
 //! - [`Violation`], [`first_violation()`]: what a run would move first, and by how
 //!   much
-//! - [`TimeRows`], [`times()`]: time rows
+//! - [`TimeRows`], [`times()`], [`check_times`]: time rows, and evidence about them
 //! - [`Bundle`], [`day()`]: a day's problems in one file
 //! - [`Sheet`], [`sheet()`]: their totals, for an auditor
 //! - [`Refusal`], [`TimesRefusal`], [`SwitchRefusal`], [`BundleRefusal`]: why
@@ -92,6 +94,7 @@ mod smtlib;
 mod times;
 mod trace;
 mod violation;
+mod wide;
 
 pub use answer::{check, solve, solve_within, Answer, Judgement, Verdict};
 pub use build_error::BuildError;
@@ -105,6 +108,7 @@ pub use rows::TimeRows;
 pub use session::Session;
 pub use sheet::{sheet, Named, Sheet};
 pub use slice::Slice;
-pub use times::{times, Schedule, Time};
+pub use times::{check_times, times, Schedule, Time};
 pub use trace::{replay, trace, Replayed, TraceWord};
 pub use violation::{first_violation, Violation};
+pub use wide::{check_wide, widened, WideAnswer, WideVerdict};

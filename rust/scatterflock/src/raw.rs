@@ -2,11 +2,13 @@
 //! Nothing is allocated.
 
 mod bundle;
+mod evidence;
 mod smtlib;
 mod traces;
 mod violation;
 
 pub use bundle::{bundle_read, bundle_write, day, sheet, Contents};
+pub use evidence::{check_times, check_wide};
 pub use smtlib::{smtlib_write, Exchanged};
 pub use traces::{replay, trace, Replayed, Traced};
 pub use violation::{first_violation, session_violation, Violation};

@@ -1,8 +1,10 @@
 //! Time rows that are built step by step, and checked at each.
 
+use crate::answer::Judgement;
 use crate::build_error::BuildError;
+use crate::refusal::TimesRefusal;
 use crate::sizes::{LARGEST_LENGTH, MOST_TIME_ROWS, MOST_VERTICES};
-use crate::times::{times, Schedule};
+use crate::times::{check_times, times, Schedule};
 
 /// Time rows over points in time, which are numbered from 0. What is wrong
 /// with them is told while they are built, so rows that are there are never
@@ -81,5 +83,14 @@ impl TimeRows {
     #[must_use]
     pub fn solve(&self) -> Schedule {
         times(&self.words()).expect("rows that were built are not refused")
+    }
+
+    /// Checks an answer's words, anybody's.
+    ///
+    /// # Errors
+    ///
+    /// [`TimesRefusal::Short`], of an answer that has too few words.
+    pub fn check(&self, answer: &[i64]) -> Result<Judgement, TimesRefusal> {
+        check_times(&self.words(), answer)
     }
 }

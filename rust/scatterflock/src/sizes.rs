@@ -17,6 +17,8 @@ pub const LARGEST_SMALL: i64 = MOST_VARIABLES as i64 * LARGEST_NUMBER;
 pub const MOST_WORDS: usize = 2 + MOST_ROWS * MOST_VARIABLES + 3 * (MOST_VARIABLES + MOST_ROWS);
 /// The most words of an answer to one.
 pub const MOST_ANSWER: usize = 3 + 2 * (MOST_VARIABLES + MOST_ROWS);
+/// The most words of a wide one, whose numbers have four words each.
+pub const MOST_WIDE: usize = 6 + 8 * (MOST_VARIABLES + MOST_ROWS);
 /// No SMT-LIB text of a limit problem has more bytes.
 pub const MOST_SMTLIB: usize =
     31 + 81 * (MOST_VARIABLES + MOST_ROWS) + (21 + 16 * MOST_VARIABLES) * MOST_ROWS;

@@ -1,5 +1,6 @@
 //! Time rows: times that meet all of them, or rows that cannot be met.
 
+use crate::answer::Judgement;
 use crate::fractions::Fractions;
 use crate::raw;
 use crate::refusal::TimesRefusal;
@@ -59,6 +60,33 @@ pub fn times(rows: &[i32]) -> Result<Schedule, TimesRefusal> {
     }
 }
 
+/// Checks an answer's words, anybody's, against the time rows': times that meet
+/// every row, or a cycle of rows that cannot be met together
+/// (docs/formats/time-rows.md).
+///
+/// ```
+/// use scatterflock::{check_times, Judgement, TimesRefusal};
+///
+/// // x - y <= -3: y comes at least 3 minutes after x, at 10 and 13 too
+/// let rows = [2, 1, 0, 1, 0, -3];
+/// assert_eq!(check_times(&rows, &[1, 2, 10, 13, 0, 0]), Ok(Judgement::Accepted));
+/// assert_eq!(check_times(&rows, &[1, 2, 10, 12, 0, 0]), Ok(Judgement::Rejected));
+/// assert_eq!(check_times(&rows, &[1, 2]), Err(TimesRefusal::Short));
+/// ```
+///
+/// # Errors
+///
+/// The refusal of words that are no time rows, or [`TimesRefusal::Short`].
+pub fn check_times(rows: &[i32], answer: &[i64]) -> Result<Judgement, TimesRefusal> {
+    match raw::check_times(rows, answer) {
+        8 => Ok(Judgement::Accepted),
+        9 => Ok(Judgement::Rejected),
+        number => {
+            Err(TimesRefusal::try_from(number).expect("the checker returns 8, 9 or a refusal"))
+        }
+    }
+}
+
 impl Schedule {
     fn read(out: &[i64]) -> Schedule {
         let count = out[1] as usize;
@@ -69,6 +97,35 @@ impl Schedule {
         } else {
             Schedule::Cycle(listed.iter().map(|&row| row as usize).collect())
         }
+    }
+
+    /// The words of the answer to rows over so many vertices, as [`check_times`]
+    /// takes them.
+    ///
+    /// ```
+    /// use scatterflock::{check_times, times, Judgement};
+    ///
+    /// let rows = [2, 1, 0, 1, 0, -3];
+    /// let evidence = times(&rows)?.evidence(2);
+    /// assert_eq!(evidence, [1, 2, 0, 3, 0, 0]);
+    /// assert_eq!(check_times(&rows, &evidence), Ok(Judgement::Accepted));
+    /// # Ok::<(), scatterflock::TimesRefusal>(())
+    /// ```
+    #[must_use]
+    pub fn evidence(&self, vertices: usize) -> Vec<i64> {
+        let mut words = match self {
+            Schedule::Times(times) => {
+                let minutes = times.iter().map(|time| time.minutes);
+                let all = minutes.chain(times.iter().map(|time| time.small));
+                [1, times.len() as i64].into_iter().chain(all).collect()
+            }
+            Schedule::Cycle(rows) => {
+                let listed = rows.iter().map(|&row| row as i64);
+                [2, rows.len() as i64].into_iter().chain(listed).collect::<Vec<i64>>()
+            }
+        };
+        words.resize(2 + 2 * vertices, 0);
+        words
     }
 
     /// Times that meet all rows, as numbers: 1 / n is put for the small amount.

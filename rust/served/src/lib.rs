@@ -38,6 +38,8 @@ enum Function {
     Replay = 13,
     Trace = 14,
     SmtlibWrite = 15,
+    CheckWide = 16,
+    CheckTimes = 17,
     FirstViolation = 19,
     SessionViolation = 20,
 }
@@ -151,6 +153,16 @@ pub fn solve_within(most_rows: u32, words: &[i32], out: &mut [i64]) -> u32 {
 /// Judges an answer to a limit problem.
 pub fn check(words: &[i32], answer: &[i64]) -> u32 {
     ask(Function::Check, words, &mut answer.to_vec())
+}
+
+/// Judges wide evidence for a limit problem.
+pub fn check_wide(words: &[i32], answer: &[i64]) -> u32 {
+    ask(Function::CheckWide, words, &mut answer.to_vec())
+}
+
+/// Judges evidence about time rows.
+pub fn check_times(rows: &[i32], answer: &[i64]) -> u32 {
+    ask(Function::CheckTimes, rows, &mut answer.to_vec())
 }
 
 /// Answers time rows.
