@@ -3,6 +3,7 @@
 use crate::clash::{counted, left_sum, reference, sum_text};
 use crate::fraction::Pair;
 use crate::input::{self, any_text, bad};
+use crate::options::Options;
 use crate::problem::{all_limits, place, problem, refused_words, Values};
 use crate::table::table;
 use crate::{json, Ended, Failure, CAN, CANNOT};
@@ -11,23 +12,42 @@ use std::ffi::OsStr;
 use std::io::Read;
 use text::limits::{Limits, Side};
 
-/// The largest denominator and multiplier that the checker takes.
-const LARGEST: i64 = 2_147_483_647;
-/// The largest numerator that the checker takes.
-const LARGEST_NUMERATOR: u64 = 515_396_075_280_000;
-/// The largest small part.
-const LARGEST_SMALL: u64 = scatterflock::sizes::LARGEST_SMALL.unsigned_abs();
+/// The largest denominator and multiplier, the largest numerator and the largest
+/// small part.
+struct Largest {
+    number: i128,
+    numerator: i128,
+    small: i128,
+}
+
+/// What the checker takes.
+const NARROW: Largest = Largest {
+    number: 2_147_483_647,
+    numerator: 515_396_075_280_000,
+    small: scatterflock::sizes::LARGEST_SMALL as i128,
+};
+
+/// Of wide evidence, what is looked at beside its checker, which takes more.
+const WIDE: Largest = Largest { number: 1 << 95, numerator: 1 << 112, small: 1 << 112 };
 
 pub fn run(
     file: &OsStr,
     answer: &OsStr,
-    is_json: bool,
+    options: &Options,
     stdin: &mut dyn Read,
 ) -> Result<Ended, Failure> {
+    let (is_json, is_wide) = (options.json, options.wide);
     let (_, problem) = problem(input::problem(file, stdin)?)?;
     let (name, text) = any_text(answer, stdin)?;
     let words = text::answer::read(&text, &problem).map_err(|fault| bad(&name, &text, fault))?;
-    let judged = scatterflock::check(&problem.words(), &words);
+    let words = match is_wide && !text::numbers::are_bare(&text) {
+        true => scatterflock::widened(&words),
+        false => words,
+    };
+    let judged = match is_wide {
+        true => scatterflock::check_wide(&problem.words(), &words),
+        false => scatterflock::check(&problem.words(), &words),
+    };
     let judgement = judged.map_err(|refusal| match refusal {
         Refusal::Short => Failure::Refused {
             number: refusal.number(),
@@ -38,7 +58,11 @@ pub fn run(
     })?;
     let is_accepted = judgement == Judgement::Accepted;
     let status = if is_accepted { CAN } else { CANNOT };
-    let why = if is_accepted { Why::default() } else { why(&problem, &words) };
+    let why = match (is_accepted, is_wide) {
+        (true, _) => Why::default(),
+        (false, true) => why_wide(&problem, &words),
+        (false, false) => why_narrow(&problem, &words),
+    };
     if is_json {
         let listed = why.rows.iter().map(|row| json::text(&row.join("   ")));
         let mut fields = vec![("accepted", is_accepted.to_string())];
@@ -52,15 +76,24 @@ pub fn run(
             1 => "these values meet all limits",
             _ => "these limits, so many times each, cannot be met together",
         };
-        let said = format!("accepted\n\n# The proved checker says that {shown}.\n");
+        let said = format!("accepted\n\n# The proved {} says that {shown}.\n", checker(is_wide));
         return Ok(Ended::saying(said, status));
     }
     let Why { what, rows, sum } = why;
     let said = format!(
-        "not accepted\n\n# The proved checker does not take this for evidence. {what}\n{}{sum}",
+        "not accepted\n\n# The proved {} does not take this for evidence. {what}\n{}{sum}",
+        checker(is_wide),
         table("#   ", &rows)
     );
     Ok(Ended::saying(said, status))
+}
+
+fn checker(is_wide: bool) -> &'static str {
+    if is_wide {
+        "checker of wide evidence"
+    } else {
+        "checker"
+    }
 }
 
 /// Why an answer is not accepted: a sentence, what it is about, and of a
@@ -79,26 +112,55 @@ impl Why {
     }
 }
 
-fn why(problem: &Limits, words: &[i64]) -> Why {
+fn why_narrow(problem: &Limits, words: &[i64]) -> Why {
+    let numbers: Vec<i128> = words[2..].iter().map(|&word| word.into()).collect();
+    why(problem, words[0], &numbers, &NARROW)
+}
+
+fn why_wide(problem: &Limits, words: &[i64]) -> Why {
+    let count = 1 + 2 * problem.limits.len();
+    let read = |limbs: &[i64]| {
+        let number = limbs.iter().rev().fold(0, |above, &limb| (above << 32) | i128::from(limb));
+        let is_right = limbs[..3].iter().all(|limb| (0..1 << 32).contains(limb))
+            && (-(1 << 31)..1 << 31).contains(&limbs[3]);
+        is_right.then_some(number)
+    };
+    let numbers: Option<Vec<i128>> = words[2..2 + 4 * count].chunks(4).map(read).collect();
+    let Some(numbers) = numbers else {
+        let what = "A word of its numbers is out of range: of four, three are from 0 to \
+                    4294967295 and the last from -2147483648 to 2147483647.";
+        return Why::new(what, vec![]);
+    };
+    why(problem, words[0], &numbers, &WIDE)
+}
+
+/// Of the verdict and the numbers behind the count of pivots.
+fn why(problem: &Limits, verdict: i64, numbers: &[i128], largest: &Largest) -> Why {
     let count = problem.limits.len();
-    let (first, second) = words[3..3 + 2 * count].split_at(count);
-    match words[0] {
-        1 => why_not_can(problem, words[2], first, second),
-        2 => why_not_cannot(problem, words[2], [first, second]),
+    let (first, second) = numbers[1..1 + 2 * count].split_at(count);
+    match verdict {
+        1 => why_not_can(problem, numbers[0], [first, second], largest),
+        2 => why_not_cannot(problem, numbers[0], [first, second], largest),
         other => {
             Why::new(&format!("Its first word is {other}: 1 is \"can\", 2 is \"cannot\"."), vec![])
         }
     }
 }
 
-fn why_not_can(problem: &Limits, over: i64, plain: &[i64], small: &[i64]) -> Why {
-    if !(1..=LARGEST).contains(&over) {
-        let what = format!("Its denominator is {over}, and has to be from 1 to {LARGEST}.");
+fn why_not_can(
+    problem: &Limits,
+    over: i128,
+    [plain, small]: [&[i128]; 2],
+    largest: &Largest,
+) -> Why {
+    if !(1..=largest.number).contains(&over) {
+        let number = largest.number;
+        let what = format!("Its denominator is {over}, and has to be from 1 to {number}.");
         return Why::new(&what, vec![]);
     }
-    let is_beyond = |part: i64, most: u64| part.unsigned_abs() > most;
+    let is_beyond = |part: i128, most: i128| !(-most..=most).contains(&part);
     let beyond = (0..plain.len()).filter(|&variable| {
-        is_beyond(plain[variable], LARGEST_NUMERATOR) || is_beyond(small[variable], LARGEST_SMALL)
+        is_beyond(plain[variable], largest.numerator) || is_beyond(small[variable], largest.small)
     });
     let beyond: Vec<Vec<String>> = beyond.map(|variable| vec![problem.left(variable)]).collect();
     if !beyond.is_empty() {
@@ -106,14 +168,14 @@ fn why_not_can(problem: &Limits, over: i64, plain: &[i64], small: &[i64]) -> Why
     }
     let values = Values { problem, over, plain, small };
     let other = (0..problem.rows.len()).filter_map(|row| {
-        let sum_of = |part: &[i64]| {
+        let sum_of = |part: &[i128]| {
             let terms = problem.rows[row].iter().zip(part);
-            terms.map(|(coefficient, value)| i64::from(*coefficient) * value).sum::<i64>()
+            terms.map(|(coefficient, value)| i128::from(*coefficient) * value).sum::<i128>()
         };
         let variable = problem.names.len() + row;
         let (said, sum) = (
             values.at(variable),
-            Pair::new([sum_of(plain), sum_of(small)], over * problem.scale(variable)),
+            Pair::new([sum_of(plain), sum_of(small)], over * i128::from(problem.scale(variable))),
         );
         let told =
             || vec![problem.left(variable), format!("is said to be {said}, and comes to {sum}")];
@@ -126,7 +188,12 @@ fn why_not_can(problem: &Limits, over: i64, plain: &[i64], small: &[i64]) -> Why
     Why::new("These values break", broken(problem, values))
 }
 
-fn why_not_cannot(problem: &Limits, third: i64, multipliers: [&[i64]; 2]) -> Why {
+fn why_not_cannot(
+    problem: &Limits,
+    third: i128,
+    multipliers: [&[i128]; 2],
+    largest: &Largest,
+) -> Why {
     if third != 0 {
         return Why::new(&format!("Its third word is {third}, and 0 in a \"cannot\"."), vec![]);
     }
@@ -136,7 +203,9 @@ fn why_not_cannot(problem: &Limits, third: i64, multipliers: [&[i64]; 2]) -> Why
         let times = multipliers[side as usize][variable];
         let is_there = problem.limits[variable][side as usize].is_some();
         let what = match is_there {
-            true if !(0..=LARGEST).contains(&times) => format!("from 0 to {LARGEST} times"),
+            true if !(0..=largest.number).contains(&times) => {
+                format!("from 0 to {} times", largest.number)
+            }
             false if times != 0 => "there is no such limit".to_string(),
             _ => return None,
         };

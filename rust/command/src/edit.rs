@@ -2,10 +2,11 @@
 //! with an answer after each switch.
 
 use crate::clash::{counted, reference, sum_text};
+use crate::found::widened;
 use crate::problem::{all_limits, problem, refused_words, Values};
 use crate::table::table;
 use crate::{input, own, Ended, Failure, BAD, CAN, CANNOT, RANGE};
-use scatterflock::{Answer, Judgement, Session, Verdict};
+use scatterflock::{Judgement, Session, WideVerdict};
 use std::ffi::OsStr;
 use std::io::{BufRead, Write};
 use text::limits::{Limits, Side};
@@ -28,7 +29,7 @@ struct Editor {
     /// Earlier sessions, to come back to.
     before: Vec<Session>,
     /// The last answer.
-    answer: Answer,
+    verdict: Option<WideVerdict>,
     /// Whether a command was not understood.
     has_slip: bool,
 }
@@ -39,8 +40,8 @@ pub fn run(file: &OsStr, lines: &mut dyn BufRead, out: &mut dyn Write) -> Result
     let (_, problem) = problem(input::problem(file, &mut std::io::empty())?)?;
     let words = problem.words();
     let session = Session::open(&words).map_err(|refusal| refused_words(&problem, refusal))?;
-    let answer = Answer { pivots: 0, verdict: Verdict::OutOfRange };
-    let mut editor = Editor { problem, session, before: Vec::new(), answer, has_slip: false };
+    let mut editor =
+        Editor { problem, session, before: Vec::new(), verdict: None, has_slip: false };
     for limit in all_limits(&editor.problem) {
         editor.switch(limit, true)?;
     }
@@ -56,11 +57,11 @@ pub fn run(file: &OsStr, lines: &mut dyn BufRead, out: &mut dyn Write) -> Result
         }
         said = editor.told(line.split('#').next().unwrap_or("").trim())?;
     }
-    let status = match editor.answer.verdict {
+    let status = match editor.verdict {
         _ if editor.has_slip => BAD,
-        Verdict::Can { .. } => CAN,
-        Verdict::Cannot { .. } => CANNOT,
-        _ => RANGE,
+        Some(WideVerdict::Can { .. }) => CAN,
+        Some(WideVerdict::Cannot { .. }) => CANNOT,
+        None => RANGE,
     };
     Ok(Ended { output: Vec::new(), errors: String::new(), status })
 }
@@ -162,20 +163,21 @@ impl Editor {
     /// The answer for what is on, in one line. The checker has accepted it, and it is
     /// right in the text's own numbers.
     fn answered(&mut self) -> Result<String, Failure> {
-        self.answer = self.session.check();
-        if let Some(evidence) = self.answer.evidence() {
+        let answer = self.session.check();
+        self.verdict = widened(&answer.verdict);
+        if let Some(evidence) = answer.evidence() {
             let accepted = scatterflock::check(&self.session.live_words(), &evidence);
-            let agrees = own::agrees(&self.live(), &self.answer.verdict);
+            let agrees = own::agrees(&self.live(), &self.verdict);
             if accepted != Ok(Judgement::Accepted) || !agrees {
                 return Err(Failure::Contradicted);
             }
         }
-        if let Some(values) = Values::of(&self.problem, &self.answer.verdict) {
+        if let Some(values) = Values::of(&self.problem, &self.verdict) {
             let names = self.problem.names.iter().enumerate();
             let said = names.map(|(at, name)| format!("{name} = {}", values.at(at)));
             return Ok(format!("can      {}\n", said.collect::<Vec<_>>().join(", ")));
         }
-        let Verdict::Cannot { lower, upper } = &self.answer.verdict else {
+        let Some(WideVerdict::Cannot { lower, upper }) = &self.verdict else {
             return Ok("range\n".to_string());
         };
         let named = counted(&self.problem, [lower, upper]).into_iter();
@@ -189,10 +191,10 @@ impl Editor {
 
     /// What the last answer rests on.
     fn why(&self) -> String {
-        if let Verdict::Cannot { lower, upper } = &self.answer.verdict {
+        if let Some(WideVerdict::Cannot { lower, upper }) = &self.verdict {
             return sum_text(&self.problem, &counted(&self.problem, [lower, upper]));
         }
-        let Some(values) = Values::of(&self.problem, &self.answer.verdict) else {
+        let Some(values) = Values::of(&self.problem, &self.verdict) else {
             return "a number grew beyond 2147483647\n".to_string();
         };
         let on = all_limits(&self.problem).into_iter().filter(|&limit| self.is_on(limit));

@@ -1,31 +1,40 @@
 //! Fractions in lowest terms, with small amounts, and decimals to read.
 
+use finder::Whole;
 use std::fmt;
 use text::answer::SMALL;
+use text::Exact;
 
 /// How many digits a decimal has behind the point at most.
 const DIGITS: u32 = 6;
 
-/// A fraction in lowest terms, the denominator above 0.
+/// A fraction in lowest terms, the denominator above 0. Numbers of wide answers
+/// have up to 110 bits, and those of texts few more than 20: there is room for
+/// their products here.
 #[derive(Debug, Clone, Copy, PartialEq, Eq)]
 pub struct Fraction {
-    pub numerator: i64,
-    pub denominator: i64,
+    pub numerator: i128,
+    pub denominator: i128,
 }
 
 impl Fraction {
     /// `denominator` is above 0.
-    pub fn new(numerator: i64, denominator: i64) -> Fraction {
-        let common = divisor(numerator.unsigned_abs(), denominator.unsigned_abs()) as i64;
+    pub fn new(numerator: i128, denominator: i128) -> Fraction {
+        let common = divisor(numerator.unsigned_abs(), denominator.unsigned_abs()) as i128;
         Fraction { numerator: numerator / common, denominator: denominator / common }
     }
 
     /// The decimal, and whether it is the fraction exactly.
     pub fn decimal(self) -> (String, bool) {
-        let (size, over) = (i128::from(self.numerator).abs(), i128::from(self.denominator));
+        let (size, over) = (self.numerator.abs(), self.denominator);
         let scale = 10_i128.pow(DIGITS);
-        let is_exact = size * scale % over == 0;
-        let scaled = (2 * size * scale + over) / (2 * over);
+        let (mut scaled, mut rest) = (size / over, size % over);
+        for _ in 0..DIGITS {
+            scaled = 10 * scaled + 10 * rest / over;
+            rest = 10 * rest % over;
+        }
+        let is_exact = rest == 0;
+        scaled += i128::from(2 * rest >= over);
         let sign = if self.numerator < 0 && scaled > 0 { "-" } else { "" };
         let digits = format!("{:0width$}", scaled % scale, width = DIGITS as usize);
         let digits = digits.trim_end_matches('0');
@@ -40,6 +49,51 @@ impl Fraction {
             true => decimal,
             false => format!("about {decimal}"),
         })
+    }
+}
+
+impl Fraction {
+    /// As a text writes it: `3`, `93.5`, or `1/3`.
+    pub fn as_text(self) -> String {
+        match self.decimal() {
+            (decimal, true) => decimal,
+            _ => self.to_string(),
+        }
+    }
+
+    /// The sum.
+    pub fn plus(self, other: Fraction) -> Fraction {
+        let [a, b] = [self.numerator, self.denominator].map(Whole::from);
+        let [c, d] = [other.numerator, other.denominator].map(Whole::from);
+        lowest(&(&a * &d) + &(&c * &b), &b * &d)
+    }
+
+    /// So many times, with either sign.
+    pub fn times(self, factor: i128) -> Fraction {
+        let numerator = &Whole::from(self.numerator) * &Whole::from(factor);
+        lowest(numerator, self.denominator.into())
+    }
+
+    /// An equal part of it; of so many, above 0.
+    pub fn part(self, of: i128) -> Fraction {
+        lowest(self.numerator.into(), &Whole::from(self.denominator) * &Whole::from(of))
+    }
+}
+
+/// In lowest terms no number of an answer comes near 128 bits, though it may on
+/// the way.
+fn lowest(numerator: Whole, denominator: Whole) -> Fraction {
+    let common = numerator.divisor(&denominator);
+    let [numerator, denominator] = [numerator, denominator].map(|number| {
+        let (quotient, _) = number.divided(&common);
+        quotient.to_i128().expect("numbers of answers are smaller in lowest terms")
+    });
+    Fraction { numerator, denominator }
+}
+
+impl From<Exact> for Fraction {
+    fn from(number: Exact) -> Fraction {
+        Fraction::new(number.numerator.into(), number.denominator.into())
     }
 }
 
@@ -61,13 +115,13 @@ pub struct Pair {
 
 impl Pair {
     /// `over` is above 0.
-    pub fn new([plain, small]: [i64; 2], over: i64) -> Pair {
+    pub fn new([plain, small]: [i128; 2], over: i128) -> Pair {
         Pair { plain: Fraction::new(plain, over), small: Fraction::new(small, over) }
     }
 
     /// Below 0, 0 or above it: the plain part decides, and where it is 0 the
     /// small one.
-    pub fn sign(self) -> i64 {
+    pub fn sign(self) -> i128 {
         match (self.plain.numerator, self.small.numerator) {
             (0, small) => small.signum(),
             (plain, _) => plain.signum(),
@@ -110,7 +164,7 @@ impl fmt::Display for Pair {
     }
 }
 
-fn divisor(a: u64, b: u64) -> u64 {
+fn divisor(a: u128, b: u128) -> u128 {
     if b == 0 {
         a.max(1)
     } else {
@@ -133,6 +187,12 @@ mod tests {
             (1, 1_000_000, "1/1000000", Some("0.000001")),
             (-1, 2_147_483_647, "-1/2147483647", Some("about 0")),
             (2_999_999_999, 3_000_000_000, "2999999999/3000000000", Some("about 1")),
+            (
+                -(1 << 100) - 1,
+                1 << 85,
+                "-1267650600228229401496703205377/38685626227668133590597632",
+                Some("about -32768"),
+            ),
         ] {
             let fraction = Fraction::new(numerator, denominator);
             assert_eq!(fraction.to_string(), text);

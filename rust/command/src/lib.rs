@@ -5,6 +5,7 @@
 //! - `input`: files as words or as text
 //! - `problem`: a limit problem of a file
 //! - `clash`: limits that clash, and their sum
+//! - `found`: an answer in wide numbers, which a checker has accepted
 //! - `own`: an answer put back into the text's own numbers
 //! - `fraction`: fractions in lowest terms, with small amounts, and decimals to
 //!   read
@@ -22,6 +23,7 @@ mod day;
 mod digest;
 mod edit;
 mod excerpt;
+mod found;
 mod fraction;
 mod input;
 mod json;
@@ -60,8 +62,8 @@ pub const UNREAD: u8 = 5;
 pub const UNWRITTEN: u8 = 5;
 /// The status of output that nobody reads any more, as a signal would give it.
 pub const UNHEARD: u8 = 141;
-/// The status of an answer of the solver that the checker does not accept. It
-/// has never been seen.
+/// The status of an answer, of times or of a cycle, that the checker does not
+/// accept. It has never been seen.
 pub const CONTRADICTED: u8 = 6;
 
 /// How the command ended.
@@ -111,7 +113,7 @@ pub fn run_writing(words: &[OsString], stdin: &mut dyn Read, out: &mut dyn Write
             Ok(Ended::saying(format!("scatterflock {}\n", env!("CARGO_PKG_VERSION")), CAN))
         }
         Action::Solve(file) => solve::run(file, &options, stdin),
-        Action::Check(file, answer) => check::run(file, answer, options.json, stdin),
+        Action::Check(file, answer) => check::run(file, answer, &options, stdin),
         Action::Times(file) => times::run(file, &options, stdin),
         Action::Words(file) => words::run(file, &options, stdin),
         Action::Trace(file) => traces::trace(file, &options, stdin),

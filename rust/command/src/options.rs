@@ -3,8 +3,8 @@
 use std::ffi::OsString;
 
 pub const HELP: &str = "\
-usage: scatterflock [--json | --page | --words] solve [--each] [--first] FILE
-       scatterflock [--json] check FILE ANSWER
+usage: scatterflock [--json | --page | --words] solve [--each] [--first] [--wide] FILE
+       scatterflock [--json] check [--wide] FILE ANSWER
        scatterflock [--json | --page] times FILE
        scatterflock words [--times] [--bytes] FILE
        scatterflock smtlib FILE
@@ -34,6 +34,7 @@ usage: scatterflock [--json | --page | --words] solve [--each] [--first] FILE
   --words   the answer as bare numbers, which check takes too
   --each    for each limit of a clash, what the others come to without it
   --first   the first limit that the run finds broken at its start, and by how much
+  --wide    where a number grows too large, go on in wide numbers and decide; of check, ANSWER is wide
   --times   the words of FILE are time rows, not limits
   --bytes   words, or a trace, as bytes, four each word, as a file .words has them
   --bare    the proved text of a day, or of its totals, as it is
@@ -86,6 +87,7 @@ pub struct Options {
     pub words: bool,
     pub each: bool,
     pub first: bool,
+    pub wide: bool,
     pub times: bool,
     pub bytes: bool,
     pub bare: bool,
@@ -102,12 +104,13 @@ const COMMANDS: [&str; 12] = [
 /// beside.
 type Rule = (&'static str, &'static str, &'static str);
 
-const RULES: [Rule; 9] = [
+const RULES: [Rule; 10] = [
     ("--json", "solve check times day audit trace replay", ""),
     ("--page", "solve times day audit", "--json --each --bare"),
     ("--words", "solve", "--json --page --each"),
     ("--each", "solve", ""),
     ("--first", "solve", "--page --words"),
+    ("--wide", "solve check", ""),
     ("--times", "words", ""),
     ("--bytes", "words trace unpack", "--json"),
     ("--bare", "day audit", "--json"),
@@ -207,6 +210,7 @@ impl Options {
             words: has("--words"),
             each: has("--each"),
             first: has("--first"),
+            wide: has("--wide"),
             times: has("--times"),
             bytes: has("--bytes"),
             bare: has("--bare"),

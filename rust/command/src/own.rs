@@ -3,57 +3,54 @@
 
 use crate::clash;
 use crate::problem::Values;
-use scatterflock::Verdict;
+use finder::Whole;
+use scatterflock::WideVerdict;
 use text::limits::{Limits, Own, Side};
 use text::Exact;
 
-/// A fraction: numerator, and a denominator above 0.
-type Fraction = (i128, i128);
+/// A fraction: numerator, and a denominator above 0. No number is too large.
+type Fraction = (Whole, Whole);
 
 /// Whether the answer is right in the text's own numbers. A problem that comes
 /// from words has none but these, which the checker has looked at.
-pub fn agrees(problem: &Limits, verdict: &Verdict) -> bool {
+pub fn agrees(problem: &Limits, verdict: &Option<WideVerdict>) -> bool {
     match verdict {
-        Verdict::Can { .. } => Values::of(problem, verdict)
-            .is_some_and(|values| problem.said.iter().all(|own| is_met(own, values) == Some(true))),
-        Verdict::Cannot { lower, upper } => {
+        Some(WideVerdict::Can { .. }) => Values::of(problem, verdict)
+            .is_some_and(|values| problem.said.iter().all(|own| is_met(own, values))),
+        Some(WideVerdict::Cannot { lower, upper }) => {
             problem.said.is_empty() || is_contradiction(problem, [lower, upper]) == Some(true)
         }
-        _ => true,
+        None => true,
     }
 }
 
-/// Whether the values meet what a line says. There is no answer where numbers are
-/// too large for 128 bits.
-fn is_met(own: &Own, values: Values) -> Option<bool> {
-    let over = i128::from(values.over) * i128::from(values.problem.parts);
-    let mut sums = [(0, 1), (0, 1)];
-    for (sum, part) in sums.iter_mut().zip([values.plain, values.small]) {
-        for (coefficient, value) in own.coefficients.iter().zip(part) {
-            *sum = plus(*sum, product(fraction(*coefficient), (i128::from(*value), over))?)?;
-        }
-    }
-    let [plain, small] = sums;
-    for (side, limit) in Side::BOTH.into_iter().zip(own.limits) {
-        let Some((number, is_strict)) = limit else { continue };
+/// Whether the values meet what a line says.
+fn is_met(own: &Own, values: Values) -> bool {
+    let over = &Whole::from(values.over) * &Whole::from(values.problem.parts);
+    let [plain, small] = [values.plain, values.small].map(|part| {
+        let terms = own.coefficients.iter().zip(part);
+        let terms = terms.map(|(coefficient, value)| {
+            product(&fraction(*coefficient), &(Whole::from(*value), over.clone()))
+        });
+        terms.fold(none(), |sum, term| plus(&sum, &term))
+    });
+    Side::BOTH.into_iter().zip(own.limits).all(|(side, limit)| {
+        let Some((number, is_strict)) = limit else { return true };
         let (number, over) = fraction(number);
-        let (above, _) = plus(plain, (-number, over))?;
+        let (above, _) = plus(&plain, &(-number, over));
         let out = if side == Side::Lower { 1 } else { -1 };
-        let inside = match above.signum() {
-            0 => out * small.0.signum(),
+        let inside = match above.sign() {
+            0 => out * small.0.sign(),
             sign => out * sign,
         };
-        if inside < i128::from(is_strict) {
-            return Some(false);
-        }
-    }
-    Some(true)
+        inside >= i32::from(is_strict)
+    })
 }
 
 /// Whether the limits of the lines, so many times each, add up to a contradiction.
-fn is_contradiction(problem: &Limits, multipliers: [&[i64]; 2]) -> Option<bool> {
-    let mut left = vec![(0, 1); problem.names.len()];
-    let mut right = (0, 1);
+fn is_contradiction(problem: &Limits, multipliers: [&[i128]; 2]) -> Option<bool> {
+    let mut left = vec![none(); problem.names.len()];
+    let mut right = none();
     let mut has_strict = false;
     for (variable, side, times) in clash::multipliers(problem, multipliers) {
         let line = problem.limits[variable][side as usize]?.line?;
@@ -62,15 +59,15 @@ fn is_contradiction(problem: &Limits, multipliers: [&[i64]; 2]) -> Option<bool> 
         let own_side = if is_turned { 1 - side as usize } else { side as usize };
         let (number, is_strict) = own.limits[own_side]?;
         let out = if own_side == Side::Lower as usize { 1 } else { -1 };
-        let by = product(factor, (out * i128::from(times), 1))?;
+        let by = product(&factor, &(Whole::from(out * times), Whole::from(1)));
         for (sum, coefficient) in left.iter_mut().zip(&own.coefficients) {
-            *sum = plus(*sum, product(by, fraction(*coefficient))?)?;
+            *sum = plus(sum, &product(&by, &fraction(*coefficient)));
         }
-        right = plus(right, product(by, fraction(number))?)?;
+        right = plus(&right, &product(&by, &fraction(number)));
         has_strict |= is_strict;
     }
-    let cancels = left.iter().all(|sum| sum.0 == 0);
-    Some(cancels && right.0 >= i128::from(!has_strict))
+    let cancels = left.iter().all(|sum| sum.0.sign() == 0);
+    Some(cancels && right.0.sign() >= i32::from(!has_strict))
 }
 
 /// The coefficients of a variable or a row in the words.
@@ -88,40 +85,36 @@ fn factor(own: &Own, words: &[i32]) -> Option<(Fraction, bool)> {
             return None;
         }
         if number != 0 {
-            let sign = i128::from(coefficient.numerator.signum());
-            let size = i128::from(coefficient.numerator.abs());
-            let ratio =
-                lowest(sign * i128::from(number) * i128::from(coefficient.denominator), size);
-            if found.is_some_and(|found| found != ratio) {
+            let (above, below) = fraction(*coefficient);
+            let signed = if above.sign() < 0 { -below } else { below };
+            let ratio = lowest(&Whole::from(number) * &signed, above.size());
+            if found.as_ref().is_some_and(|found| *found != ratio) {
                 return None;
             }
             found = Some(ratio);
         }
     }
     let (above, below) = found?;
-    Some(((above.abs(), below), above < 0))
+    Some(((above.size(), below), above.sign() < 0))
+}
+
+fn none() -> Fraction {
+    (Whole::ZERO, Whole::from(1))
 }
 
 fn fraction(number: Exact) -> Fraction {
     (number.numerator.into(), number.denominator.into())
 }
 
-fn lowest(above: i128, below: i128) -> Fraction {
-    let (mut common, mut rest) = (above.abs(), below);
-    while rest != 0 {
-        (common, rest) = (rest, common % rest);
-    }
-    (above / common, below / common)
+fn lowest(above: Whole, below: Whole) -> Fraction {
+    let common = above.divisor(&below);
+    (above.divided(&common).0, below.divided(&common).0)
 }
 
-fn product(one: Fraction, other: Fraction) -> Option<Fraction> {
-    let (one, other) = (lowest(one.0, other.1), lowest(other.0, one.1));
-    Some((one.0.checked_mul(other.0)?, one.1.checked_mul(other.1)?))
+fn product(one: &Fraction, other: &Fraction) -> Fraction {
+    lowest(&one.0 * &other.0, &one.1 * &other.1)
 }
 
-fn plus(one: Fraction, other: Fraction) -> Option<Fraction> {
-    let common = lowest(one.1, other.1);
-    let over = one.1.checked_mul(common.1)?;
-    let above = one.0.checked_mul(common.1)?.checked_add(other.0.checked_mul(common.0)?)?;
-    Some(lowest(above, over))
+fn plus(one: &Fraction, other: &Fraction) -> Fraction {
+    lowest(&(&one.0 * &other.1) + &(&other.0 * &one.1), &one.1 * &other.1)
 }

@@ -7,8 +7,8 @@
 //! - `scale`: values between their limits
 //! - `timeline`: points in time
 
+use crate::fraction::Fraction;
 use std::time::{SystemTime, UNIX_EPOCH};
-use text::Exact;
 
 pub mod bars;
 pub mod bodies;
@@ -48,7 +48,8 @@ pub fn safe(text: &str) -> String {
 }
 
 /// A number as a picture takes it: rounded.
-pub fn drawn(number: Exact) -> f64 {
+pub fn drawn(number: impl Into<Fraction>) -> f64 {
+    let number = number.into();
     number.numerator as f64 / number.denominator as f64
 }
 

@@ -4,7 +4,7 @@ use crate::fraction::Pair;
 use crate::input::{self, bad, Content, Input};
 use crate::Failure;
 use scatterflock::sizes::MOST_WORDS;
-use scatterflock::{Bundle, Refusal, Verdict};
+use scatterflock::{Bundle, Refusal, WideVerdict};
 use text::limits::{self, Limits, Side};
 
 /// The problem of a file. Its words are not refused, but for a row of zeros.
@@ -109,29 +109,29 @@ pub fn is_one_value(problem: &Limits, variable: usize) -> bool {
 #[derive(Clone, Copy)]
 pub struct Values<'a> {
     pub problem: &'a Limits,
-    pub over: i64,
-    pub plain: &'a [i64],
-    pub small: &'a [i64],
+    pub over: i128,
+    pub plain: &'a [i128],
+    pub small: &'a [i128],
 }
 
 impl<'a> Values<'a> {
     /// The values of a verdict, where it has any.
-    pub fn of(problem: &'a Limits, verdict: &'a Verdict) -> Option<Values<'a>> {
-        let Verdict::Can { over, numerators, small } = verdict else { return None };
+    pub fn of(problem: &'a Limits, verdict: &'a Option<WideVerdict>) -> Option<Values<'a>> {
+        let Some(WideVerdict::Can { over, numerators, small }) = verdict else { return None };
         Some(Values { problem, over: *over, plain: numerators, small })
     }
 
     /// The value of a variable or a row, as the text has it.
     pub fn at(self, variable: usize) -> Pair {
-        let over = self.over * self.problem.scale(variable);
+        let over = self.over * i128::from(self.problem.scale(variable));
         Pair::new([self.plain[variable], self.small[variable]], over)
     }
 
     /// How far it is inside of a limit, over the denominator; below 0 where it
     /// breaks it.
-    pub fn room(self, (variable, side): (usize, Side)) -> [i64; 2] {
+    pub fn room(self, (variable, side): (usize, Side)) -> [i128; 2] {
         let limit = self.problem.limits[variable][side as usize];
-        let limit = limit.map_or(0, |limit| i64::from(limit.number));
+        let limit = limit.map_or(0, |limit| i128::from(limit.number));
         let (plain, small) = (self.plain[variable] - limit * self.over, self.small[variable]);
         match side {
             Side::Lower => [plain, small],
@@ -141,6 +141,6 @@ impl<'a> Values<'a> {
 
     /// The same as a fraction, as the text has it.
     pub fn spare(self, limit: (usize, Side)) -> Pair {
-        Pair::new(self.room(limit), self.over * self.problem.scale(limit.0))
+        Pair::new(self.room(limit), self.over * i128::from(self.problem.scale(limit.0)))
     }
 }

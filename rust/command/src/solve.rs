@@ -6,13 +6,15 @@ mod as_text;
 mod first;
 
 use crate::clash::{self, Counted};
+use crate::found::{widened, Found};
 use crate::fraction::Fraction;
 use crate::input::Input;
 use crate::options::Options;
 use crate::page::bodies::Body;
 use crate::problem::{all_limits, problem, refused_words, Values};
-use crate::{input, own, Ended, Failure, CAN, CANNOT, RANGE};
-use scatterflock::{Answer, Judgement, Problem, Verdict};
+use crate::{input, Ended, Failure, CAN, CANNOT, RANGE};
+use finder::Whole;
+use scatterflock::{Answer, Judgement, Problem, Verdict, WideAnswer, WideVerdict};
 use std::ffi::OsStr;
 use std::io::Read;
 use text::limits::{Limits, Side};
@@ -25,9 +27,9 @@ pub fn run(file: &OsStr, options: &Options, stdin: &mut dyn Read) -> Result<Ende
 pub fn answer(input: Input, options: &Options) -> Result<Ended, Failure> {
     let (text, digest) = (input.text(), input.digest.clone());
     let (file, problem) = problem(input)?;
-    let answer = solved(&problem)?;
+    let answer = solved(&problem, options.wide)?;
     if options.words {
-        return Ok(as_words(&problem, &answer));
+        return Ok(as_words(&answer));
     }
     let shown = Shown { file, digest, text, problem, answer, with_first: options.first };
     if options.page {
@@ -37,9 +39,9 @@ pub fn answer(input: Input, options: &Options) -> Result<Ended, Failure> {
         return Ok(if options.json { shown.can_json(values) } else { shown.can(values) });
     }
     Ok(match (&shown.answer.verdict, options.json) {
-        (Verdict::Cannot { lower, upper }, is_json) => {
+        (Some(WideVerdict::Cannot { lower, upper }), is_json) => {
             let counted = shown.counted([lower, upper]);
-            let each = if options.each { Some(shown.each(&counted)?) } else { None };
+            let each = if options.each { Some(shown.each(&counted, options.wide)?) } else { None };
             if is_json {
                 shown.cannot_json(&counted, each)
             } else {
@@ -54,10 +56,11 @@ pub fn answer(input: Input, options: &Options) -> Result<Ended, Failure> {
 /// The answer to a body of a day's file, for the page of all of them.
 pub fn body(input: Input, words: String) -> Result<Body, Failure> {
     let (file, problem) = problem(input)?;
-    let answer = solved(&problem)?;
-    let shown = Shown { file, digest: String::new(), text: None, problem, answer };
+    let answer = solved(&problem, false)?;
+    let (digest, text, with_first) = (String::new(), None, false);
+    let shown = Shown { file, digest, text, problem, answer, with_first };
     let (told, line) = match &shown.answer.verdict {
-        Verdict::Cannot { lower, upper } => {
+        Some(WideVerdict::Cannot { lower, upper }) => {
             let counted = shown.counted([lower, upper]);
             let named = counted
                 .iter()
@@ -79,34 +82,22 @@ pub fn body(input: Input, words: String) -> Result<Body, Failure> {
     Ok(Body { status, words, line, sections, problem, answer })
 }
 
-/// The answer, which the checker has accepted where it is evidence, and which is
-/// right in the text's own numbers too.
-fn solved(problem: &Limits) -> Result<Answer, Failure> {
-    let words = problem.words();
-    let answer = scatterflock::solve(&words).map_err(|refusal| refused_words(problem, refusal))?;
-    if let Some(evidence) = answer.evidence() {
-        if scatterflock::check(&words, &evidence) != Ok(Judgement::Accepted) {
-            return Err(Failure::Contradicted);
-        }
-    }
-    if !own::agrees(problem, &answer.verdict) {
-        return Err(Failure::Contradicted);
-    }
-    Ok(answer)
+/// The answer of the solver; where that is out of range and a wide one is asked
+/// for, that of wide evidence.
+fn solved(problem: &Limits, is_wide: bool) -> Result<Found, Failure> {
+    let solved = scatterflock::solve(&problem.words());
+    let answer = solved.map_err(|refusal| refused_words(problem, refusal))?;
+    Found::of(problem, &answer, is_wide)
 }
 
 /// The answer's words, as bare numbers.
-fn as_words(problem: &Limits, answer: &Answer) -> Ended {
+fn as_words(answer: &Found) -> Ended {
     let status = match answer.verdict {
-        Verdict::Can { .. } => CAN,
-        Verdict::Cannot { .. } => CANNOT,
-        _ => RANGE,
+        Some(WideVerdict::Can { .. }) => CAN,
+        Some(WideVerdict::Cannot { .. }) => CANNOT,
+        None => RANGE,
     };
-    let words = answer.evidence().unwrap_or_else(|| {
-        let zeros = vec![0; 2 * problem.limits.len()];
-        [&[3, answer.pivots as i64, 0], &zeros[..]].concat()
-    });
-    let words: Vec<String> = words.iter().map(i64::to_string).collect();
+    let words: Vec<String> = answer.words.iter().map(i64::to_string).collect();
     Ended::saying(words.join(" ") + "\n", status)
 }
 
@@ -115,14 +106,14 @@ struct Shown {
     digest: String,
     text: Option<String>,
     problem: Limits,
-    answer: Answer,
+    answer: Found,
     /// Whether the first violation is told too.
     with_first: bool,
 }
 
 /// For each limit of a clash the answer to the others that it names, and the
 /// answer to the whole problem without that limit.
-type Each = Vec<(Answer, Shown)>;
+type Each = Vec<(Option<WideVerdict>, Shown)>;
 
 impl Shown {
     /// The least amount that is too large for the small one, where there is any:
@@ -130,10 +121,9 @@ impl Shown {
     fn small_below(&self, values: Values) -> Option<Fraction> {
         let rooms = all_limits(&self.problem).into_iter().map(|at| values.room(at));
         let ends = rooms.filter(|&[_, small]| small < 0).map(|[plain, small]| (plain, -small));
-        let wide = |(plain, small)| (i128::from(plain), i128::from(small));
-        let least = ends.min_by(|&one, &other| {
-            let ((plain, small), (others_plain, others_small)) = (wide(one), wide(other));
-            (plain * others_small).cmp(&(others_plain * small))
+        let product = |one: i128, other: i128| &Whole::from(one) * &Whole::from(other);
+        let least = ends.min_by(|&(plain, small), &(others_plain, others_small)| {
+            product(plain, others_small).cmp(&product(others_plain, small))
         });
         least.map(|(plain, small)| Fraction::new(plain, small))
     }
@@ -146,42 +136,52 @@ impl Shown {
             return None;
         }
         let end = self.small_below(values);
-        let will_do = |over: &i64| match end {
-            Some(end) => {
-                i128::from(end.denominator) < i128::from(end.numerator) * i128::from(*over)
-            }
-            None => true,
-        };
-        let halves = (0..31).map(|halved| 1_i64 << halved).find(will_do)?;
-        let put = |(plain, small): (&i64, &i64)| {
-            i64::try_from(i128::from(*plain) * i128::from(halves) + i128::from(*small)).ok()
-        };
-        let all = values.plain.iter().zip(values.small).map(put).collect::<Option<Vec<i64>>>()?;
-        let mut words = vec![1, 0, values.over.checked_mul(halves)?];
-        words.extend(&all);
-        words.extend(vec![0; all.len()]);
-        if scatterflock::check(&self.problem.words(), &words) != Ok(Judgement::Accepted) {
+        let will_do = |over: &i128| end.is_none_or(|end| end.denominator / over < end.numerator);
+        let halves = (0..31).map(|halved| 1_i128 << halved).find(will_do)?;
+        let put = |(plain, small): (&i128, &i128)| plain.checked_mul(halves)?.checked_add(*small);
+        let all = values.plain.iter().zip(values.small).map(put).collect::<Option<Vec<i128>>>()?;
+        let over = values.over.checked_mul(halves)?;
+        if !self.is_accepted(over, &all)? {
             return None;
         }
         let named = all[..self.problem.names.len()].iter();
-        let over = words[2].checked_mul(self.problem.parts.into())?;
+        let over = over.checked_mul(self.problem.parts.into())?;
         let numbers = named.map(|&number| Fraction::new(number, over));
         Some((Fraction::new(1, halves), numbers.collect()))
     }
 
+    /// Whether the checker of this answer's words accepts other values, which have
+    /// no small parts. There is nothing to say where they are too large for it.
+    fn is_accepted(&self, over: i128, numerators: &[i128]) -> Option<bool> {
+        let words = self.problem.words();
+        let small = vec![0; numerators.len()];
+        let judged = if self.answer.left_range_after.is_some() {
+            let verdict = WideVerdict::Can { over, numerators: numerators.to_vec(), small };
+            scatterflock::check_wide(&words, &WideAnswer { pivots: 0, verdict }.evidence())
+        } else {
+            let narrow = |number: &i128| i64::try_from(*number).ok();
+            let numerators = numerators.iter().map(narrow).collect::<Option<Vec<i64>>>()?;
+            let small = vec![0; numerators.len()];
+            let verdict = Verdict::Can { over: narrow(&over)?, numerators, small };
+            scatterflock::check(&words, &Answer { pivots: 0, verdict }.evidence()?)
+        };
+        Some(judged == Ok(Judgement::Accepted))
+    }
+
     /// The limits that count, with their multipliers.
-    fn counted(&self, [lower, upper]: [&Vec<i64>; 2]) -> Vec<Counted> {
+    fn counted(&self, [lower, upper]: [&Vec<i128>; 2]) -> Vec<Counted> {
         clash::counted(&self.problem, [lower, upper])
     }
 
     /// For each limit that counts, the answer to the others that do, which is no
     /// "cannot", and the answer to all others.
-    fn each(&self, counted: &[Counted]) -> Result<Each, Failure> {
+    fn each(&self, counted: &[Counted], is_wide: bool) -> Result<Each, Failure> {
         let problem =
             Problem::from_words(&self.problem.words()).map_err(|_| Failure::Contradicted)?;
+        let cannot = self.naming(counted);
         let each = counted.iter().map(|&(variable, side, _)| {
             let rest = self.problem.without(variable, side);
-            let answer = solved(&rest)?;
+            let answer = solved(&rest, is_wide)?;
             let rest = Shown {
                 file: String::new(),
                 digest: String::new(),
@@ -194,11 +194,21 @@ impl Shown {
                 Side::Lower => scatterflock::Side::Lower,
                 Side::Upper => scatterflock::Side::Upper,
             };
-            let answer = problem.without(&self.answer, variable, side);
+            let answer = problem.without(&cannot, variable, side);
             let others = answer.filter(|answer| !matches!(answer.verdict, Verdict::Cannot { .. }));
-            Ok((others.ok_or(Failure::Contradicted)?, rest))
+            Ok((widened(&others.ok_or(Failure::Contradicted)?.verdict), rest))
         });
         each.collect()
+    }
+
+    /// A "cannot" that names the same limits, each once.
+    fn naming(&self, counted: &[Counted]) -> Answer {
+        let [mut lower, mut upper] = [(); 2].map(|()| vec![0; self.problem.limits.len()]);
+        for &(variable, side, _) in counted {
+            let named = if side == Side::Lower { &mut lower } else { &mut upper };
+            named[variable] = 1;
+        }
+        Answer { pivots: 0, verdict: Verdict::Cannot { lower, upper } }
     }
 }
 
@@ -218,17 +228,17 @@ mod tests {
             let mut random = Random::of_problem(seed, number);
             let family = random.pick(&[Family::Strict, Family::Touching]);
             let problem = Limits::from_words(&family.words(&mut random)).unwrap();
-            let Ok(answer) = solved(&problem) else { panic!("it is answered, SEED={seed}") };
-            let answered = answer.clone();
+            let Ok(answer) = solved(&problem, false) else { panic!("it is answered, SEED={seed}") };
             let (file, digest) = (String::new(), String::new());
             let (text, with_first) = (None, false);
-            let shown = Shown { file, digest, text, problem, answer: answered, with_first };
-            let Some(values) = Values::of(&shown.problem, &answer.verdict) else { continue };
+            let shown = Shown { file, digest, text, problem, answer, with_first };
+            let verdict = &shown.answer.verdict;
+            let Some(values) = Values::of(&shown.problem, verdict) else { continue };
             let Some(end) = shown.small_below(values) else { continue };
-            let [end, over] = [end.numerator, end.denominator].map(i128::from);
+            let [end, over] = [end.numerator, end.denominator];
             for part in 1..8 {
                 for at in all_limits(&shown.problem) {
-                    let [plain, small] = values.room(at).map(i128::from);
+                    let [plain, small] = values.room(at);
                     assert!(plain * 8 * over + small * part * end >= 0, "SEED={seed}");
                     let is_strict = shown.problem.limits[at.0][at.1 as usize].unwrap().is_strict;
                     assert!(!is_strict || plain * 8 * over + small * part * end > 0, "SEED={seed}");
@@ -251,8 +261,8 @@ mod tests {
             let family = Family::ALL[random.below(Family::ALL.len())];
             let words = family.words(&mut random);
             let Some(problem) = Limits::from_words(&words) else { continue };
-            let Ok(answer) = solved(&problem) else { continue };
-            let Verdict::Cannot { lower, upper } = &answer.verdict else { continue };
+            let Ok(answer) = solved(&problem, false) else { continue };
+            let Some(WideVerdict::Cannot { lower, upper }) = &answer.verdict else { continue };
             let counted = clash::counted(&problem, [lower, upper]);
             let (_, sum) = clash::added_up(&problem, &counted);
             for &limit in &counted {
@@ -262,7 +272,7 @@ mod tests {
                 named.limits.fill([None; 2]);
                 for &(variable, side, _) in &counted {
                     let at = problem.limits[variable][side as usize].unwrap();
-                    let times = (i64::from(at.number) * by).clamp(-30_001, 30_001) as i32;
+                    let times = (i128::from(at.number) * by).clamp(-30_001, 30_001) as i32;
                     named.limits[variable][side as usize] = Some(Limit { number: times, ..at });
                 }
                 let out = if limit.1 == Side::Lower { -1 } else { 1 };
@@ -273,9 +283,9 @@ mod tests {
                     };
                     let place = &mut named.limits[limit.0][limit.1 as usize];
                     *place = place.map(|at| Limit { number, ..at });
-                    let Ok(again) = solved(&named) else { continue };
-                    let is_clash = matches!(again.verdict, Verdict::Cannot { .. });
-                    let is_met = matches!(again.verdict, Verdict::Can { .. });
+                    let Ok(again) = solved(&named, false) else { continue };
+                    let is_clash = matches!(again.verdict, Some(WideVerdict::Cannot { .. }));
+                    let is_met = matches!(again.verdict, Some(WideVerdict::Can { .. }));
                     assert!(!is_met || is_over, "SEED={seed}: {words:?} {limit:?}");
                     assert!(!is_clash || !is_over, "SEED={seed}: {words:?} {limit:?}");
                     [count, strict] = [count + 1, strict + usize::from(is_strict)];

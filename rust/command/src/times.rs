@@ -8,7 +8,7 @@ use crate::options::Options;
 use crate::problem::left_out;
 use crate::table::table;
 use crate::{json, Ended, Failure, CAN, CANNOT};
-use scatterflock::{Fractions, Schedule, TimesRefusal};
+use scatterflock::{check_times, Fractions, Judgement, Schedule, TimesRefusal};
 use std::ffi::OsStr;
 use std::io::Read;
 use text::times::{self, Row, Times};
@@ -28,7 +28,11 @@ pub fn run(file: &OsStr, options: &Options, stdin: &mut dyn Read) -> Result<Ende
     let (file, rows) = rows(input)?;
     let asked = Asked { file, digest, text, rows };
     let rows = &asked.rows;
-    let schedule = scatterflock::times(&rows.words()).map_err(refused)?;
+    let words = rows.words();
+    let schedule = scatterflock::times(&words).map_err(refused)?;
+    if check_times(&words, &schedule.evidence(rows.names.len())) != Ok(Judgement::Accepted) {
+        return Err(Failure::Contradicted);
+    }
     if let Some(times) = schedule.fractions() {
         return match rows.rows.iter().all(|row| is_met(row, &times)) {
             true if options.json => Ok(can_json(&asked, &times)),
@@ -73,7 +77,7 @@ fn refused(refusal: TimesRefusal) -> Failure {
 
 /// A number of parts of a minute, over the denominator of the times, in minutes.
 fn minutes(rows: &Times, numerator: i64, times: &Fractions) -> Fraction {
-    Fraction::new(numerator, times.over * i64::from(rows.parts))
+    Fraction::new(numerator.into(), i128::from(times.over) * i128::from(rows.parts))
 }
 
 /// How many parts of a minute are left in a row, over the denominator of the
@@ -145,7 +149,7 @@ fn can(asked: &Asked, times: &Fractions) -> Ended {
         said += &format!("# How far each row is from being broken:\n{}#\n", table("#   ", &far));
     }
     said += &left_out(asked.text.as_deref(), "rows");
-    said += "# Minutes from 0 on. Every row was looked at once more before this was shown.\n";
+    said += "# Minutes from 0 on. The proved checker of time rows has accepted them.\n";
     Ended::saying(said, CAN)
 }
 
@@ -178,7 +182,7 @@ fn cannot(asked: &Asked, cycle: &[usize]) -> Ended {
     said += &format!("#   {:>wide$} {:<2} {}\n#\n", "0", sign(is_strict), shown(sum));
     said += &left_out(asked.text.as_deref(), "rows");
     said +=
-        "# No times meet these rows together. The sum was made once more before this was shown.\n";
+        "# No times meet these rows together. The proved checker of time rows has accepted that.\n";
     Ended::saying(said, CANNOT)
 }
 

@@ -2,8 +2,7 @@
 //! of which the first is longer, or as long while a limit is strict.
 
 use super::{drawn, safe};
-use crate::clash::plus;
-use text::Exact;
+use crate::fraction::Fraction;
 
 /// A limit's part in a clash: so much is asked for where it is above 0, and
 /// allowed where it is below.
@@ -11,7 +10,7 @@ pub struct Part {
     pub label: String,
     /// A shorter one.
     pub place: String,
-    pub amount: Exact,
+    pub amount: Fraction,
 }
 
 const LEFT: f64 = 90.0;
@@ -20,15 +19,15 @@ const HIGH: f64 = 34.0;
 
 /// The bars. Amounts are rounded for the picture alone.
 pub fn bars(parts: &[Part]) -> String {
-    let sized = |sign: i64| {
+    let sized = |sign: i128| {
         let parts = parts.iter().filter(move |part| part.amount.numerator.signum() == sign);
         parts.collect::<Vec<&Part>>()
     };
     let (asked, allowed) = (sized(1), sized(-1));
-    let total =
-        |parts: &[&Part]| parts.iter().fold(Exact::ZERO, |sum, part| plus(sum, part.amount));
+    let none = Fraction::new(0, 1);
+    let total = |parts: &[&Part]| parts.iter().fold(none, |sum, part| sum.plus(part.amount));
     let (more, less) = (total(&asked), total(&allowed));
-    let too_much = plus(more, less);
+    let too_much = more.plus(less);
     let most = drawn(more).max(-drawn(less));
     if most <= 0.0 {
         return "<p>Each of them is 0: the sum is 0 &gt; 0, since one of them is strict.</p>\n"
@@ -43,8 +42,9 @@ pub fn bars(parts: &[Part]) -> String {
         said += &format!(
             "<rect x=\"{from:.1}\" y=\"78\" width=\"{:.1}\" height=\"{HIGH}\" fill=\"none\" \
              stroke=\"#111\" stroke-dasharray=\"4 3\"/>\
-             <text x=\"{to:.1}\" y=\"130\" text-anchor=\"end\">{too_much} too much</text>\n",
-            to - from
+             <text x=\"{to:.1}\" y=\"130\" text-anchor=\"end\">{} too much</text>\n",
+            to - from,
+            too_much.as_text()
         );
     } else {
         said += &format!(
@@ -53,14 +53,15 @@ pub fn bars(parts: &[Part]) -> String {
     }
     format!(
         "<svg viewBox=\"0 0 730 140\" width=\"730\" role=\"img\" \
-         aria-label=\"asked for {more}, allowed {}\">\n{said}</svg>\n",
+         aria-label=\"asked for {}, allowed {}\">\n{said}</svg>\n",
+        shown(more),
         shown(less)
     )
 }
 
 /// The size of an amount.
-fn shown(amount: Exact) -> String {
-    Exact::new(amount.numerator.abs(), amount.denominator).to_string()
+fn shown(amount: Fraction) -> String {
+    Fraction::new(amount.numerator.abs(), amount.denominator).as_text()
 }
 
 fn bar(name: &str, parts: &[&Part], (top, scale): (f64, f64)) -> String {

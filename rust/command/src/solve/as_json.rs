@@ -4,7 +4,7 @@ use super::{Each, Shown};
 use crate::clash::{added_up, loosened, Counted};
 use crate::problem::{all_limits, Values};
 use crate::{json, Ended, CAN, CANNOT, RANGE};
-use scatterflock::Verdict;
+use scatterflock::WideVerdict;
 use text::limits::Side;
 
 impl Shown {
@@ -65,6 +65,9 @@ impl Shown {
             ("pivots", self.answer.pivots.to_string()),
             ("checked", is_checked.to_string()),
         ];
+        if let Some(after) = self.answer.left_range_after {
+            all.extend([("wide", true.to_string()), ("left_range_after", after.to_string())]);
+        }
         all.extend(fields.iter().cloned());
         all.extend(self.first_json().map(|first| ("first", first)));
         all.push(("left_out", json::left_out(self.text.as_deref())));
@@ -79,14 +82,14 @@ impl Shown {
             let to = loosened(&self.problem, (variable, side, times), &sum);
             fields.push(("loosened", json::inner(&json::pair(to))));
             if let Some((others, rest)) = each.as_ref().map(|each| &each[place]) {
-                let others = Values::of(&self.problem, &others.verdict);
+                let others = Values::of(&self.problem, others);
                 let others = others.map_or("null".to_string(), |values| self.values_json(values));
                 fields.extend([("without", others), ("rest", rest.in_short_json())]);
             }
             json::inner(&fields)
         });
         let limits = json::list(limits);
-        let sum = json::text(&format!("{} {} {}", sum.left, sum.sign, sum.right));
+        let sum = json::text(&format!("{} {} {}", sum.left, sum.sign, sum.right.as_text()));
         self.json("cannot", &[("limits", limits), ("sum", sum)], CANNOT)
     }
 
@@ -96,7 +99,7 @@ impl Shown {
             let fields = [("verdict", json::text("can")), ("values", self.values_json(values))];
             return json::inner(&fields);
         }
-        let Verdict::Cannot { lower, upper } = &self.answer.verdict else {
+        let Some(WideVerdict::Cannot { lower, upper }) = &self.answer.verdict else {
             return json::inner(&[("verdict", json::text("range"))]);
         };
         let limits = self.counted([lower, upper]).into_iter().map(|(variable, side, times)| {

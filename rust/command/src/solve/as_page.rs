@@ -1,6 +1,5 @@
 //! An answer as a page.
 
-use super::as_text::pivots;
 use super::Shown;
 use crate::clash::{added_up, loosened, reference, Counted};
 use crate::page::bars::{bars, Part};
@@ -8,17 +7,16 @@ use crate::page::scale::{scale, Dot};
 use crate::page::{cells, drawn, numbered, page, safe};
 use crate::problem::{all_limits, called, left_out, Values};
 use crate::{Ended, CAN, CANNOT, RANGE};
-use scatterflock::Verdict;
+use scatterflock::WideVerdict;
 use text::limits::Side;
-use text::Exact;
 
 impl Shown {
     /// The answer as a page.
     pub(super) fn paged(&self) -> Ended {
         let (verdict, status) = match &self.answer.verdict {
-            Verdict::Can { .. } => ("can", CAN),
-            Verdict::Cannot { .. } => ("cannot", CANNOT),
-            _ => ("range", RANGE),
+            Some(WideVerdict::Can { .. }) => ("can", CAN),
+            Some(WideVerdict::Cannot { .. }) => ("cannot", CANNOT),
+            None => ("range", RANGE),
         };
         Ended::saying(page(&self.file, &self.digest, verdict, &self.sections()), status)
     }
@@ -26,7 +24,9 @@ impl Shown {
     /// The parts of the page, with their titles.
     pub(super) fn sections(&self) -> Vec<(&'static str, String)> {
         match &self.answer.verdict {
-            Verdict::Cannot { lower, upper } => self.cannot_page(&self.counted([lower, upper])),
+            Some(WideVerdict::Cannot { lower, upper }) => {
+                self.cannot_page(&self.counted([lower, upper]))
+            }
             verdict => Values::of(&self.problem, verdict)
                 .map_or_else(|| self.range_page(), |values| self.can_page(values)),
         }
@@ -38,10 +38,8 @@ impl Shown {
             "" => String::new(),
             said => format!("<p>{said}</p>\n"),
         };
-        format!(
-            "<p>The proved checker has accepted this answer. It took {}.</p>\n{left_out}",
-            pivots(self.answer.pivots)
-        )
+        let said = self.how().into_iter().map(|sentence| format!("<p>{sentence}</p>\n"));
+        said.collect::<String>() + &left_out
     }
 
     /// The text with its lines numbered; that of the words where there is none.
@@ -52,14 +50,13 @@ impl Shown {
 
     fn dot(&self, values: Values, variable: usize) -> Dot {
         let value = values.at(variable);
-        let plain = Exact::new(value.plain.numerator, value.plain.denominator);
         let read = value.read_as().map_or(String::new(), |read| format!(" ({read})"));
         let limits = Side::BOTH.map(|side| {
             let is_strict = self.problem.limits[variable][side as usize]?.is_strict;
             Some((self.problem.limit(variable, side)?, is_strict))
         });
         let label = self.problem.left(variable);
-        Dot { label, value: drawn(plain), said: format!("{value}{read}"), limits }
+        Dot { label, value: drawn(value.plain), said: format!("{value}{read}"), limits }
     }
 
     fn can_page(&self, values: Values) -> Vec<(&'static str, String)> {
@@ -132,10 +129,10 @@ impl Shown {
         });
         let rows = counted.iter().zip(&each).map(|(&(variable, side, times), at_least)| {
             let name = called(&self.problem, variable, side);
-            let right = format!("{} {}", at_least.sign, at_least.right);
+            let right = format!("{} {}", at_least.sign, at_least.right.as_text());
             vec![name, said(variable, side), times.to_string(), at_least.left.clone(), right]
         });
-        let last = format!("{} {}", sum.sign, sum.right);
+        let last = format!("{} {}", sum.sign, sum.right.as_text());
         let last = [String::new(), "added up".into(), String::new(), sum.left.clone(), last];
         let rows: Vec<Vec<String>> = rows.chain([last.to_vec()]).collect();
         let loose = counted.iter().map(|&limit| {
@@ -156,8 +153,13 @@ impl Shown {
             _ => "",
         };
         let named: Vec<usize> = counted.iter().filter_map(|&(v, side, _)| line(v, side)).collect();
-        let start = "<p>No values meet the limits below together, and each of them is needed for \
-                     that: drop any one, and the others below can be met.</p>\n";
+        let start = match self.answer.left_range_after {
+            None => {
+                "<p>No values meet the limits below together, and each of them is needed for that: \
+                 drop any one, and the others below can be met.</p>\n"
+            }
+            Some(_) => "<p>No values meet the limits below together.</p>\n",
+        };
         vec![
             ("", format!("{start}{}", self.accepted_page())),
             ("What they ask for, and what they allow", bars(&parts.collect::<Vec<Part>>())),
@@ -175,7 +177,7 @@ impl Shown {
 
     fn range_page(&self) -> Vec<(&'static str, String)> {
         let said = "<p>A number grew beyond 2147483647, and the run ended. That says nothing \
-                    about the limits.</p>\n";
+                    about the limits. With --wide the run goes on, and decides it.</p>\n";
         vec![("", said.to_string()), self.problem_page(|_| false)]
     }
 }

@@ -5,17 +5,35 @@ use crate::clash::{added_up, loosened, reference, sum_text, Counted};
 use crate::problem::{all_limits, is_one_value, left_out, place, Values};
 use crate::table::table;
 use crate::{Ended, CAN, CANNOT, RANGE};
-use scatterflock::Verdict;
+use scatterflock::sizes::LARGEST_NUMBER;
+use scatterflock::WideVerdict;
 use text::limits::Side;
 
 impl Shown {
     fn accepted(&self) -> String {
-        let pivots = pivots(self.answer.pivots);
         let left_out = left_out(self.text.as_deref(), "limits");
-        let first = self.first_line();
-        format!(
-            "{first}{left_out}# The proved checker has accepted this answer. It took {pivots}.\n"
-        )
+        let said = self.how().into_iter().map(|sentence| format!("# {sentence}\n"));
+        self.first_line() + &left_out + &said.collect::<String>()
+    }
+
+    /// How it was decided.
+    pub(super) fn how(&self) -> Vec<String> {
+        let pivots_taken = pivots(self.answer.pivots);
+        match self.answer.left_range_after {
+            None => {
+                vec![format!(
+                    "The proved checker has accepted this answer. It took {pivots_taken}."
+                )]
+            }
+            Some(after) => vec![
+                format!(
+                    "After {} a number grew beyond {LARGEST_NUMBER}. In wide numbers the run went \
+                     on, and ended after {pivots_taken}.",
+                    pivots(after)
+                ),
+                "The proved checker of wide evidence has accepted this answer.".to_string(),
+            ],
+        }
     }
 
     pub(super) fn can(&self, values: Values) -> Ended {
@@ -107,15 +125,26 @@ impl Shown {
         let said = format!(
             "cannot\n\n{}\n# Each as \"at least\", so many times, and all of them added up:\n{}#\n\
              # No values meet these limits together.\n\
-             # Each of them is needed for that: drop any one, and the others named here can be met.\n\
-             {}{}{}",
+             {}{}{}{}",
             table("", &named.collect::<Vec<Vec<String>>>()),
             sum_text(&self.problem, counted),
+            self.needed(),
             self.enough(counted),
             each.map_or(String::new(), |each| self.others(counted, each)),
             self.accepted()
         );
         Ended::saying(said, CANNOT)
+    }
+
+    /// That nothing is idle, which is proved of the solver's own answers.
+    fn needed(&self) -> &'static str {
+        match self.answer.left_range_after {
+            None => {
+                "# Each of them is needed for that: drop any one, and the others named here can be \
+                 met.\n"
+            }
+            Some(_) => "",
+        }
     }
 
     /// How far each limit has to be loosened, all others as they are.
@@ -145,9 +174,9 @@ impl Shown {
     fn others(&self, counted: &[Counted], each: Each) -> String {
         let unknown = || "a number grew beyond 2147483647, so no values are shown".to_string();
         let [named, rest] = [true, false].map(|is_named| {
-            let rows = counted.iter().zip(&each).map(|(&(variable, side, _), (answer, rest))| {
+            let rows = counted.iter().zip(&each).map(|(&(variable, side, _), (verdict, rest))| {
                 let said = match is_named {
-                    true => self.in_short(&answer.verdict).unwrap_or_else(unknown),
+                    true => self.in_short(verdict).unwrap_or_else(unknown),
                     false => rest.told(),
                 };
                 vec![format!("without {}", reference(&self.problem, variable, side)), said]
@@ -161,7 +190,7 @@ impl Shown {
     }
 
     /// The values of a "can" in one line.
-    fn in_short(&self, verdict: &Verdict) -> Option<String> {
+    fn in_short(&self, verdict: &Option<WideVerdict>) -> Option<String> {
         let values = Values::of(&self.problem, verdict)?;
         let names = self.problem.names.iter().enumerate();
         let named = names.map(|(at, name)| format!("{name} = {}", values.at(at)));
@@ -173,7 +202,7 @@ impl Shown {
         if let Some(values) = self.in_short(&self.answer.verdict) {
             return format!("can: {values}");
         }
-        let Verdict::Cannot { lower, upper } = &self.answer.verdict else {
+        let Some(WideVerdict::Cannot { lower, upper }) = &self.answer.verdict else {
             return "range: a number grew beyond 2147483647".to_string();
         };
         let named = self.counted([lower, upper]).into_iter();
@@ -185,7 +214,8 @@ impl Shown {
         let pivots = pivots(self.answer.pivots);
         let said = format!(
             "range\n\n# After {pivots} a number grew beyond 2147483647, and the run ended.\n\
-             # That says nothing about the limits: they may be such as can be met, or not.\n{}",
+             # That says nothing about the limits: they may be such as can be met, or not.\n\
+             # With --wide the run goes on in numbers of any size, and decides it.\n{}",
             self.first_line()
         );
         Ended::saying(said, RANGE)

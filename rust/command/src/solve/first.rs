@@ -14,8 +14,9 @@ impl Shown {
             scatterflock::Side::Lower => Side::Lower,
             scatterflock::Side::Upper => Side::Upper,
         };
-        let over = shown.over * self.problem.scale(shown.variable);
-        Some((shown.variable, side, Pair::new([shown.shortfall, shown.small], over)))
+        let over = i128::from(shown.over) * i128::from(self.problem.scale(shown.variable));
+        let parts = [shown.shortfall, shown.small].map(i128::from);
+        Some((shown.variable, side, Pair::new(parts, over)))
     }
 
     /// A line about it, where it is asked for.

@@ -33,8 +33,7 @@ pub fn can(asked: &Asked, times: &Fractions) -> Ended {
     let rows = &asked.rows;
     let points = rows.names.iter().zip(&times.numerators).map(|(name, &numerator)| {
         let minutes = minutes(rows, numerator, times);
-        let drawn = drawn(Exact::new(minutes.numerator, minutes.denominator));
-        Point { label: name.clone(), minutes: drawn, said: minutes.to_string() }
+        Point { label: name.clone(), minutes: drawn(minutes), said: minutes.to_string() }
     });
     let exact = rows.rows.iter().filter(|row| spare(row, times) == 0 && row.x != row.y);
     let ties = exact.map(|row| {
@@ -49,7 +48,9 @@ pub fn can(asked: &Asked, times: &Fractions) -> Ended {
     });
     let far: Vec<Vec<String>> = far.collect();
     let picture = timeline(&points.collect::<Vec<_>>(), &ties.collect::<Vec<_>>());
-    let said = "These times, in minutes from 0 on, meet every row. Each was looked at once more.";
+    let said =
+        "These times, in minutes from 0 on, meet every row. The proved checker of time rows \
+                has accepted them.";
     let sections = [
         start(asked, said),
         ("When, and which rows hold it there", picture),
@@ -66,7 +67,7 @@ pub fn cannot(asked: &Asked, cycle: &[usize]) -> Ended {
     let parts = listed.iter().map(|row| Part {
         label: rows.row_text(row),
         place: place(rows, row).unwrap_or_default(),
-        amount: shown(-i64::from(row.c)),
+        amount: shown(-i64::from(row.c)).into(),
     });
     let (sum, is_strict) = sum(&listed);
     let added = listed.iter().map(|row| {
@@ -79,7 +80,11 @@ pub fn cannot(asked: &Asked, cycle: &[usize]) -> Ended {
     let added: Vec<Vec<String>> = added.chain([last]).collect();
     let named: Vec<usize> = listed.iter().filter_map(|row| row.line).collect();
     let sections = [
-        start(asked, "No times meet the rows below together."),
+        start(
+            asked,
+            "No times meet the rows below together. The proved checker of time rows has accepted \
+             that.",
+        ),
         ("Minutes asked for, and minutes allowed", bars(&parts.collect::<Vec<Part>>())),
         ("To check it by hand", cells(&["#line", "row", "#left", "right"], &added, true)),
         rows_page(asked, |number| named.contains(&number)),

@@ -3,8 +3,8 @@
 mod answers;
 mod clashes;
 mod damaged;
-mod first;
 mod day_pages;
+mod first;
 #[path = "../json/mod.rs"]
 mod json;
 mod pages;
@@ -12,6 +12,7 @@ mod sessions;
 mod strict;
 mod usage;
 mod verdicts;
+mod wide;
 
 use std::ffi::OsString;
 

@@ -31,6 +31,7 @@ fn usage_and_files() {
         (&["times", "--each", "-"], 4, "--each is an option of solve"),
         (&["--page", "solve", "--first", "-"], 4, "--first is an option of solve, and not beside"),
         (&["trace", "--first", "-"], 4, "--first is an option of solve, and not beside"),
+        (&["times", "--wide", "-"], 4, "--wide is an option of solve and check"),
         (&["solve", "no-such-file"], 5, "it cannot be read"),
         (&["solve", "."], 5, "it cannot be read"),
         (&["solve", "--", "--json"], 5, "it cannot be read"),

@@ -29,8 +29,8 @@ fn verdicts_and_statuses() {
         (&["words", "--times", "-"], "2 1 0 1 0 1", "times t0 t1", 0),
         (&["words", "--times", "-"], "times a b\na - b <= 1", "2 1 0 1 0 1", 0),
         (&["words", "-"], "times a b\na - b <= 1", "2 1 0 1 0 1", 0),
-        (&["help"], "", "usage: scatterflock [--json | --page | --words] solve [--each] [--first] FILE", 0),
-        (&["--help"], "", "usage: scatterflock [--json | --page | --words] solve [--each] [--first] FILE", 0),
+        (&["help"], "", "usage: scatterflock [--json | --page | --words] solve [--each] [--first] [--wide] FILE", 0),
+        (&["--help"], "", "usage: scatterflock [--json | --page | --words] solve [--each] [--first] [--wide] FILE", 0),
         (&["solve", "-", "--json"], "", "{\"error\":\"there is no limit in this text\",\"file\":\"standard input\",\"line\":1,\"column\":1}", 4),
     ] {
         let (output, _, found) = ran(words, input.as_bytes());

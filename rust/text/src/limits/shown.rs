@@ -7,8 +7,8 @@ impl Limits {
     /// A sum of names, as text: those with 0 are left out, and one that is
     /// added comes first. An empty sum is 0.
     #[must_use]
-    pub fn sum(&self, coefficients: &[i64]) -> String {
-        let mut terms: Vec<(i64, &str)> = self.terms(coefficients).collect();
+    pub fn sum(&self, coefficients: &[i128]) -> String {
+        let mut terms: Vec<(i128, &str)> = self.terms(coefficients).collect();
         if let Some(place) = terms.iter().position(|term| term.0 > 0) {
             terms[..=place].rotate_right(1);
         }
@@ -19,15 +19,15 @@ impl Limits {
     }
 
     /// The terms of a sum, but for those with 0.
-    fn terms<'a>(&'a self, coefficients: &'a [i64]) -> impl Iterator<Item = (i64, &'a str)> {
+    fn terms<'a>(&'a self, coefficients: &'a [i128]) -> impl Iterator<Item = (i128, &'a str)> {
         let terms = coefficients.iter().zip(&self.names).filter(|(number, _)| **number != 0);
         terms.map(|(number, name)| (*number, name.as_str()))
     }
 
     /// The coefficients of a variable or row, where they are not all 0.
-    fn some_coefficients(&self, variable: usize) -> Option<Vec<i64>> {
-        let coefficients = self.coefficients(variable).into_iter().map(i64::from);
-        Some(coefficients.collect()).filter(|all: &Vec<i64>| all.iter().any(|&number| number != 0))
+    fn some_coefficients(&self, variable: usize) -> Option<Vec<i128>> {
+        let coefficients = self.coefficients(variable).into_iter().map(i128::from);
+        Some(coefficients.collect()).filter(|all: &Vec<i128>| all.iter().any(|&number| number != 0))
     }
 
     /// What is limited, as text.
@@ -103,7 +103,7 @@ fn is_one_value(low: Limit, high: Limit) -> bool {
 }
 
 /// The sum of terms, as text: `3 x - 2 y`.
-fn sum_text<'a>(terms: impl Iterator<Item = (i64, &'a str)>) -> String {
+fn sum_text<'a>(terms: impl Iterator<Item = (i128, &'a str)>) -> String {
     let mut text = String::new();
     for (coefficient, name) in terms {
         text += match (text.is_empty(), coefficient < 0) {
