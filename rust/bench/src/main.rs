@@ -9,8 +9,9 @@
 //! not. The checker is measured on the answers of the first contender.
 //!
 //! Then scripts of edits, in a session and with each problem solved anew
-//! (`edits`), days' files, as one call and problem by problem (`days`), and
-//! traces: a replay beside the solve of its problem (`traces`).
+//! (`edits`), days' files, as one call and problem by problem (`days`),
+//! traces: a replay beside the solve of its problem (`traces`), and wide evidence:
+//! its checker beside the other one (`wide`).
 //!
 //! `SEED=.. make bench` measures other problems.
 
@@ -21,6 +22,7 @@ mod measure;
 mod sets;
 mod table;
 mod traces;
+mod wide;
 
 use contenders::CONTENDERS;
 use progress::Progress;
@@ -60,7 +62,9 @@ fn print(to: &mut impl Write) -> io::Result<()> {
     writeln!(to, "\n{}", days::heading())?;
     each("days", days::sets(seed), to, |set| set.line())?;
     writeln!(to, "\n{}", traces::heading())?;
-    each("traces", sets::limits(seed), to, traces::line)
+    each("traces", sets::limits(seed), to, traces::line)?;
+    writeln!(to, "\n{}", wide::heading())?;
+    each("wide", sets::limits(seed), to, wide::line)
 }
 
 /// Prints the line of each set; while it is measured a terminal says which one it is.

@@ -8,6 +8,7 @@ use served as raw;
 
 pub use raw::{bundle_read, bundle_write, day, sheet, Contents};
 pub use raw::{check, solve, solve_within, times};
+pub use raw::{check_times, check_wide};
 pub use raw::{first_violation, session_violation, Violation};
 pub use raw::{replay, trace};
 pub use raw::{session_check, session_open, session_switch, Session};

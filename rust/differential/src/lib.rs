@@ -11,7 +11,8 @@
 //! - `traces`: one limit problem's own trace, and bent ones against its run
 //! - `smtlib`: one limit problem as SMT-LIB text
 //! - `violations`: the first violation of one limit problem, and of sessions
-//! - `times`: time rows through the time solver
+//! - `times`: time rows through the time solver, and evidence about them
+//! - `wide`: wide evidence, found and bent, through its checker
 //! - `bundles`: a day's file through its reader, its writer and its text
 //! - `sheets`: a day's file through its auditor's sheet
 //! - `report`: many of them, counted
@@ -28,3 +29,4 @@ pub mod smtlib;
 pub mod times;
 pub mod traces;
 pub mod violations;
+pub mod wide;

@@ -1,6 +1,6 @@
 //! Many problems, counted.
 
-use crate::{bundles, limits, sessions, sheets, slices, smtlib, times, traces, violations};
+use crate::{bundles, limits, sessions, sheets, slices, smtlib, times, traces, violations, wide};
 use problems::random::Random;
 use progress::counted;
 use std::collections::BTreeMap;
@@ -13,7 +13,7 @@ pub struct Report {
     pub problems: u64,
     /// By verdict or refusal.
     pub outcomes: BTreeMap<String, u64>,
-    /// By what further calls returned: the checker, continues, switches and checks
+    /// By what further calls returned: a checker, continues, switches and checks
     /// of sessions, the writer of a day's file, or replays and traces.
     pub calls: BTreeMap<u32, u64>,
     /// How many answers have small parts.
@@ -122,6 +122,42 @@ pub fn times(seed: u64, problems: u64) -> Result<Report, String> {
         let outcome = times::compare(&mut Random::of_problem(seed, problem), family)
             .map_err(|what| format!("SEED={seed}, problem {problem}, {family:?}: {what}"))?;
         report.count(outcome.number, ["", "times", "cycle", ""], outcome.verdict);
+        report.count_calls(&outcome.checks);
+    }
+    Ok(report)
+}
+
+/// Compares wide evidence of so many limit problems: the families in turn, and
+/// after each round of them dense problems of each size. What is counted beside
+/// the checker's numbers is each verdict, and each beyond the range.
+pub fn wide(seed: u64, problems: u64) -> Result<Report, String> {
+    let mut report = Report::default();
+    for problem in counted("wide", problems) {
+        let drawn = in_turn(&wide::Drawn::all(), problem);
+        let outcome = wide::compare(&mut Random::of_problem(seed, problem), drawn)
+            .map_err(|what| format!("SEED={seed}, problem {problem}, {drawn:?}: {what}"))?;
+        report.count(outcome.number, ["", "can", "cannot", ""], outcome.verdict);
+        report.count_outcome("beyond the range", outcome.is_beyond.into());
+        report.count_calls(&outcome.checks);
+    }
+    Ok(report)
+}
+
+/// Compares so many dense problems of each size, whose coefficients are up to 10,
+/// 100 and 1,000: none is undecided. An error says which one is, or differs.
+pub fn dense(seed: u64, problems: u64) -> Result<Report, String> {
+    let mut report = Report::default();
+    for size in [10, 100, 1_000] {
+        for problem in counted("dense", problems) {
+            let drawn = wide::Drawn::Dense(size);
+            let outcome = wide::compare(&mut Random::of_problem(seed, problem), drawn)
+                .map_err(|what| format!("SEED={seed}, problem {problem}, {drawn:?}: {what}"))?;
+            let name = format!("up to {size}, {}", ["", "can", "cannot"][outcome.verdict as usize]);
+            report.problems += 1;
+            report.count_outcome(&name, 1);
+            report.count_outcome(&format!("up to {size}, beyond"), outcome.is_beyond.into());
+            report.count_calls(&outcome.checks);
+        }
     }
     Ok(report)
 }

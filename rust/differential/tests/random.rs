@@ -134,6 +134,10 @@ fn time_rows() {
         let refused = report.of(&format!("refused {number}"));
         assert!(refused > TIME_PROBLEMS / 1_000, "{number}, SEED={seed}");
     }
+    for number in [8, 9] {
+        assert!(report.calls[&number] > TIME_PROBLEMS / 4, "check {number}, SEED={seed}");
+    }
+    assert!(report.calls[&17] > TIME_PROBLEMS / 1_000, "check 17, SEED={seed}");
 }
 
 /// A least share is four standard deviations below what is expected, or lower.
