@@ -84,8 +84,7 @@ pub fn dense(random: &mut Random, largest: i32) -> Vec<i32> {
 /// where determinants are as large as they get: its rows, which have to equal a
 /// number, and others of the same coefficients.
 pub fn largest(random: &mut Random) -> Vec<i32> {
-    let sign =
-        |row: usize, column: usize| if (row & column).count_ones() % 2 == 0 { 1 } else { -1 };
+    let sign = |row: usize, column: usize| 1 - 2 * ((row & column).count_ones() % 2) as i32;
     let mut row = |signs: &dyn Fn(usize) -> i32| -> Vec<i32> {
         (0..8).map(|column| signs(column) * random.pick(&[999, 1_000])).collect()
     };
