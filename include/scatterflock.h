@@ -65,6 +65,7 @@ enum {
     SCATTERFLOCK_LARGEST_NUMBER = 2147483647,
     SCATTERFLOCK_MOST_WORDS = 290,  /* of a limit problem */
     SCATTERFLOCK_MOST_ANSWER = 67,  /* words of an answer to one */
+    SCATTERFLOCK_MOST_WIDE = 262,   /* words of one with four words a number */
     SCATTERFLOCK_MOST_VERTICES = 64,
     SCATTERFLOCK_MOST_TIME_ROWS = 256,
     SCATTERFLOCK_LARGEST_LENGTH = 30000, /* the c of a time row */
@@ -229,6 +230,30 @@ uint32_t scatterflock_check(const int32_t *words, size_t word_count,
                             const int64_t *answer, size_t answer_count);
 
 /*
+ * Judges an answer to a limit problem in wide numbers, whoever gave it. Write N
+ * for n + m.
+ *
+ * answer[0] is 1 or 2, answer[1] is not judged, and then come 1 + 2 N numbers of
+ * four words each, where an answer of scatterflock_solve has one word each: the
+ * denominator, N numerators or lower multipliers, N small parts or upper
+ * multipliers. The words a, b, c, d stand for a + 2^32 b + 2^64 c + 2^96 d; a, b
+ * and c are from 0 to 4,294,967,295, d is from -2,147,483,648 to 2,147,483,647.
+ *
+ * Returns 1 to 6 or 10 if the problem is refused as in scatterflock_solve, 7 if
+ * it is not and answer_count is below 6 + 8 N, else 8 (accepted) or 9 (not). 8
+ * comes exactly if every word of the numbers is in its range and the numbers are
+ * right, as scatterflock_check asks it of an answer with verdict 1 or 2, but for
+ * the sizes that it asks for. So 8 means that fractions meet the problem, or that
+ * none do, as answer[0] says; any fraction above 0 and up to 1 / (2^127 + 1) may
+ * be put for the small amount.
+ *
+ * answer[1] and words past 6 + 8 N never matter. Nothing is written. What
+ * scatterflock_check accepts gets 8, its numbers put into four words each.
+ */
+uint32_t scatterflock_check_wide(const int32_t *words, size_t word_count,
+                                 const int64_t *answer, size_t answer_count);
+
+/*
  * Answers time rows over n vertices.
  *
  * Returns 0 when they are answered. Then either out[0] is 1, out[1] is n and
@@ -250,6 +275,28 @@ uint32_t scatterflock_check(const int32_t *words, size_t word_count,
  */
 uint32_t scatterflock_times(const int32_t *words, size_t word_count,
                             int64_t *out, size_t out_count);
+
+/*
+ * Judges an answer to time rows over n vertices, whoever gave it.
+ *
+ * Returns 11 to 16 if the rows are refused as in scatterflock_times, 17 if they
+ * are not and answer_count is below 2 + 2 n, else 8 (accepted) or 9 (not). 8
+ * comes exactly if
+ *
+ *   - answer[0] is 1, answer[1] is n, and the times, answer[2 + v] minutes and
+ *     answer[2 + n + v] small amounts for each vertex v, meet every row: x less
+ *     y, part by part, is at most c and minus the strict word, the minutes
+ *     compared first. The words may be any, and nothing wraps; or
+ *   - answer[0] is 2, answer[1] is k from 1 to n, the next k words are rows that
+ *     lead round through no vertex twice and whose c sum below 0, or to 0 with a
+ *     strict row among them, and all words from there to 2 + 2 n are 0.
+ *
+ * So 8 means that times meet all rows, or that none do, as answer[0] says. Words
+ * past 2 + 2 n never matter. Nothing is written. What scatterflock_times answers
+ * gets 8.
+ */
+uint32_t scatterflock_check_times(const int32_t *words, size_t word_count,
+                                  const int64_t *answer, size_t answer_count);
 
 /*
  * A run at some point, to go on with: how many pivots are completed, and the

@@ -1,5 +1,5 @@
 -- `wide::can::at_least` meets its contract: the signs of the difference to the limit and of the small part. Assumes
--- nothing.
+-- nothing. What was told comes before what calls ask for, as an edit is to fail there.
 use mathlib.Core.Path.{_≡_, ap, ap₂, refl, _∙_}
 use mathlib.Core.List.{[], _∷_}
 use Prim.Native.Nat.{_+_}
@@ -51,15 +51,6 @@ module _ (c : tie.After-less) where
   gap = stands-is (c .less .ensures)
       (stands-less (record { number = refl; size = begun .pre .0 .1 }) (scaled (c .before)))
 
-sign-requires : tie.Need-sign-requires
-sign-requires c κs = sized-le (gap (c .before) .size) (lit≤ tt)
-
-sign-requires-2 : tie.Need-sign-requires-2
-sign-requires-2 c κs = sized-le (begun (c .before .before) .pre .0 .2) (lit≤ tt)
-
-passes-requires : tie.Need-passes-requires
-passes-requires c κs = tt
-
 module _ (c : tie.After-passes) where
   abbrev second : tie.After-sign2
   second = c .before
@@ -98,6 +89,15 @@ module _ (c : tie.After-passes) where
 returns : tie.Need-returns
 returns c = at-least-joined _ (value (s c .args .common)) (value (s c .args .x)) (value (s c .args .small)) refl
     (l c .on) (told c)
+
+sign-requires : tie.Need-sign-requires
+sign-requires c κs = sized-le (gap (c .before) .size) (lit≤ tt)
+
+sign-requires-2 : tie.Need-sign-requires-2
+sign-requires-2 c κs = sized-le (begun (c .before .before) .pre .0 .2) (lit≤ tt)
+
+passes-requires : tie.Need-passes-requires
+passes-requires c κs = tt
 
 pub at-least-spec : {M : Type 1} → statement M
 at-least-spec =
