@@ -13,7 +13,7 @@ use Rattle.timecheck.proofs.cycle.is_new.Statement.{statement}
 use Rattle.timecheck.proofs.cycle.is_new.Tie as tie
 
 abbrev Inv-loop : tie.InvT-loop
-Inv-loop rows answer count k here fine₀ j₀ fine j = (j ≤ k) × (fine ≡ newUpTo rows answer k j)
+Inv-loop rows answer count k here fine₀ j₀ fine j = (fine ≡ newUpTo rows answer k j) × (j ≤ k)
 
 abbrev μ-loop : tie.MeasureT-loop
 μ-loop rows answer count k here fine₀ j₀ fine j = k - j
@@ -23,7 +23,7 @@ tail-at-requires c κs = c .pre
 
 loop-holds : tie.Need-loop-holds Inv-loop μ-loop
 unfolding newUpTo
-loop-holds c = (omega arith, sym (all-start _))
+loop-holds c = (sym (all-start _), omega arith)
 
 tail-at-requires-2 : tie.Need-tail-at-requires-2 Inv-loop μ-loop
 tail-at-requires-2 c κs = let s = c .before .before .before in
@@ -41,9 +41,9 @@ loop-less c = omega arith
 loop-again : tie.Need-loop-again Inv-loop μ-loop
 unfolding newUpTo
 loop-again c = let l = c .before .before in (
-  omega arith,
-  tests-more (l .loop .j) _ (l .loop .inv .1)
+  tests-more (l .loop .j) _ (l .loop .inv .0)
       (ap₂ (λ (x y : ℕ). not (eqb x y)) (c .tail-at2 .ensures) (l .before .tail-at .ensures)),
+  omega arith,
 )
 
 all : (c : tie.After-loop Inv-loop μ-loop) → c .before .loop .j ≡ c .before .before .before .args .k
@@ -51,7 +51,7 @@ all c = omega arith
 
 returns : tie.Need-returns Inv-loop μ-loop
 returns c = let o = c .before .before .before .args in
-    c .before .loop .inv .1 ∙ ap (λ (j : ℕ). newUpTo (o .rows .now) (o .answer .now) (o .k) j) (all c)
+    c .before .loop .inv .0 ∙ ap (λ (j : ℕ). newUpTo (o .rows .now) (o .answer .now) (o .k) j) (all c)
 
 pub is-new-spec : {M : Type 1} → statement M
 is-new-spec =
