@@ -64,4 +64,33 @@ fn quoted_texts_are_the_files() {
     assert!(quotes(&page, "problems/starts.txt"));
     assert!(quotes(&page, "problems/stamps.txt"));
     assert!(quotes(&readme, "problems/oven.txt"));
+    assert!(quotes(&readme, "problems/steps.txt"));
+}
+
+/// In the picture of README a character stands for 2.5 degrees.
+#[test]
+fn the_picture_of_the_clash_is_to_scale() {
+    let readme = fs::read_to_string(top().join("README.md")).unwrap();
+    let bar = |name: &str| {
+        let line = readme.lines().find_map(|line| line.strip_prefix(name)).unwrap();
+        let parts = line.trim_start().trim_start_matches('|').split_inclusive('|');
+        parts.map(str::to_string).collect::<Vec<String>>()
+    };
+    let mut sizes = Vec::new();
+    for name in ["    asked for", "    allowed"] {
+        let mut size = 0;
+        for part in bar(name) {
+            let Some((_, number)) = part.trim_matches(['-', '|', ' ']).split_once(": ") else {
+                let missing = part.split("  ").next().unwrap().len();
+                assert_eq!(part.split("  ").nth(1), Some("5 too much"));
+                size += 25 * missing;
+                continue;
+            };
+            let tenths = (number.parse::<f64>().unwrap() * 10.0) as usize;
+            assert_eq!(25 * part.len(), tenths, "{part}");
+            size += tenths;
+        }
+        sizes.push(size);
+    }
+    assert_eq!(sizes, [1_600; 2]);
 }
