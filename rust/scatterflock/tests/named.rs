@@ -16,8 +16,25 @@ fn end(limit: Option<Limit>) -> Bound<i32> {
     }
 }
 
-/// The same problem by names, its limits in any order of their variables but that of
-/// the rows.
+/// Adds a row by numbers, and its limits.
+fn by_numbers(problem: &mut Problem, row: &[i32], limits: [Option<Limit>; 2]) -> usize {
+    let variable = problem.add_row(row).unwrap();
+    for (side, limit) in limits.into_iter().enumerate() {
+        let Some(Limit { number, is_strict }) = limit else { continue };
+        let with = problem.clone();
+        let limited = match (side, is_strict) {
+            (0, false) => with.at_least(variable, number),
+            (0, true) => with.above(variable, number),
+            (_, false) => with.at_most(variable, number),
+            (_, true) => with.below(variable, number),
+        };
+        *problem = limited.unwrap();
+    }
+    variable
+}
+
+/// The same problem by names, the limits of single names first and from the last one
+/// on.
 fn by_names(given: &Problem) -> Problem {
     let n = given.variables();
     let mut problem = Problem::named(&NAMES[..n]).unwrap();
@@ -28,34 +45,19 @@ fn by_names(given: &Problem) -> Problem {
         assert_eq!(done, if is_free { Err(BuildError::Unlimited) } else { Ok(variable) });
     }
     for (place, row) in given.rows().iter().enumerate() {
-        let [lower, upper] = given.limits(n + place).map(end);
-        let mut sum: Vec<(&str, i32)> =
-            NAMES.iter().copied().zip(row.iter().copied()).rev().collect();
-        // A name that is taken 0 times may stand there or not; alone it would be the variable.
-        sum.retain(|term| term.1 != 0);
+        let limits = given.limits(n + place);
+        let named = NAMES.into_iter().zip(row.iter().copied()).rev();
+        let mut sum: Vec<(&str, i32)> = named.filter(|term| term.1 != 0).collect();
+        // A name that is taken once and alone is the variable, not a row: another one
+        // beside it, taken 0 times, makes it one.
         let other = NAMES[..n].iter().find(|name| sum[0].0 != **name);
-        let done = match (given.limits(n + place), &sum[..], other) {
-            ([None, None], ..) | (_, [(_, 1)], None) => problem.add_row(row).map(|variable| {
-                for (side, limit) in given.limits(n + place).into_iter().enumerate() {
-                    let Some(Limit { number, is_strict }) = limit else { continue };
-                    let with = problem.clone();
-                    problem = match (side, is_strict) {
-                        (0, false) => with.at_least(variable, number),
-                        (0, true) => with.above(variable, number),
-                        (1, false) => with.at_most(variable, number),
-                        _ => with.below(variable, number),
-                    }
-                    .unwrap();
-                }
-                variable
-            }),
-            (_, [(_, 1)], Some(other)) => {
-                sum.push((other, 0));
-                problem.limit(&sum, (lower, upper))
-            }
-            _ => problem.limit(&sum, (lower, upper)),
+        let is_alone = matches!(sum[..], [(_, 1)]);
+        sum.extend(other.filter(|_| is_alone).map(|other| (*other, 0)));
+        let done = match limits == [None; 2] || matches!(sum[..], [(_, 1)]) {
+            true => by_numbers(&mut problem, row, limits),
+            false => problem.limit(&sum, (end(limits[0]), end(limits[1]))).unwrap(),
         };
-        assert_eq!(done, Ok(n + place));
+        assert_eq!(done, n + place);
     }
     problem
 }
