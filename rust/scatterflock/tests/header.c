@@ -2,7 +2,7 @@
  * Calls the archive through include/scatterflock.h and compares what it gives:
  * cases A, C and J of docs/RULES.md, case A in slices, its trace, its first violation, the first session of
  * docs/formats/session.md, strict limits, answers that are right and wrong,
- * case A as SMT-LIB text in every room, refusals, and on x86-64 how long the records are that come back. It is C and
+ * case A as SMT-LIB text in every room, its answer in wide numbers, times from elsewhere, refusals, and on x86-64 how long the records are that come back. It is C and
  * C++ at once, and header.rs compiles it as both, with MOST_SMTLIB by -D. Each
  * difference is a line, and any makes the program fail.
  */
@@ -134,6 +134,55 @@ static void within_rows(void)
         number("solve nine within",
                scatterflock_solve_within(most, NINE_VARIABLES, COUNT(NINE_VARIABLES), out, ROOM), 2);
     }
+}
+
+static uint32_t wide(const int64_t *answer, size_t count)
+{
+    return scatterflock_check_wide(A, COUNT(A), answer, count);
+}
+
+/* The answer to case A with each number in four words, and words bent. */
+static void in_wide_numbers(void)
+{
+    int64_t answer[2 + 4 * (COUNT(A_ANSWER) - 2)];
+
+    for (size_t place = 0; place < COUNT(answer); place++)
+        answer[place] = place < 2 ? A_ANSWER[place] : place % 4 == 2 ? A_ANSWER[2 + place / 4] : 0;
+    number("check wide A", wide(answer, COUNT(answer)), SCATTERFLOCK_ACCEPTED);
+    number("check wide A short", wide(answer, COUNT(answer) - 1), SCATTERFLOCK_SHORT);
+    number("check wide nine",
+           scatterflock_check_wide(NINE_VARIABLES, COUNT(NINE_VARIABLES), answer, COUNT(answer)), 2);
+    answer[1] = -7;
+    number("check wide A, other pivots", wide(answer, COUNT(answer)), 8);
+    for (size_t place = 2; place < 30; place++) {
+        answer[place] += 1;
+        number("check wide A bent", wide(answer, COUNT(answer)), SCATTERFLOCK_REJECTED);
+        answer[place] -= 1;
+    }
+    answer[COUNT(answer) - 2] = INT64_C(4294967296);
+    number("check wide A, a limb too large", wide(answer, COUNT(answer)), 9);
+}
+
+/* The times of J, later, apart and short; and a cycle of one row, x - x < 0. */
+static void about_times(void)
+{
+    static const int32_t ROUND[] = {1, 1, 0, 0, 1, 0};
+    static const int64_t CYCLE[] = {2, 1, 0, 0};
+    static const int64_t NO_CYCLE[] = {2, 1, 1, 0};
+    int64_t times[COUNT(J_TIMES)];
+
+    number("check times J", scatterflock_check_times(J, COUNT(J), J_TIMES, COUNT(J_TIMES)), SCATTERFLOCK_ACCEPTED);
+    number("check times J short", scatterflock_check_times(J, COUNT(J), J_TIMES, COUNT(J_TIMES) - 1),
+           SCATTERFLOCK_TIMES_SHORT);
+    for (size_t place = 0; place < COUNT(times); place++)
+        times[place] = J_TIMES[place] + (place >= 2 && place < 6 ? INT64_MAX - 8 : 0);
+    number("check times J, late", scatterflock_check_times(J, COUNT(J), times, COUNT(times)), 8);
+    times[2] -= 1;
+    number("check times J, apart", scatterflock_check_times(J, COUNT(J), times, COUNT(times)), SCATTERFLOCK_REJECTED);
+    number("check times vertex",
+           scatterflock_check_times(NO_SUCH_VERTEX, COUNT(NO_SUCH_VERTEX), times, COUNT(times)), 14);
+    number("check times round", scatterflock_check_times(ROUND, COUNT(ROUND), CYCLE, COUNT(CYCLE)), 8);
+    number("check times no cycle", scatterflock_check_times(ROUND, COUNT(ROUND), NO_CYCLE, COUNT(NO_CYCLE)), 9);
 }
 
 static void replayed(const char *call, const uint32_t *trace, size_t count, uint32_t expected,
@@ -366,6 +415,8 @@ int main(void)
     number("times vertex", scatterflock_times(NO_SUCH_VERTEX, COUNT(NO_SUCH_VERTEX), out, ROOM), 14);
     words("times vertex", out, NULL, 0);
 
+    in_wide_numbers();
+    about_times();
     in_slices();
     in_a_trace();
     in_a_session();
