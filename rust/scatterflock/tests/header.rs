@@ -81,6 +81,7 @@ fn the_names_of_the_header_are_those_of_the_crate() {
         ("LARGEST_NUMBER", sizes::LARGEST_NUMBER as usize),
         ("MOST_WORDS", sizes::MOST_WORDS),
         ("MOST_ANSWER", sizes::MOST_ANSWER),
+        ("MOST_WIDE", sizes::MOST_WIDE),
         ("MOST_VERTICES", sizes::MOST_VERTICES),
         ("MOST_TIME_ROWS", sizes::MOST_TIME_ROWS),
         ("LARGEST_LENGTH", sizes::LARGEST_LENGTH as usize),
