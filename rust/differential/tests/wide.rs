@@ -8,7 +8,7 @@ use problems::random::{seed, Random};
 use problems::wide::{dense, EDGES};
 use problems::worked;
 
-const PROBLEMS: u64 = if LINKED { 12_000 } else { 2_000 };
+const PROBLEMS: u64 = if LINKED { 8_000 } else { 2_000 };
 
 #[test]
 fn evidence_of_every_family() {
