@@ -57,6 +57,7 @@ fn bytes(random: &mut Random) -> Vec<u8> {
     bytes
 }
 
+/// A least share is four standard deviations below what is expected, or lower.
 #[test]
 fn random_and_damaged_bytes() {
     let seed = seed();
@@ -71,8 +72,8 @@ fn random_and_damaged_bytes() {
         *first_words.entry(line.to_string()).or_default() += 1;
     }
     println!("{first_words:?}");
-    for line in ["can", "cannot", "refused 1", "refused 2", "refused 3"] {
-        assert!(first_words.get(line) > Some(&4), "{line}, SEED={seed}");
+    for (line, least) in [("can", 30), ("cannot", 30), ("refused 2", 3), ("refused 3", 100)] {
+        assert!(first_words.get(line) > Some(&least), "{line}, SEED={seed}");
     }
 }
 
