@@ -16,7 +16,7 @@ ghost use Rattle.rules.specs.Refusal.{first};
 ghost use Rattle.rules.specs.Program.Bytes.{wordsFrom};
 ghost use Rattle.rules.specs.Bundle.File.{badCount, badTable, badTotal, countIn, fileRefusal, headSize};
 
-// Not a whole number of words, fewer than two, or too many.
+// Bytes that are left over, fewer than two words, or too many.
 fn is_bad_count(count: usize) -> bool
     ensures { λ r. ⌜ r ≡ badCount count ⌝ }
 {

@@ -1,4 +1,4 @@
--- docs/RULES.md, "The limit problem as words": n, m, then m rows of n coefficients, then kind, lower and upper of each
+-- docs/RULES.md, "The limit problem as words": n and m, the coefficients row by row, then kind, lower and upper of each
 -- variable.
 use mathlib.Core.List.{List}
 use mathlib.Core.Option.{Option, none, some}

@@ -1,4 +1,4 @@
--- docs/RULES.md, "Refusal numbers and their order": a list of tests with their numbers, each over the whole input, the
+-- docs/RULES.md, "Refusal numbers and their order": a list of tests with their numbers, each asked of all words, the
 -- first that applies winning.
 use mathlib.Core.Path.{_≡_}
 use mathlib.Core.Logic.{_≢_}

@@ -84,7 +84,7 @@ module _ {X : Type 0} (𝓥 : Values X) where
 
   -- ---- the start
 
-  -- 0 if the limits allow 0, else the lower limit if that is above 0, else the upper limit
+  -- 0 where the limits allow it, else the lower one where that is above 0, else the upper one
   unfoldable pub startValue : Option X → Option X → X
   startValue none none = nil
   startValue none (some u) = cond (less u nil) u nil

@@ -37,7 +37,7 @@ solved N t r w = record {
   rows = matrix N (λ v u. entry t r w *ℤ entry t v u -ℤ entry t v w *ℤ relation t r u);
 }
 
--- the greatest common divisor of D and all entries
+-- the greatest number that divides D and every entry
 unfoldable pub divisorSize : ℕ → Tableau → ℕ
 divisorSize N t = foldBelow N (λ v g. foldBelow N (λ u h. gcd (natAbs (entry t v u)) h) g) (natAbs (t .common))
 

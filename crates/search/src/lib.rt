@@ -1,5 +1,5 @@
-// The search for the next pivot: the lowest-numbered basic variable outside its limits, and the lowest-numbered
-// nonbasic one that can move it.
+// The search for the next pivot: of the basic variables that are outside, the lowest-numbered; and of the nonbasic ones
+// that can move it.
 ghost use mathlib.Core.Path.{_≡_};
 ghost use mathlib.Core.Bool.{false};
 ghost use Prim.Native.Nat.{ℕ, _+_, _≤_, _<_};

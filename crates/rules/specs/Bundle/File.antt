@@ -67,7 +67,7 @@ startFor k lengths i = pos (headSize k) +ℤ sum i lengths
 
 -- ---- refusals 30 to 35, by the count of bytes and the words that they are
 
--- not a whole number of words, fewer than two, or too many
+-- bytes that are left over, fewer than two words, or too many
 unfoldable pub badCount : ℕ → Bool
 badCount count = not (eqb (count % 4) 0) || (ltb count 8 || ltb (4 * mostFileWords) count)
 

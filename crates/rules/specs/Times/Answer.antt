@@ -69,7 +69,7 @@ MeetsRow ws d t i =
 abbrev pub MeetsRows : List ℤ → ℤ → (ℕ → ℤ) → Type 0
 MeetsRows ws d t = (i : ℕ) → i < mOf ws → MeetsRow ws d t i
 
--- pairs as times: every fraction e / k up to 1 / n, put for the small amount, meets every row
+-- pairs as times: with any fraction e / k up to 1 / n for the small amount every row is met
 abbrev pub MeetsSmall : List ℤ → (ℕ → ℤ × ℤ) → Type 0
 MeetsSmall ws t = (e k : ℤ) → pos 0 <ℤ e → (e *ℤ pos (nOf ws)) ≤ℤ k → MeetsRows ws k (λ v. mixed e k (t v))
 

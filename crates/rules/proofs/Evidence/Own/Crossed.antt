@@ -1,4 +1,4 @@
--- A variable whose lower limit exceeds its upper: one lower and one upper multiplier of 1 are evidence. Where the plain
+-- A variable whose lower limit exceeds its upper: its two limits, once each, are evidence. Where the plain
 -- limits are equal, one of them is strict.
 --   mapped-some      something read from a limit comes from one that is there
 --   crossed-shown
