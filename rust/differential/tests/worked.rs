@@ -58,6 +58,37 @@ fn worked_traces() {
     assert_eq!(archive::trace(&[1], &mut none).refused, 1);
 }
 
+/// Case A at its start, words that are refused, and case A as a session, whose D is
+/// 3 after its check.
+#[test]
+fn worked_violations() {
+    let numbers = |shown: archive::Violation| {
+        let variable = shown.violated.then_some((shown.variable, shown.rises));
+        (shown.refused, variable, [shown.denominator, shown.shortfall, shown.small])
+    };
+    let case_a = worked::case_a().words;
+    let first = (0, Some((2, true)), [1, 2, 0]);
+    assert_eq!(numbers(archive::first_violation(&case_a)), first);
+    assert_eq!(numbers(archive::first_violation(&[1])), (1, None, [0; 3]));
+    let mut session = archive::session_open(&case_a).session;
+    assert_eq!(numbers(archive::session_violation(session.clone())), (0, None, [0; 3]));
+    for variable in [4, 2] {
+        session = archive::session_switch(session, variable, false, true).session;
+    }
+    assert_eq!(numbers(archive::session_violation(session.clone())), first);
+    session = archive::session_check(session, &mut [0; 13]).session;
+    assert_eq!(numbers(archive::session_violation(session.clone())), (0, None, [0; 3]));
+    let strict = [2, 2, 1, 1, -1, 2, 2, 0, -1, 0, 0, 0, 1, 2, 0, 5, 1, 0];
+    session = archive::session_open(&strict).session;
+    for variable in [2, 3] {
+        session = archive::session_switch(session, variable, false, true).session;
+    }
+    session = archive::session_check(session, &mut [0; 11]).session;
+    session = archive::session_switch(session, 0, true, true).session;
+    let over_three = (0, Some((0, false)), [3, 6, -1]);
+    assert_eq!(numbers(archive::session_violation(session)), over_three);
+}
+
 #[test]
 fn case_a_by_0_1_0_1_5() {
     let case = &worked::limits()[0];
