@@ -1,15 +1,16 @@
 -- A pivot by place: the entries before reduction, their divisor, and the entries in lowest common form.
 use Prim.Native.Nat.{ℕ, _+_, _≤_, _<_}
 use mathlib.Core.Bool.{Bool, true, false, cond, _&&_}
-use mathlib.Core.List.{List}
+use mathlib.Core.List.{List, _++_}
+use mathlib.Core.Path.{_≡_}
 use mathlib.Core.Logic.{_≢_}
-use lib.Dec.{eqb}
-use lib.ListN.{getD}
+use lib.Dec.{T, eqb}
+use lib.ListN.{drop, getD, length}
 use lib.IntN.{ℤ, pos, negℤ, _*ℤ_, _-ℤ_}
 use lib.Signed.{quotZ}
 use Rattle.whole.specs.Below.{allBelow, foldBelow}
 use Rattle.whole.specs.Numbers.{Within, AllWithin, within}
-use Rattle.whole.specs.Tables.{filled}
+use Rattle.whole.specs.Tables.{filled, table}
 use Rattle.divisor.specs.Cells.{divisorBelow, quotients}
 use Rattle.divisor.specs.Signs.{signedBy}
 use Rattle.rules.specs.Sizes.{mostColumns, mostRows, largestNumber}
@@ -114,14 +115,24 @@ module _ (m n : ℕ) (l : List ℤ) (common : ℤ) (p q : ℕ) where
   abbrev pub fitsAfter : Bool
   fitsAfter = fitsLaid inUse m n l common p q
 
--- what the code answers, and the entries that it leaves
+-- what the code answers
 abbrev pub pivotedBy : Bool → ℤ → Pivoted
 pivotedBy true c = pivots.Common c
 pivotedBy false c = pivots.Beyond
 
-abbrev pub entriesBy : Bool → List ℤ → List ℤ → List ℤ
-entriesBy true old new = new
-entriesBy false old new = old
+-- an array that has the first k cells of another
+pub record StartsWith (k : ℕ) (cells next : List ℤ) : Type 0 where
+  pub long : length next ≡ mostEntries
+  pub same : (i : ℕ) → i < k → getD next i (pos 0) ≡ getD cells i (pos 0)
+
+-- the cells in use are put into an array where they are in range, and else nothing is said of it
+abbrev pub PutBy : Bool → ℕ → List ℤ → List ℤ → Type 0
+PutBy true k cells next = StartsWith k cells next
+PutBy false k cells next = T true
+
+-- .. and are kept: the first k cells of one array, and then those of another
+abbrev pub keptCells : ℕ → List ℤ → List ℤ → List ℤ
+keptCells k next old = table k (λ i. getD next i (pos 0)) ++ drop k old
 
 -- a row place and a column place with an entry other than 0
 pub record Pivotable (m n : ℕ) (l : List ℤ) (common : ℤ) (p q : ℕ) : Type 0 where

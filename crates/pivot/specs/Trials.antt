@@ -20,9 +20,9 @@ use Rattle.pivot.specs.declared.settle.Tried.the-variants as tries
 use Rattle.pivot.specs.declared.settle.Settled.{Settled}
 use Rattle.pivot.specs.declared.settle.Settled.the-variants as ends
 use Rattle.pivot.specs.Asked.{entriesFor, fitsFor}
-use Rattle.layout.specs.Layout.{mostEntries, lineAt}
+use Rattle.layout.specs.Layout.{mostEntries, lineAt, live}
 use Rattle.pivot.specs.Border.{differenceOf, differenceAt, inBorder}
-use Rattle.pivot.specs.Pivot.{by}
+use Rattle.pivot.specs.Pivot.{StartsWith, by}
 
 -- q is the quotient of a number: multiplied back, it is that number
 abbrev pub Quotient : ℤ → ℤ → ℤ → Type 0
@@ -93,11 +93,11 @@ SettledAs l b from old ends.Open out = T true
 -- ---- the trials of a pivot that is asked for
 
 module _ (l : List ℤ) (a : Asked) where
-  -- the divisor is found, and the entries are the definition's, in range or not
+  -- the divisor is found, and the cells in use are the definition's, in range or not
   pub record Settles (z : ℤ) (out : List ℤ) : Type 0 where
     pub by-is : z ≡ by (a .rows) (a .columns) l (a .common) (a .spot .row .0) (a .spot .column .0)
     pub by-within : Within z largestNumber
-    pub entries-are : out ≡ entriesFor l a
+    pub cells-are : StartsWith (live (a .rows) (a .columns)) (entriesFor l a) out
 
   abbrev pub EndsAs : Settled → List ℤ → Type 0
   EndsAs (ends.By z) out = Settles z out

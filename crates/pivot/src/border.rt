@@ -14,8 +14,8 @@ ghost use Rattle.rules.specs.Sizes.{mostRows, mostColumns, largestNumber};
 ghost use Rattle.pivot.specs.Asked.{Able, pivotFor};
 ghost use Rattle.pivot.specs.Border.{raisedBy, raisedStrip, Bears, borderFor, borderDivisor};
 use crate::MOST_ENTRIES;
-use crate::asked;
 use crate::asked::Asked;
+use crate::numbers;
 use layout::Strip;
 
 pub struct Border {
@@ -67,7 +67,7 @@ pub fn border_of(entries: &[i32; MOST_ENTRIES], asked: Asked) -> Border
     Border {
         rows: asked.rows,
         columns: asked.columns,
-        pivot: asked::pivot_of(entries, asked),
+        pivot: numbers::pivot_of(entries, asked),
         besides: raised_strip(entries, down, row.0 as usize, asked.common),
         aboves: raised_strip(entries, across, column.0 as usize, -asked.common),
     }

@@ -7,12 +7,15 @@
 // nothing, the numbers are divided in the full width.
 // The entries lie flat, as the crate layout says; a cell that is not in use is 0.
 ghost use mathlib.Core.Path.{_≡_};
-ghost use Rattle.pivot.specs.Pivot.{Pivotable, fitsAfter, commonAfter, entriesAfter, pivotedBy, entriesBy};
+ghost use Prim.Native.Nat.{_≤_};
+ghost use lib.ListN.{length};
+ghost use Rattle.layout.specs.Layout.{live, mostEntries};
+ghost use Rattle.pivot.specs.Pivot.{PutBy, keptCells, pivotedBy};
+ghost use Rattle.pivot.specs.Asked.{Able, commonFor, entriesFor, fitsFor};
 use asked::Asked;
-use layout::Spot;
 use settle::Settled;
 
-mod asked;
+pub mod asked;
 mod border;
 mod column;
 mod guess;
@@ -31,45 +34,39 @@ pub enum Pivoted {
     Beyond,
 }
 
-// The entries after a pivot, in lowest common form with the common number above 0. The range is tested after the
-// reduction; beyond it the entries stay.
-pub fn pivot(
-    entries: &mut [i32; MOST_ENTRIES],
-    rows: usize,
-    columns: usize,
-    common: i32,
-    spot: Spot,
-) -> Pivoted
-    requires { ⌜ Pivotable rows columns (now entries) common (spot .row .0) (spot .column .0) ⌝ }
+// The entries after a pivot, in lowest common form with the common number above 0, are put into `next`. The range is
+// tested after the reduction. Nothing is said of cells that are not in use, nor of any where a number is beyond it.
+pub fn pivot(entries: &[i32; MOST_ENTRIES], asked: Asked, next: &mut [i32; MOST_ENTRIES]) -> Pivoted
+    requires { ⌜ Able (now entries) asked ⌝ }
+    requires { ⌜ length (now next) ≡ mostEntries ⌝ }
     ensures answer { λ r. ⌜ r
-        ≡ pivotedBy (fitsAfter rows columns (now (entries .entry)) common (spot .row .0) (spot .column .0))
-        (commonAfter rows columns (now (entries .entry)) common (spot .row .0) (spot .column .0)) ⌝ }
-    ensures numbers { λ r. ⌜ now (entries .exit)
-        ≡ entriesBy (fitsAfter rows columns (now (entries .entry)) common (spot .row .0) (spot .column .0))
-        (now (entries .entry))
-        (entriesAfter rows columns (now (entries .entry)) common (spot .row .0) (spot .column .0)) ⌝ }
+        ≡ pivotedBy (fitsFor (now (entries .entry)) asked) (commonFor (now (entries .entry)) asked) ⌝ }
+    ensures numbers { λ r. ⌜ PutBy (fitsFor (now (entries .entry)) asked) (live (asked .rows) (asked .columns))
+        (entriesFor (now (entries .entry)) asked) (now (next .exit)) ⌝ }
 {
-    let asked = Asked {
-        rows,
-        columns,
-        common,
-        spot,
-    };
-    let mut cells = [0i32; MOST_ENTRIES];
-    let settled = quick::quick(entries, asked, &mut cells);
+    let settled = quick::quick(entries, asked, next);
     if let Settled::Beyond = settled {
         return Pivoted::Beyond;
     }
     let Settled::By(by) = settled else {
-        return wide::pivot(entries, asked);
+        return wide::pivot(entries, asked, next);
     };
-    if range::beyond_in(&cells, layout::live(rows, columns)) != 0 {
+    if range::beyond_in(next, layout::live(asked.rows, asked.columns)) != 0 {
         return Pivoted::Beyond;
     }
-    let after = asked::product_of(entries, asked) / by as i64;
+    let after = numbers::product_of(entries, asked) / by as i64;
     if after > rules::LARGEST_NUMBER {
         return Pivoted::Beyond;
     }
-    *entries = cells;
     Pivoted::Common(after as i32)
+}
+
+// The live cells of `next` are kept as entries; the others stay.
+pub fn keep(next: &[i32; MOST_ENTRIES], live: usize, entries: &mut [i32; MOST_ENTRIES])
+    requires { ⌜ (live ≤ mostEntries) × (length (now entries) ≡ mostEntries) ⌝ }
+    ensures { λ r. ⌜ now (entries .exit) ≡ keptCells live (now (next .entry)) (now (entries .entry)) ⌝ }
+{
+    for k in 0..live {
+        entries[k] = next[k];
+    }
 }

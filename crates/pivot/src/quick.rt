@@ -2,17 +2,17 @@
 ghost use mathlib.Core.Path.{_≡_};
 ghost use Prim.Native.Nat.{_+_};
 ghost use lib.Dec.{leb};
-ghost use lib.IntN.{pos, natAbs};
-ghost use lib.ListN.{replicate};
+ghost use lib.IntN.{natAbs};
+ghost use lib.ListN.{length};
 ghost use Rattle.whole.specs.Numbers.{Within};
 ghost use Rattle.rules.specs.Sizes.{largestNumber};
 ghost use Rattle.pivot.specs.Asked.{Able};
 ghost use Rattle.layout.specs.Layout.{mostEntries};
 ghost use Rattle.pivot.specs.Trials.{EndsAs};
 use crate::MOST_ENTRIES;
-use crate::asked;
 use crate::asked::Asked;
 use crate::border;
+use crate::numbers;
 use crate::settle;
 use crate::settle::Settled;
 
@@ -28,10 +28,10 @@ fn are_near(a: i32, b: i32) -> bool
 // divides the common number times the border's divisor.
 pub fn quick(entries: &[i32; MOST_ENTRIES], asked: Asked, out: &mut [i32; MOST_ENTRIES]) -> Settled
     requires { ⌜ Able (now entries) asked ⌝ }
-    requires { ⌜ now out ≡ replicate mostEntries (pos 0) ⌝ }
+    requires { ⌜ length (now out) ≡ mostEntries ⌝ }
     ensures { λ r. ⌜ EndsAs (now (entries .entry)) asked r (now (out .exit)) ⌝ }
 {
-    if !are_near(asked::pivot_of(entries, asked), asked.common) {
+    if !are_near(numbers::pivot_of(entries, asked), asked.common) {
         return Settled::Open;
     }
     let border = border::border_of(entries, asked);
@@ -39,6 +39,6 @@ pub fn quick(entries: &[i32; MOST_ENTRIES], asked: Asked, out: &mut [i32; MOST_E
     if first > rules::LARGEST_NUMBER as u64 {
         return Settled::Open;
     }
-    let from = divisor::signed(asked::product_of(entries, asked), first) as i32;
+    let from = divisor::signed(numbers::product_of(entries, asked), first) as i32;
     settle::settle(entries, border, from, out)
 }

@@ -6,11 +6,10 @@ ghost use lib.ListN.{length};
 ghost use Rattle.whole.specs.Numbers.{AllWithin};
 ghost use Rattle.rules.specs.Sizes.{largestNumber};
 ghost use Rattle.layout.specs.Layout.{mostEntries, lines, lineAt, live};
-ghost use Rattle.pivot.specs.Pivot.{mixedOf, Mixable, pivotedBy, entriesBy};
+ghost use Rattle.pivot.specs.Pivot.{mixedOf, Mixable, PutBy, pivotedBy};
 ghost use Rattle.pivot.specs.Asked.{Able, cellFor, cellsFor, fitsFor, commonFor, entriesFor};
 use crate::MOST_ENTRIES;
 use crate::Pivoted;
-use crate::asked;
 use crate::asked::Asked;
 use crate::numbers;
 use crate::range;
@@ -117,24 +116,23 @@ fn halves_of(cells: &[i64; MOST_ENTRIES]) -> [i32; MOST_ENTRIES]
     halves
 }
 
-// The entries after a pivot, in lowest common form with the common number above 0. The range is tested after the
-// reduction; beyond it the entries stay.
-pub fn pivot(entries: &mut [i32; MOST_ENTRIES], asked: Asked) -> Pivoted
+// The entries after a pivot, in lowest common form with the common number above 0, are put into `next`. The range is
+// tested after the reduction; beyond it `next` stays.
+pub fn pivot(entries: &[i32; MOST_ENTRIES], asked: Asked, next: &mut [i32; MOST_ENTRIES]) -> Pivoted
     requires { ⌜ Able (now entries) asked ⌝ }
     ensures answer { λ r. ⌜ r
         ≡ pivotedBy (fitsFor (now (entries .entry)) asked) (commonFor (now (entries .entry)) asked) ⌝ }
-    ensures numbers { λ r. ⌜ now (entries .exit)
-        ≡ entriesBy (fitsFor (now (entries .entry)) asked) (now (entries .entry))
-        (entriesFor (now (entries .entry)) asked) ⌝ }
+    ensures numbers { λ r. ⌜ PutBy (fitsFor (now (entries .entry)) asked) (live (asked .rows) (asked .columns))
+        (entriesFor (now (entries .entry)) asked) (now (next .exit)) ⌝ }
 {
     let end = layout::live(asked.rows, asked.columns);
-    let product = asked::product_of(entries, asked);
+    let product = numbers::product_of(entries, asked);
     let mut cells = mixed_entries(entries, asked);
     let by = divisor::signed(product, divisor::divisor_of(&cells, end, product));
     divisor::divide(&mut cells, end, by);
     let after = product / by;
     if range::all_in_range(&cells, end, after) {
-        *entries = halves_of(&cells);
+        *next = halves_of(&cells);
         return Pivoted::Common(after as i32);
     }
     Pivoted::Beyond

@@ -45,8 +45,8 @@ fn is_done(look: bool, count: usize, most: usize) -> bool
 }
 
 // Completes `most` pivots of a run whose limits don't cross, `before` pivots on, or all that are left, and then looks
-// whether it goes on, if it is to. The look is a step on the run's own entries, which are
-// saved before it; where it goes on they are put back.
+// whether it goes on, if it is to. A step puts the entries after it into room of its own; what a look puts there is not
+// kept.
 fn advance(mut t: Tableau, before: usize, most: usize, look: bool, out: &mut [i64]) -> Spent
     requires { ⌜ Standing t before ⌝ }
     requires { ⌜ Uncrossed t ⌝ }
@@ -55,7 +55,7 @@ fn advance(mut t: Tableau, before: usize, most: usize, look: bool, out: &mut [i6
     ensures output { λ r. ⌜ now (out .exit) ≡ ranOut before (ranBy look t most) (now (out .entry)) ⌝ }
 {
     let mut count = 0usize;
-    let mut saved = t.entries;
+    let mut next = [0i32; Tableau::MOST_ENTRIES];
     let course = 'run: loop {
         if is_done(look, count, most) {
             break 'run Course::On;
@@ -69,14 +69,15 @@ fn advance(mut t: Tableau, before: usize, most: usize, look: bool, out: &mut [i6
             basic: t.basic,
             seats: t.seats,
         };
-        let next = step(view, t.limits, &mut t.entries);
-        match next {
+        let outcome = step(view, t.limits, &t.entries, &mut next);
+        match outcome {
             Outcome::Ended(end) => break 'run Course::Over(end),
             Outcome::Goes(row, column, value, common) => {
                 if count == most {
-                    t.entries = saved;
                     break 'run Course::On;
                 }
+                let live = layout::live(t.rows, t.columns);
+                pivot::keep(&next, live, &mut t.entries);
                 let i = row.0 as usize;
                 let j = column.0 as usize;
                 let leaving = t.basic[i];
@@ -95,10 +96,6 @@ fn advance(mut t: Tableau, before: usize, most: usize, look: bool, out: &mut [i6
                 let left = seated(false, row, column);
                 t.seats[v] = left;
                 count += 1;
-                if count == most {
-                    saved = t.entries;
-                    continue 'run;
-                }
             }
         }
     };

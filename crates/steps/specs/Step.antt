@@ -3,6 +3,7 @@ use mathlib.Core.Bool.{Bool, true, false}
 use mathlib.Core.List.{List}
 use mathlib.Core.Path.{_≡_}
 use Prim.Native.Nat.{ℕ, _<_}
+use lib.Dec.{T}
 use lib.IntN.{ℤ}
 use Rattle.whole.specs.Values.{pairs}
 use Rattle.rules.specs.Problem.{Problem}
@@ -12,9 +13,9 @@ use Rattle.rules.specs.Facts.State.{Rowed}
 use Rattle.amounts.specs.declared.Given.{Given}
 use Rattle.amounts.specs.Amounts.{givenLower, givenUpper, valueOf}
 use Rattle.tableau.specs.declared.Tableau.{Tableau}
-use Rattle.layout.specs.Layout.{Order, inUse}
+use Rattle.layout.specs.Layout.{Order, inUse, live}
 use Rattle.tableau.specs.Parts.{basicAt, lowerGiven, upperGiven}
-use Rattle.pivot.specs.Pivot.{Pivotable, commonAfter, entriesAfter, entriesBy, fitsLaid}
+use Rattle.pivot.specs.Pivot.{Pivotable, PutBy, commonAfter, entriesAfter, fitsLaid}
 use Rattle.tableau.specs.Pivot.{pivotedLaid, swappedAt}
 use Rattle.tableau.specs.Stands.{Ranged, Stands}
 use Rattle.search.specs.declared.Choice.{Choice}
@@ -91,11 +92,17 @@ stepBy = stepLaid inUse
 abbrev pub steppedAt : Tableau → StepAt
 steppedAt = steppedLaid inUse
 
--- ---- a step as the code makes it: its answer, and the entries that it leaves
+-- ---- a step as the code makes it: its answer, and the entries after it
+
+-- the numbers after the chosen pivot
+abbrev pub commonMoved : Tableau → Choice → ℤ
+commonMoved t c = commonAfter (t .rows) (t .columns) (t .entries) (t .common) (c .row .0) (c .column .0)
+
+abbrev pub entriesMoved : Tableau → Choice → List ℤ
+entriesMoved t c = entriesAfter (t .rows) (t .columns) (t .entries) (t .common) (c .row .0) (c .column .0)
 
 abbrev pub answerBy : Bool → Tableau → Choice → Outcome
-answerBy true t c = outcomes.Goes (c .row) (c .column) (valueOf (valueAfter t c))
-    (commonAfter (t .rows) (t .columns) (t .entries) (t .common) (c .row .0) (c .column .0))
+answerBy true t c = outcomes.Goes (c .row) (c .column) (valueOf (valueAfter t c)) (commonMoved t c)
 answerBy false t c = outcomes.Ended ends.Range
 
 unfoldable pub outcomeBy : Tableau → Next → Outcome
@@ -103,17 +110,17 @@ outcomeBy t nexts.Within = outcomes.Ended ends.Can
 outcomeBy t (nexts.Stuck b) = outcomes.Ended (ends.Cannot b)
 outcomeBy t (nexts.Pivot c) = answerBy (fitsBy t c) t c
 
-unfoldable pub entriesLeft : Tableau → Next → List ℤ
-entriesLeft t nexts.Within = t .entries
-entriesLeft t (nexts.Stuck b) = t .entries
-entriesLeft t (nexts.Pivot c) = entriesBy (fitsBy t c) (t .entries)
-    (entriesAfter (t .rows) (t .columns) (t .entries) (t .common) (c .row .0) (c .column .0))
+-- where a pivot is chosen and in range, they are in the array
+unfoldable pub PutWhere : Tableau → Next → List ℤ → Type 0
+PutWhere t nexts.Within next = T true
+PutWhere t (nexts.Stuck b) next = T true
+PutWhere t (nexts.Pivot c) next = PutBy (fitsBy t c) (live (t .rows) (t .columns)) (entriesMoved t c) next
 
 abbrev pub outcomeAt : Tableau → Outcome
 outcomeAt t = outcomeBy t (nextAt t)
 
-abbrev pub leftAt : Tableau → List ℤ
-leftAt t = entriesLeft t (nextAt t)
+abbrev pub PutAt : Tableau → List ℤ → Type 0
+PutAt t next = PutWhere t (nextAt t) next
 
 -- what a step needs: a search may read the tableau, and the pivot that it chooses may be made
 pub record Steppable (t : Tableau) : Type 0 where

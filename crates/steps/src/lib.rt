@@ -1,14 +1,17 @@
 // One step of the run: the search for the next pivot, the pivot, and the range test.
 ghost use mathlib.Core.Path.{_≡_};
+ghost use lib.ListN.{length};
 ghost use Rattle.amounts.specs.Amounts.{valueOf};
 ghost use Rattle.search.specs.Search.{seen};
-ghost use Rattle.steps.specs.Step.{Steppable, leftAt, violatedPair, outcomeAt};
+ghost use Rattle.layout.specs.Layout.{mostEntries};
+ghost use Rattle.steps.specs.Step.{PutAt, Steppable, violatedPair, outcomeAt};
 use amounts::Given;
 use amounts::Value;
 use layout::ColumnPlace;
 use layout::RowPlace;
 use layout::Spot;
 use pivot::Pivoted;
+use pivot::asked::Asked;
 use search::Blocked;
 use search::Next;
 use search::View;
@@ -39,14 +42,20 @@ fn violated_limit(rises: bool, lower: Given, upper: Given) -> Value
     amounts::upper_value(upper)
 }
 
-// One step: where a pivot is chosen it is made on the entries, and where it leads out of range they stay.
-pub fn step(view: View, limits: Limits, entries: &mut [i32; Tableau::MOST_ENTRIES]) -> Outcome
+// One step: where a pivot is chosen, the entries after it are put into `next`. What is not kept was a look.
+pub fn step(
+    view: View,
+    limits: Limits,
+    entries: &[i32; Tableau::MOST_ENTRIES],
+    next: &mut [i32; Tableau::MOST_ENTRIES],
+) -> Outcome
     requires { ⌜ Steppable (seen (now entries) view limits) ⌝ }
+    requires { ⌜ length (now next) ≡ mostEntries ⌝ }
     ensures answer { λ r. ⌜ r ≡ outcomeAt (seen (now (entries .entry)) view limits) ⌝ }
-    ensures numbers { λ r. ⌜ now (entries .exit) ≡ leftAt (seen (now (entries .entry)) view limits) ⌝ }
+    ensures numbers { λ r. ⌜ PutAt (seen (now (entries .entry)) view limits) (now (next .exit)) ⌝ }
 {
-    let next = search::next_step(entries, view, limits);
-    match next {
+    let found = search::next_step(entries, view, limits);
+    match found {
         Next::Within => Outcome::Ended(End::Can),
         Next::Stuck(blocked) => Outcome::Ended(End::Cannot(blocked)),
         Next::Pivot(choice) => {
@@ -56,8 +65,13 @@ pub fn step(view: View, limits: Limits, entries: &mut [i32; Tableau::MOST_ENTRIE
             let leaving = view.basic[i];
             let v = leaving.0 as usize;
             let value = violated_limit(choice.rises, limits.lower[v], limits.upper[v]);
-            let spot = Spot { row, column };
-            let turned = pivot::pivot(entries, view.rows, view.columns, view.common, spot);
+            let asked = Asked {
+                rows: view.rows,
+                columns: view.columns,
+                common: view.common,
+                spot: Spot { row, column },
+            };
+            let turned = pivot::pivot(entries, asked, next);
             match turned {
                 Pivoted::Common(after) => Outcome::Goes(row, column, value, after),
                 Pivoted::Beyond => Outcome::Ended(End::Range),

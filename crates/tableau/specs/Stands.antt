@@ -11,7 +11,7 @@ use Rattle.rules.specs.Sizes.{mostColumns, mostRows, mostVariables, largestLimi
 use Rattle.rules.specs.Problem.{Problem, vars}
 use Rattle.rules.specs.Tableau.{entry}
 use Rattle.rules.specs.Step.{State, seat, common}
-use Rattle.layout.specs.Layout.{live}
+use Rattle.layout.specs.Layout.{live, mostEntries}
 use Rattle.tableau.specs.declared.Limits.{Limits}
 use Rattle.tableau.specs.declared.Tableau.{Tableau}
 use Rattle.tableau.specs.Parts.{cell, cellAt, basicAt, nonbasicAt, valueAt, seatAt, rowOf, columnOf}
@@ -47,6 +47,7 @@ pub record Sized (P : Problem (ℤ × ℤ)) (t : Tableau) : Type 0 where
   pub columns-is : t .columns ≡ P .n
   pub few-rows : P .m ≤ mostRows
   pub few-columns : P .n ≤ mostColumns
+  pub entries-long : length (t .entries) ≡ mostEntries
   pub basic-long : length (t .basic) ≡ mostRows
   pub nonbasic-long : length (t .nonbasic) ≡ mostColumns
   pub values-long : length (t .values) ≡ mostColumns

@@ -1,13 +1,14 @@
 -- The range test over all cells.
 --   small-common, small-cell, small-all   what the test of all says
 --   beyond-one, -within, -least           whether one number counts as beyond the range
---   beyond-start, -more, -most            the count of the cells beyond the range: of none, of one more; its size
+--   beyond-start, -more, -same, -most     the count of the cells beyond the range: of none, of one more; of the same
+--                                         cells; its size
 --   beyond-none, beyond-all               it is 0 exactly where each cell is in range
 --   small-none, small-some                .. so the test of all can be made by it
 use mathlib.Core.Bool.{Bool, false, true, cond, _&&_}
 use mathlib.Core.List.{List}
 use mathlib.Core.Logic.{_≢_}
-use mathlib.Core.Path.{refl, ap, sym, subst, _≡_}
+use mathlib.Core.Path.{refl, ap, ap₂, sym, subst, _≡_}
 use Prim.Native.Nat.{ℕ, zero, suc, _+_, _≤_, _<_}
 use native.Mathlib.Numerals.{add-one}
 use native.Mathlib.Omega.{arith}
@@ -69,6 +70,13 @@ module _ (l : List ℤ) where
   pub beyond-more : (k : ℕ) → beyondBelow (k + 1) l ≡ beyondBelow k l + beyondOf (getD l k (pos 0))
   unfolding beyondBelow foldBelow
   beyond-more k = rw add-one refl
+
+  pub beyond-same : (k : ℕ) (r : List ℤ) → ((i : ℕ) → i < k → getD l i (pos 0) ≡ getD r i (pos 0)) →
+      beyondBelow k l ≡ beyondBelow k r
+  unfolding beyondBelow foldBelow
+  beyond-same zero r h = refl
+  beyond-same (suc k) r h =
+      ap₂ (λ (n : ℕ) (z : ℤ). n + beyondOf z) (beyond-same k r (λ i b. h i (omega arith))) (h k (omega arith))
 
   pub beyond-most : (k : ℕ) → beyondBelow k l ≤ k
   unfolding beyondBelow foldBelow

@@ -20,11 +20,11 @@ use Rattle.pivot.specs.declared.Pivoted.{Pivoted}
 use Rattle.pivot.specs.declared.Pivoted.the-variants as pivots
 use Rattle.pivot.specs.declared.settle.Settled.{Settled}
 use Rattle.pivot.specs.declared.settle.Settled.the-variants as ends
-use Rattle.pivot.specs.Asked.{productFor}
+use Rattle.pivot.specs.Asked.{Able, commonFor, entriesFor, fitsFor, productFor}
 use Rattle.layout.specs.Layout.{mostEntries, live}
-use Rattle.pivot.specs.Pivot.{Pivotable, commonAfter, entriesAfter, fitsAfter, pivotedBy, entriesBy, beyondBelow}
+use Rattle.pivot.specs.Pivot.{PutBy, beyondBelow, pivotedBy}
 use Rattle.pivot.specs.Trials.{Settles, EndsAs}
-use Rattle.pivot.proofs.Laws.Ranges.{small-none, small-some}
+use Rattle.pivot.proofs.Laws.Ranges.{beyond-same, small-none, small-some}
 use Rattle.pivot.proofs.Laws.Wide.Reductions.{nonzero-by, quotient-fits, fits-common, end-in}
 use Rattle.pivot.proofs.Laws.Trial.Settling.{within-up, beyond-up}
 use Rattle.pivot.proofs.pivot.Statement.{statement}
@@ -32,47 +32,35 @@ use Rattle.pivot.proofs.pivot.Tie as tie
 
 -- the definition's parts
 module _ (s : tie.Start) where
+  abbrev asked : Asked
+  asked = s .args .asked
+
   abbrev m : ℕ
-  m = s .args .rows
+  m = asked .rows
 
   abbrev n : ℕ
-  n = s .args .columns
+  n = asked .columns
 
   abbrev old : List ℤ
   old = s .args .entries .now
 
-  abbrev common : ℤ
-  common = s .args .common
-
-  abbrev p : ℕ
-  p = s .args .spot .row .0
-
-  abbrev q : ℕ
-  q = s .args .spot .column .0
-
-  able : Pivotable m n old common p q
-  able = s .pre
-
-  abbrev asked : Asked
-  asked = record { rows = m; columns = n; common = common; spot = s .args .spot }
-
-  fit-common : SFits w32 common
-  fit-common = s .fits .common
+  able : Able old asked
+  able = s .pre .0
 
   abbrev after : ℤ
-  after = commonAfter m n old common p q
+  after = commonFor old asked
 
   abbrev fits : Bool
-  fits = fitsAfter m n old common p q
+  fits = fitsFor old asked
 
   abbrev new : List ℤ
-  new = entriesAfter m n old common p q
+  new = entriesFor old asked
 
   abbrev answer : Bool → Pivoted
   answer b = pivotedBy b after
 
-  abbrev left : Bool → List ℤ
-  left b = entriesBy b old new
+  abbrev Left : List ℤ → Bool → Type 0
+  Left next b = PutBy b (live m n) new next
 
 quick-requires : tie.Need-quick-requires
 quick-requires c κs = search needs
@@ -83,21 +71,21 @@ enum-told c = search needs
 -- the quick way ends with a word
 module _ (c : tie.After-quick) where
   abbrev s : tie.Start
-  s = c .before .before .before
+  s = c .before .before
 
   abbrev out : List ℤ
   out = c .quick .last .1 .1 .0
 
   ends-as : (w : Settled) → c .quick .result ≡ w → EndsAs (old s) (asked s) w out
   ends-as w e = subst (λ (w : Settled). EndsAs (old s) (asked s) w out) e
-      (simp (toZ-ofZ (fit-common s)) at (c .quick .ensures))
+      (c .quick .ensures)
 
 -- a cell is beyond the range, and all is as it was
 returns : tie.Need-returns
 returns c =
     let o = c .before .before in
     let e = sym (ends-as o ends.Beyond (c .enum-told .given .1)) in
-    (ap (answer (s o)) e, ap (left (s o)) e)
+    (ap (answer (s o)) e, subst (Left (s o) _) e tt)
 
 enum-known-settled : tie.Need-enum-known-settled
 enum-known-settled c = search needs
@@ -106,7 +94,7 @@ pivot-requires : tie.Need-pivot-requires
 pivot-requires c κs = search needs
 
 returns-2 : tie.Need-returns-2
-returns-2 c = let b = s (c .before .before .before .before) in simp (toZ-ofZ (fit-common b)) at (c .pivot .ensures)
+returns-2 c = c .pivot .ensures
 
 -- the divisor is found
 module _ (c : tie.After-known-told) where
@@ -141,7 +129,8 @@ module _ (c : tie.After-beyond-in) where
   end = live (m t) (n t)
 
   count-is : c .beyond-in .result ≡ beyondBelow end (new t)
-  count-is = c .beyond-in .ensures ∙ ap₂ beyondBelow (c .before .live .ensures) (settles f .entries-are)
+  count-is = c .beyond-in .ensures ∙ ap (λ k. beyondBelow k (out (o f))) (c .before .live .ensures)
+      ∙ beyond-same (out (o f)) end (new t) (settles f .cells-are .same)
 
 -- one of them is beyond the range, and all is as it was
 returns-3 : tie.Need-returns-3
@@ -149,7 +138,7 @@ returns-3 c =
     let x = c .before in
     let b = t x in
     let e = sym (small-some (end x) (new b) (after b) (λ y. c .if1 .taken (count-is x ∙ y))) in
-    (ap (answer b) e, ap (left b) e)
+    (ap (answer b) e, subst (Left b _) e tt)
 
 product-of-requires : tie.Need-product-of-requires
 product-of-requires c κs = search needs
@@ -157,7 +146,7 @@ product-of-requires c κs = search needs
 -- the product is known
 module _ (c : tie.After-product-of) where
   abbrev counted : tie.Else1
-  counted = c .before .before
+  counted = c .before
 
   abbrev k : tie.After-known-told
   k = f (counted .before)
@@ -172,7 +161,7 @@ module _ (c : tie.After-product-of) where
   fit-product = search needs
 
   product-is : c .product-of .result ≡ productFor (old b) (asked b)
-  product-is = simp (toZ-ofZ (fit-common b)) at (c .product-of .ensures)
+  product-is = c .product-of .ensures
 
   made-is : made ≡ after b
   made-is = ap₂ quotZ product-is (settles k .by-is)
@@ -198,7 +187,7 @@ returns-4 c =
     let h : pos largestNumber <ℤ made x = true→lt
     (simp (toZ-ofZ (fit-product x), widened (fit-z (k x)), toZ-ofZ (fit-made x)) at (c .if2 .taken)) in
     let e = sym (beyond-up (able (b x)) (subst (λ (y : ℤ). pos largestNumber <ℤ y) (made-is x) h)) in
-    (ap (answer (b x)) e, ap (left (b x)) e)
+    (ap (answer (b x)) e, subst (Left (b x) _) e tt)
 
 -- .. or in range
 module _ (c : tie.Else2) where
@@ -221,8 +210,8 @@ module _ (c : tie.Else2) where
   after-right : toZ w32 (ofZ w32 (toZ w64 (ofZ w64 (made x)))) ≡ after (b x)
   after-right = ap (λ (y : ℤ). toZ w32 (ofZ w32 y)) (toZ-ofZ (fit-made x) ∙ made-is x) ∙ toZ-ofZ fit-half
 
-cast-t22 : tie.Need-cast-t22
-cast-t22 c = let y = x c in
+cast-t15 : tie.Need-cast-t15
+cast-t15 c = let y = x c in
     simp (toZ-ofZ (fit-product y), widened (fit-z (k y)), toZ-ofZ (fit-made y))
     (subst (λ (z : ℤ). SFits w32 z) (sym (made-is y)) (fit-half c))
 
@@ -230,7 +219,7 @@ returns-5 : tie.Need-returns-5
 returns-5 c = let y = x c in let e = sym (all-fits c) in (
   simp (toZ-ofZ (fit-product y), widened (fit-z (k y)))
       (ap pivots.Common (after-right c) ∙ ap (answer (b y)) e),
-  settles (k y) .entries-are ∙ ap (left (b y)) e,
+  subst (Left (b y) _) e (settles (k y) .cells-are),
 )
 
 pub pivot-spec : {M : Type 1} → statement M
@@ -250,5 +239,5 @@ pivot-spec =
     cast-after
     div-after
     returns-4
-    cast-t22
+    cast-t15
     returns-5)

@@ -1,23 +1,25 @@
 -- The step by place, by what its calls return.
 --   stepped-none, stepped-stuck, stepped-pivot     by the answer of the search
 --   readOf, next-read                              what a step reads of a tableau, and that the search finds the same
--- there   outcome-ended, outcome-left                    the step by the code's answer, where that is an end
+-- there   outcome-ended                                  the step by the code's answer, where that is an end
 --   Chosen, outcome-goes, course-on, exchanged         .. and where it goes on: the exchange that is left to be done
+--   put-chosen                                         .. and the entries that are in the array
 use mathlib.Core.Bool.{Bool, true, false}
 use mathlib.Core.List.{List, []}
-use mathlib.Core.Path.{_≡_, ap, refl, sym, _∙_}
+use mathlib.Core.Path.{_≡_, ap, refl, subst, sym, _∙_}
 use Prim.Native.Nat.{ℕ}
 use lib.IntN.{ℤ}
 use lib.ListN.{getD, set}
 use Rattle.whole.proofs.Bools.{zero-one}
 use Rattle.layout.specs.declared.ColumnPlace.{ColumnPlace}
 use Rattle.layout.specs.declared.RowPlace.{RowPlace}
+use Rattle.layout.specs.Layout.{live}
 use Rattle.amounts.specs.declared.Value.{Value}
 use Rattle.amounts.specs.Amounts.{pairIn, valueOf}
 use Rattle.tableau.specs.declared.Seat.{Seat}
 use Rattle.tableau.specs.declared.Tableau.{Tableau}
 use Rattle.tableau.specs.Parts.{variable}
-use Rattle.pivot.specs.Pivot.{commonAfter, entriesAfter, entriesBy}
+use Rattle.pivot.specs.Pivot.{StartsWith, PutBy}
 use Rattle.tableau.specs.Pivot.{pivotedLaid, swappedAt, withNumbers}
 use Rattle.search.specs.declared.Blocked.{Blocked}
 use Rattle.search.specs.declared.Choice.{Choice}
@@ -28,8 +30,8 @@ use Rattle.search.proofs.Laws.Seen.{next-as}
 use Rattle.steps.specs.declared.End.{End}
 use Rattle.steps.specs.declared.End.the-variants as ends
 use Rattle.steps.specs.declared.Outcome.the-variants as outcomes
-use Rattle.steps.specs.Step.{StepAt, admitAt, answerBy, endedAs, entriesLeft, fitsBy, leftAt, movedAt}
-use Rattle.steps.specs.Step.{movedLaid, on}
+use Rattle.steps.specs.Step.{PutAt, PutWhere, StepAt, admitAt, answerBy, commonMoved, endedAs, entriesMoved}
+use Rattle.steps.specs.Step.{fitsBy, movedAt, movedLaid, on}
 use Rattle.steps.specs.Step.{outcomeAt, outcomeBy, stepBy, stepLaid, steppedAt, steppedLaid, valueAfter}
 
 module _ (t : Tableau) where
@@ -56,16 +58,14 @@ next-read t = next-as t (t .basic) []
 -- ---- the step by the code's answer
 
 -- the exchange at equal arguments
-same-exchange : (t : Tableau) {x x′ : RowPlace} {y y′ : ColumnPlace} {v v′ : ℤ × ℤ} {d d′ : ℤ} {l l′ : List ℤ} →
-    x ≡ x′ → y ≡ y′ → v ≡ v′ → d ≡ d′ → l ≡ l′ →
-    swappedAt (withNumbers t d l) (x .0) (y .0) v ≡ swappedAt (withNumbers t d′ l′) (x′ .0) (y′ .0) v′
-same-exchange t a b v d l = cc
+same-exchange : (t : Tableau) (l : List ℤ) {x x′ : RowPlace} {y y′ : ColumnPlace} {v v′ : ℤ × ℤ} {d d′ : ℤ} →
+    x ≡ x′ → y ≡ y′ → v ≡ v′ → d ≡ d′ →
+    swappedAt (withNumbers t d l) (x .0) (y .0) v ≡ swappedAt (withNumbers t d′ l) (x′ .0) (y′ .0) v′
+same-exchange t l a b v d = cc
 
 module _ (t : Tableau) where
   moved-parts : (c : Choice) → movedAt t c ≡ swappedAt
-      (withNumbers t (commonAfter (t .rows) (t .columns) (t .entries) (t .common) (c .row .0) (c .column .0))
-      (entriesAfter (t .rows) (t .columns) (t .entries) (t .common) (c .row .0) (c .column .0)))
-      (c .row .0) (c .column .0) (valueAfter t c)
+      (withNumbers t (commonMoved t c) (entriesMoved t c)) (c .row .0) (c .column .0) (valueAfter t c)
   unfolding movedLaid pivotedLaid
   moved-parts c = refl
 
@@ -83,21 +83,6 @@ module _ (t : Tableau) where
   unfolding steppedLaid
   outcome-ended e q = ended-by (nextAt t) e (ap (outcomeBy (readOf t)) (sym (next-read t)) ∙ q)
 
-  -- .. and then the entries stay
-  left-by : (n : Next) (e : End) → outcomeBy (readOf t) n ≡ outcomes.Ended e → entriesLeft (readOf t) n ≡ t .entries
-  unfolding outcomeBy entriesLeft
-  left-by nexts.Within e q = refl
-  left-by (nexts.Stuck b) e q = refl
-  left-by (nexts.Pivot c) e q = go (fitsBy t c) q
-    where
-      go : (b : Bool) → answerBy b (readOf t) c ≡ outcomes.Ended e → entriesBy b (t .entries)
-          (entriesAfter (t .rows) (t .columns) (t .entries) (t .common) (c .row .0) (c .column .0)) ≡ t .entries
-      go true q = let z : _≡_ {A = ℕ} 0 1 = cc in zero-one z
-      go false q = refl
-
-  pub outcome-left : (e : End) → outcomeAt (readOf t) ≡ outcomes.Ended e → leftAt (readOf t) ≡ t .entries
-  outcome-left e q = left-by (nextAt (readOf t)) e q
-
   -- the pivot that was chosen, and the step that it is
   module _ (row : RowPlace) (column : ColumnPlace) (value : Value) (common : ℤ) where
     pub record Chosen (n : Next) : Type 0 where
@@ -107,16 +92,15 @@ module _ (t : Tableau) where
       pub column-is : choice .column ≡ column
       pub in-range : fitsBy t choice ≡ true
       pub value-is : valueAfter t choice ≡ pairIn value
-      pub common-is : commonAfter (t .rows) (t .columns) (t .entries) (t .common)
-          (choice .row .0) (choice .column .0) ≡ common
+      pub common-is : commonMoved t choice ≡ common
       pub step-is : stepBy t n
           ≡ record {
             course = on;
-            tableau = swappedAt (withNumbers t common (entriesLeft (readOf t) n)) (row .0) (column .0) (pairIn value);
+            tableau = swappedAt (withNumbers t common (entriesMoved t choice)) (row .0) (column .0) (pairIn value);
           }
 
     goes-by : (n : Next) → outcomeBy (readOf t) n ≡ outcomes.Goes row column value common → Chosen n
-    unfolding outcomeBy stepLaid entriesLeft
+    unfolding outcomeBy stepLaid
     goes-by nexts.Within q = let z : _≡_ {A = ℕ} 0 1 = cc in zero-one z
     goes-by (nexts.Stuck b) q = let z : _≡_ {A = ℕ} 0 1 = cc in zero-one z
     goes-by (nexts.Pivot c) q = go (fitsBy t c) refl q
@@ -129,8 +113,7 @@ module _ (t : Tableau) where
             let b : c .column ≡ column = cc in
             let x : valueOf (valueAfter t c) ≡ value = cc in
             let v : valueAfter t c ≡ pairIn value = ap pairIn x in
-            let d : commonAfter (t .rows) (t .columns) (t .entries) (t .common) (c .row .0) (c .column .0) ≡ common =
-            cc in
+            let d : commonMoved t c ≡ common = cc in
             record {
               choice = c;
               next-is = refl;
@@ -143,27 +126,33 @@ module _ (t : Tableau) where
             }
           where
             made : fitsBy t c ≡ true → c .row ≡ row → c .column ≡ column → valueAfter t c ≡ pairIn value →
-                commonAfter (t .rows) (t .columns) (t .entries) (t .common) (c .row .0) (c .column .0) ≡ common →
+                commonMoved t c ≡ common →
                 stepBy t (nexts.Pivot c) ≡ record {
                   course = on;
                   tableau =
-                      swappedAt (withNumbers t common (entriesLeft (readOf t) (nexts.Pivot c))) (row .0) (column .0)
-                      (pairIn value);
+                      swappedAt (withNumbers t common (entriesMoved t c)) (row .0) (column .0) (pairIn value);
                 }
             made f a b v d = ap (λ x. admitAt x t (movedAt t c)) f
-                ∙ ap (λ u. record { course = on; tableau = u }) (moved-parts c ∙ same-exchange t a b v d
-                (sym (ap (λ x. entriesBy x (t .entries)
-                (entriesAfter (t .rows) (t .columns) (t .entries) (t .common) (c .row .0) (c .column .0))) f)))
+                ∙ ap (λ u. record { course = on; tableau = u })
+                (moved-parts c ∙ same-exchange t (entriesMoved t c) a b v d)
 
     pub outcome-goes : outcomeAt (readOf t) ≡ outcomes.Goes row column value common → Chosen (nextAt t)
     outcome-goes q = goes-by (nextAt t) (ap (outcomeBy (readOf t)) (sym (next-read t)) ∙ q)
+
+    -- the entries after the pivot are in the array
+    pub put-chosen : (K : Chosen (nextAt t)) (next : List ℤ) → PutAt (readOf t) next →
+        StartsWith (live (t .rows) (t .columns)) (entriesMoved t (K .choice)) next
+    unfolding PutWhere
+    put-chosen K next p =
+        subst (λ (b : Bool). PutBy b (live (t .rows) (t .columns)) (entriesMoved t (K .choice)) next) (K .in-range)
+        (subst (λ (n : Next). PutWhere (readOf t) n next) (next-read t ∙ K .next-is) p)
 
     pub course-on : Chosen (nextAt t) → steppedAt t .course ≡ on
     unfolding steppedLaid
     course-on K = ap (λ (s : StepAt). s .course) (K .step-is)
 
     -- the tableau after the exchange, as the code leaves it
-    pub exchanged : Chosen (nextAt t) → {l : List ℤ} {in-row in-column : Seat} → l ≡ leftAt (readOf t) →
+    pub exchanged : (K : Chosen (nextAt t)) {l : List ℤ} {in-row in-column : Seat} → l ≡ entriesMoved t (K .choice) →
         in-row ≡ record { basic = true; row = row; column = column } →
         in-column ≡ record { basic = false; row = row; column = column } →
         let leaves = getD (t .basic) (row .0) (variable 0) in let enters =
@@ -182,5 +171,4 @@ module _ (t : Tableau) where
         } ≡ steppedAt t .tableau
     unfolding steppedLaid swappedAt
     exchanged K {l} {in-row} {in-column} e f g =
-        let h : l ≡ entriesLeft (readOf t) (nextAt t) = e ∙ ap (entriesLeft (readOf t)) (next-read t) in
-        rw (h, f, g) (sym (ap (λ (s : StepAt). s .tableau) (K .step-is)))
+        rw (e, f, g) (sym (ap (λ (s : StepAt). s .tableau) (K .step-is)))

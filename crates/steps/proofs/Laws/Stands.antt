@@ -2,11 +2,12 @@
 --   StepIs, step-is     the four cases, each with the step of the state
 --   search-held, steppable-held                 what a step needs of its calls
 --   places-held, common-held, value-held, small-held    .. and the exchange after it
+--   live-held, kept-held                        the entries that are kept are those after the pivot
 use mathlib.Core.Bool.{Bool, true, false}
-use mathlib.Core.List.{[]}
+use mathlib.Core.List.{List, []}
 use mathlib.Core.Option.{some}
 use mathlib.Core.Path.{_≡_, ap, subst, sym, _∙_}
-use Prim.Native.Nat.{ℕ}
+use Prim.Native.Nat.{ℕ, _≤_}
 use lib.IntN.{ℤ}
 use mir.Syntax.{w32}
 use mir.Val.{SFits}
@@ -22,13 +23,16 @@ use Rattle.rules.proofs.Step.Cases.{Stepped, is-can, is-cannot, is-goes, is-ran
 use Rattle.rules.specs.Facts.State.{Rowed}
 use Rattle.layout.specs.declared.ColumnPlace.{ColumnPlace}
 use Rattle.layout.specs.declared.RowPlace.{RowPlace}
+use Rattle.layout.specs.Layout.{live, mostEntries}
+use Rattle.layout.proofs.Laws.Layout.{live-most}
 use Rattle.amounts.specs.declared.Given.{Given}
 use Rattle.amounts.specs.declared.Value.{Value}
 use Rattle.tableau.specs.declared.Tableau.{Tableau}
 use Rattle.tableau.specs.Parts.{basicAt, lowerGiven, upperGiven}
 use Rattle.tableau.specs.Pivot.{Swappable}
 use Rattle.tableau.specs.Stands.{Ranged, Stands}
-use Rattle.pivot.proofs.Laws.Wide.Reductions.{fits-common}
+use Rattle.pivot.specs.Pivot.{StartsWith, keptCells}
+use Rattle.pivot.proofs.Laws.Wide.Reductions.{fits-common, kept-all}
 use Rattle.rules.proofs.Refusal.Accepted.{inset-within, outset-within}
 use Rattle.search.specs.declared.Choice.{Choice}
 use Rattle.search.specs.declared.Next.the-variants as nexts
@@ -37,8 +41,8 @@ use Rattle.search.proofs.Laws.Rows.{searchable}
 use Rattle.search.proofs.Laws.Seen.{searchable-as}
 use Rattle.search.proofs.Laws.Stands.{next-blocked, next-chosen, next-none}
 use Rattle.steps.specs.declared.End.the-variants as ends
-use Rattle.steps.specs.Step.{Held, Movable, Steppable, admitAt, endedAs, fitsBy, violatedPair, movedAt, on}
-use Rattle.steps.specs.Step.{steppedAt}
+use Rattle.steps.specs.Step.{Held, Movable, Steppable, admitAt, endedAs, entriesMoved, fitsBy, movedAt, on}
+use Rattle.steps.specs.Step.{steppedAt, violatedPair}
 use Rattle.steps.proofs.Laws.Pivot.{exchangeable, fitting-is, movable, ranged-moved, stands-moved}
 use Rattle.steps.proofs.Laws.Cases.{Chosen, next-read, readOf, stepped-none, stepped-pivot, stepped-stuck}
 
@@ -113,8 +117,17 @@ module _ {t : Tableau} (H : Held t) where
         record { pivotable = m .pivotable; row-place = m .row-place; leaving-seat = m .leaving-seat };
   }
 
+  pub live-held : live (t .rows) (t .columns) ≤ mostEntries
+  live-held = live-most (t .rows) (t .columns) (search-held .few-rows) (search-held .few-columns)
+
   module _ {row : RowPlace} {column : ColumnPlace} {value : Value} {common : ℤ}
       (K : Chosen t row column value common (nextAt t)) where
+    pub kept-held : (next : List ℤ) → StartsWith (live (t .rows) (t .columns)) (entriesMoved t (K .choice)) next →
+        keptCells (live (t .rows) (t .columns)) next (t .entries) ≡ entriesMoved t (K .choice)
+    kept-held next b = let Z = H .stands .sized in
+        kept-all (live (t .rows) (t .columns)) _ next (t .entries) b (Z .entries-long)
+        (λ i h. H .stands .numbers .unused i (rw (← Z .rows-is, ← Z .columns-is) h))
+
     pub places-held : Swappable t (row .0) (column .0)
     places-held = rw (← K .row-is, ← K .column-is) (ready (K .choice) (K .next-is) .1)
 

@@ -13,13 +13,16 @@ use Rattle.whole.proofs.Numbers.Sizes.{fits-by}
 use Rattle.pivot.specs.declared.Pivoted.the-variants as pivots
 use Rattle.amounts.specs.Amounts.{valueOf}
 use Rattle.tableau.specs.declared.Tableau.{Tableau}
-use Rattle.pivot.specs.Pivot.{commonAfter, entriesAfter, entriesBy, pivotedBy}
+use Rattle.layout.specs.Layout.{live}
+use Rattle.pivot.specs.Pivot.{PutBy, pivotedBy}
 use Rattle.pivot.proofs.Laws.Wide.Reductions.{fits-common}
 use Rattle.search.specs.declared.Choice.{Choice}
+use Rattle.search.specs.declared.Next.{Next}
 use Rattle.search.specs.declared.Next.the-variants as nexts
 use Rattle.search.specs.Search.{nextAt, seen}
 use Rattle.steps.specs.declared.Outcome.the-variants as outcomes
-use Rattle.steps.specs.Step.{Movable, answerBy, entriesLeft, fitsBy, outcomeBy, valueAfter}
+use Rattle.steps.specs.Step.{Movable, PutAt, PutWhere, answerBy, commonMoved, entriesMoved, fitsBy, outcomeBy}
+use Rattle.steps.specs.Step.{valueAfter}
 use Rattle.steps.proofs.step.Statement.{statement}
 use Rattle.steps.proofs.step.Tie as tie
 
@@ -31,34 +34,34 @@ fit-common : (s : tie.Start) → SFits w32 (old s .common)
 fit-common s = search needs
 
 next-step-requires : tie.Need-next-step-requires
-next-step-requires c κs = c .before .pre .searchable
+next-step-requires c κs = c .pre .0 .searchable
 
 -- what the search finds is the definition's
-next-is : (c : tie.After-next-step) → c .next-step .result ≡ nextAt (old (c .before .before))
+next-is : (c : tie.After-next-step) → c .next-step .result ≡ nextAt (old (c .before))
 next-is c = c .next-step .ensures
 
 enum-told : tie.Need-enum-told
 enum-told c = search needs
 
-enum-known-next : tie.Need-enum-known-next
-enum-known-next c = search needs
+enum-known-found : tie.Need-enum-known-found
+enum-known-found c = search needs
 
-enum-known-next-2 : tie.Need-enum-known-next-2
-enum-known-next-2 c = search needs
+enum-known-found-2 : tie.Need-enum-known-found-2
+enum-known-found-2 c = search needs
 
 -- a pivot is chosen
-module _ (c : tie.After-next2) where
+module _ (c : tie.After-found2) where
   abbrev start : tie.Start
-  start = c .before .before .before .before
+  start = c .before .before .before
 
   abbrev choice : Choice
-  choice = c .next2 .given .0 .0
+  choice = c .found2 .given .0 .0
 
   chosen-is : nextAt (old start) ≡ nexts.Pivot choice
-  chosen-is = sym (next-is (c .before .before)) ∙ c .next2 .given .1
+  chosen-is = sym (next-is (c .before .before)) ∙ c .found2 .given .1
 
   movable : Movable (old start) choice
-  movable = start .pre .movable choice chosen-is
+  movable = start .pre .0 .movable choice chosen-is
 
 cast-i : tie.Need-cast-i
 cast-i c = search needs
@@ -86,12 +89,12 @@ violated-limit-requires : tie.Need-violated-limit-requires
 violated-limit-requires c κs = search needs
 
 -- the choice that the value belongs to
-abbrev choosing : tie.After-violated-limit → tie.After-next2
+abbrev choosing : tie.After-violated-limit → tie.After-found2
 choosing c = c .before .before .before .before .before .before .before .before .before
 
 pivot-requires : tie.Need-pivot-requires
 pivot-requires c κs = let o = choosing (c .before .before) in
-    simp (toZ-ofZ (fit-common (start o))) (movable o .pivotable)
+    simp (toZ-ofZ (fit-common (start o))) (movable o .pivotable, start o .pre .1)
 
 enum-known-turned : tie.Need-enum-known-turned
 enum-known-turned c = search needs
@@ -110,24 +113,23 @@ beyond-told false d e = refl
 
 -- the pivot is made
 module _ (c : tie.After-pivot) where
-  abbrev chosen : tie.After-next2
+  abbrev chosen : tie.After-found2
   chosen = choosing (c .before .before .before)
 
   abbrev t : Tableau
   t = old (start chosen)
 
   abbrev common : ℤ
-  common = commonAfter (t .rows) (t .columns) (t .entries) (t .common)
-      (choice chosen .row .0) (choice chosen .column .0)
+  common = commonMoved t (choice chosen)
 
   turned-is : (c .pivot .result ≡ pivotedBy (fitsBy t (choice chosen)) common)
-      × (c .pivot .last .0 ≡ entriesBy (fitsBy t (choice chosen)) (t .entries)
-      (entriesAfter (t .rows) (t .columns) (t .entries) (t .common) (choice chosen .row .0) (choice chosen .column .0)))
+      × PutBy (fitsBy t (choice chosen)) (live (t .rows) (t .columns)) (entriesMoved t (choice chosen))
+      (c .pivot .last .1 .1 .0)
   turned-is = simp (toZ-ofZ (fit-common (start chosen))) at (c .pivot .ensures)
 
-  left-is : c .pivot .last .0 ≡ entriesLeft t (nextAt t)
-  unfolding entriesLeft
-  left-is = turned-is .1 ∙ sym (ap (entriesLeft t) (chosen-is chosen))
+  put-is : PutAt t (c .pivot .last .1 .1 .0)
+  unfolding PutWhere
+  put-is = subst (λ (n : Next). PutWhere t n (c .pivot .last .1 .1 .0)) (sym (chosen-is chosen)) (turned-is .1)
 
   answer-is : (b : Bool) → fitsBy t (choice chosen) ≡ b → answerBy b t (choice chosen) ≡ outcomeBy t (nextAt t)
   unfolding outcomeBy
@@ -140,16 +142,16 @@ module _ (c : tie.After-pivot) where
   value-is = valued .violated-limit .ensures
 
 returns : tie.Need-returns
-unfolding outcomeBy entriesLeft
-returns c = let o = c .before .before in let t = old (o .before .before) in
+unfolding outcomeBy PutWhere
+returns c = let o = c .before .before in let t = old (o .before) in
     let e : nextAt t ≡ nexts.Within = sym (next-is o) ∙ c .enum-told .given .1 in
-    (sym (ap (outcomeBy t) e), sym (ap (entriesLeft t) e))
+    (sym (ap (outcomeBy t) e), subst (λ (n : Next). PutWhere t n (o .before .args .next .now)) (sym e) tt)
 
 returns-2 : tie.Need-returns-2
-unfolding outcomeBy entriesLeft
-returns-2 c = let o = c .before .before .before in let t = old (o .before .before) in
-    let e : nextAt t ≡ nexts.Stuck (c .before .next .given .0 .0) = sym (next-is o) ∙ c .before .next .given .1 in
-    (sym (ap (outcomeBy t) e), sym (ap (entriesLeft t) e))
+unfolding outcomeBy PutWhere
+returns-2 c = let o = c .before .before .before in let t = old (o .before) in
+    let e : nextAt t ≡ nexts.Stuck (c .before .found .given .0 .0) = sym (next-is o) ∙ c .before .found .given .1 in
+    (sym (ap (outcomeBy t) e), subst (λ (n : Next). PutWhere t n (o .before .args .next .now)) (sym e) tt)
 
 returns-3 : tie.Need-returns-3
 returns-3 c =
@@ -161,7 +163,7 @@ returns-3 c =
     subst (SFits w32) (f .1) (fits-by (fits-common (movable (chosen d) .pivotable) (f .0)) tt) in (
       ap₂ (λ v z. outcomes.Goes (w .row) (w .column) v z) (value-is d) (toZ-ofZ fit ∙ sym (f .1))
           ∙ answer-is d true (f .0),
-      left-is d,
+      put-is d,
     )
 
 returns-4 : tie.Need-returns-4
@@ -169,7 +171,7 @@ returns-4 c =
     let d = c .before .before in
     let f = beyond-told (fitsBy (t d) (choice (chosen d))) (common d)
     (sym (turned-is d .0) ∙ c .enum-told2 .given .1) in
-    (answer-is d false f, left-is d)
+    (answer-is d false f, put-is d)
 
 pub step-spec : {M : Type 1} → statement M
 step-spec =
@@ -177,8 +179,8 @@ step-spec =
     (tie.spec
     next-step-requires
     enum-told
-    enum-known-next
-    enum-known-next-2
+    enum-known-found
+    enum-known-found-2
     cast-i
     element-copy-out-leaving
     cast-v

@@ -17,7 +17,7 @@ use Rattle.rules.specs.Problem.{Problem, vars}
 use Rattle.rules.specs.Step.{State, seat}
 use Rattle.rules.specs.Facts.Rule.{Swap}
 use Rattle.rules.proofs.Termination.Return.{none-some}
-use Rattle.layout.specs.Layout.{rowPlace, columnPlace}
+use Rattle.layout.specs.Layout.{mostEntries, rowPlace, columnPlace}
 use Rattle.tableau.specs.declared.Variable.{Variable}
 use Rattle.tableau.specs.declared.Seat.{Seat}
 use Rattle.tableau.specs.declared.Tableau.{Tableau}
@@ -39,12 +39,13 @@ module _ (P : Problem (ℤ × ℤ)) (t : Tableau) (c : ℤ) (l : List ℤ) where
         record { flag = a .flag; in-columns = a .in-columns; holds = a .holds };
   }
 
-  pub sized-with : Sized P t → Sized P (withNumbers t c l)
-  sized-with Z = record {
+  pub sized-with : length l ≡ mostEntries → Sized P t → Sized P (withNumbers t c l)
+  sized-with e Z = record {
     rows-is = Z .rows-is;
     columns-is = Z .columns-is;
     few-rows = Z .few-rows;
     few-columns = Z .few-columns;
+    entries-long = e;
     basic-long = Z .basic-long;
     nonbasic-long = Z .nonbasic-long;
     values-long = Z .values-long;
@@ -230,6 +231,7 @@ module _ (t : Tableau) (p q r w : ℕ) (x : ℤ × ℤ) (r-there : basicAt t p �
       columns-is = Z .columns-is;
       few-rows = Z .few-rows;
       few-columns = Z .few-columns;
+      entries-long = Z .entries-long;
       basic-long = simp length-set (Z .basic-long);
       nonbasic-long = simp length-set (Z .nonbasic-long);
       values-long = simp length-set (Z .values-long);

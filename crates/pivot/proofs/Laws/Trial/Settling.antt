@@ -1,7 +1,7 @@
 -- A divisor that trials settle on is the pivot's.
 --   first-divides, first-multiple, first-above   the common number times the border's divisor: it divides the new
 --                                                common number, the divisor divides it, and it is above 0
---   found-by, -entries, -most                    what was found is the definition's
+--   found-by, -cells, -most                      what was found is the definition's
 --   exceeds-beyond                               a cell beyond the range
 --   settled-ends                                 what trials from a first divisor end with
 --   after-up, within-up, beyond-up               the new common number is above 0, in range or beyond
@@ -9,24 +9,23 @@ use Prim.Native.Nat.{ℕ, _*_, _/_, _%_, _≤_, _<_, _∣_}
 use native.Mathlib.Nat.{div-add-mod, le-refl, lt-of-le-of-lt, lt-of-mul-lt-mul-left, mod-eq-zero-of-dvd, mul-le-mul}
 use native.Mathlib.Nat.{dvd-trans, dvd-antisymm, dvd-refl, le-of-dvd, le-trans, mul-comm, mul-dvd-mul, mul-pos}
 use native.Mathlib.Nat.{pos-of-dvd-of-pos}
-use native.Mathlib.Decide.{ℕ-discrete, decLt}
+use native.Mathlib.Decide.{ℕ-discrete}
 use native.Mathlib.Omega.{arith}
 use mathlib.Core.Path.{_≡_, refl, ap, ap₂, sym, subst, _∙_}
 use mathlib.Core.Bool.{true, false}
 use mathlib.Core.List.{List, [], _∷_}
-use mathlib.Core.Logic.{_≢_, inr}
+use mathlib.Core.Logic.{_≢_}
 use borrow.Author.Tests.{eq-eqb, ne-eqb}
 use lib.Dec.{eqb}
 use lib.IntN.{ℤ, pos, negℤ, natAbs, _+ℤ_, _*ℤ_}
-use lib.ListN.{getD, length, replicate, length-replicate}
-use lib.Seq.{ext-getD}
+use lib.ListN.{getD, length}
 use lib.Signed.{quotZ, _≤ℤ_, _<ℤ_, clashℤ}
 use Rattle.whole.proofs.Ring.Reify.{reify}
 use Rattle.whole.specs.Divisors.{gcd}
 use Rattle.whole.proofs.Numbers.Division.{size-quot}
 use Rattle.whole.proofs.Numbers.Divisors.{fold-times, gcd-dvd-l, gcd-times}
 use Rattle.whole.proofs.Numbers.Sizes.{abs-*, size-pos, within-hi}
-use Rattle.whole.proofs.Lists.Tables.{filled-in, filled-out, filled-length, replicate-at}
+use Rattle.whole.proofs.Lists.Tables.{filled-in}
 use Rattle.whole.proofs.Tells.{tells-within, tells-true, tells-false}
 use Rattle.whole.proofs.Numbers.Tests.{under-size}
 use Rattle.whole.proofs.Ring.Tools.{ring-at}
@@ -42,14 +41,14 @@ use Rattle.pivot.specs.declared.settle.Settled.the-variants as ends
 use Rattle.pivot.specs.Asked.{Able}
 use Rattle.layout.specs.Layout.{mostEntries, flat, live, entryIn}
 use Rattle.pivot.specs.Pivot.{mixedLaid, mixedCell, mixedAt, product, mix, by, commonAfter, entriesAfter}
-use Rattle.pivot.specs.Pivot.{fitsAfter, Pivotable, inRange}
+use Rattle.pivot.specs.Pivot.{StartsWith, fitsAfter, Pivotable, inRange}
 use Rattle.pivot.specs.Border.{raisedBy, borderAt, borderFor, borderDivisor, differenceAt}
 use Rattle.pivot.specs.Trials.{DivisorFound, Exceeds, SettledAs, EndsAs}
 use Rattle.pivot.proofs.Laws.Trial.Border.{beside-is, above-is, difference-is}
 use Rattle.pivot.proofs.Laws.Divides.{over-neg, over-sum, over-sizes, quotient-is, back-divides}
 use Rattle.layout.proofs.Laws.Layout.{flat-live, row-flat, column-flat}
 use Rattle.pivot.proofs.Laws.Ranges.{small-cell, small-common}
-use Rattle.pivot.proofs.Laws.Wide.Reductions.{nonzero-product, nonzero-by, end-in}
+use Rattle.pivot.proofs.Laws.Wide.Reductions.{nonzero-product, nonzero-by}
 
 -- what divides f times a number and f times the first of others divides f times their divisor
 divisor-times : (k : ℕ) (l : List ℤ) (z : ℤ) (d f : ℕ) → d ∣ f * natAbs z →
@@ -171,8 +170,8 @@ module _ {m n : ℕ} {l : List ℤ} {c : ℤ} {p q : ℕ} (h : Pivotable m n l c
 
   -- ---- what was found
 
-  module _ (from : ℕ) (some : 0 < from) (divides : from ∣ natAbs new) (multiple : T ∣ from) {z : ℤ} {out : List ℤ}
-      (F : DivisorFound l (borderAt m n l c p q) (signedBy new from) (replicate mostEntries (pos 0)) z out) where
+  module _ (from : ℕ) (some : 0 < from) (divides : from ∣ natAbs new) (multiple : T ∣ from) {z : ℤ} {old out : List ℤ}
+      (F : DivisorFound l (borderAt m n l c p q) (signedBy new from) old z out) where
     cell : (k : ℕ) → k < live m n → differenceAt l (borderAt m n l c p q) k ≡ mixedAt m n c l p q k
     cell k b = difference-is m n l c p q k b
 
@@ -191,22 +190,13 @@ module _ {m n : ℕ} {l : List ℤ} {c : ℤ} {p q : ℕ} (h : Pivotable m n l c
     nonzero : z ≢ pos 0
     nonzero e = nonzero-by h (sym found-by ∙ e)
 
-    as-long : length out ≡ length (entriesAfter m n l c p q)
-    as-long = F .apart .long ∙ length-replicate mostEntries (pos 0)
-        ∙ sym (filled-length mostEntries (pos 0) (live m n) (quotients mixes (by m n l c p q)) (end-in h))
+    each : (k : ℕ) → k < live m n → getD out k (pos 0) ≡ getD (entriesAfter m n l c p q) k (pos 0)
+    each k b = sym (quotient-is (getD out k (pos 0)) z _ nonzero (F .right k b))
+        ∙ ap₂ quotZ (cell k b ∙ sym (mix-at k b)) found-by
+        ∙ sym (filled-in mostEntries (pos 0) (live m n) (quotients mixes (by m n l c p q)) k b)
 
-    each : (k : ℕ) → getD out k (pos 0) ≡ getD (entriesAfter m n l c p q) k (pos 0)
-    each k = go (decLt k (live m n))
-      where
-        go : Dec (k < live m n) → getD out k (pos 0) ≡ getD (entriesAfter m n l c p q) k (pos 0)
-        go (yes b) = sym (quotient-is (getD out k (pos 0)) z _ nonzero (F .right k b))
-            ∙ ap₂ quotZ (cell k b ∙ sym (mix-at k b)) found-by
-            ∙ sym (filled-in mostEntries (pos 0) (live m n) (quotients mixes (by m n l c p q)) k b)
-        go (no b) = F .apart .kept k (inr (omega arith)) ∙ replicate-at mostEntries (pos 0) k
-            ∙ sym (filled-out mostEntries (pos 0) (live m n) (quotients mixes (by m n l c p q)) k (omega arith))
-
-    found-entries : out ≡ entriesAfter m n l c p q
-    found-entries = ext-getD (pos 0) out (entriesAfter m n l c p q) as-long (λ k b. each k)
+    found-cells : length old ≡ mostEntries → StartsWith (live m n) (entriesAfter m n l c p q) out
+    found-cells e = record { long = F .apart .long ∙ e; same = each }
 
     -- .. and no larger than what was tried first
     found-most : natAbs z ≤ from
@@ -264,12 +254,12 @@ module _ {l : List ℤ} {a : Asked} (h : Able l a) (from : ℕ) (some : 0 < from
   abbrev raw : ℤ
   raw = product (a .rows) (a .columns) l (a .common) (a .spot .row .0) (a .spot .column .0)
 
-  pub settled-ends : from ∣ natAbs raw → T h ∣ from → (w : Settled) (out : List ℤ) →
-      SettledAs l (borderFor l a) (signedBy raw from) (replicate mostEntries (pos 0)) w out → EndsAs l a w out
-  settled-ends divides multiple (ends.By z) out F = record {
+  pub settled-ends : from ∣ natAbs raw → T h ∣ from → (w : Settled) (old out : List ℤ) →
+      length old ≡ mostEntries → SettledAs l (borderFor l a) (signedBy raw from) old w out → EndsAs l a w out
+  settled-ends divides multiple (ends.By z) old out e F = record {
     by-is = found-by h from some divides multiple F;
     by-within = record { within = le-trans (found-most h from some divides multiple F) few };
-    entries-are = found-entries h from some divides multiple F;
+    cells-are = found-cells h from some divides multiple F e;
   }
-  settled-ends divides multiple ends.Beyond out X = exceeds-beyond h from multiple X
-  settled-ends divides multiple ends.Open out t = tt
+  settled-ends divides multiple ends.Beyond old out e X = exceeds-beyond h from multiple X
+  settled-ends divides multiple ends.Open old out e t = tt

@@ -5,15 +5,18 @@
 --   nonzero-product, nonzero-by                  neither the product nor the divisor is 0
 --   fits-common, fits-entries                    what passes the range test
 --   divided-all                                  the entries divided in place
-use mathlib.Core.Path.{_≡_, ap, subst}
+--   kept-all                                     .. and the cells in use kept over those of an array
+use mathlib.Core.Path.{_≡_, ap, ap₂, subst, sym, _∙_}
 use mathlib.Core.Bool.{true}
 use mathlib.Core.List.{List, _++_}
 use mathlib.Core.Logic.{_≢_}
-use Prim.Native.Nat.{ℕ, _*_, _≤_, _<_}
+use Prim.Native.Nat.{ℕ, _+_, _*_, _≤_, _<_}
 use native.Mathlib.Nat.{le-trans}
+use native.Mathlib.Omega.{arith}
 use lib.Dec.{lit≤}
 use lib.IntN.{ℤ, pos, _*ℤ_}
-use lib.ListN.{getD}
+use lib.ListN.{drop, getD, length, length-drop, length-replicate, replicate}
+use lib.Seq.{ext-getD, getD-drop}
 use mir.Syntax.{w64}
 use mir.Val.{SFits}
 use Rattle.whole.specs.Numbers.{Within, AllWithin}
@@ -22,7 +25,7 @@ use Rattle.whole.proofs.Lists.Below.{all-each}
 use Rattle.whole.proofs.Bools.{and-true}
 use Rattle.whole.proofs.Lists.Prefix.{filled-rest}
 use Rattle.whole.proofs.Numbers.Division.{within-quot}
-use Rattle.whole.proofs.Lists.Tables.{filled-in}
+use Rattle.whole.proofs.Lists.Tables.{filled-in, replicate-at, table-same}
 use Rattle.whole.proofs.Tells.{tells-within}
 use Rattle.whole.proofs.Numbers.Sizes.{within-*, within-le, product-nonzero, all-within-filled}
 use Rattle.divisor.specs.Cells.{largestSize, dividedCells, divisorBelow, quotients}
@@ -31,7 +34,7 @@ use Rattle.divisor.proofs.Laws.Signs.{signed-nonzero}
 use Rattle.rules.specs.Sizes.{largestNumber}
 use Rattle.layout.specs.Layout.{mostEntries, flat, rowAt, columnAt, live}
 use Rattle.pivot.specs.Pivot.{mixedAt, product, mix, by, commonAfter, entriesAfter, fitsAfter, Pivotable}
-use Rattle.pivot.specs.Pivot.{inRange, smallBelow}
+use Rattle.pivot.specs.Pivot.{StartsWith, inRange, keptCells, smallBelow}
 use Rattle.layout.proofs.Laws.Layout.{flat-in, live-most}
 use Rattle.pivot.proofs.Laws.Wide.Mixes.{mixed-within}
 
@@ -93,3 +96,17 @@ pub divided-all : (e : ℕ) (f : ℕ → ℤ) (g : ℤ) → let l = filled mostE
 unfolding filled
 divided-all e f g =
     ap (λ r. table e (quotients (filled mostEntries (pos 0) e f) g) ++ r) (filled-rest mostEntries (pos 0) f e)
+
+-- cells that an array has are kept over entries whose cells that are not in use are 0
+pub kept-all : (e : ℕ) (f : ℕ → ℤ) (next old : List ℤ) → StartsWith e (filled mostEntries (pos 0) e f) next →
+    length old ≡ mostEntries → ((i : ℕ) → e ≤ i → getD old i (pos 0) ≡ pos 0) →
+    keptCells e next old ≡ filled mostEntries (pos 0) e f
+unfolding filled
+kept-all e f next old b long unused = ap₂ (λ (l r : List ℤ). l ++ r)
+    (table-same e (λ i. getD next i (pos 0)) f (λ i h. b .same i h ∙ filled-in mostEntries (pos 0) e f i h))
+    (ext-getD (pos 0) (drop e old) (drop e blank) (simp (length-drop, length-replicate) (omega (arith, long)))
+    (λ i h. getD-drop e old i (pos 0) ∙ unused (e + i) (omega arith)
+    ∙ sym (getD-drop e blank i (pos 0) ∙ replicate-at mostEntries (pos 0) (e + i))))
+  where
+    blank : List ℤ
+    blank = replicate mostEntries (pos 0)

@@ -9,7 +9,6 @@ use native.Mathlib.Nat.{le-of-dvd, le-trans}
 use native.Mathlib.Omega.{arith}
 use lib.Dec.{leb→le, lit≤}
 use lib.IntN.{ℤ, pos, natAbs}
-use lib.ListN.{length, length-replicate}
 use mir.Facts.{toZ-ofZ}
 use mir.Syntax.{w32, w64}
 use mir.Val.{SFits}
@@ -25,7 +24,6 @@ use Rattle.pivot.specs.declared.asked.Asked.{Asked}
 use Rattle.pivot.specs.declared.border.Border.{Border}
 use Rattle.pivot.specs.declared.settle.Settled.{Settled}
 use Rattle.pivot.specs.Asked.{Able, pivotFor}
-use Rattle.layout.specs.Layout.{mostEntries}
 use Rattle.pivot.specs.Pivot.{product}
 use Rattle.pivot.specs.Border.{borderFor, borderDivisor, Bordered}
 use Rattle.pivot.specs.Trials.{SettledAs}
@@ -198,7 +196,7 @@ cast-from c = simp (toZ-ofZ (fit-signed c)) (fit-half c)
 
 settle-requires : tie.Need-settle-requires
 settle-requires c κs = let x = c .before in (
-  ap length (s (o x) .pre .1) ∙ length-replicate mostEntries (pos 0),
+  s (o x) .pre .1,
   (
     (able (s (o x)) .all-within, border-fine (bounded (small x .before))),
     simp (toZ-ofZ (fit-signed x), toZ-ofZ (fit-half x)) (from-nonzero x, from-within x),
@@ -212,15 +210,14 @@ returns-3 c =
     let h = able v in
     let out = c .settle .last .1 .1 .1 .0 in
     settled-ends h (first v) (first-above h) (first-small (small x)) (first-divides h) (first-multiple h)
-    (c .settle .result) out
-    (right (old v) (c .settle .result) out (border-is (bounded (small x .before))) (signed-is x) (v .pre .1)
+    (c .settle .result) (v .args .out .now) out (v .pre .1)
+    (right (old v) (v .args .out .now) (c .settle .result) out (border-is (bounded (small x .before))) (signed-is x)
     (simp (toZ-ofZ (fit-signed x), toZ-ofZ (fit-half x)) at (c .settle .ensures)))
   where
-    right : (l : List ℤ) (w : Settled) (out : List ℤ) {b b′ : Border} {y y′ : ℤ} {k k′ : List ℤ} →
-        b ≡ b′ → y ≡ y′ → k ≡ k′ → SettledAs l b y k w out → SettledAs l b′ y′ k′ w out
-    right l w out {b} {b′} {y} {y′} {k} {k′} e f g h =
-        subst (λ (b : Border). SettledAs l b y′ k′ w out) e
-        (subst (λ (y : ℤ). SettledAs l b y k′ w out) f (subst (λ (k : List ℤ). SettledAs l b y k w out) g h))
+    right : (l k : List ℤ) (w : Settled) (out : List ℤ) {b b′ : Border} {y y′ : ℤ} →
+        b ≡ b′ → y ≡ y′ → SettledAs l b y k w out → SettledAs l b′ y′ k w out
+    right l k w out {b} {b′} {y} {y′} e f h =
+        subst (λ (b : Border). SettledAs l b y′ k w out) e (subst (λ (y : ℤ). SettledAs l b y k w out) f h)
 
 pub quick-spec : {M : Type 1} → statement M
 quick-spec =

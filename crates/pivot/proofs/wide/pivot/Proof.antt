@@ -6,7 +6,7 @@ use mathlib.Core.Path.{_≡_, ap, ap₂, sym, subst, _∙_}
 use Prim.Native.Nat.{ℕ, _≤_}
 use borrow.Author.Needs.{needs}
 use lib.IntN.{ℤ, pos}
-use lib.ListN.{length}
+use lib.ListN.{getD, length}
 use lib.Signed.{quotZ}
 use mir.Facts.{toZ-ofZ}
 use mir.Syntax.{w32, w64}
@@ -23,7 +23,7 @@ use Rattle.pivot.specs.declared.Pivoted.{Pivoted}
 use Rattle.pivot.specs.declared.Pivoted.the-variants as pivots
 use Rattle.pivot.specs.Asked.{Able, commonFor, entriesFor, fitsFor}
 use Rattle.layout.specs.Layout.{live, mostEntries}
-use Rattle.pivot.specs.Pivot.{smallBelow, entriesBy, product, mix, by, pivotedBy}
+use Rattle.pivot.specs.Pivot.{StartsWith, PutBy, smallBelow, product, mix, by, pivotedBy}
 use Rattle.pivot.proofs.Laws.Wide.Reductions.{end-in, within-size, mix-within, size-most}
 use Rattle.pivot.proofs.Laws.Wide.Reductions.{nonzero-by, quotient-fits, divided-all, fits-common, fits-entries}
 use Rattle.pivot.proofs.wide.pivot.Statement.{statement}
@@ -70,13 +70,13 @@ module _ (s : tie.Start) where
   abbrev answer : Bool → Pivoted
   answer b = pivotedBy b (commonFor old asked)
 
-  abbrev left : Bool → List ℤ
-  left b = entriesBy b old (entriesFor old asked)
+  abbrev Left : List ℤ → Bool → Type 0
+  Left next b = PutBy b (live m n) (entriesFor old asked) next
 
 -- the product is known
 module _ (c : tie.After-product-of) where
   abbrev start : tie.Start
-  start = c .before .before .before
+  start = c .before .before
 
   abbrev found : ℤ
   found = c .product-of .result
@@ -87,10 +87,10 @@ module _ (c : tie.After-product-of) where
   fit-product : SFits w64 found
   fit-product = search needs
 
-  live-is : c .before .before .live .result ≡ live (m start) (n start)
-  live-is = c .before .before .live .ensures
+  live-is : c .before .live .result ≡ live (m start) (n start)
+  live-is = c .before .live .ensures
 
-  end-small : c .before .before .live .result ≤ mostEntries
+  end-small : c .before .live .result ≤ mostEntries
   end-small = rw live-is (end-in (able start))
 
 -- a function of live cells, an array and a number, at equal arguments
@@ -101,7 +101,7 @@ alike f {e} {e′} {l} {l′} {z} {z′} a b c = ap (λ e. f e l z) a ∙ ap₂ 
 -- what the call gives are the definition's entries
 module _ (c : tie.After-mixed-entries) where
   abbrev asks : tie.After-product-of
-  asks = c .before .before
+  asks = c .before
 
   mixed-right : c .mixed-entries .result ≡ mixes (start asks)
   mixed-right = c .mixed-entries .ensures
@@ -230,8 +230,18 @@ module _ (c : tie.After-halves-of) where
       ≡ commonFor (old (begun o)) (asked (begun o))
   after-right = ap (λ (z : ℤ). toZ w32 (ofZ w32 z)) (common-right (made o)) ∙ toZ-ofZ fit-after
 
-cast-t19 : tie.Need-cast-t19
-cast-t19 c =
+  put-is : c .halves-of .result ≡ entriesFor (old (begun o)) (asked (begun o))
+  put-is = c .halves-of .ensures ∙ divided-right (made o)
+
+  put : StartsWith (live (m (begun o)) (n (begun o)))
+      (entriesFor (old (begun o)) (asked (begun o))) (c .halves-of .result)
+  put = record {
+    long = ap length put-is ∙ filled-length mostEntries (pos 0) _ _ (end-in (able (begun o)));
+    same = λ i h. ap (λ l. getD l i (pos 0)) put-is;
+  }
+
+cast-t18 : tie.Need-cast-t18
+cast-t18 c =
     simp (toZ-ofZ (fit-product (r c)), toZ-ofZ (fit-signed (sign (made (o c)))))
     (subst (λ (z : ℤ). SFits w32 z) (sym (common-right (made (o c)))) (fit-after c))
 
@@ -239,12 +249,12 @@ returns : tie.Need-returns
 returns c = let e = sym (fits (c .before)) in (
   simp (toZ-ofZ (fit-product (r c)), toZ-ofZ (fit-signed (sign (made (o c)))))
       (ap pivots.Common (after-right c) ∙ ap (answer (begun (o c))) e),
-  c .halves-of .ensures ∙ divided-right (made (o c)) ∙ ap (left (begun (o c))) e,
+  subst (Left (begun (o c)) _) e (put c),
 )
 
 returns-2 : tie.Need-returns-2
 returns-2 c = let o = c .before in let e = sym (c .if1 .left) ∙ test-right o in
-    (ap (answer (begun o)) e, ap (left (begun o)) e)
+    (ap (answer (begun o)) e, subst (Left (begun o) _) e tt)
 
 pub pivot-spec : {M : Type 1} → statement M
 pivot-spec =
@@ -259,6 +269,6 @@ pivot-spec =
     div-after
     all-in-range-requires
     halves-of-requires
-    cast-t19
+    cast-t18
     returns
     returns-2)

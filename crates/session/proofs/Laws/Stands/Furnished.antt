@@ -46,6 +46,7 @@ module _ (P : Problem (ℤ × ℤ)) (on also : Side → ℕ → Bool) {t : Table
       columns-is = S .sized .columns-is;
       few-rows = S .sized .few-rows;
       few-columns = S .sized .few-columns;
+      entries-long = S .sized .entries-long;
       basic-long = S .sized .basic-long;
       nonbasic-long = S .sized .nonbasic-long;
       values-long = R .values-many;

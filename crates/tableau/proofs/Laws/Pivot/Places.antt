@@ -6,13 +6,14 @@
 --   turn-nonzero, common-nonzero            neither is 0
 --   placed-next, sized-next                  the places afterwards
 --   basic-left, basic-stays, nonbasic-entered, nonbasic-stays    each place afterwards
-use Prim.Native.Nat.{ℕ, _<_}
+use Prim.Native.Nat.{ℕ, _<_, _≤_}
 use native.Mathlib.Nat.{lt-of-lt-of-le}
 use mathlib.Core.Path.{_≡_, sym, ap₂, _∙_}
 use mathlib.Core.Logic.{_≢_}
 use lib.IntN.{ℤ, pos}
 use lib.Signed.{<ℤ-irrefl}
 use Rattle.whole.specs.Values.{pairs}
+use Rattle.whole.proofs.Lists.Tables.{filled-length}
 use Rattle.whole.proofs.Numbers.Order.{nonzero-ne}
 use Rattle.rules.specs.Problem.{Problem}
 use Rattle.rules.specs.Sizes.{mostRows, mostColumns}
@@ -22,6 +23,8 @@ use Rattle.rules.specs.Facts.Rule.{Entered, Left, Swap}
 use Rattle.rules.proofs.Step.Entering.{swap}
 use Rattle.rules.proofs.Tableau.Pivot as pivoted
 use Rattle.rules.specs.Facts.State.{Rowed}
+use Rattle.layout.specs.Layout.{live, mostEntries}
+use Rattle.layout.proofs.Laws.Layout.{live-most}
 use Rattle.tableau.specs.declared.Tableau.{Tableau}
 use Rattle.tableau.specs.Parts.{cellAt, basicAt, nonbasicAt, rowOf, columnOf}
 use Rattle.tableau.specs.Pivot.{pivotedAt, pivotedLaid, swappedAt}
@@ -87,7 +90,11 @@ module _ {P : Problem (ℤ × ℤ)} {t : Tableau} {s : State (ℤ × ℤ)} {r : 
 
   sized-turned : Sized P atTurn
   unfolding pivotedLaid
-  sized-turned = sized-with P t _ _ (M .stands .sized)
+  sized-turned = let Z = M .stands .sized in
+      let m : t .rows ≤ mostRows = rw (Z .rows-is) (Z .few-rows) in
+      let n : t .columns ≤ mostColumns = rw (Z .columns-is) (Z .few-columns) in
+      sized-with P t _ _ (filled-length mostEntries (pos 0) (live (t .rows) (t .columns)) _
+      (live-most (t .rows) (t .columns) m n)) Z
 
   r-there : basicAt atTurn p ≡ r .variable
   unfolding pivotedLaid

@@ -16,6 +16,7 @@ use Rattle.rules.specs.Sizes.{mostColumns, mostRows, mostVariables}
 use Rattle.rules.specs.Step.{same, seat, start, startEntry, startSeat}
 use Rattle.rules.specs.Tableau.{entry}
 use Rattle.layout.specs.Layout.{live, mostEntries}
+use Rattle.layout.proofs.Laws.Layout.{live-most}
 use Rattle.tableau.proofs.Laws.Fits.{Fitting, coefficient-start, serves-start}
 use Rattle.tableau.specs.Parts.{basicAt, cell, cellAt, columnOf, nonbasicAt, nowhere}
 use Rattle.tableau.specs.Parts.{rowOf, seatAt, valueAt, variable}
@@ -133,6 +134,8 @@ module _ (P : Problem Limit) (F : Fitting P) where
       columns-is = refl;
       few-rows = F .few-rows;
       few-columns = F .few-columns;
+      entries-long = filled-length mostEntries (pos 0) (live (P .m) (P .n)) _
+          (live-most (P .m) (P .n) (F .few-rows) (F .few-columns));
       basic-long = table-length mostRows (λ i. variable (P .n + i));
       nonbasic-long = table-length mostColumns variable;
       values-long = filled-length mostColumns (pos 0) (P .n) _ (F .few-columns);

@@ -1,4 +1,4 @@
--- `pivot::asked::pivot_of` meets its contract. Assumes nothing.
+-- `pivot::numbers::pivot_of` meets its contract. Assumes nothing.
 use borrow.Author.Needs.{needs, sfits-of}
 use Prim.Native.Nat.{ℕ, _<_}
 use native.Mathlib.Omega.{arith}
@@ -8,8 +8,8 @@ use lib.ListN.{getD}
 use mir.Facts.{toZ-ofZ}
 use Rattle.layout.specs.Layout.{mostEntries}
 use Rattle.pivot.proofs.Laws.Wide.Reductions.{pivot-in}
-use Rattle.pivot.proofs.asked.pivot_of.Statement.{statement}
-use Rattle.pivot.proofs.asked.pivot_of.Tie as tie
+use Rattle.pivot.proofs.numbers.pivot_of.Statement.{statement}
+use Rattle.pivot.proofs.numbers.pivot_of.Tie as tie
 
 place-requires : tie.Need-place-requires
 place-requires c κs = search needs

@@ -1,4 +1,4 @@
--- `pivot::asked::product_of` meets its contract: the product of two numbers of half the width fits. Assumes nothing.
+-- `pivot::numbers::product_of` meets its contract: the product of two numbers of half the width fits. Assumes nothing.
 use borrow.Author.Needs.{needs}
 use mathlib.Core.Path.{ap}
 use lib.IntN.{ℤ, _*ℤ_}
@@ -6,8 +6,8 @@ use mir.Facts.{toZ-ofZ}
 use mir.Syntax.{w32, w64}
 use mir.Val.{SFits}
 use Rattle.whole.proofs.Numbers.Halves.{wide, widened, half-product}
-use Rattle.pivot.proofs.asked.product_of.Statement.{statement}
-use Rattle.pivot.proofs.asked.product_of.Tie as tie
+use Rattle.pivot.proofs.numbers.product_of.Statement.{statement}
+use Rattle.pivot.proofs.numbers.product_of.Tie as tie
 
 pivot-of-requires : tie.Need-pivot-of-requires
 pivot-of-requires c κs = search needs
