@@ -13,7 +13,8 @@
 //! traces: a replay beside the solve of its problem (`traces`), and wide evidence:
 //! its checker beside the other one (`wide`).
 //!
-//! `SEED=.. make bench` measures other problems.
+//! `SEED=.. make bench` measures other problems. With the word `words` the limit
+//! problems themselves are printed, for `tools/copied`.
 
 mod contenders;
 mod days;
@@ -32,7 +33,9 @@ use std::process::ExitCode;
 const SEED: u64 = 1;
 
 fn main() -> ExitCode {
-    match print(&mut io::stdout()) {
+    let words = std::env::args().nth(1).is_some_and(|word| word == "words");
+    let mut out = io::stdout();
+    match if words { print_words(&mut out) } else { print(&mut out) } {
         Err(error) if error.kind() != ErrorKind::BrokenPipe => {
             eprintln!("the table cannot be written: {error}");
             ExitCode::FAILURE
@@ -81,6 +84,17 @@ fn each<T>(
         let line = line(set);
         progress.clear();
         writeln!(to, "{line}")?;
+    }
+    Ok(())
+}
+
+/// A problem a line: its set, a tab, and its words.
+fn print_words(to: &mut impl Write) -> io::Result<()> {
+    for set in sets::limits(problems::random::seed_or(SEED)) {
+        for problem in &set.problems {
+            let words: Vec<String> = problem.iter().map(i32::to_string).collect();
+            writeln!(to, "{}\t{}", set.name, words.join(" "))?;
+        }
     }
     Ok(())
 }
