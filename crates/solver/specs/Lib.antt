@@ -3,3 +3,4 @@ pub mod Run
 pub mod Spend
 pub mod TwoOrders
 pub mod Came
+pub mod Told

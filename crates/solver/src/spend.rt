@@ -3,8 +3,9 @@ ghost use mathlib.Core.Path.{_≡_};
 ghost use Prim.Native.Nat.{_+_, _*_, _≤_};
 ghost use lib.ListN.{length};
 ghost use Rattle.rules.specs.Sizes.{mostVariables};
-ghost use Rattle.solver.specs.Spend.{Standing, Uncrossed, crossedSince, isDone, outAs, ranBy, ranOut, spentAs};
-ghost use Rattle.solver.specs.Spend.{spentFrom};
+ghost use Rattle.solver.specs.Spend.{Standing, crossedSince, isDone, outAs, spentAs};
+use crate::run::Course;
+use crate::run::Told;
 use crate::run::seated;
 use crate::run::tell;
 use answers::Head;
@@ -13,18 +14,12 @@ use answers::conflict::Crossed;
 use answers::conflict::conflict_of;
 use answers::multipliers::unit;
 use answers::write;
+use search::Size;
 use search::View;
-use steps::End;
 use steps::Outcome;
 use steps::step;
 use tableau::Limits;
 use tableau::Tableau;
-
-// The run is over, or goes on past the pivots that were spent.
-enum Course {
-    Over(End),
-    On,
-}
 
 // How far a run came: whether it is over, so that there is an answer, all its pivots up to there, and the last
 // completed tableau.
@@ -44,16 +39,43 @@ fn is_done(look: bool, count: usize, most: usize) -> bool
     count == most
 }
 
-// Completes `most` pivots of a run whose limits don't cross, `before` pivots on, or all that are left, and then looks
-// whether it goes on, if it is to. A step puts the entries after it into room of its own; what a look puts there is not
-// kept.
-fn advance(mut t: Tableau, before: usize, most: usize, look: bool, out: &mut [i64]) -> Spent
-    requires { ⌜ Standing t before ⌝ }
-    requires { ⌜ Uncrossed t ⌝ }
-    requires { ⌜ 3 + 2 * (t .rows + t .columns) ≤ length (now out) ⌝ }
-    ensures state { λ r. ⌜ r ≡ spentFrom before (ranBy look t most) ⌝ }
-    ensures output { λ r. ⌜ now (out .exit) ≡ ranOut before (ranBy look t most) (now (out .entry)) ⌝ }
+// The lowest variable whose limits cross. A run that is some pivots on has none.
+fn crossed_since(limits: Limits, variables: usize, before: usize) -> Crossed
+    requires { ⌜ variables ≤ mostVariables ⌝ }
+    ensures { λ r. ⌜ r ≡ crossedSince before limits variables ⌝ }
 {
+    if before == 0 {
+        return conflict_of(limits, variables);
+    }
+    Crossed::Nowhere
+}
+
+// Completes `most` pivots of a run that is `before` pivots on, or all that are left, and then looks whether it goes on,
+// if it is to: the last completed tableau and its count, and in `out` the answer where that is the run's whole count
+// and the run is looked at there. Limits that cross are answered at once. A step puts the entries after it into room of
+// its own; what a look puts there is not kept.
+pub fn spend(mut t: Tableau, before: usize, most: usize, look: bool, out: &mut [i64]) -> Spent
+    requires { ⌜ Standing t before ⌝ }
+    requires { ⌜ 3 + 2 * (t .rows + t .columns) ≤ length (now out) ⌝ }
+    ensures state { λ r. ⌜ r ≡ spentAs look t before most ⌝ }
+    ensures output { λ r. ⌜ now (out .exit) ≡ outAs look t before most (now (out .entry)) ⌝ }
+{
+    let variables = t.rows + t.columns;
+    let crossed = crossed_since(t.limits, variables, before);
+    if let Crossed::At(variable) = crossed {
+        let ones = unit(variable);
+        let head = Head {
+            verdict: Verdict::Cannot,
+            count: before,
+            denominator: 0,
+        };
+        write(out, head, variables, &ones, &ones);
+        return Spent {
+            answered: true,
+            count: before,
+            tableau: t,
+        };
+    }
     let mut count = 0usize;
     let mut next = [0i32; Tableau::MOST_ENTRIES];
     let course = 'run: loop {
@@ -100,61 +122,21 @@ fn advance(mut t: Tableau, before: usize, most: usize, look: bool, out: &mut [i6
         }
     };
     let total = before + count;
-    match course {
-        Course::Over(end) => {
-            tell(t, end, total, out);
-            Spent {
-                answered: true,
-                count: total,
-                tableau: t,
-            }
-        }
-        Course::On => Spent {
-            answered: false,
-            count: total,
-            tableau: t,
+    let told = Told {
+        size: Size {
+            rows: t.rows,
+            columns: t.columns,
         },
-    }
-}
-
-// The lowest variable whose limits cross. A run that is some pivots on has none.
-fn crossed_since(limits: Limits, variables: usize, before: usize) -> Crossed
-    requires { ⌜ variables ≤ mostVariables ⌝ }
-    ensures { λ r. ⌜ r ≡ crossedSince before limits variables ⌝ }
-{
-    if before == 0 {
-        return conflict_of(limits, variables);
-    }
-    Crossed::Nowhere
-}
-
-// Completes `most` pivots of a run that is `before` pivots on, or all that are left: the last completed tableau and its
-// count, and in `out` the answer where that is the run's whole count and the run is looked at there. Limits that cross
-// are answered at once.
-pub fn spend(t: Tableau, before: usize, most: usize, look: bool, out: &mut [i64]) -> Spent
-    requires { ⌜ Standing t before ⌝ }
-    requires { ⌜ 3 + 2 * (t .rows + t .columns) ≤ length (now out) ⌝ }
-    ensures state { λ r. ⌜ r ≡ spentAs look t before most ⌝ }
-    ensures output { λ r. ⌜ now (out .exit) ≡ outAs look t before most (now (out .entry)) ⌝ }
-{
-    let variables = t.rows + t.columns;
-    let limits = t.limits;
-    let crossed = crossed_since(limits, variables, before);
-    match crossed {
-        Crossed::At(variable) => {
-            let ones = unit(variable);
-            let head = Head {
-                verdict: Verdict::Cannot,
-                count: before,
-                denominator: 0,
-            };
-            write(out, head, variables, &ones, &ones);
-            Spent {
-                answered: true,
-                count: before,
-                tableau: t,
-            }
-        }
-        Crossed::Nowhere => advance(t, before, most, look, out),
+        common: t.common,
+        strict: t.limits.strict,
+        seats: t.seats,
+        course,
+        count: total,
+    };
+    let answered = tell(&t.entries, &t.values, &t.smalls, told, out);
+    Spent {
+        answered,
+        count: total,
+        tableau: t,
     }
 }
