@@ -1,8 +1,12 @@
 //! `scatterflock check`: an answer, anybody's, before the proved checker.
+//!
+//! - `of_times`: an answer to time rows
+
+mod of_times;
 
 use crate::clash::{counted, left_sum, reference, sum_text};
 use crate::fraction::Pair;
-use crate::input::{self, any_text, bad};
+use crate::input::{self, any_text, bad, Content};
 use crate::options::Options;
 use crate::problem::{all_limits, place, problem, refused_words, Values};
 use crate::table::table;
@@ -11,6 +15,7 @@ use scatterflock::{Judgement, Refusal};
 use std::ffi::OsStr;
 use std::io::Read;
 use text::limits::{Limits, Side};
+use text::Holds;
 
 /// The largest denominator and multiplier, the largest numerator and the largest
 /// small part.
@@ -36,19 +41,25 @@ pub fn run(
     options: &Options,
     stdin: &mut dyn Read,
 ) -> Result<Ended, Failure> {
-    let (is_json, is_wide) = (options.json, options.wide);
-    let (_, problem) = problem(input::problem(file, stdin)?)?;
+    let is_wide = options.wide;
+    let input = input::problem(file, stdin)?;
+    let holds_times =
+        matches!(&input.content, Content::Text(text) if Holds::of(text) == Some(Holds::Times));
+    if options.times || holds_times {
+        return of_times::run(input, answer, options, stdin);
+    }
+    let (_, problem) = problem(input)?;
     let (name, text) = any_text(answer, stdin)?;
     let words = text::answer::read(&text, &problem).map_err(|fault| bad(&name, &text, fault))?;
     let words = match is_wide && !text::numbers::are_bare(&text) {
         true => scatterflock::widened(&words),
         false => words,
     };
-    let judged = match is_wide {
+    let judgement = match is_wide {
         true => scatterflock::check_wide(&problem.words(), &words),
         false => scatterflock::check(&problem.words(), &words),
     };
-    let judgement = judged.map_err(|refusal| match refusal {
+    let judgement = judgement.map_err(|refusal| match refusal {
         Refusal::Short => Failure::Refused {
             number: refusal.number(),
             what: format!("the answer has {} words, and too few", words.len()),
@@ -56,50 +67,49 @@ pub fn run(
         },
         refusal => refused_words(&problem, refusal),
     })?;
-    let is_accepted = judgement == Judgement::Accepted;
-    let status = if is_accepted { CAN } else { CANNOT };
-    let why = match (is_accepted, is_wide) {
-        (true, _) => Why::default(),
-        (false, true) => why_wide(&problem, &words),
-        (false, false) => why_narrow(&problem, &words),
+    let why = (judgement != Judgement::Accepted).then(|| match is_wide {
+        true => why_wide(&problem, &words),
+        false => why_narrow(&problem, &words),
+    });
+    let shown = match words[0] {
+        1 => "these values meet all limits",
+        _ => "these limits, so many times each, cannot be met together",
     };
-    if is_json {
-        let listed = why.rows.iter().map(|row| json::text(&row.join("   ")));
-        let mut fields = vec![("accepted", is_accepted.to_string())];
-        if !is_accepted {
-            fields.extend([("reason", json::text(&why.what)), ("why", json::list(listed))]);
-        }
-        return Ok(Ended::saying(json::object(&fields), status));
-    }
-    if is_accepted {
-        let shown = match words[0] {
-            1 => "these values meet all limits",
-            _ => "these limits, so many times each, cannot be met together",
-        };
-        let said = format!("accepted\n\n# The proved {} says that {shown}.\n", checker(is_wide));
-        return Ok(Ended::saying(said, status));
-    }
-    let Why { what, rows, sum } = why;
-    let said = format!(
-        "not accepted\n\n# The proved {} does not take this for evidence. {what}\n{}{sum}",
-        checker(is_wide),
-        table("#   ", &rows)
-    );
-    Ok(Ended::saying(said, status))
+    let checker = if is_wide { "checker of wide evidence" } else { "checker" };
+    Ok(judged(checker, shown, why, options.json))
 }
 
-fn checker(is_wide: bool) -> &'static str {
-    if is_wide {
-        "checker of wide evidence"
-    } else {
-        "checker"
-    }
+/// What a checker says of an answer: what is shown by it, or why it is not
+/// accepted.
+fn judged(checker: &str, shown: &str, why: Option<Why>, is_json: bool) -> Ended {
+    let Some(Why { what, rows, sum }) = why else {
+        let said = match is_json {
+            true => json::object(&[("accepted", true.to_string())]),
+            false => format!("accepted\n\n# The proved {checker} says that {shown}.\n"),
+        };
+        return Ended::saying(said, CAN);
+    };
+    let said = match is_json {
+        true => {
+            let listed = rows.iter().map(|row| json::text(&row.join("   ")));
+            let fields = [
+                ("accepted", false.to_string()),
+                ("reason", json::text(&what)),
+                ("why", json::list(listed)),
+            ];
+            json::object(&fields)
+        }
+        false => format!(
+            "not accepted\n\n# The proved {checker} does not take this for evidence. {what}\n{}{sum}",
+            table("#   ", &rows)
+        ),
+    };
+    Ended::saying(said, CANNOT)
 }
 
 /// Why an answer is not accepted: a sentence, what it is about, and of a
 /// "cannot" the sum that is left. The checker says yes or no; this is worked out
 /// beside it, by its rules.
-#[derive(Default)]
 struct Why {
     what: String,
     rows: Vec<Vec<String>>,

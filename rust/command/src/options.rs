@@ -4,8 +4,8 @@ use std::ffi::OsString;
 
 pub const HELP: &str = "\
 usage: scatterflock [--json | --page | --words] solve [--each] [--first] [--wide] FILE
-       scatterflock [--json] check [--wide] FILE ANSWER
-       scatterflock [--json | --page] times FILE
+       scatterflock [--json] check [--wide] [--times] FILE ANSWER
+       scatterflock [--json | --page | --words] times FILE
        scatterflock words [--times] [--bytes] FILE
        scatterflock smtlib FILE
        scatterflock edit FILE
@@ -17,7 +17,7 @@ usage: scatterflock [--json | --page | --words] solve [--each] [--first] [--wide
        scatterflock [--json] replay FILE TRACE
 
   solve   can all limits of FILE be met at once? With values, or with the limits that clash
-  check   is ANSWER right for the limits of FILE? Asks the proved checker
+  check   is ANSWER right for the limits or the time rows of FILE? Asks the proved checker
   times   can all time rows of FILE be met? With times, or with the rows that go round
   words   a text as words, or words as a text
   smtlib  the limits of FILE as SMT-LIB text, for other solvers
@@ -107,11 +107,11 @@ type Rule = (&'static str, &'static str, &'static str);
 const RULES: [Rule; 10] = [
     ("--json", "solve check times day audit trace replay", ""),
     ("--page", "solve times day audit", "--json --each --bare"),
-    ("--words", "solve", "--json --page --each"),
+    ("--words", "solve times", "--json --page --each"),
     ("--each", "solve", ""),
     ("--first", "solve", "--page --words"),
     ("--wide", "solve check", ""),
-    ("--times", "words", ""),
+    ("--times", "check words", "--wide"),
     ("--bytes", "words trace unpack", "--json"),
     ("--bare", "day audit", "--json"),
     ("--edition", "pack", ""),

@@ -30,8 +30,14 @@ pub fn run(file: &OsStr, options: &Options, stdin: &mut dyn Read) -> Result<Ende
     let rows = &asked.rows;
     let words = rows.words();
     let schedule = scatterflock::times(&words).map_err(refused)?;
-    if check_times(&words, &schedule.evidence(rows.names.len())) != Ok(Judgement::Accepted) {
+    let evidence = schedule.evidence(rows.names.len());
+    if check_times(&words, &evidence) != Ok(Judgement::Accepted) {
         return Err(Failure::Contradicted);
+    }
+    if options.words {
+        let status = if evidence[0] == 1 { CAN } else { CANNOT };
+        let evidence: Vec<String> = evidence.iter().map(i64::to_string).collect();
+        return Ok(Ended::saying(evidence.join(" ") + "\n", status));
     }
     if let Some(times) = schedule.fractions() {
         return match rows.rows.iter().all(|row| is_met(row, &times)) {
@@ -123,10 +129,39 @@ fn called(rows: &Times, row: &Row) -> String {
 }
 
 /// `line 3`, where there is one, or what the line is called.
-fn place(rows: &Times, row: &Row) -> Option<String> {
+pub fn place(rows: &Times, row: &Row) -> Option<String> {
     let line = row.line?;
     let label = rows.labels.of_line(line);
     Some(label.map_or_else(|| format!("line {line}"), str::to_string))
+}
+
+/// What a row is called where it is named: by its line and, where that makes two
+/// rows, which of both it is, or by its number.
+pub fn reference(rows: &Times, number: usize) -> String {
+    let row = &rows.rows[number];
+    let makes_two = row.line.is_some_and(|line| rows.of_line(line).len() > 1);
+    match place(rows, row) {
+        Some(place) if makes_two => format!("{place} {}", row.side().name()),
+        Some(place) => place,
+        None => format!("row {number}"),
+    }
+}
+
+/// Rows added up, the names left out where they lead round.
+pub fn sum_text(rows: &Times, listed: &[&Row]) -> String {
+    let left = |row: &Row| format!("{} - {}", rows.names[row.x], rows.names[row.y]);
+    let (sum, is_strict) = sum(listed);
+    let shown = |c: i64| Exact::new(c, rows.parts.into()).to_string();
+    let wide = listed.iter().map(|row| left(row).len()).max().unwrap_or(0);
+    let rights = listed.iter().map(|row| i64::from(row.c)).chain([sum]);
+    let right_wide = rights.map(|right| shown(right).len()).max().unwrap_or(0);
+    let line = |left: &str, is_strict: bool, right: i64| {
+        format!("#   {left:>wide$} {:<2} {}\n", sign(is_strict), shown(right))
+    };
+    let mut said: String =
+        listed.iter().map(|row| line(&left(row), row.is_strict, row.c.into())).collect();
+    said += &format!("#   {}\n", "-".repeat(wide + 4 + right_wide));
+    said + &line("0", is_strict, sum)
 }
 
 fn can(asked: &Asked, times: &Fractions) -> Ended {
@@ -156,30 +191,12 @@ fn can(asked: &Asked, times: &Fractions) -> Ended {
 fn cannot(asked: &Asked, cycle: &[usize]) -> Ended {
     let rows = &asked.rows;
     let listed: Vec<&Row> = cycle.iter().map(|&row| &rows.rows[row]).collect();
-    let named = listed.iter().zip(cycle).map(|(row, number)| {
-        vec![
-            place(rows, row).unwrap_or(format!("row {number}")),
-            format!("# {}", rows.row_text(row)),
-        ]
-    });
+    let named = listed
+        .iter()
+        .zip(cycle)
+        .map(|(row, &number)| vec![reference(rows, number), format!("# {}", rows.row_text(row))]);
     let mut said = format!("cannot\n\n{}\n", table("", &named.collect::<Vec<_>>()));
-    said += "# All of them added up:\n";
-    let left = |row: &Row| format!("{} - {}", rows.names[row.x], rows.names[row.y]);
-    let (sum, is_strict) = sum(&listed);
-    let shown = |c: i64| Exact::new(c, rows.parts.into()).to_string();
-    let wide = listed.iter().map(|row| left(row).len()).max().unwrap_or(0);
-    let rights = listed.iter().map(|row| i64::from(row.c)).chain([sum]);
-    let right_wide = rights.map(|right| shown(right).len()).max().unwrap_or(0);
-    for row in &listed {
-        said += &format!(
-            "#   {:>wide$} {:<2} {}\n",
-            left(row),
-            sign(row.is_strict),
-            shown(row.c.into())
-        );
-    }
-    said += &format!("#   {}\n", "-".repeat(wide + 4 + right_wide));
-    said += &format!("#   {:>wide$} {:<2} {}\n#\n", "0", sign(is_strict), shown(sum));
+    said += &format!("# All of them added up:\n{}#\n", sum_text(rows, &listed));
     said += &left_out(asked.text.as_deref(), "rows");
     said +=
         "# No times meet these rows together. The proved checker of time rows has accepted that.\n";

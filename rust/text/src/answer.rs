@@ -1,4 +1,10 @@
 //! An answer to a limit problem as text, and its words.
+//!
+//! - `of_times`: an answer to time rows
+
+mod of_times;
+
+pub use of_times::{read_times, TimesAnswer};
 
 use crate::exact::{self, multiple};
 use crate::fault::Fault;
@@ -23,6 +29,17 @@ pub fn read(text: &str, problem: &Limits) -> Result<Vec<i64>, Fault> {
     if numbers::are_bare(text) {
         return numbers::read(text);
     }
+    let (first, rest) = opened(text)?;
+    let end = rest.last().unwrap_or(&first);
+    if first.begins_with("can") {
+        can(&rest, end, problem)
+    } else {
+        cannot(&rest, problem)
+    }
+}
+
+/// The line `can` or `cannot` of an answer, and the lines behind it.
+fn opened(text: &str) -> Result<(Line, Vec<Line>), Fault> {
     let mut all = lines(text);
     let Some(first) = all.next() else {
         return Err(Fault::new(1, 1, "there is no answer in this text"));
@@ -32,13 +49,7 @@ pub fn read(text: &str, problem: &Limits) -> Result<Vec<i64>, Fault> {
         let what = "an answer begins with a line can or cannot";
         return Err(first.fault(first.tokens[0].column, what));
     }
-    let rest = all.collect::<Result<Vec<Line>, Fault>>()?;
-    let end = rest.last().unwrap_or(&first);
-    if first.begins_with("can") {
-        can(&rest, end, problem)
-    } else {
-        cannot(&rest, problem)
-    }
+    Ok((first, all.collect::<Result<Vec<Line>, Fault>>()?))
 }
 
 fn can(lines: &[Line], end: &Line, problem: &Limits) -> Result<Vec<i64>, Fault> {
@@ -108,9 +119,9 @@ const VALUE: &str = "a value is a number or a fraction: 7/2, or 7/2 - 3/4 small"
 fn value(line: &Line, tokens: &[Token]) -> Result<Value, Fault> {
     let is_sign = |token: &Token| matches!(token.kind, Kind::Plus | Kind::Minus);
     let Some(at) = tokens.iter().skip(1).position(is_sign).map(|at| at + 1) else {
-        return Ok([fraction(line, tokens)?, (0, 1)]);
+        return Ok([fraction(line, tokens, VALUE)?, (0, 1)]);
     };
-    let plain = fraction(line, &tokens[..at])?;
+    let plain = fraction(line, &tokens[..at], VALUE)?;
     let (sign, amounts) = (&tokens[at], &tokens[at + 1..]);
     let small = match amounts.split_last() {
         Some((Token { kind: Kind::Name(name), .. }, times)) if name == SMALL => times,
@@ -119,14 +130,15 @@ fn value(line: &Line, tokens: &[Token]) -> Result<Value, Fault> {
     let (numerator, denominator) = match small {
         [] => (1, 1),
         times if is_sign(&times[0]) => return Err(line.fault(times[0].column, VALUE)),
-        times => fraction(line, times)?,
+        times => fraction(line, times, VALUE)?,
     };
     let signed = if sign.kind == Kind::Minus { -numerator } else { numerator };
     Ok([plain, (signed, denominator)])
 }
 
-/// A whole number, or one over another that is above 0.
-fn fraction(line: &Line, tokens: &[Token]) -> Result<(i128, i128), Fault> {
+/// A whole number, or one over another that is above 0. What else stands there is
+/// told.
+fn fraction(line: &Line, tokens: &[Token], what: &str) -> Result<(i128, i128), Fault> {
     let kinds: Vec<&Kind> = tokens.iter().map(|token| &token.kind).collect();
     let (is_negative, kinds) = match kinds[..] {
         [Kind::Minus, ..] => (true, &kinds[1..]),
@@ -140,7 +152,7 @@ fn fraction(line: &Line, tokens: &[Token]) -> Result<(i128, i128), Fault> {
         }
         _ => {
             let column = tokens.first().map_or(line.end, |token| token.column);
-            return Err(line.fault(column, VALUE));
+            return Err(line.fault(column, what));
         }
     };
     let numerator = i128::from(if is_negative { -numerator } else { numerator });

@@ -4,6 +4,7 @@ use crate::constants;
 use crate::exact::{multiple, Exact, LARGEST_DENOMINATOR};
 use crate::fault::Fault;
 use crate::labels::Labels;
+use crate::limits::Side;
 use crate::names::Names;
 use crate::opening::{self, Holds};
 use crate::statement::{statement, Limit, Statement};
@@ -194,6 +195,16 @@ impl Row {
         let said = |row: &Row| (row.x, row.y, row.is_strict, row.c);
         said(self) == said(other)
     }
+
+    /// Which limit of the difference that is shown it is.
+    #[must_use]
+    pub fn side(&self) -> Side {
+        if self.is_turned {
+            Side::Lower
+        } else {
+            Side::Upper
+        }
+    }
 }
 
 impl Times {
@@ -243,6 +254,12 @@ impl Times {
             (true, false) => format!("{y} - {x} >= {}", c.turned()),
             (true, true) => format!("{y} - {x} > {}", c.turned()),
         }
+    }
+
+    /// The rows that a line makes: two where it has two signs, or `=`.
+    #[must_use]
+    pub fn of_line(&self, line: usize) -> Vec<usize> {
+        (0..self.rows.len()).filter(|&row| self.rows[row].line == Some(line)).collect()
     }
 
     /// The names that no row speaks of.

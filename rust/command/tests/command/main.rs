@@ -10,6 +10,7 @@ mod json;
 mod pages;
 mod sessions;
 mod strict;
+mod times_answers;
 mod usage;
 mod verdicts;
 mod wide;

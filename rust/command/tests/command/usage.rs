@@ -24,7 +24,8 @@ fn usage_and_files() {
         (&["check", "-", "-"], 4, "not both"),
         (&["solve", "--fast", "-"], 4, "there is no option --fast"),
         (&["solve", "--bytes", "-"], 4, "--bytes is an option of words, trace and unpack"),
-        (&["trace", "--times", "-"], 4, "--times is an option of words"),
+        (&["trace", "--times", "-"], 4, "--times is an option of check and words"),
+        (&["check", "--wide", "--times", "-", "a"], 4, "and not beside --wide"),
         (&["trace"], 4, "trace takes one file"),
         (&["replay", "-"], 4, "replay takes two files"),
         (&["replay", "-", "-"], 4, "not both"),
@@ -99,7 +100,7 @@ fn options_are_taken_as_the_usage_has_them() {
             taken += usize::from(is_taken);
         }
     }
-    assert_eq!(taken, 20);
+    assert_eq!(taken, 22);
 }
 
 /// The man page and the completion know every command and every option.

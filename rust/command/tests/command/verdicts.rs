@@ -113,11 +113,11 @@ fn slips_are_no_names() {
             "1:1: the names are not declared; put this line first: names zone1\n",
         ),
         ("solve", "times a b\na - b <= 3\n", "1:1: these are time rows"),
-        ("check", "times a b\na - b <= 3\n", "1:1: these are time rows"),
+        ("check", "names a b\na - b <= 3\n", "1:1: these are limits"),
         ("times", "names a b\na - b <= 3\n", "1:1: these are limits"),
     ] {
         let words = match command {
-            "check" => vec!["check", "-", "problems/a.txt"],
+            "check" => vec!["check", "--times", "-", "problems/a.txt"],
             command => vec![command, "-"],
         };
         let (output, errors, status) = ran(&words, text.as_bytes());
