@@ -16,13 +16,16 @@ Texts go through the command, which alone reads them:
     'can'
 
   solve, solve_within, check     the words of a problem, its answer, and whether an answer is right
-  times                          time rows
+  decide, check_wide, widened    the same in wide numbers: no problem is out of their range
+  first_violation                which limit the run finds broken first, and by how much
+  times, check_times             time rows
   Problem, Answer                the same by names
   Session, Slice                 limits switched on and off; a run some pivots at a time
   replay, trace                  another solver's pivots against the run, and the run's own
   to_smtlib                      a problem as SMT-LIB text
   Bundle, day, sheet, totals     a day's file: its bodies, the text of their answers, and the auditor's sheet
-  solve_file, times_file         texts, through the command
+  solve_file, times_file,        texts, through the command
+    check_file
 
 What is refused raises Refused, with the number and what it says.
 
@@ -108,6 +111,11 @@ class _Counted(Structure):  # traced, exchanged
     _fields_ = [("refused", c_uint32), ("count", c_size_t)]
 
 
+class _Violation(Structure):
+    _fields_ = [("refused", c_uint32), ("variable", c_uint32), ("violated", c_bool), ("rises", c_bool)]
+    _fields_ += [("denominator", c_int64), ("shortfall", c_int64), ("small", c_int64)]
+
+
 class _Contents(Structure):
     _fields_ = [("refused", c_uint32), ("edition", c_uint32), ("bodies", c_size_t)]
 
@@ -125,12 +133,16 @@ def _load():
         ("solve", c_uint32, [i32, c_size_t, i64, c_size_t]),
         ("solve_within", c_uint32, [c_uint32, i32, c_size_t, i64, c_size_t]),
         ("check", c_uint32, [i32, c_size_t, i64, c_size_t]),
+        ("check_wide", c_uint32, [i32, c_size_t, i64, c_size_t]),
         ("times", c_uint32, [i32, c_size_t, i64, c_size_t]),
+        ("check_times", c_uint32, [i32, c_size_t, i64, c_size_t]),
+        ("first_violation", _Violation, [i32, c_size_t]),
         ("slice_start", _Begun, [i32, c_size_t]),
         ("slice_continue", _Continued, [_Slice, c_size_t, i64, c_size_t]),
         ("session_open", _Handed, [i32, c_size_t]),
         ("session_switch", _Handed, [_Session, c_uint32, c_bool, c_bool]),
         ("session_check", _Handed, [_Session, i64, c_size_t]),
+        ("session_violation", _Violation, [_Session]),
         ("replay", _Replayed, [i32, c_size_t, u32, c_size_t]),
         ("trace", _Counted, [i32, c_size_t, u32, c_size_t]),
         ("smtlib_write", _Counted, [i32, c_size_t, u8, c_size_t]),
@@ -202,12 +214,80 @@ def solve_within(most_rows, words):
     return solve(words, most_rows)
 
 
-def check(words, answer):
-    """Whether the proved checker takes this for evidence. Raises Refused."""
-    number = _library.scatterflock_check(*_words(words), *_longs(answer))
+def _judged(function, words, answer):
+    number = function(*_words(words), *_longs(answer))
     if number not in (8, 9):
         raise Refused(number)
     return number == 8
+
+
+def check(words, answer):
+    """Whether the proved checker takes this for evidence. Raises Refused."""
+    return _judged(_library.scatterflock_check, words, answer)
+
+
+def check_wide(words, answer):
+    """Whether the proved checker of wide evidence takes this for it: each number has four words. Raises Refused."""
+    return _judged(_library.scatterflock_check_wide, words, answer)
+
+
+def widened(answer):
+    """The words of an answer as those of a wide one."""
+    wide = list(answer[:2])
+    for number in answer[2:]:
+        wide += [number >> 32 * limb & 2**32 - 1 for limb in range(3)] + [number >> 96]
+    return wide
+
+
+def _numbers(answer):
+    """The numbers of a wide answer, each in one place."""
+    fours = [answer[at : at + 4] for at in range(2, len(answer), 4)]
+    return list(answer[:2]) + [sum(word << 32 * limb for limb, word in enumerate(four)) for four in fours]
+
+
+def decide(words):
+    """The words of a wide answer to a problem, which says can or cannot, never range. Where the run leaves its
+    range the command goes on with it. The proved checker has accepted what is handed back. Raises Refused."""
+    answer = solve(words)
+    if answer[0] == RANGE:
+        ran = _ran("--words", "solve", "--wide", "-", told=" ".join(map(str, words)))
+        if ran.stderr:
+            raise ValueError(ran.stderr.strip())
+        answer = [int(word) for word in ran.stdout.split()]
+    else:
+        answer = widened(answer)
+    if not check_wide(words, answer):
+        raise AssertionError("the checker does not accept this answer")
+    return answer
+
+
+class Violation:
+    """The variable that a run would move first, the side of the limit that it is outside of, and how far: shortfall,
+    and so many small amounts more."""
+
+    def __init__(self, shown):
+        self.variable, self.side = shown.variable, "lower" if shown.rises else "upper"
+        self.shortfall = Fraction(shown.shortfall, shown.denominator)
+        self.small = Fraction(shown.small, shown.denominator)
+
+    def __repr__(self):
+        outside = "below its lower" if self.side == "lower" else "above its upper"
+        small = f", and by {self.small} of a small amount" if self.small else ""
+        return f"variable {self.variable} is {outside} limit by {self.shortfall}{small}"
+
+
+def first_violation(words):
+    """The first violation at the start of a problem, or None. Raises Refused."""
+    shown = _library.scatterflock_first_violation(*_words(words))
+    if shown.refused:
+        raise Refused(shown.refused)
+    return Violation(shown) if shown.violated else None
+
+
+def check_times(words, answer):
+    """Whether the proved checker of time rows takes this for evidence: times that meet every row, or rows that lead
+    round and cannot be met. Raises Refused."""
+    return _judged(_library.scatterflock_check_times, words, answer)
 
 
 def times(words):
@@ -366,25 +446,35 @@ def _refused(words, most_rows):
 # Texts.
 
 
-def _asked(action, file):
+def _ran(*words, told=None):
     command = _installed("SCATTERFLOCK_COMMAND", "bin", "scatterflock")
-    ran = subprocess.run([command, "--json", action, "--", os.fspath(file)], capture_output=True, text=True)
+    return subprocess.run([command, *words], input=told, capture_output=True, text=True)
+
+
+def _asked(*words):
+    ran = _ran("--json", *words)
     answer = json.loads(ran.stdout)
     if "error" in answer:
         raise ValueError(ran.stderr.strip())
-    if answer["verdict"] == "refused":
+    if answer.get("verdict") == "refused":
         raise Refused(answer["number"])
     return answer
 
 
-def solve_file(file):
-    """The JSON of a text of limits, as docs/formats/text.md has it. A fault raises ValueError."""
-    return _asked("solve", file)
+def solve_file(file, wide=False):
+    """The JSON of a text of limits, as docs/formats/text.md has it; with wide it says can or cannot, never range. A
+    fault raises ValueError."""
+    return _asked("solve", *(["--wide"] if wide else []), "--", os.fspath(file))
 
 
 def times_file(file):
     """The JSON of a text of time rows."""
-    return _asked("times", file)
+    return _asked("times", "--", os.fspath(file))
+
+
+def check_file(file, answer, wide=False):
+    """The JSON of what the checker says of an answer, a file too, to a text of limits or of time rows."""
+    return _asked("check", *(["--wide"] if wide else []), "--", os.fspath(file), os.fspath(answer))
 
 
 # Sessions and slices.
@@ -424,6 +514,11 @@ class Session:
         self._state = done.session
         return list(out[: 3 + 2 * self._count])
 
+    def violation(self):
+        """The first violation as it stands, by the limits that are on, or None. Nothing changes."""
+        shown = _library.scatterflock_session_violation(self._state)
+        return Violation(shown) if shown.violated else None
+
 
 ALREADY_ON = 43
 
@@ -450,7 +545,8 @@ class Slice:
 
 
 class Answer:
-    """can, with values; cannot, with the limits that clash; range, with neither."""
+    """can, with values; cannot, with the limits that clash; range, with neither. Of a wide answer the words are its
+    numbers, each in one place."""
 
     def __init__(self, problem, words):
         count = len(problem.names) + len(problem.rows)
@@ -534,6 +630,13 @@ class Problem:
         if answer[0] != RANGE and not check(words, answer):
             raise AssertionError("the checker does not accept this answer")
         return Answer(self, answer)
+
+    def decide(self):
+        """The answer where numbers may grow beyond the range of solve: can or cannot."""
+        return Answer(self, _numbers(decide(self.words)))
+
+    def first_violation(self):
+        return first_violation(self.words)
 
     def session(self):
         return Session(self.words)
