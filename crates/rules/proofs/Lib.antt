@@ -13,7 +13,7 @@
 --   Times        time rows: refusals exactly, times or a bad cycle and never both, and what each means
 --   Program      the program's bytes and text
 --   Bundle       a day's file: refusals exactly, both round trips over bytes, its bodies, its text
---   Exchange     a problem as SMT-LIB text
+--   Exchange     a problem as SMT-LIB text, and read back
 --   Sheet        the auditor's sheet: its classes, the largest, its length, the sheet of a file
 --   Worked       every worked case and edge is right, by computing
 --   Demands      the demands of docs/RULES.md, at the level of words

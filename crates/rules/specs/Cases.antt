@@ -9,7 +9,7 @@
 --   All       limit problems, evidence and time rows as one list
 --   Program   what is printed on them
 --   Bundle    files of many problems
---   Exchange  problems as SMT-LIB text
+--   Exchange  problems as SMT-LIB text, and read back
 --   Edges     calls at the edges, with the output that was lent
 pub mod Expected
 pub mod Limits

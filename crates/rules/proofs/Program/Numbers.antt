@@ -1,5 +1,7 @@
 -- Numbers as text.
 --   digits-one, digits-more      how the digits of a number come about, with no fuel
+--   by-digits                    what holds of one digit, and of one digit more, holds of all digits
+--   reading-last, reading-digits  one digit more is read; the digits of a number read back
 --   decimal-reads                what `decimal` writes reads back: `number` of specs/Program/Text
 --   decimal-only                 so two numbers of one text are equal
 --   decimal-below, decimal-above  a number's text, by its sign
@@ -68,17 +70,17 @@ module _ (P : ℕ → List ℕ → Type 0) (one : (n : ℕ) → n < 10 → P n (
     | no s ↦ rw (digits-more n (omega arith)) (more n (digits (n / 10)) (by-turns k (n / 10) (omega arith)))
   ]
 
-  by-digits : (n : ℕ) → P n (digits n)
+  pub by-digits : (n : ℕ) → P n (digits n)
   by-digits n = by-turns n n (omega arith)
 
 -- ---- the reader
 
-reading-last : (n : ℕ) (s : List ℕ) (d : ℕ) → reading n (s ++ (d ∷ [])) ≡ 10 * reading n s + (d - 48)
+pub reading-last : (n : ℕ) (s : List ℕ) (d : ℕ) → reading n (s ++ (d ∷ [])) ≡ 10 * reading n s + (d - 48)
 unfolding reading
 reading-last n [] d = refl
 reading-last n (c ∷ s) d = reading-last (10 * n + (c - 48)) s d
 
-reading-digits : (n : ℕ) → reading 0 (digits n) ≡ n
+pub reading-digits : (n : ℕ) → reading 0 (digits n) ≡ n
 unfolding reading
 reading-digits =
     by-digits (λ n t. reading 0 t ≡ n) (λ n h. omega arith)

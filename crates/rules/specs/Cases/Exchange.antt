@@ -1,4 +1,4 @@
--- docs/formats/smtlib.md: whole texts, byte for byte, and the refusals of the writer.
+-- docs/formats/smtlib.md: whole texts, byte for byte, the refusals of the writer, and texts that are read back.
 use Prim.Native.String
 use Prim.Native.String.{String}
 use mathlib.Core.List.{List, [], _++_, _∷_}
@@ -7,6 +7,7 @@ use lib.IntN.{pos, ℤ}
 use Rattle.rules.specs.Cases.Expected.{minus}
 use Rattle.rules.specs.Cases.Limits.{caseA, caseH, caseI, caseInside, between, free, lessThan, lowerOnly, two}
 use Rattle.rules.specs.Cases.Limits.{upperOnly}
+use Rattle.rules.specs.Exchange.Reader.{TextOutcome, words, refusedAt}
 
 -- n 1: a term alone; both limits strict, and numbers below 0
 abbrev one : List ℤ
@@ -71,3 +72,46 @@ exchangeRefusals =
     ∷ (two (pos 1) (pos 1) ++ (pos 1001 ∷ []) ++ free ++ free, (0, 4))
     ∷ (two (pos 1) (pos 0) ++ (pos 16 ∷ pos 0 ∷ pos 0 ∷ []), (0, 5))
     ∷ (two (pos 1) (pos 0) ++ lowerOnly (pos 30001), (0, 6)) ∷ []
+
+-- ---- texts read by hand, each with its words or the place at which it is refused
+
+unfoldable pub readings : List (String × TextOutcome)
+readings =
+    -- white space and comments are free between tokens, none too; a comment ends at 10, at 13, and with the text
+    (";a\n( set-logic QF_LRA);b\n(declare-const x0\nReal)\t(check-sat) ;end", words (caseH .words))
+    ∷ (";a\r(set-logic;((\n QF_LRA)(\rdeclare-const x0 Real)(check-sat);", words (caseH .words))
+    -- texts that end early: the length; inside of a word it is that word's place
+    ∷ ("", refusedAt 0)
+    ∷ ("(set-log", refusedAt 1)
+    ∷ ("(set-logic QF_LRA) ;", refusedAt 20)
+    ∷ []
+
+-- the logic and a declaration, 41 bytes, and texts that stand behind them
+unfoldable pub oneColumn : String
+oneColumn = "(set-logic QF_LRA)(declare-const x0 Real)"
+
+unfoldable pub readingsBehind : List (String × TextOutcome)
+readingsBehind =
+    -- white space and comments are free between tokens, none too; a comment ends at 10, at 13, and with the text
+    ("(check-sat)", words (caseH .words))
+    -- texts that end early: the length; inside of a word it is that word's place
+    ∷ ("(check-sat", refusedAt 51)
+    -- something behind the end
+    ∷ ("(check-sat))", refusedAt 52)
+    -- names out of order; a second limit; a limit out of order; a lower limit where only the upper one is left
+    ∷ ("(declare-const x2 Real)", refusedAt 56)
+    ∷ ("(declare-const r0 Real)(declare-const x1 Real)", refusedAt 79)
+    ∷ ("(assert (>= x0 5))(assert (> x0 5))", refusedAt 68)
+    ∷ ("(declare-const x1 Real)(assert (<= x1 5))(assert (<= x0 5))", refusedAt 83)
+    ∷ ("(declare-const x1 Real)(assert (>= x1 5))(assert (>= x0 5))", refusedAt 91)
+    ∷ ("(declare-const x1 Real)(declare-const x2 Real)(assert (< x1 5))(assert (> x0 5))", refusedAt 115)
+    -- numbers: a zero in front, a minus sign of its own, minus 0, and beyond their range
+    ∷ ("(assert (>= x0 05))", refusedAt 56)
+    ∷ ("(assert (>= x0 -5))", refusedAt 56)
+    ∷ ("(assert (>= x0 (- 0)))", refusedAt 59)
+    ∷ ("(assert (>= x0 30001))", refusedAt 56)
+    ∷ ("(declare-const r0 Real)(assert (= r0 (* (- 1001) x0)))", refusedAt 84)
+    -- a blank row, at its last 0; one column has no sum
+    ∷ ("(declare-const r0 Real)(assert (= r0 (* 0 x0)))", refusedAt 81)
+    ∷ ("(declare-const r0 Real)(assert (= r0 (+ (* 1 x0))))", refusedAt 79)
+    ∷ []

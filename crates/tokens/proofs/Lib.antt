@@ -1,0 +1,2 @@
+-- Laws of the tokens of a text by places.
+pub mod Laws
