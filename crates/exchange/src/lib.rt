@@ -3,7 +3,7 @@ mod limits;
 mod names;
 mod rows;
 mod script;
-mod texts;
+pub mod texts;
 
 use script::put_script;
 ghost use mathlib.Core.Path.{_≡_};

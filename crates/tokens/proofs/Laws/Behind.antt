@@ -16,7 +16,7 @@ use Rattle.tokens.proofs.Laws.Placed.{from-end, from-refused, from-take
 use Rattle.tokens.proofs.Laws.Places.{start-again, start-most, stop-ends}
 
 module _ (t : List ℕ) (us : List Bytes) (st : Stage) where
-  read-followed : (ws : List Bytes) (at : ℕ) → at ≤ length t → startAt t at ≡ at →
+  pub read-followed : (ws : List Bytes) (at : ℕ) → at ≤ length t → startAt t at ≡ at →
       readFrom t (on (ws ++ us) st) at ≡ readBehind t (on us st) (followed t at ws)
   unfolding followed readBehind endedAt finish tokenStep matched
   read-followed [] at h e = refl

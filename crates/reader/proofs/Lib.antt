@@ -1,0 +1,2 @@
+-- Laws of a reading that goes on or was halted.
+pub mod Laws
