@@ -167,6 +167,10 @@ mostScript rows = 20 + (mostDeclaration + mostLimitsText) * (mostColumns + rows)
 
 -- ---- the auditor's sheet
 
+-- a text that is read from standard input, with its blanks and comments
+abbrev pub mostInput : ℕ
+mostInput = 65536
+
 -- the line of a count: its name, two digits and a newline
 abbrev pub mostCountLine : ℕ → ℕ
 mostCountLine name = name + 2 + 1

@@ -14,6 +14,7 @@
 --   scatterflock-bundle-write-only     the number, and every byte of the file
 --   scatterflock-day-only     the length of the text, and every byte of the slice
 --   scatterflock-smtlib-write-only      the number, the count, and every byte of the slice
+--   scatterflock-smtlib-read-only       the number, the count or the place, and every word of the slice
 --   scatterflock-sheet-only    the length of the sheet, and every byte of the slice
 --   scatterflock-times-only    the number, and every word of the output; or both name a bad cycle
 use mathlib.Core.Logic.{_⊎_}
@@ -39,6 +40,7 @@ use Rattle.scatterflock.proofs.scatterflock_session_switch.Reads as ses
 use Rattle.scatterflock.proofs.scatterflock_session_violation.Reads as session-violation
 use Rattle.scatterflock.proofs.scatterflock_slice_continue.Reads as slice-continue
 use Rattle.scatterflock.proofs.scatterflock_slice_start.Reads as slice-start
+use Rattle.scatterflock.proofs.scatterflock_smtlib_read.Reads as smtlib-read
 use Rattle.scatterflock.proofs.scatterflock_smtlib_write.Reads as smtlib-write
 use Rattle.scatterflock.proofs.scatterflock_times.Reads as times
 use Rattle.scatterflock.proofs.scatterflock_trace.Reads as trace
@@ -124,6 +126,10 @@ scatterflock-day-only κs x a b e f h k = (h .0 ∙ sym (k .0), h .1 ∙ sym (k 
 pub scatterflock-smtlib-write-only : (κs : _) (x : _) (a b : _) (e f : _) →
     smtlib-write.Post κs x a e → smtlib-write.Post κs x b f → (a ≡ b) × (e .1 .0 .now ≡ f .1 .0 .now)
 scatterflock-smtlib-write-only κs x a b e f h k = (h .0 ∙ sym (k .0), h .1 ∙ sym (k .1))
+
+pub scatterflock-smtlib-read-only : (κs : _) (x : _) (a b : _) (e f : _) →
+    smtlib-read.Post κs x a e → smtlib-read.Post κs x b f → (a ≡ b) × (e .1 .0 .now ≡ f .1 .0 .now)
+scatterflock-smtlib-read-only κs x a b e f h k = (h .0 ∙ sym (k .0), h .1 ∙ sym (k .1))
 
 pub scatterflock-sheet-only : (κs : _) (x : _) (a b : _) (e f : _) → sheet.Post κs x a e → sheet.Post κs x b f →
     (a ≡ b) × (e .1 .0 .now ≡ f .1 .0 .now)

@@ -4,6 +4,7 @@ ghost use mathlib.Core.Path.{_≡_};
 ghost use lib.ListN.{length};
 ghost use Rattle.rules.specs.Answer.{written};
 ghost use Rattle.rules.specs.Evidence.{checked};
+ghost use Rattle.rules.specs.Exchange.Reader.{readText};
 ghost use Rattle.rules.specs.Exchange.Script.{exchangeOutput, exchangeRefusal, exchangeText};
 ghost use Rattle.rules.specs.Refusal.{refusal, refusalWithin, rowsWithin};
 ghost use Rattle.rules.specs.Runs.Replay.{replayRefusal, replayedWords};
@@ -20,6 +21,7 @@ ghost use Rattle.bundle.specs.Contents.{contentsTold};
 ghost use Rattle.replay.specs.Replay.{replayedAs, toldOf};
 ghost use Rattle.traces.specs.Traces.{tracedAs};
 ghost use Rattle.exchange.specs.Sent.{sentBy};
+ghost use Rattle.reader.specs.Taken.{takenBy, takenOutput};
 ghost use Rattle.rules.specs.Wide.{checkedWide};
 ghost use Rattle.rules.specs.Times.Check.{checkedTimes};
 ghost use Rattle.slices.specs.Slices.{GoesOnAs, SliceStanding, StartsAs, begunAt, sliceOutputAt, wentOnAt};
@@ -28,6 +30,7 @@ ghost use Rattle.session.specs.Sessions.{ChecksAs, OpensAs, SwitchesAs, checked
 ghost use Rattle.violations.specs.Violations.{ShowsAs, shownAs, violationAt};
 use bundle::Contents;
 use exchange::Exchanged;
+use reader::Taken;
 use replay::Told;
 use session::Checked;
 use session::Opened;
@@ -239,6 +242,15 @@ pub extern "C" fn scatterflock_smtlib_write(words: &[i32], text: &mut [u8]) -> E
         (now (words .entry)) (now (text .entry)) ⌝ }
 {
     exchange::write(words, text)
+}
+
+// Reads SMT-LIB text back into the words of a limit problem.
+#[no_mangle]
+pub extern "C" fn scatterflock_smtlib_read(text: &[u8], words: &mut [i32]) -> Taken
+    ensures answer { λ r. ⌜ r ≡ takenBy (readText (now (text .entry))) (length (now (words .entry))) ⌝ }
+    ensures content { λ r. ⌜ now (words .exit) ≡ takenOutput (readText (now (text .entry))) (now (words .entry)) ⌝ }
+{
+    reader::read(text, words)
 }
 
 // Prints the auditor's sheet of a day's file, and answers how long it is.
