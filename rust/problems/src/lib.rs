@@ -17,6 +17,7 @@
 //! - `traces`: worked traces, and such that are nearly right
 //! - `audits`: days' files as an auditor has them
 //! - `wide`: dense problems beyond the range, and wide evidence that is nearly right
+//! - `smtlib`: SMT-LIB texts that say the same, and such that are nearly right
 
 pub mod audits;
 pub mod bundles;
@@ -29,6 +30,7 @@ mod oven;
 pub mod published;
 pub mod random;
 pub mod sessions;
+pub mod smtlib;
 pub mod strict;
 pub mod times;
 pub mod times_evidence;

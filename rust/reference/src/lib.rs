@@ -23,9 +23,9 @@
 //! - `wide_evidence`: the checker of wide evidence, in halves of its own
 //! - `times`: time rows, and a judge of the time solver's output
 //! - `times_evidence`: the checker of anybody's times and cycles
-//! - `program`: the text that the program prints
+//! - `program`: the text that the programs print
 //! - `bundle`: a day's file, read, written and printed
-//! - `smtlib`: a limit problem as SMT-LIB text
+//! - `smtlib`: a limit problem as SMT-LIB text, and back
 //! - `sheet`: the auditor's sheet of a day's file
 
 mod actual;
@@ -55,12 +55,12 @@ pub use bundle::{bundle_read, bundle_write, day, day_text, Contents};
 pub use decision::{can_be_met, decided, Numbers};
 pub use evidence::check;
 pub use idle::{idle, named, Named};
-pub use program::respond;
+pub use program::{lab, respond};
 pub use run::{first_violation, pivots, solve, solve_within, violations, Violation};
 pub use session::Session;
 pub use sheet::{sheet, sheet_text};
 pub use slices::{Continued, Slice};
-pub use smtlib::smtlib_write;
+pub use smtlib::{smtlib_read, smtlib_write};
 pub use tableau::Pivot;
 pub use times::{times, times_is_right};
 pub use times_evidence::check_times;

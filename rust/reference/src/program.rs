@@ -1,10 +1,12 @@
-//! The program: bytes of a problem in, lines of text out.
+//! The programs: bytes of a problem, or its SMT-LIB text, in, lines of text out.
 //!
-//! Renders "The program" of docs/RULES.md.
+//! Renders "The program" of docs/RULES.md, and "The program `lab`" of
+//! docs/formats/smtlib.md.
 
 use crate::answer::{Answer, Multipliers, Verdict};
 use crate::problem::Problem;
 use crate::run::run;
+use crate::smtlib::words_of;
 
 const FEWEST_BYTES: usize = 8;
 const MOST_BYTES: usize = 1160;
@@ -12,6 +14,14 @@ const MOST_BYTES: usize = 1160;
 /// Everything that the program prints for these bytes on standard input.
 pub fn respond(input: &[u8]) -> Vec<u8> {
     text(read(input))
+}
+
+/// Everything that the program `lab` prints for this text on standard input.
+pub fn lab(input: &[u8]) -> Vec<u8> {
+    match words_of(input) {
+        Ok(words) => text(Problem::read(&words)),
+        Err(place) => format!("refused at {place}\n").into_bytes(),
+    }
 }
 
 /// What is printed for a body of a day's file whose edition allows so many rows: it

@@ -1,6 +1,14 @@
 //! A limit problem as SMT-LIB text.
 //!
 //! Renders docs/formats/smtlib.md, line by line.
+//!
+//! - `reading`: such a text, read back
+//! - `ways`: what may follow its tokens
+
+mod reading;
+mod ways;
+
+pub use reading::{smtlib_read, words_of};
 
 use crate::problem::{Limit, Problem};
 
