@@ -158,7 +158,8 @@ enum {
     SCATTERFLOCK_TRACE_LEFT_OVER = 51,
     SCATTERFLOCK_TRACE_WRONG = 52,
     SCATTERFLOCK_TRACE_EARLY = 53,
-    SCATTERFLOCK_TRACE_PAST = 54
+    SCATTERFLOCK_TRACE_PAST = 54,
+    SCATTERFLOCK_SMTLIB_TOKEN = 60
 };
 
 /*
@@ -578,7 +579,7 @@ uint32_t scatterflock_bundle_write(uint32_t edition,
 size_t scatterflock_day(const uint8_t *file, size_t file_count,
                         uint8_t *text, size_t text_room);
 
-/* What scatterflock_smtlib_write hands back. */
+/* What scatterflock_smtlib_write and scatterflock_smtlib_read hand back. */
 struct scatterflock_exchanged {
     uint32_t refused;
     size_t count;
@@ -598,6 +599,24 @@ struct scatterflock_exchanged {
  */
 struct scatterflock_exchanged scatterflock_smtlib_write(const int32_t *words, size_t word_count,
                                                         uint8_t *text, size_t text_room);
+
+/*
+ * Reads SMT-LIB text of text_count bytes back into the words of a limit problem.
+ * Exactly those texts are read that have the tokens of one that
+ * scatterflock_smtlib_write writes, with any white space and comments between
+ * them.
+ *
+ * In refused is 0, and in count how many words the problem has: they stand at the
+ * start of words, and words past them keep what they had. scatterflock_solve does
+ * not refuse them. Or refused is SCATTERFLOCK_SMTLIB_TOKEN, 60, and count the
+ * place, in bytes from the start of text, of the first token that cannot stand
+ * where it does, so that no text of a problem begins with the tokens up to it; or
+ * text_count where the text ends too early. Or the text is read, word_room is below
+ * the words of the problem, refused is 7 and count 0. Where it is refused every
+ * word of words keeps what it had. SCATTERFLOCK_MOST_WORDS words are always enough.
+ */
+struct scatterflock_exchanged scatterflock_smtlib_read(const uint8_t *text, size_t text_count,
+                                                       int32_t *words, size_t word_room);
 
 /*
  * Prints the auditor's sheet of a day's file of file_count bytes: exact totals
@@ -697,6 +716,8 @@ static inline const char *scatterflock_number_text(uint32_t number)
         return "the run goes on after the last step";
     case SCATTERFLOCK_TRACE_PAST:
         return "the run is over before the last step";
+    case SCATTERFLOCK_SMTLIB_TOKEN:
+        return "a token cannot stand where it does";
     default:
         return NULL;
     }

@@ -80,6 +80,7 @@ TEXTS = {
     52: "a step is not the run's own",
     53: "the run goes on after the last step",
     54: "the run is over before the last step",
+    60: "a token cannot stand where it does",
 }
 
 

@@ -6,20 +6,21 @@
  * A request is seven numbers of 64 bits: the function (0 solve, 1 check,
  * 2 times, 3 slice_start, 4 slice_continue, 5 session_open, 6 session_switch,
  * 7 session_check, 11 solve_within, 13 replay, 14 trace, 15 smtlib_write,
- * 16 check_wide, 17 check_times, 19 first_violation, 20 session_violation), how
- * many 32-bit words there are to read, how many 64-bit words the output (of checks:
- * the answer; of a replay: the trace) has, and what else the function takes:
+ * 16 check_wide, 17 check_times, 18 smtlib_read, 19 first_violation,
+ * 20 session_violation), how many 32-bit words there are to read, how many 64-bit
+ * words the output (of checks: the answer; of a replay: the trace) has, and what
+ * else the function takes:
  * slice_continue the number of the slice and the pivots, session_switch,
  * session_check and session_violation the number of the session, session_switch
- * variable, upper and on,
- * solve_within the most rows, and smtlib_write how many bytes of the output are
- * lent. Then come those words. The reply is four numbers of 64 bits: what the
+ * variable, upper and on, solve_within the most rows, smtlib_write how many bytes
+ * of the output are lent, and smtlib_read how many bytes of the words are the text.
+ * Then come those words. The reply is four numbers of 64 bits: what the
  * function returned, and of slices and sessions whether it answered, the number of
- * the one that came back and its count, of a replay 0, word and step, of a trace
- * and a text 0, 0 and its count; and then all words of the output. Those of a
- * violation are its other six numbers. Numbers are
- * little-endian, as the machine's own. The words of a trace have 32 bits: they are
- * lent in a slice of their own. Requests with 8, 9, 10 or 12 are
+ * the one that came back and its count, of a replay 0, word and step, of a trace,
+ * a text and its words 0, 0 and the count; and then all words of the output. Those
+ * of a violation are its other six numbers. Numbers are little-endian, as the
+ * machine's own. The words of a trace, and those that are read from a text, have
+ * 32 bits: they are lent in a slice of their own. Requests with 8, 9, 10 or 12 are
  * bundle.c's.
  *
  * Slices and sessions are kept here, the last so many of them.
@@ -218,6 +219,19 @@ static void show(struct scatterflock_violation shown, size_t out_count, uint64_t
     reply[0] = shown.refused;
 }
 
+static void read_smtlib(size_t word_count, size_t text_count, size_t count, uint64_t *reply)
+{
+    struct scatterflock_exchanged told;
+
+    if (text_count > word_count * sizeof *words)
+        stop("there are fewer bytes than are to be read");
+    narrow(count);
+    told = scatterflock_smtlib_read((const uint8_t *)(words + GUARD), text_count, (int32_t *)steps + GUARD, count);
+    widen(count);
+    reply[0] = told.refused;
+    reply[3] = told.count;
+}
+
 static uint64_t answer(uint64_t function, size_t word_count, size_t out_count)
 {
     const int32_t *read = words + GUARD;
@@ -294,6 +308,9 @@ int main(void)
             break;
         case 15:
             write_smtlib(word_count, out_count, request[3], reply);
+            break;
+        case 18:
+            read_smtlib(word_count, request[3], out_count, reply);
             break;
         case 19:
             show(scatterflock_first_violation(words + GUARD, word_count), out_count, reply);

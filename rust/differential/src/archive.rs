@@ -13,7 +13,7 @@ pub use raw::{first_violation, session_violation, Violation};
 pub use raw::{replay, trace};
 pub use raw::{session_check, session_open, session_switch, Session};
 pub use raw::{slice_continue, slice_start, Slice};
-pub use raw::{smtlib_write, Exchanged};
+pub use raw::{smtlib_read, smtlib_write, Exchanged};
 
 /// Whether they are linked into this program.
 pub const LINKED: bool = cfg!(not(feature = "served"));

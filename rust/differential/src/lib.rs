@@ -1,6 +1,6 @@
 //! The archive against `reference`: solver, checker, slices, sessions, traces,
-//! first violations, SMT-LIB texts, time rows, days' files and their sheets, on random problems of
-//! every family, every word compared.
+//! first violations, SMT-LIB texts both ways, time rows, days' files and their
+//! sheets, on random problems of every family, every word compared.
 //!
 //! - [`archive`]: the archive's functions, linked or served
 //! - `lent`: lends an output with guards around it and looks at all of it
@@ -10,6 +10,7 @@
 //! - `sessions`: one limit problem through a script of switches and checks
 //! - `traces`: one limit problem's own trace, and bent ones against its run
 //! - `smtlib`: one limit problem as SMT-LIB text
+//! - `texts`: one such text, read back
 //! - `violations`: the first violation of one limit problem, and of sessions
 //! - `times`: time rows through the time solver, and evidence about them
 //! - `wide`: wide evidence, found and bent, through its checker
@@ -26,6 +27,7 @@ pub mod sessions;
 pub mod sheets;
 pub mod slices;
 pub mod smtlib;
+pub mod texts;
 pub mod times;
 pub mod traces;
 pub mod violations;

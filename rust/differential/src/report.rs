@@ -1,6 +1,7 @@
 //! Many problems, counted.
 
-use crate::{bundles, limits, sessions, sheets, slices, smtlib, times, traces, violations, wide};
+use crate::wide;
+use crate::{bundles, limits, sessions, sheets, slices, smtlib, texts, times, traces, violations};
 use problems::random::Random;
 use progress::counted;
 use std::collections::BTreeMap;
@@ -110,6 +111,23 @@ pub fn smtlib(seed: u64, problems: u64) -> Result<Report, String> {
         let number = smtlib::compare(&mut Random::of_problem(seed, problem), family)
             .map_err(|what| format!("SEED={seed}, problem {problem}, {family:?}: {what}"))?;
         report.count(number, ["written", "", "", ""], 0);
+    }
+    Ok(report)
+}
+
+/// Compares so many SMT-LIB texts that are read back, the families in turn. What is
+/// counted beside the numbers is each text that is refused at its end, and of each
+/// way to bend one how many are read.
+pub fn texts(seed: u64, problems: u64) -> Result<Report, String> {
+    let mut report = Report::default();
+    for problem in 0..problems {
+        let family = in_turn(&problems::limits::Family::ALL, problem);
+        let outcome = texts::compare(&mut Random::of_problem(seed, problem), family)
+            .map_err(|what| format!("SEED={seed}, problem {problem}, {family:?}: {what}"))?;
+        report.count(outcome.number, ["read", "", "", ""], 0);
+        report.count_outcome("too early", outcome.is_early.into());
+        let bent = format!("{:?} read", outcome.bent);
+        report.count_outcome(&bent, (outcome.number != 60).into());
     }
     Ok(report)
 }

@@ -32,7 +32,7 @@ fn shown() -> Vec<String> {
 
 #[test]
 fn the_page_shows_what_is_written() {
-    assert_eq!(shown(), [text(&worked::case_a().words), text(&STRICT)]);
+    assert_eq!(shown()[..2], [text(&worked::case_a().words), text(&STRICT)]);
     for (text, counts) in shown().iter().zip(["13 lines, 330 bytes", "9 lines, 195 bytes"]) {
         assert_eq!(counts, format!("{} lines, {} bytes", text.lines().count(), text.len()));
         assert!(PAGE.contains(counts), "{counts}");

@@ -49,8 +49,8 @@
 //! ```
 //!
 //! - [`Problem`], [`solve()`], [`solve_within`], [`check`]: limit problems, answers
-//!   and their judgement; [`Problem::named`]: one by names; [`Problem::to_smtlib`]:
-//!   one as text for other solvers
+//!   and their judgement; [`Problem::named`]: one by names; [`Problem::to_smtlib`],
+//!   [`Problem::from_smtlib`]: one as text for other solvers, and back
 //! - [`Problem::decide`], [`WideAnswer`], [`check_wide`]: the same in numbers of
 //!   128 bits, where a run would leave its range
 //! - [`Fractions`]: values as numbers over one denominator
@@ -63,9 +63,9 @@
 //! - [`TimeRows`], [`times()`], [`check_times`]: time rows, and evidence about them
 //! - [`Bundle`], [`day()`]: a day's problems in one file
 //! - [`Sheet`], [`sheet()`]: their totals, for an auditor
-//! - [`Refusal`], [`TimesRefusal`], [`SwitchRefusal`], [`BundleRefusal`]: why
-//!   words, switches or files are refused; [`number_text`]: what any number of the
-//!   archive says
+//! - [`Refusal`], [`TimesRefusal`], [`SwitchRefusal`], [`BundleRefusal`],
+//!   [`SmtlibRefusal`]: why words, switches, files or texts are refused;
+//!   [`number_text`]: what any number of the archive says
 //! - [`sizes`]: how large everything may be
 //! - [`raw`]: the archive's functions as they are, over lent words
 //!
@@ -108,6 +108,7 @@ pub use rows::TimeRows;
 pub use session::Session;
 pub use sheet::{sheet, Named, Sheet};
 pub use slice::Slice;
+pub use smtlib::SmtlibRefusal;
 pub use times::{check_times, times, Schedule, Time};
 pub use trace::{replay, trace, Replayed, TraceWord};
 pub use violation::{first_violation, Violation};

@@ -1,6 +1,8 @@
 //! The numbers that the archive's functions return, in words.
 
-use crate::{BundleRefusal, Judgement, Refusal, Replayed, SwitchRefusal, TimesRefusal};
+use crate::{
+    BundleRefusal, Judgement, Refusal, Replayed, SmtlibRefusal, SwitchRefusal, TimesRefusal,
+};
 
 /// What a number says that a function of [`raw`](crate::raw) returned. There is
 /// nothing to say of one that none returns.
@@ -30,6 +32,7 @@ fn no_refusal(number: u32) -> Option<String> {
         52 => Some("a step is not the run's own".to_string()),
         53 => Some(Replayed::Early.to_string()),
         54 => Some(Replayed::Past.to_string()),
+        SmtlibRefusal::NUMBER => Some("a token cannot stand where it does".to_string()),
         _ => None,
     }
 }

@@ -120,7 +120,7 @@ impl Problem {
     }
 
     /// The problem of words that are one.
-    fn read(words: &[i32]) -> Problem {
+    pub(crate) fn read(words: &[i32]) -> Problem {
         let (variables, rows) = (words[0] as usize, words[1] as usize);
         let (coefficients, limits) = words[2..].split_at(rows * variables);
         Problem {

@@ -9,7 +9,7 @@ mod violation;
 
 pub use bundle::{bundle_read, bundle_write, day, sheet, Contents};
 pub use evidence::{check_times, check_wide};
-pub use smtlib::{smtlib_write, Exchanged};
+pub use smtlib::{smtlib_read, smtlib_write, Exchanged};
 pub use traces::{replay, trace, Replayed, Traced};
 pub use violation::{first_violation, session_violation, Violation};
 

@@ -302,6 +302,35 @@ static void at_first(void)
     shown("first of a session", scatterflock_session_violation(session), 2, true, 2, 0);
 }
 
+/* The words of case A's text, in every room up to a little more than they need,
+ * and every text that it begins with: refused where it ends, or at a word that is cut. */
+static void from_smtlib(const uint8_t *text, size_t length)
+{
+    int32_t read[COUNT(A) + 2];
+
+    for (size_t room = 0; room < COUNT(A) + 3; room++) {
+        bool fits = room >= COUNT(A);
+        size_t changed = 0;
+        struct scatterflock_exchanged told;
+
+        for (size_t place = 0; place < COUNT(A) + 2; place++)
+            read[place] = -77;
+        told = scatterflock_smtlib_read(text, length, read, room);
+        number("smtlib A back", told.refused, fits ? 0 : SCATTERFLOCK_SHORT);
+        number("smtlib A back, count", (uint32_t)told.count, fits ? (uint32_t)COUNT(A) : 0);
+        for (size_t place = 0; place < COUNT(A) + 2; place++)
+            changed += read[place] != (fits && place < COUNT(A) ? A[place] : -77);
+        number("smtlib A back, words that differ,", (uint32_t)changed, 0);
+    }
+    for (size_t count = 0; count < length - 1; count++) {
+        struct scatterflock_exchanged told = scatterflock_smtlib_read(text, count, read, COUNT(read));
+
+        number("smtlib A cut", told.refused, SCATTERFLOCK_SMTLIB_TOKEN);
+        number("smtlib A cut, behind its end", told.count > count, 0);
+    }
+    number("smtlib A cut at (set-log", (uint32_t)scatterflock_smtlib_read(text, 8, read, COUNT(read)).count, 1);
+}
+
 /* Case A as text, in every room up to a little more than it needs. */
 static void as_smtlib(void)
 {
@@ -337,6 +366,7 @@ static void as_smtlib(void)
             changed += text[place] != (fits && place < length ? (uint8_t)TEXT[place] : 0xA5);
         number("smtlib A, bytes that differ,", (uint32_t)changed, 0);
     }
+    from_smtlib((const uint8_t *)TEXT, length);
     number("smtlib nine", scatterflock_smtlib_write(NINE_VARIABLES, COUNT(NINE_VARIABLES), text, sizeof text).refused, 2);
 }
 

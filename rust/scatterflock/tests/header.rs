@@ -4,7 +4,9 @@
 //! twice: with the archive that is linked here, and with the code for x86-64
 //! under an emulator.
 
-use scatterflock::{number_text, raw, sizes, BundleRefusal, Refusal, SwitchRefusal, TimesRefusal};
+use scatterflock::{
+    number_text, raw, sizes, BundleRefusal, Refusal, SmtlibRefusal, SwitchRefusal, TimesRefusal,
+};
 use std::collections::BTreeMap;
 use std::fs;
 use std::path::{Path, PathBuf};
@@ -73,6 +75,7 @@ fn the_names_of_the_header_are_those_of_the_crate() {
         let name = format!("BUNDLE_{}", camel(format!("{refusal:?}")));
         assert_eq!(named[&name[..]], refusal.number());
     }
+    assert_eq!(named["SMTLIB_TOKEN"], SmtlibRefusal::NUMBER);
     for (name, size) in [
         ("MOST_VARIABLES", sizes::MOST_VARIABLES),
         ("MOST_ROWS", sizes::MOST_ROWS),

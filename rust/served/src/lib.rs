@@ -40,6 +40,7 @@ enum Function {
     SmtlibWrite = 15,
     CheckWide = 16,
     CheckTimes = 17,
+    SmtlibRead = 18,
     FirstViolation = 19,
     SessionViolation = 20,
 }
@@ -107,18 +108,18 @@ pub struct Checked {
     pub session: Session,
 }
 
-/// What [`smtlib_write`] hands back.
+/// What [`smtlib_write`] and [`smtlib_read`] hand back.
 pub struct Exchanged {
     /// 0, or the number of a refusal.
     pub refused: u32,
-    /// How many bytes the text has.
+    /// How many bytes the text has, or how many words were read; the place with 60.
     pub count: usize,
 }
 
 /// What the program says: what the function returned; of slices and sessions
 /// whether it answered, by which number the one that came back is kept, and its
 /// count; of a replay the word and the step, of a trace how many words, of a text
-/// how many bytes.
+/// how many bytes, of what is read how many words or the place.
 struct Reply {
     number: u32,
     answered: bool,
@@ -212,6 +213,16 @@ pub fn smtlib_write(words: &[i32], text: &mut [u8]) -> Exchanged {
     let more = bytes.len() - text.len();
     assert_eq!(bytes[text.len()..], past[past.len() - more..], "bytes past the text have changed");
     text.copy_from_slice(&bytes[..text.len()]);
+    Exchanged { refused: reply.number, count: reply.count }
+}
+
+/// Reads the words of a limit problem from SMT-LIB text.
+pub fn smtlib_read(text: &[u8], words: &mut [i32]) -> Exchanged {
+    // The bytes go in words, the last of which may have some more.
+    let read: Vec<i32> = text.chunks(4).map(|bytes| word_of(bytes) as i32).collect();
+    let mut out: Vec<i64> = words.iter().map(|&word| word.into()).collect();
+    let reply = reply(Function::SmtlibRead, &read, &mut out, [text.len() as u64, 0, 0, 0]);
+    words.iter_mut().zip(out).for_each(|(word, out)| *word = out as i32);
     Exchanged { refused: reply.number, count: reply.count }
 }
 

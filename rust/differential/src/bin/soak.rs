@@ -1,6 +1,7 @@
 //! `soak COUNT` compares so many limit problems, a quarter as many in slices,
 //! with traces and as many time rows, a tenth as many sessions, first violations
-//! and SMT-LIB texts, and a hundredth as many days' files and as many sheets, in
+//! and SMT-LIB texts, written and read, and a hundredth as many days' files and as
+//! many sheets, in
 //! parts, each with a seed of its own that is printed before it.
 //! `SEED=.. soak COUNT` goes through the same parts again.
 //!
@@ -43,6 +44,7 @@ fn soak(first: u64, count: u64) -> Result<(), String> {
         println!("traces: {}", report::traces(seed, part.div_ceil(4))?);
         println!("violations: {}", report::violations(seed, part.div_ceil(10))?);
         println!("smtlib: {}", report::smtlib(seed, part.div_ceil(10))?);
+        println!("texts: {}", report::texts(seed, part.div_ceil(10))?);
         println!("times: {}", report::times(seed, part.div_ceil(4))?);
         println!("wide: {}", report::wide(seed, part.div_ceil(10))?);
         println!("days: {}", report::bundles(seed, part.div_ceil(100))?);
