@@ -25,6 +25,7 @@ impl Input {
     pub fn text(&self) -> Option<String> {
         match &self.content {
             Content::Text(text) => Some(text.clone()),
+            Content::Smtlib(bytes) => Some(String::from_utf8_lossy(bytes).into_owned()),
             _ => None,
         }
     }
@@ -34,15 +35,21 @@ pub enum Content {
     Bytes(Vec<u8>),
     Words(Vec<i32>),
     Text(String),
+    Smtlib(Vec<u8>),
 }
 
-/// Reads a problem: a file `.words`, or one with a zero byte in it, is bytes; a
-/// text of bare numbers is words; anything else is text.
+/// Reads a problem: a file `.smt2`, or a text that begins so, is SMT-LIB text; a
+/// file `.words`, or one with a zero byte in it, is bytes; a text of bare numbers is
+/// words; anything else is text.
 pub fn problem(file: &OsStr, stdin: &mut dyn Read) -> Result<Input, Failure> {
     let (name, bytes) = bytes(file, stdin)?;
     let digest = digest(&bytes);
-    let is_named = file != "-" && name.to_ascii_lowercase().ends_with(".words");
-    let is_words = is_named || bytes.contains(&0) && !is_wide(&bytes);
+    let is_named = |ending| file != "-" && name.to_ascii_lowercase().ends_with(ending);
+    if is_named(".smt2") || !is_named(".words") && is_smtlib(&bytes) {
+        let content = Content::Smtlib(unmarked(&name, bytes)?);
+        return Ok(Input { file: name, digest, content });
+    }
+    let is_words = is_named(".words") || bytes.contains(&0) && !is_wide(&bytes);
     if is_words {
         return Ok(Input { file: name, digest, content: Content::Bytes(bytes) });
     }
@@ -84,15 +91,8 @@ pub fn bytes(file: &OsStr, stdin: &mut dyn Read) -> Result<(String, Vec<u8>), Fa
 }
 
 /// The text of bytes, but for a mark of byte order at its start.
-pub fn text_of(name: &str, mut bytes: Vec<u8>) -> Result<String, Failure> {
-    if is_wide(&bytes) {
-        let what = "this text is UTF-16: save it as UTF-8".to_string();
-        return Err(bad(name, "", Fault { line: 1, column: 1, what }));
-    }
-    if bytes.starts_with(b"\xef\xbb\xbf") {
-        bytes.drain(..3);
-    }
-    String::from_utf8(bytes).map_err(|error| {
+pub fn text_of(name: &str, bytes: Vec<u8>) -> Result<String, Failure> {
+    String::from_utf8(unmarked(name, bytes)?).map_err(|error| {
         let read = String::from_utf8_lossy(&error.as_bytes()[..error.utf8_error().valid_up_to()]);
         let line = read.split('\n').count();
         let last = read.rsplit('\n').next().unwrap_or("");
@@ -101,6 +101,26 @@ pub fn text_of(name: &str, mut bytes: Vec<u8>) -> Result<String, Failure> {
         let fault = Fault { line, column: last.chars().count() + 1, what };
         bad(name, &read, fault)
     })
+}
+
+/// The bytes of a text, but for a mark of byte order at its start.
+fn unmarked(name: &str, mut bytes: Vec<u8>) -> Result<Vec<u8>, Failure> {
+    if is_wide(&bytes) {
+        let what = "this text is UTF-16: save it as UTF-8".to_string();
+        return Err(bad(name, "", Fault { line: 1, column: 1, what }));
+    }
+    if bytes.starts_with(b"\xef\xbb\xbf") {
+        bytes.drain(..3);
+    }
+    Ok(bytes)
+}
+
+/// Whether the first line that is no comment of SMT-LIB begins as its texts do.
+fn is_smtlib(bytes: &[u8]) -> bool {
+    let bytes = bytes.strip_prefix(b"\xef\xbb\xbf").unwrap_or(bytes);
+    let lines = bytes.split(|byte| b"\n\r".contains(byte)).map(<[u8]>::trim_ascii);
+    let first = lines.into_iter().find(|line| !line.is_empty() && !line.starts_with(b";"));
+    first.is_some_and(|line| line.starts_with(b"(set-logic"))
 }
 
 /// Whether bytes are a text of UTF-16: with the mark of byte order, or a

@@ -12,7 +12,8 @@
 //! - `json`, `table`, `excerpt`: values as JSON, lines of cells, the line of a
 //!   fault
 //! - `page`, `digest`: an answer as a page of HTML, and the digest that it has
-//! - `solve`, `check`, `times`, `words`, `smtlib`, `edit`, `traces`: what the command does
+//! - `solve`, `check`, `times`, `words`, `smtlib`, `edit`, `traces`: what the command does;
+//!   `smtlib` reads such texts too
 //! - `day`, `pack`: the same of days' files
 //! - `audit`: the totals of a day's file
 

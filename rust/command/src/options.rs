@@ -54,7 +54,8 @@ or, of time rows,
     times start1 start2
     start1 + 30 <= start2
 
-or a file .words, or a text of bare numbers; - is standard input.
+or a file .words, or a text of bare numbers, or SMT-LIB text, a file .smt2, as smtlib writes it; - is
+standard input.
 
 Status: 0 can, or accepted; 1 cannot, or not accepted; 2 out of range; 3 refused; 4 a bad text or
 command; 5 a file cannot be read, or the output not be written. Of day the greatest of its bodies';

@@ -63,7 +63,7 @@ fn read(file: &OsStr, stdin: &mut dyn Read) -> Result<Packed, Failure> {
     let input = input::problem(file, stdin)?;
     let file = input.file.clone();
     let words = match &input.content {
-        Content::Text(_) => {
+        Content::Text(_) | Content::Smtlib(_) => {
             let (file, problem) = problem(input)?;
             return Ok(Packed { file, words: problem.words(), parts: problem.parts });
         }

@@ -2,7 +2,7 @@
 
 use crate::fraction::Pair;
 use crate::input::{self, bad, Content, Input};
-use crate::Failure;
+use crate::{smtlib, Failure};
 use scatterflock::sizes::MOST_WORDS;
 use scatterflock::{Bundle, Refusal, WideVerdict};
 use text::limits::{self, Limits, Side};
@@ -19,6 +19,10 @@ pub fn problem(input: Input) -> Result<(String, Limits), Failure> {
     let words = match content {
         Content::Text(text) => {
             let problem = limits::read(&text).map_err(|fault| bad(&file, &text, fault))?;
+            return Ok((file, problem));
+        }
+        Content::Smtlib(bytes) => {
+            let problem = smtlib::read(&file, &bytes)?;
             return Ok((file, problem));
         }
         Content::Words(words) => words,

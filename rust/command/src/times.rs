@@ -12,7 +12,7 @@ use scatterflock::{check_times, Fractions, Judgement, Schedule, TimesRefusal};
 use std::ffi::OsStr;
 use std::io::Read;
 use text::times::{self, Row, Times};
-use text::Exact;
+use text::{Exact, Fault};
 
 /// What is asked.
 struct Asked {
@@ -66,6 +66,11 @@ pub fn rows(input: Input) -> Result<(String, Times), Failure> {
         Content::Text(text) => {
             let rows = times::read(&text).map_err(|fault| bad(&file, &text, fault))?;
             return Ok((file, rows));
+        }
+        Content::Smtlib(bytes) => {
+            let what = "these are limits, not time rows: scatterflock solve answers them";
+            let fault = Fault { line: 1, column: 1, what: what.to_string() };
+            return Err(bad(&file, &String::from_utf8_lossy(&bytes), fault));
         }
         Content::Words(words) => words,
         Content::Bytes(bytes) if bytes.len() < 8 => return Err(refused(TimesRefusal::FewWords)),

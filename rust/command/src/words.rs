@@ -14,7 +14,7 @@ pub fn run(file: &OsStr, options: &Options, stdin: &mut dyn Read) -> Result<Ende
         Content::Text(text) => Holds::of(text),
         _ => None,
     };
-    let is_text = matches!(input.content, Content::Text(_));
+    let is_text = matches!(input.content, Content::Text(_) | Content::Smtlib(_));
     let (words, text, parts) = if options.times || holds == Some(Holds::Times) {
         let (_, rows) = times::rows(input)?;
         (rows.words(), rows.text(), rows.parts)
