@@ -10,8 +10,9 @@
 //!
 //! Then scripts of edits, in a session and with each problem solved anew
 //! (`edits`), days' files, as one call and problem by problem (`days`),
-//! traces: a replay beside the solve of its problem (`traces`), and wide evidence:
-//! its checker beside the other one (`wide`).
+//! traces: a replay beside the solve of its problem (`traces`), wide evidence: its
+//! checker beside the other one (`wide`), and the longest SMT-LIB text beside a
+//! solve (`texts`).
 //!
 //! `SEED=.. make bench` measures other problems. With the word `words` the limit
 //! problems themselves are printed, for `tools/copied`.
@@ -22,6 +23,7 @@ mod edits;
 mod measure;
 mod sets;
 mod table;
+mod texts;
 mod traces;
 mod wide;
 
@@ -67,7 +69,11 @@ fn print(to: &mut impl Write) -> io::Result<()> {
     writeln!(to, "\n{}", traces::heading())?;
     each("traces", sets::limits(seed), to, traces::line)?;
     writeln!(to, "\n{}", wide::heading())?;
-    each("wide", sets::limits(seed), to, wide::line)
+    each("wide", sets::limits(seed), to, wide::line)?;
+    writeln!(to, "\n{}", texts::heading())?;
+    let sets = sets::limits(seed).into_iter();
+    let full = sets.filter(|set| ["full", "largest"].contains(&set.name.as_str()));
+    each("texts", full, to, texts::line)
 }
 
 /// Prints the line of each set; while it is measured a terminal says which one it is.
