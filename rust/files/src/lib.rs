@@ -5,12 +5,14 @@
 //!   input, and what `reference` answers, in its file `stdout`
 //!
 //! And the day's file of docs/formats/bundle.md, which the programs `day` and
-//! `audit` are run on, with what `reference` prints for it, and with its sheet.
+//! `audit` are run on, with what `reference` prints for it, and with its sheet; and
+//! the text that was edited by hand, problems/lab.smt2, which `lab` is run on.
 
 pub mod shown;
 pub mod vectors;
 
 use problems::bundles::{file, ten_bodies};
+use std::fs;
 use std::path::PathBuf;
 
 /// A file and what stands in it.
@@ -58,5 +60,9 @@ pub fn made() -> Vec<Made> {
         made.push(Made { path: format!("crates/{program}/stdin"), bytes: day.clone() });
         made.push(Made { path: format!("crates/{program}/stdout"), bytes: printed });
     }
+    let text = fs::read(top().join("problems/lab.smt2")).unwrap_or_default();
+    let printed = reference::lab(&text);
+    made.push(Made { path: "crates/lab/stdin".to_string(), bytes: text });
+    made.push(Made { path: "crates/lab/stdout".to_string(), bytes: printed });
     made
 }

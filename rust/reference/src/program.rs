@@ -10,6 +10,8 @@ use crate::smtlib::words_of;
 
 const FEWEST_BYTES: usize = 8;
 const MOST_BYTES: usize = 1160;
+/// The most bytes of a text for `lab`.
+const MOST_LAB: usize = 65_536;
 
 /// Everything that the program prints for these bytes on standard input.
 pub fn respond(input: &[u8]) -> Vec<u8> {
@@ -18,7 +20,8 @@ pub fn respond(input: &[u8]) -> Vec<u8> {
 
 /// Everything that the program `lab` prints for this text on standard input.
 pub fn lab(input: &[u8]) -> Vec<u8> {
-    match words_of(input) {
+    let read = if input.len() > MOST_LAB { Err(MOST_LAB) } else { words_of(input) };
+    match read {
         Ok(words) => text(Problem::read(&words)),
         Err(place) => format!("refused at {place}\n").into_bytes(),
     }

@@ -158,4 +158,7 @@ fn the_program_answers_or_tells_the_place() {
     assert_eq!(printed(&written(&worked::case_a().words)), answer);
     assert_eq!(printed(b"(set-logic QF_LIA)"), "refused at 11\n");
     assert_eq!(printed(b""), "refused at 0\n");
+    let gaps = |count: usize| [written(&worked::case_a().words), vec![b'\n'; count - 330]].concat();
+    assert_eq!(printed(&gaps(65_536)), answer);
+    assert_eq!(printed(&gaps(65_537)), "refused at 65536\n");
 }
