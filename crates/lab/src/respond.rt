@@ -11,7 +11,7 @@ use put::put_byte;
 use put::put_digits;
 use put::put_text;
 
-// No longer text is taken. The longest that is written has a sixth of it, and the rest is for blanks and comments.
+// No longer text is taken. The longest that is written has a tenth of it, and the rest is for blanks and comments.
 pub const MOST_INPUT: usize = 65536;
 
 // The line of a place, at the front.
