@@ -22,7 +22,7 @@ Texts go through the command, which alone reads them:
   Problem, Answer                the same by names
   Session, Slice                 limits switched on and off; a run some pivots at a time
   replay, trace                  another solver's pivots against the run, and the run's own
-  to_smtlib                      a problem as SMT-LIB text
+  to_smtlib, from_smtlib         a problem as SMT-LIB text, and back
   Bundle, day, sheet, totals     a day's file: its bodies, the text of their answers, and the auditor's sheet
   solve_file, times_file,        texts, through the command
     check_file
@@ -42,6 +42,7 @@ from fractions import Fraction
 from pathlib import Path
 
 MOST_VARIABLES, MOST_ROWS, MOST_ANSWER, MOST_TIMES, STATE_WORDS = 8, 24, 67, 130, 187
+MOST_WORDS = 290  # of a problem
 MOST_SMTLIB = 31 + 81 * (MOST_VARIABLES + MOST_ROWS) + (21 + 16 * MOST_VARIABLES) * MOST_ROWS
 MOST_BODIES, FIRST_ROWS, MOST_FILE_WORDS, MOST_DAY_TEXT, MOST_SHEET = 64, 16, 16384, 125120, 857
 CAN, CANNOT, RANGE = 1, 2, 3
@@ -147,6 +148,7 @@ def _load():
         ("replay", _Replayed, [i32, c_size_t, u32, c_size_t]),
         ("trace", _Counted, [i32, c_size_t, u32, c_size_t]),
         ("smtlib_write", _Counted, [i32, c_size_t, u8, c_size_t]),
+        ("smtlib_read", _Counted, [u8, c_size_t, i32, c_size_t]),
         ("bundle_read", _Contents, [u8, c_size_t, i32, c_size_t, i32, c_size_t]),
         ("bundle_write", c_uint32, [c_uint32, i32, c_size_t, i32, c_size_t, u8, c_size_t]),
         ("day", c_size_t, [u8, c_size_t, u8, c_size_t]),
@@ -161,11 +163,13 @@ _library = _load()
 
 
 class Refused(ValueError):
-    """Words that are no problem, or a switch that there is not: the number says why."""
+    """Words that are no problem, or a switch that there is not: the number says why. Of SMT-LIB text that is not read
+    place has where, in bytes."""
 
-    def __init__(self, number):
-        super().__init__(f"refused {number}: {TEXTS.get(number, 'nothing is known of this number')}")
-        self.number = number
+    def __init__(self, number, place=None):
+        where = "" if place is None else f", at byte {place}"
+        super().__init__(f"refused {number}: {TEXTS.get(number, 'nothing is known of this number')}{where}")
+        self.number, self.place = number, place
 
 
 def _words(words):
@@ -352,6 +356,17 @@ def to_smtlib(words):
     if done.refused:
         raise Refused(done.refused)
     return bytes(out[: done.count]).decode("ascii")
+
+
+def from_smtlib(text):
+    """The words of the problem of an SMT-LIB text, a string or bytes, that has the tokens of one that to_smtlib makes.
+    Of any other Refused has the place of the first token that cannot stand where it does."""
+    out = (c_int32 * MOST_WORDS)()
+    text = text.encode() if isinstance(text, str) else text
+    done = _library.scatterflock_smtlib_read(*_bytes(text), out, MOST_WORDS)
+    if done.refused:
+        raise Refused(done.refused, done.count)
+    return list(out[: done.count])
 
 
 # Days' files.
