@@ -65,7 +65,7 @@ fn sessions() {
         ("can", 2 * SESSIONS),
         ("can after pivots", SESSIONS / 2),
         ("cannot", SESSIONS / 2),
-        ("conflict", SESSIONS / 9),
+        ("conflict", SESSIONS / if LINKED { 9 } else { 12 }),
         ("range", SESSIONS / 25),
         ("conflict ended", SESSIONS / 50),
         ("values seen", 25 * SESSIONS),
