@@ -12,7 +12,7 @@ use scatterflock::sizes::{
     LARGEST_COEFFICIENT, LARGEST_LIMIT, MOST_ROWS, MOST_SMTLIB, MOST_VARIABLES, MOST_WORDS,
 };
 
-const PROBLEMS: u64 = if LINKED { 20_000 } else { 2_000 };
+const PROBLEMS: u64 = if LINKED { 20_000 } else { 10_000 };
 const PAGE: &str = include_str!("../../../docs/formats/smtlib.md");
 const EDITED: &str = include_str!("../../../problems/lab.smt2");
 /// The words of the page's second text, and of the one that was edited by hand.
@@ -216,6 +216,7 @@ fn random_texts() {
     for bent in ["Not", "Gaps"] {
         assert!(report.of(&format!("{bent} read")) > PROBLEMS / 12, "{bent}, SEED={seed}");
     }
+    // Of texts that are cut one in a thousand is read: with 10,000 problems some are.
     for bent in ["Byte", "Number", "Token", "Swapped", "Lines", "Cut"] {
         assert!(report.of(&format!("{bent} read")) > 0, "{bent}, SEED={seed}");
     }
