@@ -1,5 +1,7 @@
 // Limits as they were given, and the pairs of a plain part and a multiple of the small amount that they stand for:
 // docs/RULES.md, "The run". Pairs are compared by their plain parts, and where these are equal by the small ones.
+#![tactic(auto)]
+
 ghost use Rattle.std.specs.Prelude.{◌≡◌};
 ghost use Rattle.whole.specs.Values.{pairs};
 ghost use Rattle.rules.specs.Limit.{inset};
@@ -8,7 +10,7 @@ ghost use Rattle.amounts.specs.Amounts.{amount_of, given_lower, given_upper, pai
 // A limit as it was given: whether it was, whether it is on, whether it excludes its own number, and that number. Every
 // answer is by the limits that are on. Of a missing limit no flag is set and the number is 0.
 #[repr(C)]
-#[derive(Drop)]
+#[derive(Clone, Copy)]
 pub struct Given {
     pub given: bool,
     pub on: bool,
@@ -17,14 +19,14 @@ pub struct Given {
 }
 
 // A value that a nonbasic variable may have: 0, or what a limit stands for.
-#[derive(Drop)]
+#[derive(Clone, Copy)]
 pub struct Value {
     pub plain: i32,
     pub small: i32,
 }
 
 // A value, or D times it.
-#[derive(Drop)]
+#[derive(Clone, Copy)]
 pub struct Amount {
     pub plain: i64,
     pub small: i64,

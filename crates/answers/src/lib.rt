@@ -1,4 +1,6 @@
 // The words of an answer: verdict, count of pivots, denominator, and two words for each variable.
+#![tactic(auto)]
+
 ghost use Rattle.std.specs.Prelude.{◌≡◌, ℕ, ◌+◌, ◌*◌, ◌≤◌, ◌<◌, get_or, length};
 ghost use Rattle.rules.specs.Run.{most_count};
 ghost use Rattle.rules.specs.Sizes.{most_columns, most_rows, most_variables};

@@ -1,5 +1,7 @@
 // The program: reads a day's file from standard input, and prints its sheet, as `sheet::sheet` says it. It only reads
 // and writes.
+#![tactic(auto)]
+
 use sheet::sheet;
 
 // One word more than the longest file has, so that a longer input is seen to be too long and is not read on.

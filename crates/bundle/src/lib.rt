@@ -1,4 +1,6 @@
 // A day's problems in one file: read from bytes, and written as bytes. No body is judged.
+#![tactic(auto)]
+
 pub mod body;
 mod counts;
 mod head;

@@ -1,6 +1,8 @@
 // Verdict 1: numerators and small parts over one denominator that meet every row and every limit. A half of the answer
 // is a slice that has one of the two from word 3 on: the answer itself, and what is left of it past one word for each
 // variable. A loop asks its tests of every variable and joins the answers, so that nothing in it branches.
+#![tactic(auto)]
+
 ghost use Rattle.std.specs.Prelude.{◌≡◌, ℕ, ◌+◌, ◌*◌, ◌≤◌, ◌<◌, pos, nat_abs, ◌*ℤ◌, length, ◌≤ℤ◌};
 ghost use Rattle.whole.specs.Numbers.{Within, AllWithin};
 ghost use Rattle.rules.specs.Sizes.{most_rows, most_columns, most_variables, largest_coefficient, largest_limit};

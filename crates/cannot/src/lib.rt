@@ -1,4 +1,6 @@
 // Verdict 2: multipliers of the limits whose sum is a contradiction. The loops are made as those of verdict 1.
+#![tactic(auto)]
+
 ghost use Rattle.std.specs.Prelude.{◌≡◌, ◌+◌, ◌*◌, ◌≤◌, ◌<◌, ◌*ℤ◌, length};
 ghost use Rattle.whole.specs.Numbers.{Within, AllWithin};
 ghost use Rattle.rules.specs.Sizes.{most_rows, most_columns, most_variables, largest_coefficient, largest_limit};

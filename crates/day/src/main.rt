@@ -1,5 +1,7 @@
 // The program: reads a day's file from standard input, and prints what `days::day` says of it. It only reads and
 // writes.
+#![tactic(auto)]
+
 use days::day;
 
 // One word more than the longest file has, so that a longer input is seen to be too long and is not read on.

@@ -1,4 +1,6 @@
 // The text of a day's file: each body as the program `ramp` prints a problem, one behind the other.
+#![tactic(auto)]
+
 ghost use Rattle.std.specs.Prelude.{◌≡◌, ◌+◌, ◌^◌, ◌≤◌, ◌<◌, length};
 ghost use Rattle.rules.specs.Sizes.{most_day_text, most_text};
 ghost use Rattle.rules.specs.Program.Text.{lines_below, printed};

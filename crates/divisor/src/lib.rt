@@ -1,5 +1,7 @@
 // Sizes and signs; greatest common divisors, of two numbers and of the live cells of an array, and exact division of
 // those cells.
+#![tactic(auto)]
+
 ghost use Rattle.std.specs.Prelude.{◌≡◌, ◌≤◌, nat_abs, length};
 ghost use Rattle.whole.specs.Divisors.{gcd};
 ghost use Rattle.whole.specs.Numbers.{Within, AllWithin};

@@ -1,5 +1,7 @@
 // What an edition of a day's file allows: bodies in a file, and rows in a body. An edition that there is not allows
 // none.
+#![tactic(auto)]
+
 ghost use Rattle.std.specs.Prelude.{◌≡◌};
 ghost use Rattle.rules.specs.Bundle.File.{bodies_most, rows_in};
 ghost use Rattle.rules.specs.Bundle.Writer.{no_such_edition};

@@ -1,5 +1,7 @@
 // The evidence checker: accepts exactly what is right and within the number ranges, from anybody. It reads the problem
 // through the entries and the limits that the tableau type makes of the words. It shares nothing with search or run.
+#![tactic(auto)]
+
 ghost use Rattle.std.specs.Prelude.{◌≡◌, ◌≤◌, length};
 ghost use Rattle.rules.specs.Sizes.{most_rows};
 ghost use Rattle.rules.specs.Problem.{answer_length, problem};

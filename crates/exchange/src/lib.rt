@@ -1,4 +1,6 @@
 // Problems as SMT-LIB text, byte for byte as docs/formats/smtlib.md has it, into a lent slice.
+#![tactic(auto)]
+
 mod limits;
 mod names;
 mod rows;

@@ -1,4 +1,6 @@
 // Refusals 1 to 6 and 10: whether lent words are a problem. Each test runs over the whole input before the next.
+#![tactic(auto)]
+
 ghost use Rattle.std.specs.Prelude.{◌≡◌, ◌||◌, [], ◌∷◌, ◌/◌, ◌%◌, ◌<◌, ◌≤◌, eqb, pos, nat_abs, ◌<ℤ◌};
 ghost use Rattle.whole.specs.Numbers.{within};
 ghost use Rattle.rules.specs.Limit.{has_lower, has_upper, strict_lower, strict_upper, bad_kind_word, bad_limit_word};

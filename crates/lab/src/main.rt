@@ -1,5 +1,7 @@
 // The program: reads an SMT-LIB text from standard input, and prints what `respond` says of it. It only reads and
 // writes.
+#![tactic(auto)]
+
 mod respond;
 
 use lines::Written;

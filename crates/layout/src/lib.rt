@@ -1,6 +1,8 @@
 // Where the entry of a row place and a column place lies in the flat array, and in which order the places follow there:
 // line after line, and a line is a column. Callers give both sizes, whichever order needs them. Beside this file only
 // the walk along a column in pivot knows it: the cells of a line lie side by side.
+#![tactic(auto)]
+
 ghost use Rattle.std.specs.Prelude.{◌≡◌, ◌+◌, ◌≤◌, ◌<◌};
 ghost use Rattle.rules.specs.Sizes.{most_rows, most_columns};
 ghost use Rattle.layout.specs.Layout.{OnLine, flat, line_at, spot_at, row_strip, column_strip};
@@ -11,15 +13,15 @@ pub const MOST_ENTRIES: usize = divisor::MOST_CELLS;
 
 // The two kinds of place: neither stands for the other.
 #[repr(C)]
-#[derive(Drop)]
+#[derive(Clone, Copy)]
 pub struct RowPlace(pub u8);
 
 #[repr(C)]
-#[derive(Drop)]
+#[derive(Clone, Copy)]
 pub struct ColumnPlace(pub u8);
 
 // The row place and the column place of one entry.
-#[derive(Drop)]
+#[derive(Clone, Copy)]
 pub struct Spot {
     pub row: RowPlace,
     pub column: ColumnPlace,

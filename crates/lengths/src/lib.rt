@@ -2,6 +2,8 @@
 // number: UNIT times the minutes, and the small amounts. There are never so many that they come up to half a minute, so
 // the order of the numbers is that of the pairs. Nothing else in the code knows what a length is.
 //   answer    the answer's words: distances as times, or the rows of a cycle
+#![tactic(auto)]
+
 ghost use Rattle.std.specs.Prelude.{◌≡◌, nat_abs, neg_ℤ, ◌+ℤ◌};
 ghost use Rattle.std.specs.Int.Signed.{lt_z};
 ghost use Rattle.whole.specs.Numbers.{Within};
@@ -12,7 +14,7 @@ pub mod answer;
 
 pub const MOST_VERTICES: usize = 64;
 
-#[derive(Drop)]
+#[derive(Clone, Copy)]
 pub struct Length(pub i64);
 
 impl Length {

@@ -1,13 +1,15 @@
 // Numbers of four limbs: a + 2^32 b + 2^64 c + 2^96 d. A limb may be any number that leaves room, so that sums and
 // small multiples go limb by limb; only where a sign is asked for are carries taken, from low to high. Carries go
 // toward 0: then no limb but the highest is as large as 2^32, and the highest limb that is not 0 has the sign.
+#![tactic(auto)]
+
 ghost use Rattle.std.specs.Prelude.{◌≡◌, pos};
 ghost use Rattle.whole.specs.Numbers.{Within, eq_z, is_pos};
 ghost use Rattle.rules.specs.Sizes.{largest_limit};
 ghost use Rattle.limbs.specs.Limbs.{LimbsWithin, less_of, most_factor, most_sum, of_number, pick, plus_of, sign_of};
 ghost use Rattle.limbs.specs.Limbs.{settled_of, scaled_of, value, zero_wide};
 
-#[derive(Drop)]
+#[derive(Clone, Copy)]
 pub struct Wide {
     pub a: i64,
     pub b: i64,

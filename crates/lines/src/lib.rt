@@ -1,4 +1,6 @@
 // Answers and refusals as text, byte for byte as the program prints them, into a lent slice.
+#![tactic(auto)]
+
 mod answer;
 mod line;
 pub mod respond;

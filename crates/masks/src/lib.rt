@@ -1,4 +1,6 @@
 // Sets of variables as masks: docs/RULES.md, "Replaying a trace". Variable v stands at bit v, so 32 variables fit.
+#![tactic(auto)]
+
 ghost use Rattle.std.specs.Prelude.{◌≡◌, ◌+◌, ◌≤◌, ◌<◌, ◌^◌};
 ghost use Rattle.rules.specs.Runs.Replay.{bit_at, bit_in};
 ghost use Rattle.rules.specs.Sizes.{most_variables};

@@ -2,7 +2,7 @@
 use layout::Spot;
 
 // The sizes, the common number, and the spot of the pivot.
-#[derive(Drop)]
+#[derive(Clone, Copy)]
 pub struct Asked {
     pub rows: usize,
     pub columns: usize,

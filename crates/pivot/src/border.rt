@@ -15,7 +15,7 @@ use crate::asked::Asked;
 use crate::{MOST_ENTRIES, numbers};
 use layout::Strip;
 
-#[derive(Drop)]
+#[derive(Clone, Copy)]
 pub struct Border {
     pub rows: usize,
     pub columns: usize,

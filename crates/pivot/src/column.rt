@@ -7,7 +7,7 @@ use crate::guess::Divider;
 use crate::{MOST_ENTRIES, guess, numbers};
 
 // A column of the entries: where it starts and how many cells it has, the pivot, and what stands in the leaving row.
-#[derive(Drop)]
+#[derive(Clone, Copy)]
 pub struct Column {
     pub start: usize,
     pub rows: usize,

@@ -3,7 +3,7 @@
 ghost use Rattle.std.specs.Prelude.{◌≡◌, ◌<◌};
 
 // A divisor: how often 2 divides it, and what the rest times it is 1 in the low half.
-#[derive(Drop)]
+#[derive(Clone, Copy)]
 pub struct Divider {
     pub by: i32,
     pub twos: u32,

@@ -6,6 +6,8 @@
 // The quotients are guessed and multiplied back, and their range is tested once they are right; where that settles
 // nothing, the numbers are divided in the full width.
 // The entries lie flat, as the crate layout says; a cell that is not in use is 0.
+#![tactic(auto)]
+
 ghost use Rattle.std.specs.Prelude.{◌≡◌, ◌≤◌, length};
 ghost use Rattle.layout.specs.Layout.{live, most_entries};
 ghost use Rattle.pivot.specs.Pivot.{PutBy, kept_cells, pivoted_by};

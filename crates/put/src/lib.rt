@@ -1,5 +1,7 @@
 // Bytes, texts and numbers, put at a place of a lent slice. Each function answers the place behind what it put. Bytes
 // past the end of the slice are dropped, and the place counts on.
+#![tactic(auto)]
+
 ghost use Rattle.std.specs.Prelude.{◌≡◌, [], ◌∷◌, pos, nat_abs, ◌<ℤ◌};
 ghost use Rattle.rules.specs.Program.Text.{digits, decimal};
 ghost use Rattle.put.specs.Put.{Put, Room};

@@ -1,4 +1,6 @@
 // The program: reads a problem from standard input, and prints what `respond` says of it. It only reads and writes.
+#![tactic(auto)]
+
 use lines::Written;
 use lines::respond::respond;
 

@@ -1,5 +1,7 @@
 // SMT-LIB text read back: exactly the texts that have the tokens of a written one, into a lent slice of words. A
 // reading goes on from a place of the text, or was halted at one; no part looks further than the next token.
+#![tactic(auto)]
+
 mod flow;
 mod limits;
 mod numbers;

@@ -11,7 +11,7 @@ use exchange::texts::{ASSERT_ROW, END_ASSERT, OPEN_SUM, OPEN_TERM};
 use tokens::Followed;
 
 // How many columns and rows there are.
-#[derive(Drop)]
+#[derive(Clone, Copy)]
 pub struct Counts {
     pub columns: usize,
     pub rows: usize,

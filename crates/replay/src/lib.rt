@@ -1,4 +1,6 @@
 // Another solver's trace against the run of its problem: docs/RULES.md, "Replaying a trace". Nothing is written.
+#![tactic(auto)]
+
 ghost use Rattle.std.specs.Prelude.{◌≡◌, ◌+◌};
 ghost use Rattle.rules.specs.Runs.Replay.{replay_refusal, replayed_words};
 ghost use Rattle.solver.specs.Spend.{Standing};

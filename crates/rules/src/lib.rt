@@ -1,5 +1,7 @@
 // The sizes and ranges of docs/RULES.md that code asks for; specs/Sizes.antt has the same numbers for promises and
 // laws.
+#![tactic(auto)]
+
 pub const MOST_COLUMNS: usize = 8;
 
 pub const MOST_ROWS: usize = 24;

@@ -1,5 +1,7 @@
 // A small function whose proof shows how the tools of `whole` meet code: a 64-bit expression that fits. A loop to copy
 // is `divisor::common_of`, Euclid's steps.
+#![tactic(auto)]
+
 ghost use Rattle.std.specs.Prelude.{◌≡◌, ◌*ℤ◌, ◌-ℤ◌};
 ghost use Rattle.whole.specs.Numbers.{Within};
 

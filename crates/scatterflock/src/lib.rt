@@ -1,5 +1,7 @@
 // The C face: the entry points under their names in include/scatterflock.h, each with the promise of the function that
 // it calls. A slice is a pointer and then a length.
+#![tactic(auto)]
+
 ghost use Rattle.std.specs.Prelude.{◌≡◌, length};
 ghost use Rattle.rules.specs.Answer.{written};
 ghost use Rattle.rules.specs.Evidence.{checked};

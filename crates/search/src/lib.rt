@@ -1,5 +1,7 @@
 // The search for the next pivot: of the basic variables that are outside, the lowest-numbered; and of the nonbasic ones
 // that can move it.
+#![tactic(auto)]
+
 ghost use Rattle.std.specs.Prelude.{◌≡◌, false, ℕ, ◌+◌, ◌≤◌, ◌<◌, pos, get_or};
 ghost use Rattle.whole.specs.Numbers.{Within};
 ghost use Rattle.rules.specs.Sizes.{most_columns, most_rows, most_variables, largest_number, largest_limit};
@@ -12,7 +14,7 @@ use sides::LimitPair;
 use tableau::{Limits, Seat, Tableau, Variable};
 
 // What a step reads of a tableau beside its entries and its limits. Which variable is in which column it does not ask.
-#[derive(Drop)]
+#[derive(Clone, Copy)]
 pub struct View {
     pub rows: usize,
     pub columns: usize,
@@ -24,7 +26,7 @@ pub struct View {
 }
 
 // How many rows and columns there are.
-#[derive(Drop)]
+#[derive(Clone, Copy)]
 pub struct Size {
     pub rows: usize,
     pub columns: usize,
@@ -43,7 +45,7 @@ pub struct Choice {
 }
 
 // The row of a variable outside its limits that nothing can move; side and shortfall as in a choice.
-#[derive(Drop)]
+#[derive(Clone, Copy)]
 pub struct Blocked {
     pub row: RowPlace,
     pub rises: bool,

@@ -1,5 +1,7 @@
 // A session: docs/RULES.md, "Switching limits". The limits of a problem are switched on and off, and each check starts
 // from the values that the last one left. A session goes in and comes back by value.
+#![tactic(auto)]
+
 ghost use Rattle.std.specs.Prelude.{◌≡◌, length};
 ghost use Rattle.session.specs.Sessions.{ChecksAs, OpensAs, SessionStanding, SwitchesAs, checked_at, opened_at};
 ghost use Rattle.session.specs.Sessions.{check_output_at};

@@ -1,4 +1,6 @@
 // The auditor's sheet of a day's file: exact totals by value, one body after the other, and their lines.
+#![tactic(auto)]
+
 mod audit;
 mod text;
 

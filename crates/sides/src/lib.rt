@@ -1,5 +1,7 @@
 // Values against limits that may be missing: which side a variable is outside on, and which way one can move. A limit
 // stands for a pair, and so does a value.
+#![tactic(auto)]
+
 ghost use Rattle.std.specs.Prelude.{◌≡◌, ◌*ℤ◌};
 ghost use Rattle.whole.specs.Numbers.{Within};
 ghost use Rattle.whole.specs.Values.{pairs};

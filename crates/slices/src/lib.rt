@@ -1,4 +1,6 @@
 // The run in slices: docs/RULES.md, "The run in slices". A state goes in and comes back by value.
+#![tactic(auto)]
+
 ghost use Rattle.std.specs.Prelude.{◌≡◌, length};
 ghost use Rattle.slices.specs.Slices.{SliceStanding, StartsAs, GoesOnAs, begun_at, slice_output_at, went_on_at};
 

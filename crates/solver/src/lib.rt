@@ -1,4 +1,6 @@
 // The limit solver: from lent words to the answer of docs/RULES.md, "The run".
+#![tactic(auto)]
+
 ghost use Rattle.std.specs.Prelude.{◌≡◌, length};
 ghost use Rattle.rules.specs.Answer.{written};
 ghost use Rattle.rules.specs.Refusal.{refusal, refusal_within, rows_within};

@@ -1,4 +1,6 @@
 // One step of the run: the search for the next pivot, the pivot, and the range test.
+#![tactic(auto)]
+
 ghost use Rattle.std.specs.Prelude.{◌≡◌, length};
 ghost use Rattle.amounts.specs.Amounts.{value_of};
 ghost use Rattle.search.specs.Search.{seen};

@@ -1,16 +1,18 @@
 // The tableau by place. A row is an equation: `common`, the rules' D, times the row's basic variable is the sum of the
 // row's entries, each times its column's nonbasic variable. All of these numbers are whole.
+#![tactic(auto)]
+
 use amounts::Given;
 use layout::{ColumnPlace, RowPlace};
 
 // A variable's number. No place stands for it.
 #[repr(C)]
-#[derive(Drop)]
+#[derive(Clone, Copy)]
 pub struct Variable(pub u8);
 
 // Where a variable sits: in a row where it is basic, in a column where it is not.
 #[repr(C)]
-#[derive(Drop)]
+#[derive(Clone, Copy)]
 pub struct Seat {
     pub basic: bool,
     pub row: RowPlace,
@@ -19,7 +21,7 @@ pub struct Seat {
 
 // The limits of every variable, and whether some limit is strict.
 #[repr(C)]
-#[derive(Drop)]
+#[derive(Clone, Copy)]
 pub struct Limits {
     pub lower: [Given; Tableau::MOST_VARIABLES],
     pub upper: [Given; Tableau::MOST_VARIABLES],
@@ -29,7 +31,7 @@ pub struct Limits {
 // The entries lie flat, as the crate layout says; a cell that is not in use is 0. The value of a nonbasic
 // variable has a plain part in `values` and a multiple of the small amount in `smalls`.
 #[repr(C)]
-#[derive(Drop)]
+#[derive(Clone, Copy)]
 pub struct Tableau {
     pub rows: usize,
     pub columns: usize,

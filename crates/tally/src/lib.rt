@@ -1,11 +1,13 @@
 // The totals of a sheet, by value: of no body, and what one body more makes of them, by its answer or its refusal.
+#![tactic(auto)]
+
 ghost use Rattle.std.specs.Prelude.{cond, ◌≡◌, ◌+◌, ◌^◌, ◌<◌, ◌≤◌, max, length};
 ghost use Rattle.rules.specs.Sizes.{most_variables};
 ghost use Rattle.tally.specs.Counting.{Countable, Few, Auditable, counted_at, leader_of, naming_of, no_totals};
 ghost use Rattle.tally.specs.Counting.{refused_at, tallied_at};
 
 // The body that reached the largest number of pivots, if any has a verdict.
-#[derive(Drop)]
+#[derive(Clone, Copy)]
 pub enum Reached {
     Body(usize),
     Nobody,
@@ -16,7 +18,7 @@ pub const REFUSALS: usize = 11;
 
 // What the sheet tells: counts of bodies, of each refusal by its number, the pivots, and how often the limits of each
 // variable were named.
-#[derive(Drop)]
+#[derive(Clone, Copy)]
 pub struct Totals {
     pub bodies: u64,
     pub can: u64,

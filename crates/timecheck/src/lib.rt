@@ -2,6 +2,8 @@
 // shares with the solver of time rows what the words are, and nothing of the passes.
 //   times    times that meet every row
 //   cycle    a bad cycle
+#![tactic(auto)]
+
 ghost use Rattle.std.specs.Prelude.{◌≡◌};
 ghost use Rattle.rules.specs.Times.Check.{checked_times};
 

@@ -1,6 +1,8 @@
 // Time rows as words: whether lent words are some, and what the rows of accepted words are.
 //   judge    refusals 11 to 17
 //   rows     accepted words as edges
+#![tactic(auto)]
+
 ghost use Rattle.std.specs.Prelude.{◌≡◌, ◌+◌, ◌*◌, ◌<◌, length};
 ghost use Rattle.rules.specs.Problem.{word};
 

@@ -2,6 +2,8 @@
 // "Time rows".
 //   passes   distances, pass by pass
 //   cycle    the way back to a cycle
+#![tactic(auto)]
+
 ghost use Rattle.std.specs.Prelude.{length};
 ghost use Rattle.rules.specs.Times.Words.{AcceptedTimes};
 ghost use Rattle.rules.specs.Times.Answer.{Timed};

@@ -1,4 +1,6 @@
 // The tokens of a text by places: where the next one starts and where it stops, and whether it is a given one.
+#![tactic(auto)]
+
 ghost use Rattle.std.specs.Prelude.{◌≡◌, ◌+◌, ◌-◌, ◌≤◌, ◌<◌, length};
 ghost use Rattle.rules.specs.Program.Text.{digits, reading};
 ghost use Rattle.rules.specs.Exchange.Reader.{same_bytes};
@@ -97,7 +99,7 @@ pub fn is(text: &[u8], from: usize, to: usize, word: &[u8]) -> bool
 }
 
 // Where the tokens of a script were followed to, or the place of the first that is not there.
-#[derive(Drop)]
+#[derive(Clone, Copy)]
 pub enum Followed {
     Reached(usize),
     Halted(usize),

@@ -1,4 +1,6 @@
 // A problem's own trace: docs/RULES.md, "Replaying a trace".
+#![tactic(auto)]
+
 ghost use Rattle.std.specs.Prelude.{◌≡◌, ◌+◌, ◌*◌, ◌≤◌, length};
 ghost use Rattle.rules.specs.Runs.Trace.{trace_output, trace_refusal};
 ghost use Rattle.solver.specs.Spend.{Standing};

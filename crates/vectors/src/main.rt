@@ -1,6 +1,8 @@
 // The test program. It reads calls of the entry points from standard input, makes each, and prints a line for it: the
 // number that was returned, a colon, and the words of the output after the call. A run in slices has a line for each
 // continue, and a session one for each operation.
+#![tactic(auto)]
+
 mod cycle;
 mod input;
 mod print;

@@ -1,5 +1,7 @@
 // The first violation, as a desk is shown it: docs/RULES.md, "The first violation". It is what the search for the next
 // pivot finds; no pivot is made.
+#![tactic(auto)]
+
 ghost use Rattle.std.specs.Prelude.{◌≡◌, ◌<◌};
 ghost use Rattle.rules.specs.Runs.Violation.{first_violation};
 ghost use Rattle.rules.specs.Sizes.{most_rows};

@@ -3,6 +3,8 @@
 //   numbers   the numbers of an answer, and whether their words are in their ranges
 //   can       verdict 1
 //   cannot    verdict 2
+#![tactic(auto)]
+
 ghost use Rattle.std.specs.Prelude.{◌≡◌, ◌≤◌, length};
 ghost use Rattle.rules.specs.Sizes.{most_rows};
 ghost use Rattle.rules.specs.Problem.{problem, vars};

@@ -1,5 +1,7 @@
 // Bytes as words of 32 bits, signed, little-endian, words as bytes, and the judging of a byte count. A word is put
 // together and taken apart by arithmetic, and no cast loses a bit.
+#![tactic(auto)]
+
 ghost use Rattle.std.specs.Prelude.{◌≡◌, [], ◌∷◌, ◌++◌, ◌+◌, ◌*◌, ◌/◌, ◌^◌, ◌≤◌, ◌<◌, length, drop};
 ghost use Rattle.std.proofs.lemmas.List.Edits.{sets};
 ghost use Rattle.rules.specs.Program.Bytes.{byte_of, bytes_from, joined, signed, unsigned, word_at, words_from};

@@ -1,4 +1,6 @@
 // Single words of an input, before anything is known of it: as counts, and against their ranges.
+#![tactic(auto)]
+
 ghost use Rattle.std.specs.Prelude.{◌≡◌, ◌||◌, ◌≤◌, ◌<◌, pos, nat_abs, length, ◌≤ℤ◌};
 ghost use Rattle.std.specs.Int.Signed.{lt_z};
 ghost use Rattle.whole.specs.Numbers.{within};

@@ -156,13 +156,13 @@ module _ (t : List ℕ) (so : Followed) (s : StandsAt t so) where
         step : (w : Bytes) → same_bytes no_less w ≡ true → relation_read P w ≡ relation_taken P 0 false
         step w q = rw q refl
 
-    module _ (no_less : next_is t so no_less ≡ false) where
+    module _ (no_less_lem : next_is t so no_less ≡ false) where
       pub more-related : (left : Bool) → ltb (length P.limits) (2 * (P.n + P.m) + 0 - 1) ≡ left →
           next_is t so more ≡ true →
           read_behind t (on [] (relating P)) so ≡ read_behind t (on [] (bounding P 0 true)) (skip_if t so left)
       unfolding relation_read
       more-related left l e = related-by 0 true left l
-          (λ w q. step w (sym (token-same t so no_less w q) ∙ no_less) (sym (token-same t so more w q) ∙ e))
+          (λ w q. step w (sym (token-same t so no_less w q) ∙ no_less_lem) (sym (token-same t so more w q) ∙ e))
         where
           step : (w : Bytes) → same_bytes no_less w ≡ false → same_bytes more w ≡ true →
               relation_read P w ≡ relation_taken P 0 true
@@ -176,7 +176,7 @@ module _ (t : List ℕ) (so : Followed) (s : StandsAt t so) where
             read_behind t (on [] (relating P)) so ≡ read_behind t (on [] (bounding P 1 false)) (skip_if t so true)
         unfolding relation_read
         no-more-related e = related-by 1 false true upper-left
-            (λ w q. step w (sym (token-same t so no_less w q) ∙ no_less) (sym (token-same t so more w q) ∙ no_more_lem)
+            (λ w q. step w (sym (token-same t so no_less w q) ∙ no_less_lem) (sym (token-same t so more w q) ∙ no_more_lem)
             (sym (token-same t so no_more w q) ∙ e))
           where
             step : (w : Bytes) → same_bytes no_less w ≡ false → same_bytes more w ≡ false → same_bytes no_more w ≡ true →
@@ -189,7 +189,7 @@ module _ (t : List ℕ) (so : Followed) (s : StandsAt t so) where
         unfolding decided token_step relation_read relation_taken finish
         less-related e =
             chosen t (on [] (relating P)) (on [] (bounding P 1 true)) so (next_is t so less) s refl
-            (λ w q. step w (sym (token-same t so no_less w q) ∙ no_less) (sym (token-same t so more w q) ∙ no_more_lem)
+            (λ w q. step w (sym (token-same t so no_less w q) ∙ no_less_lem) (sym (token-same t so more w q) ∙ no_more_lem)
             (sym (token-same t so no_more w q) ∙ e)
             ∙ ap (λ b. cond b (some (on [] (bounding P 1 true))) none) (sym (token-same t so less w q)))
           where

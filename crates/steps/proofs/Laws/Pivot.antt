@@ -20,7 +20,7 @@ use Rattle.tableau.specs.Pivot.{Cells, Swappable, pivoted_at, pivoted_laid, swap
 use Rattle.tableau.specs.Stands.{Ranged, Stands}
 use Rattle.tableau.proofs.Laws.Stands.Pivot.{stands-next}
 use Rattle.tableau.proofs.Laws.Stands.Range.{small_is}
-use Rattle.tableau.proofs.Laws.Pivot.Goals.{limit_is, limit_number, pivotable, ranged-next, swappable}
+use Rattle.tableau.proofs.Laws.Pivot.Needs.{limit_is, limit_number, pivotable, ranged-next, swappable}
 use Rattle.tableau.proofs.Laws.Pivot.Places as turns
 use Rattle.tableau.proofs.Laws.Pivot.Places.{Turn, leaving-row}
 use Rattle.sides.specs.Sides.{rising}

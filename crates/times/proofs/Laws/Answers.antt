@@ -85,12 +85,12 @@ module _ (ws before : List ℤ) (A : AcceptedTimes ws (length before)) where
 
   module _ (w : Way) (long : length w.path ≡ most_vertices) (c : Closed ws w) where
     rows_long : length (rows_of w) ≡ w.to - w.from
-    rows_long = length-slice w.from w.to w.path (omega (arith, c.in-path))
+    rows_long = length-slice w.from w.to w.path (omega (arith, c.in_path))
 
     pub closed-gathering : Gathering w
     closed-gathering = record {
-      in_order = c.in-order;
-      in_path = c.in-path;
+      in_order = c.in_order;
+      in_path = c.in_path;
       listed = λ k h. rw (sym (slice_at w.from w.to k w.path h))
           (omega (arith, c.bad.cycle.listed k (omega (arith, rows_long)), time-rows-few A));
     }

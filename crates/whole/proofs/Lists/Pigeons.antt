@@ -1,7 +1,7 @@
 -- Different things among few: k different numbers below n are at most n, and k different elements of a list are no more
 -- than its length.
 --   pigeons, distinct-fit, Mem-map
-use mathlib.Core.List.{List, Memᴰ, map, ◌∷◌}
+use mathlib.Core.List.{List, Memᴰ, map, [], ◌∷◌}
 use mathlib.Core.Logic.{◌≢◌}
 use mathlib.Core.Path.{ap, sym, ◌∙◌, ◌≡◌}
 use Prim.Native.Nat.{suc, zero, ℕ, ◌<◌, ◌≤◌}
@@ -57,6 +57,7 @@ module _ {A : Type 0} where
 
   same_place : {a b : A} (l : List A) (m : Memᴰ a l) (k : Memᴰ b l) → place m ≡ place k → a ≡ b
   unfolding place
+  same_place {a = a} {b = b} [] m k h = elim m [ ]
   same_place (x ∷ xs) (Memᴰ.head e) (Memᴰ.head f) h = e ∙ sym f
   same_place (x ∷ xs) (Memᴰ.head e) (Memᴰ.tail k) h = let z : ⊥ = omega arith in absurd z
   same_place (x ∷ xs) (Memᴰ.tail m) (Memᴰ.head f) h = let z : ⊥ = omega arith in absurd z

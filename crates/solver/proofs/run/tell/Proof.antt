@@ -19,7 +19,7 @@ use Rattle.answers.specs.declared.Head.{Head}
 use Rattle.answers.specs.declared.Verdict.{Verdict}
 use Rattle.answers.specs.declared.Verdict.TheVariants as verdicts
 use Rattle.answers.specs.Answer.{laid_over, noughts, numerators_at, words_at}
-use Rattle.answers.proofs.Laws.Goals.{blockable, numerable, numerable-small, smalls-nought}
+use Rattle.answers.proofs.Laws.Needs.{blockable, numerable, numerable-small, smalls-nought}
 use Rattle.steps.specs.declared.End.{End}
 use Rattle.steps.specs.declared.End.TheVariants as ends
 use Rattle.solver.specs.declared.run.Course.TheVariants as courses
