@@ -1,0 +1,36 @@
+-- `amounts::less` meets its contract. Assumes nothing.
+use mathlib.Core.Path.{◌≡◌, refl}
+use mathlib.Core.Bool.{Bool, true, false, not, ◌&&◌, ◌||◌}
+use borrow.Author.Rules.{rules}
+use lib.Signed.{lt_z}
+use mir.Facts.{to_z-of_z}
+use mir.Syntax.{w64}
+use Rattle.whole.specs.Values.{lexicographic}
+use Rattle.amounts.specs.Amounts.{pair_of}
+use Rattle.amounts.proofs.Laws.Parts.{Parted}
+use Rattle.amounts.proofs.less.Goals as goal
+use Rattle.amounts.proofs.less.Lts as lts
+use Rattle.amounts.proofs.less.Reads as reads
+use Rattle.amounts.proofs.less.Tie as tie
+
+-- places of the code, as records of what is known there
+abbrev Start : Type 0
+Start = lts.Start reads.Pre reads.Post
+
+fit-a : (s : Start) → Parted w64 (pair_of s.args.a)
+fit-a s = search rules
+
+fit-b : (s : Start) → Parted w64 (pair_of s.args.b)
+fit-b s = search rules
+
+-- the order of pairs, without a branch
+told : (less more rest : Bool) → (less || (not more && rest)) ≡ lexicographic less more rest
+told true more rest = refl
+told false true rest = refl
+told false false rest = refl
+
+pub returns : goal.returns
+returns c = let s = c in
+    simp (to_z-of_z (fit-a c.before.before.before.before.before.before.before.before.before.before.before.before).plain, to_z-of_z (fit-a c.before.before.before.before.before.before.before.before.before.before.before.before).small, to_z-of_z (fit-b c.before.before.before.before.before.before.before.before.before.before.before.before).plain, to_z-of_z (fit-b c.before.before.before.before.before.before.before.before.before.before.before.before).small)
+    (told (lt_z s.args.a.plain s.args.b.plain) (lt_z s.args.b.plain s.args.a.plain)
+    (lt_z s.args.a.small s.args.b.small))

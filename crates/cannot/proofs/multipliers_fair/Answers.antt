@@ -1,0 +1,103 @@
+-- `cannot::multipliers_fair` meets its contract. The invariant: whether the multipliers of the variables
+-- passed are fair. The measure is how many are left. Assumes nothing.
+use mathlib.Core.Path.{◌≡◌, ap₂, sym}
+use mathlib.Core.Bool.{Bool, ◌&&◌}
+use Prim.Native.Nat.{ℕ, ◌-◌}
+use native.Mathlib.Omega.{arith}
+use borrow.Author.Rules.{sfits_of}
+use mir.Facts.{to_z-of_z}
+use mir.Syntax.{w64}
+use mir.Val.{SFits}
+use Rattle.whole.proofs.Lists.Below.{all_start}
+use Rattle.rules.specs.Evidence.{fair, lower_part, upper_part}
+use Rattle.tableau.specs.Parts.{lower_of, upper_of}
+use Rattle.parts.specs.Reads.{multipliers_fair}
+use Rattle.rules.proofs.Evidence.Joined.{tests-more}
+use Rattle.cannot.proofs.multipliers_fair.Goals as goal
+use Rattle.cannot.proofs.multipliers_fair.Goals.{After-fair-second, After-loop-v, At-loop-v, Start}
+
+pub loop-v-init : goal.loop-v-init
+loop-v-init c = (omega arith, sym (all_start _))
+
+pub overflow_add-low : goal.overflow_add-low
+overflow_add-low c = omega arith
+
+pub overflow_add-high : goal.overflow_add-high
+overflow_add-high c = omega arith
+
+pub overflow_add-high-in-loop-v : goal.overflow_add-high-in-loop-v
+overflow_add-high-in-loop-v c = omega arith
+
+pub offset_bounds-limits-v : goal.offset_bounds-limits-v
+offset_bounds-limits-v c = omega arith
+
+pub bounds-limits-v : goal.bounds-limits-v
+bounds-limits-v c = omega arith
+
+pub offset_bounds-answer-low : goal.offset_bounds-answer-low
+offset_bounds-answer-low c = omega arith
+
+pub bounds-answer-low : goal.bounds-answer-low
+bounds-answer-low c = omega arith
+
+pub fair-first-requires : goal.fair-first-requires
+fair-first-requires c = tt
+
+pub offset_bounds-limits-v-in-loop-v : goal.offset_bounds-limits-v-in-loop-v
+offset_bounds-limits-v-in-loop-v c = omega arith
+
+pub bounds-limits-v-in-loop-v : goal.bounds-limits-v-in-loop-v
+bounds-limits-v-in-loop-v c = omega arith
+
+pub offset_bounds-answer-high : goal.offset_bounds-answer-high
+offset_bounds-answer-high c = omega arith
+
+pub bounds-answer-high : goal.bounds-answer-high
+bounds-answer-high c = omega arith
+
+pub fair-second-requires : goal.fair-second-requires
+fair-second-requires c = tt
+
+-- the two multipliers, and what the calls say of them
+module _ (c : After-fair-second) where
+  abbrev turn : At-loop-v
+  turn = c.before.before.before.before.before.before.before
+
+  abbrev start : Start
+  start = turn.before
+
+  abbrev place : ℕ
+  place = turn.loop-v.v
+
+  fit_low : SFits w64 (lower_part start.args.answer.now place)
+  fit_low = sfits_of c.fair-arg-in-loop-v-1.given
+
+  fit-high : SFits w64 (upper_part start.args.variables start.args.answer.now place)
+  fit-high = sfits_of c.fair-arg-in-loop-v-3-1.given
+
+  first : c.fair-first.result
+      ≡ fair (lower_of start.args.limits place) (lower_part start.args.answer.now place)
+  first = simp (to_z-of_z fit_low) at c.fair-first.ensures
+
+  second : c.fair-second.result ≡ fair (upper_of start.args.limits place)
+      (upper_part start.args.variables start.args.answer.now place)
+  second = simp (to_z-of_z fit-high) at c.fair-second.ensures
+
+pub overflow_step-v : goal.overflow_step-v
+overflow_step-v c = omega arith
+
+pub loop-v-smaller : goal.loop-v-smaller
+loop-v-smaller c = omega arith
+
+pub loop-v-preserved : goal.loop-v-preserved
+loop-v-preserved c = (
+  omega arith,
+  tests-more (place c) _ (turn c).loop-v.invariant.1 (ap₂ (λ (a b : Bool). a && b) (first c) (second c)),
+)
+
+all : (c : After-loop-v) → c.loop-v.v ≡ c.args.variables
+all c = omega arith
+
+pub returns : goal.returns
+unfolding multipliers_fair
+returns c = rw (all c) at c.loop-v.invariant.1

@@ -1,0 +1,14 @@
+-- `days::put_bodies` meets its contract. The invariant of its loop: the texts of the first i bodies are put. The
+-- measure is the number of bodies that are left. Assumes nothing.
+use Prim.Native.Nat.{◌-◌, ◌*◌, ◌≤◌}
+use Rattle.rules.specs.Sizes.{most_text}
+use Rattle.rules.specs.Program.Text.{lines_below}
+use Rattle.put.specs.Put.{PutShort}
+use Rattle.days.proofs.put_bodies.Given as goal
+
+abbrev pub invariant-loop-i : goal.invariant-loop-i
+invariant-loop-i l =
+    (l.i ≤ l.bodies) × PutShort (most_text * l.i) l.initial.out 0 (lines_below l.i (text_of l.words)) l.out l.next
+
+abbrev pub decreases-loop-i : goal.decreases-loop-i
+decreases-loop-i l = l.bodies - l.i

@@ -1,0 +1,24 @@
+-- `judge::is_bad_limit` meets its contract. Assumes nothing.
+use mathlib.Core.Path.{sym, ◌∙◌, ap}
+use mathlib.Core.Bool.{not}
+use borrow.Author.Rules.{rules}
+use mir.Facts.{to_z-of_z}
+use Rattle.rules.specs.Limit.{bad_limit_word}
+use Rattle.judge.proofs.Laws.Judged.{zero_bits}
+use Rattle.judge.proofs.is_bad_limit.Goals as goal
+
+pub is_within-requires : goal.is_within-requires
+is_within-requires c = search rules
+
+pub returns-then-present : goal.returns-then-present
+unfolding bad_limit_word
+returns-then-present c =
+    let s = c in
+    ap not (simp (to_z-of_z s.ranges.word) at c.is_within.ensures)
+    ∙ sym (ap (λ b. bad_limit_word b s.args.word) c.if-present.true)
+
+pub returns : goal.returns
+unfolding bad_limit_word
+returns c =
+    let s = c in
+    ap not (zero_bits s.args.word s.ranges.word) ∙ sym (ap (λ b. bad_limit_word b s.args.word) c.if-present.false)

@@ -1,0 +1,12 @@
+-- `judge::some_bad_variable` meets its contract. The invariant: whether one of the variables passed fails the test. The
+-- measure is the variables left. Assumes nothing.
+use mathlib.Core.Path.{◌≡◌}
+use Prim.Native.Nat.{◌-◌, ◌≤◌}
+use Rattle.whole.specs.Below.{some_below}
+use Rattle.judge.proofs.some_bad_variable.Given as goal
+
+abbrev pub invariant-loop-v : goal.invariant-loop-v
+invariant-loop-v l = (l.v ≤ l.end) × (l.bad ≡ some_below l.v (bad-at l.kinds l.words))
+
+abbrev pub decreases-loop-v : goal.decreases-loop-v
+decreases-loop-v l = l.end - l.v

@@ -1,0 +1,67 @@
+-- `lengths::answer::place` meets its contract. The invariant of its loop: the words passed stand from the place on, and
+-- what is past them is as it was. The measure is the words left. Assumes nothing.
+use mathlib.Core.Path.{◌≡◌, ◌∙◌, ap}
+use Prim.Native.Nat.{◌+◌, ◌-◌}
+use native.Mathlib.Numerals.{add-one}
+use native.Mathlib.Omega.{arith}
+use borrow.Author.Rules.{rules, sfits_of}
+use lib.IntN.{pos}
+use lib.ListN.{length, get_or, set}
+use lib.Seq.{paste, paste-zero, paste-suc, length-paste}
+use mir.Facts.{to_z-of_z}
+use Rattle.lengths.proofs.answer.place.Goals as goal
+use Rattle.lengths.proofs.answer.place.Goals.{At-loop-i, Start}
+
+pub loop-i-init : goal.loop-i-init
+loop-i-init c = (omega arith, paste-zero c.args.out.now c.args.from c.args.half)
+
+long : (c : Start) → length c.args.half ≡ 64
+long c = search rules
+
+out-long : (c : At-loop-i) → length c.loop-i.out ≡ length c.args.out.now
+out-long c =
+    let s = c in
+    ap length c.loop-i.invariant.1
+    ∙ length-paste s.args.out.now s.args.from s.args.half c.loop-i.i (omega arith) (omega (arith, long c.before))
+
+pub overflow_add-at : goal.overflow_add-at
+overflow_add-at c = omega arith
+
+pub offset_bounds-half-i : goal.offset_bounds-half-i
+offset_bounds-half-i c = omega arith
+
+pub bounds-half-i : goal.bounds-half-i
+bounds-half-i c = omega arith
+
+pub offset_bounds-out-at : goal.offset_bounds-out-at
+offset_bounds-out-at c = omega arith
+
+pub bounds-out-at : goal.bounds-out-at
+bounds-out-at c = omega (arith, out-long c.before.before)
+
+pub overflow_add-i : goal.overflow_add-i
+overflow_add-i c = omega arith
+
+pub loop-i-smaller : goal.loop-i-smaller
+loop-i-smaller c = omega arith
+
+pub loop-i-preserved : goal.loop-i-preserved
+loop-i-preserved c =
+    let h = c in
+    let s = c in (
+      omega arith,
+      ap (set h.loop-i.out (s.args.from + h.loop-i.i)) (to_z-of_z (sfits_of c.out-1.given))
+          ∙ ap (λ l. set l (s.args.from + h.loop-i.i) (get_or s.args.half h.loop-i.i (pos 0))) h.loop-i.invariant.1
+          ∙ rw add-one
+          (paste-suc s.args.out.now s.args.from s.args.half h.loop-i.i (pos 0)
+          (omega arith) (omega (arith, long c.before.before.before))),
+    )
+
+pub shape_of-out : goal.shape_of-out
+shape_of-out c = out-long c.before
+
+pub returns : goal.returns
+returns c =
+    let h = c in
+    let e : h.loop-i.i ≡ h.args.n = omega arith in
+    h.loop-i.invariant.1 ∙ ap (paste h.args.out.now h.args.from h.args.half) e

@@ -1,0 +1,102 @@
+-- `lengths::answer::times_of` meets its contract. The invariant of its loop: the parts of the times passed stand at the
+-- front. The measure is the distances left. Assumes nothing.
+use mathlib.Core.Path.{◌≡◌, refl, sym, ◌∙◌, ap}
+use mathlib.Core.List.{List, ◌++◌, map, append-nil}
+use Prim.Native.Nat.{ℕ, ◌+◌, ◌<◌, ◌-◌}
+use native.Mathlib.Omega.{arith}
+use borrow.Author.Rules.{rules}
+use lib.IntN.{ℤ, pos}
+use lib.ListN.{length, get_or, set, take, drop, replicate, length-map, length-replicate, get_or-map}
+use mir.Facts.{to_z-of_z}
+use mir.Syntax.{w64}
+use mir.Val.{SFits}
+use Rattle.whole.proofs.Lists.Prefix.{set-prefix, prefix-all}
+use Rattle.rules.specs.Sizes.{most_vertices}
+use Rattle.lengths.specs.declared.Length.{Length}
+use Rattle.lengths.specs.Lengths.{no_rows, plain_part, small_part}
+use Rattle.lengths.proofs.answer.times_of.Goals as goal
+use Rattle.lengths.proofs.answer.times_of.Goals.{Start}
+
+-- the first v words of a half
+abbrev Half : (Length → ℤ) → List Length → List ℤ → List ℤ → ℕ → Type 0
+Half part best start half v = half ≡ take v (map part best) ++ drop v start
+
+pub loop-v-init : goal.loop-v-init
+loop-v-init c = (omega arith, refl, refl)
+
+pub offset_bounds-best-v : goal.offset_bounds-best-v
+offset_bounds-best-v c = omega arith
+
+pub bounds-best-v : goal.bounds-best-v
+bounds-best-v c = omega arith
+
+pub plain_time-requires : goal.plain_time-requires
+plain_time-requires c = c.requires c.loop-v.v
+
+pub offset_bounds-plain-v : goal.offset_bounds-plain-v
+offset_bounds-plain-v c = omega arith
+
+pub bounds-plain-v : goal.bounds-plain-v
+bounds-plain-v c = omega arith
+
+pub small_time-requires : goal.small_time-requires
+small_time-requires c = c.requires c.loop-v.v
+
+pub offset_bounds-small-v : goal.offset_bounds-small-v
+offset_bounds-small-v c = omega arith
+
+pub bounds-small-v : goal.bounds-small-v
+bounds-small-v c = omega arith
+
+pub overflow_add-v : goal.overflow_add-v
+overflow_add-v c = omega arith
+
+pub loop-v-smaller : goal.loop-v-smaller
+loop-v-smaller c = omega arith
+
+long : (c : Start) → length c.args.best ≡ most_vertices
+long c = search rules
+
+-- what a half is before the loop
+abbrev zeros : List ℤ
+zeros = replicate most_vertices (pos 0)
+
+-- a half, one word more, and all of it
+module _ (part : Length → ℤ) (best : List Length) (all : length best ≡ most_vertices) where
+  half-more : (half : List ℤ) (v : ℕ) (z w : ℤ) → v < most_vertices → Half part best zeros half v →
+      w ≡ z → z ≡ part (get_or best v no_rows) → Half part best zeros (set half v w) (v + 1)
+  half-more half v z w h e f g =
+      ap (set half v) (f ∙ g ∙ sym (get_or-map part best v no_rows))
+      ∙ ap (λ l. set l v (get_or (map part best) v (part no_rows))) e
+      ∙ set-prefix (map part best) zeros v (part no_rows)
+      (omega (arith, length-map best part)) (omega (arith, length-map best part, length-replicate most_vertices (pos 0)))
+
+  half-all : (half : List ℤ) (v : ℕ) → v ≡ most_vertices → Half part best zeros half v → half ≡ map part best
+  half-all half v h e =
+      let k : v ≡ length (map part best) = omega (arith, length-map best part) in
+      e ∙ prefix-all (map part best) zeros v k
+      ∙ ap (λ k. map part best ++ drop k zeros) (length-map best part ∙ all)
+      ∙ append-nil (map part best)
+
+pub loop-v-preserved : goal.loop-v-preserved
+loop-v-preserved c =
+    let p = c in
+    let h = c in
+    let q : SFits w64 p.plain_time.result = search rules in
+    let r : SFits w64 c.small_time.result = search rules in (
+      omega arith,
+      half-more plain_part h.args.best (long c.before.before.before.before.before) h.loop-v.plain h.loop-v.v _ _ (omega arith)
+          h.loop-v.invariant.1 (to_z-of_z q) p.plain_time.ensures,
+      half-more small_part h.args.best (long c.before.before.before.before.before) h.loop-v.small h.loop-v.v _ _ (omega arith)
+          h.loop-v.invariant.2 (to_z-of_z r) c.small_time.ensures,
+    )
+
+pub returns : goal.returns
+returns c =
+    let s = c in
+    let e : c.loop-v.v ≡ most_vertices = omega arith in (
+      half-all plain_part s.args.best (long c.before.before) c.loop-v.plain c.loop-v.v e
+          c.loop-v.invariant.1,
+      half-all small_part s.args.best (long c.before.before) c.loop-v.small c.loop-v.v e
+          c.loop-v.invariant.2,
+    )

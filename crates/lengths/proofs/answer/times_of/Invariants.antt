@@ -1,0 +1,13 @@
+-- `lengths::answer::times_of` meets its contract. The invariant of its loop: the parts of the times passed stand at the
+-- front. The measure is the distances left. Assumes nothing.
+use Prim.Native.Nat.{◌≤◌, ◌-◌}
+use Rattle.rules.specs.Sizes.{most_vertices}
+use Rattle.lengths.specs.Lengths.{plain_part, small_part}
+use Rattle.lengths.proofs.answer.times_of.Given as goal
+
+abbrev pub invariant-loop-v : goal.invariant-loop-v
+invariant-loop-v l =
+    (l.v ≤ most_vertices) × Half plain_part l.best l.initial.plain l.plain l.v × Half small_part l.best l.initial.small l.small l.v
+
+abbrev pub decreases-loop-v : goal.decreases-loop-v
+decreases-loop-v l = most_vertices - l.v

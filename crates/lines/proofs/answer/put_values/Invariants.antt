@@ -1,0 +1,14 @@
+-- `lines::answer::put_values` meets its contract. The invariant of its loop: the lines of the variables below v are
+-- put. The measure is the number of variables that are left. Assumes nothing.
+use Prim.Native.Nat.{◌-◌, ◌*◌, ◌≤◌}
+use Rattle.rules.specs.Sizes.{most_value_line}
+use Rattle.rules.specs.Program.Text.{lines_below, value_line}
+use Rattle.put.specs.Put.{PutShort}
+use Rattle.lines.proofs.answer.put_values.Given as goal
+
+abbrev pub invariant-loop-v : goal.invariant-loop-v
+invariant-loop-v l =
+    (l.v ≤ l.variables) × PutShort (most_value_line * l.v) l.initial.out l.at (lines_below l.v (value_line l.answer l.variables)) l.out l.next
+
+abbrev pub decreases-loop-v : goal.decreases-loop-v
+decreases-loop-v l = l.variables - l.v

@@ -1,0 +1,19 @@
+-- `reader::rows::pass_sum` meets its contract. Assumes nothing.
+use mathlib.Core.Path.{sym, ◌∙◌}
+use Rattle.rules.specs.Exchange.Tokens.{token_bytes}
+use Rattle.reader.proofs.Laws.Flow.{sum-several, sum-single}
+use Rattle.reader.proofs.rows.pass_sum.Goals as goal
+
+pub returns-then-columns-eq1 : goal.returns-then-columns-eq1
+returns-then-columns-eq1 c =
+    let a = c.args in
+    sym (sum-single a.text.now a.so a.columns (token_bytes a.script.now) c.if-columns-eq1.true)
+
+pub pass-requires : goal.pass-requires
+pass-requires c = c.requires
+
+pub returns : goal.returns
+returns c =
+    let a = c.args in
+    c.pass.ensures
+    ∙ sym (sum-several a.text.now a.so a.columns (token_bytes a.script.now) c.if-columns-eq1.false)

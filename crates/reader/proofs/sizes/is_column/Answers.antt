@@ -1,0 +1,18 @@
+-- `reader::sizes::is_column` meets its contract. Assumes nothing.
+use borrow.Author.Rules.{rules}
+use mathlib.Core.Bool.{◌&&◌}
+use mathlib.Core.Path.{ap}
+use lib.Dec.{eqb, ltb}
+use Rattle.rules.specs.Program.Text.{ascii}
+use Rattle.rules.specs.Sizes.{most_columns}
+use Rattle.rules.specs.Exchange.Script.{column_name}
+use Rattle.reader.proofs.sizes.is_column.Goals as goal
+
+pub is_next_name-requires : goal.is_next_name-requires
+is_next_name-requires c = search rules
+
+pub returns : goal.returns
+unfolding column_name ascii
+returns c =
+    let a = c.args in
+    ap (λ b. eqb a.rows 0 && ltb a.columns most_columns && b) c.is_next_name.ensures

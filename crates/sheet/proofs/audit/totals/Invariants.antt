@@ -1,0 +1,12 @@
+-- `sheet::audit::totals` meets its contract. The invariant of its loop: the totals are those of the bodies passed. The
+-- measure is how many bodies are left. Assumes nothing.
+use mathlib.Core.Path.{◌≡◌}
+use Prim.Native.Nat.{◌-◌, ◌≤◌}
+use Rattle.tally.specs.Sums.{totals_of}
+use Rattle.sheet.proofs.audit.totals.Given as goal
+
+abbrev pub invariant-loop-i : goal.invariant-loop-i
+invariant-loop-i l = (l.i ≤ l.bodies) × (l.sums ≡ totals_of (rows_for l.words) l.i (bodies l.words))
+
+abbrev pub decreases-loop-i : goal.decreases-loop-i
+decreases-loop-i l = l.bodies - l.i

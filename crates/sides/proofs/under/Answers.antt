@@ -1,0 +1,35 @@
+-- `sides::under` meets its contract. Assumes nothing.
+use mathlib.Core.Bool.{◌&&◌}
+use mathlib.Core.Path.{◌≡◌, ap, ◌∙◌}
+use borrow.Author.Rules.{rules}
+use mir.Facts.{to_z-of_z}
+use Rattle.whole.specs.Values.{pairs}
+use Rattle.amounts.specs.Amounts.{amount_of, given_lower, pair_in, pair_of}
+use Rattle.sides.proofs.Laws.Sides.{under-joined}
+use Rattle.sides.proofs.under.Goals as goal
+use Rattle.sides.proofs.under.Goals.{After-less, Start}
+
+pub lower_value-requires : goal.lower_value-requires
+lower_value-requires c = search rules
+
+pub times-requires : goal.times-requires
+times-requires c = search rules
+
+pub less-requires : goal.less-requires
+less-requires c = search rules
+
+module _ (c : After-less) where
+  abbrev s : Start
+  s = c.before.before.before
+
+  times-is : c.times.result ≡ amount_of (pairs.scale s.args.common (given_lower s.args.limit))
+  times-is = (simp (to_z-of_z s.ranges.common) at c.times.ensures)
+      ∙ ap (λ x. amount_of (pairs.scale s.args.common (pair_in x))) c.lower_value.ensures
+
+  less-is : c.less.result
+      ≡ pairs.less (pair_of s.args.value) (pairs.scale s.args.common (given_lower s.args.limit))
+  less-is = c.less.ensures ∙ ap (λ a. pairs.less (pair_of s.args.value) (pair_of a)) times-is
+
+pub returns : goal.returns
+returns c = let a = (s c.before).args in
+    ap (λ b. a.limit.on && b) (less-is c.before) ∙ under-joined a.limit a.common (pair_of a.value)

@@ -1,0 +1,116 @@
+-- `tableau::Tableau::new` meets its contract: each part is the definition's. Assumes nothing.
+use mathlib.Core.Path.{◌≡◌, sym, ◌∙◌, ap, ap₂}
+use mathlib.Core.List.{List}
+use Prim.Native.Nat.{ℕ, ◌+◌}
+use native.Mathlib.Omega.{arith}
+use borrow.Author.Rules.{rules}
+use lib.IntN.{ℤ, pos}
+use lib.Signed.{le_z_yes}
+use Rattle.whole.proofs.Numbers.Order.{≤ℤ-trans}
+use Rattle.rules.specs.Sizes.{most_rows}
+use Rattle.rules.specs.Limit.{Limit}
+use Rattle.rules.specs.Problem.{Problem, problem, vars}
+use Rattle.rules.specs.Refusal.{Accepted, problem_refusal}
+use Rattle.rules.proofs.Refusal.Accepted.{problem-m, problem-n}
+use Rattle.rules.proofs.Refusal.Exactly.{accepted-exactly}
+use Rattle.judge.specs.Words.{Framed}
+use Rattle.judge.proofs.Laws.Judged.{accepted-framed}
+use Rattle.tableau.specs.declared.Limits.{Limits}
+use Rattle.tableau.specs.declared.Seat.{Seat}
+use Rattle.tableau.specs.declared.Tableau.{Tableau}
+use Rattle.tableau.specs.declared.Variable.{Variable}
+use Rattle.tableau.specs.declared.read.Starts.{Starts}
+use Rattle.tableau.specs.Start.{limits_for, start_basic, start_entries, start_nonbasic, start_seats}
+use Rattle.tableau.specs.Start.{start_laid, start_smalls, start_tableau, start_values, starts_for}
+use Rattle.tableau.proofs.Laws.Read.{starts-same}
+use Rattle.tableau.proofs.Tableau.new.Goals as goal
+use Rattle.tableau.proofs.Tableau.new.Goals.{After-count_at-rows, Start}
+
+abbrev words : Start → List ℤ
+words s = s.args.words.now
+
+accepted : (s : Start) → Accepted most_rows (words s)
+unfolding problem_refusal
+accepted s = (accepted-exactly most_rows (words s)).0 s.requires
+
+pub count_at-columns-requires : goal.count_at-columns-requires
+count_at-columns-requires c =
+    let A = accepted c in (omega (arith, A.enough), ≤ℤ-trans {b = pos 1} (le_z_yes tt) A.n-least)
+
+pub count_at-rows-requires : goal.count_at-rows-requires
+count_at-rows-requires c = let A = accepted c.before in (omega (arith, A.enough), A.m-least)
+
+-- n and m are at hand
+module _ (c : After-count_at-rows) where
+  abbrev start : Start
+  start = c.before.before
+
+  columns-are : c.count_at-columns.result ≡ (problem (words start)).n
+  columns-are = c.count_at-columns.ensures ∙ sym (problem-n (words start))
+
+  rows_are : c.count_at-rows.result ≡ (problem (words start)).m
+  rows_are = c.count_at-rows.ensures ∙ sym (problem-m (words start))
+
+  framed : Framed (words start) c.count_at-columns.result c.count_at-rows.result
+  framed = accepted-framed (accepted start) c.count_at-columns.ensures c.count_at-rows.ensures
+
+pub limits_of-limits-requires : goal.limits_of-limits-requires
+limits_of-limits-requires c = record { framed = framed c; accepted = accepted c.before.before }
+
+pub start_values-starts-requires : goal.start_values-starts-requires
+start_values-starts-requires c = (framed c.before).few-columns
+
+pub start_entries-requires : goal.start_entries-requires
+start_entries-requires c = framed c.before.before.before.before
+
+pub start_basic-requires : goal.start_basic-requires
+start_basic-requires c = (framed c.before.before.before.before.before).few-columns
+
+pub start_nonbasic-requires : goal.start_nonbasic-requires
+start_nonbasic-requires c = search rules
+
+pub overflow_add-columns : goal.overflow_add-columns
+overflow_add-columns c =
+    let F = framed c.before.before.before.before.before.before.before in
+    omega (arith, F.few-columns, F.few-rows)
+
+pub start_seats-requires : goal.start_seats-requires
+start_seats-requires c =
+    let F = framed c.before.before.before.before.before.before.before in
+    omega (arith, F.few-columns, F.few-rows)
+
+-- a tableau is the start's if its parts are
+joined : (P : Problem Limit) {rows columns : ℕ} {entries : List ℤ} {basic nonbasic : List Variable} {starts : Starts}
+    {seats : List Seat} {limits : Limits} →
+    rows ≡ P.m → columns ≡ P.n → entries ≡ start_entries P → basic ≡ start_basic P.n → nonbasic ≡ start_nonbasic →
+    starts ≡ record { values = start_values P; smalls = start_smalls P } →
+    seats ≡ start_seats P.n (vars P) → limits ≡ limits_for P →
+    ◌≡◌ {A = Tableau}
+    (record {
+      rows = rows;
+      columns = columns;
+      common = pos 1;
+      entries = entries;
+      basic = basic;
+      nonbasic = nonbasic;
+      values = starts.values;
+      smalls = starts.smalls;
+      seats = seats;
+      limits = limits;
+    })
+    (start_tableau P)
+unfolding start_laid
+joined P rows_are columns-are entries-are basic-are nonbasic-are starts-are seats-are limits-are = cc
+
+pub returns : goal.returns
+returns c =
+    let v = c in
+    let l = c in
+    let d = c in
+    let P = problem (words (start c.before.before.before.before.before.before.before.before)) in
+    joined P (rows_are c.before.before.before.before.before.before.before.before) (columns-are c.before.before.before.before.before.before.before.before) c.start_entries.ensures
+    (c.start_basic.ensures ∙ ap start_basic (columns-are c.before.before.before.before.before.before.before.before))
+    c.start_nonbasic.ensures
+    (v.start_values-starts.ensures ∙ ap₂ starts_for l.limits_of-limits.ensures (columns-are c.before.before.before.before.before.before.before.before) ∙ starts-same P)
+    (c.start_seats.ensures ∙ ap₂ (λ n m. start_seats n (n + m)) (columns-are c.before.before.before.before.before.before.before.before) (rows_are c.before.before.before.before.before.before.before.before))
+    l.limits_of-limits.ensures

@@ -1,0 +1,43 @@
+-- `tableau::read::start_basic` meets its contract. The invariant: the places passed hold the definition's variables.
+-- The measure is the places left. Assumes nothing.
+use mathlib.Core.Path.{◌≡◌, refl, ◌∙◌, ap}
+use Prim.Native.Nat.{ℕ, ◌+◌, ◌-◌}
+use native.Mathlib.Omega.{arith}
+use Rattle.whole.specs.Tables.{filled}
+use Rattle.whole.proofs.Lists.Prefix.{filled-start, filled_more, filled-all}
+use Rattle.rules.specs.Sizes.{most_rows}
+use Rattle.tableau.specs.declared.Variable.{Variable}
+use Rattle.tableau.specs.Parts.{variable}
+use Rattle.tableau.proofs.read.start_basic.Goals as goal
+
+abbrev row-variable : ℕ → ℕ → Variable
+row-variable n i = variable (n + i)
+
+pub loop-i-init : goal.loop-i-init
+loop-i-init c = (omega arith, filled-start most_rows (variable 0) (row-variable c.args.columns))
+
+pub overflow_add-basic : goal.overflow_add-basic
+overflow_add-basic c = omega arith
+
+pub overflow_cast-basic : goal.overflow_cast-basic
+overflow_cast-basic c = omega arith
+
+pub bounds-basic-i : goal.bounds-basic-i
+bounds-basic-i c = omega arith
+
+pub overflow_step-i : goal.overflow_step-i
+overflow_step-i c = omega arith
+
+pub loop-i-smaller : goal.loop-i-smaller
+loop-i-smaller c = omega arith
+
+pub loop-i-preserved : goal.loop-i-preserved
+loop-i-preserved c =
+    let at = c in
+    (omega arith, filled_more most_rows (variable 0) _ at.loop-i.i (omega arith) at.loop-i.invariant.1 refl)
+
+pub returns : goal.returns
+returns c =
+    let f = row-variable c.args.columns in
+    let e : c.loop-i.i ≡ most_rows = omega arith in
+    c.loop-i.invariant.1 ∙ ap (λ k. filled most_rows (variable 0) k f) e ∙ filled-all most_rows (variable 0) f

@@ -1,0 +1,115 @@
+-- `tableau::read::start_values` meets its contract. The invariant: the columns passed have the definition's values, the
+-- others 0. The measure is the columns left. Assumes nothing.
+use mathlib.Core.Path.{◌≡◌, ◌∙◌, ap, ap₂}
+use mathlib.Core.List.{List}
+use Prim.Native.Nat.{ℕ, ◌-◌}
+use native.Mathlib.Omega.{arith}
+use borrow.Author.Rules.{rules}
+use lib.IntN.{ℤ, pos}
+use mir.Facts.{to_z-of_z}
+use mir.Syntax.{w32}
+use mir.Val.{SFits}
+use Rattle.whole.proofs.Lists.Prefix.{filled-start, filled_more}
+use Rattle.rules.specs.Sizes.{most_columns}
+use Rattle.amounts.specs.Amounts.{value_of}
+use Rattle.tableau.specs.declared.Limits.{Limits}
+use Rattle.tableau.specs.declared.read.Starts.{Starts}
+use Rattle.tableau.specs.Start.{start_from, starts_for}
+use Rattle.tableau.proofs.read.start_values.Goals as goal
+use Rattle.tableau.proofs.read.start_values.Lts as lts
+use Rattle.tableau.proofs.read.start_values.Reads as reads
+use Rattle.tableau.proofs.read.start_values.Tie as tie
+
+-- places of the code, as records of what is known there
+abbrev After-start_value : Type 0
+After-start_value =
+    lts.After-start_value tie.the-claims reads.Pre reads.Post goal.the-invariant-loop-j goal.the-decreases-loop-j
+
+abbrev At-loop : Type 0
+At-loop = lts.At-loop tie.the-claims reads.Pre reads.Post goal.the-invariant-loop-j goal.the-decreases-loop-j
+
+abbrev plain_of : Limits → ℕ → ℤ
+plain_of l j = (start_from l j).0
+
+abbrev small_of : Limits → ℕ → ℤ
+small_of l j = (start_from l j).1
+
+pub loop-j-init : goal.loop-j-init
+loop-j-init c = (
+  omega arith,
+  filled-start most_columns (pos 0) (plain_of c.args.limits),
+  filled-start most_columns (pos 0) (small_of c.args.limits),
+)
+
+pub offset_bounds-limits-j : goal.offset_bounds-limits-j
+offset_bounds-limits-j c = omega arith
+
+pub bounds-limits-j : goal.bounds-limits-j
+bounds-limits-j c = omega arith
+
+pub offset_bounds-limits-j-in-loop-j : goal.offset_bounds-limits-j-in-loop-j
+offset_bounds-limits-j-in-loop-j c = omega arith
+
+pub bounds-limits-j-in-loop-j : goal.bounds-limits-j-in-loop-j
+bounds-limits-j-in-loop-j c = omega arith
+
+pub start_value-value-requires : goal.start_value-value-requires
+start_value-value-requires c = tt
+
+pub offset_bounds-values-j : goal.offset_bounds-values-j
+offset_bounds-values-j c = omega arith
+
+pub bounds-values-j : goal.bounds-values-j
+bounds-values-j c = omega arith
+
+pub offset_bounds-smalls-j : goal.offset_bounds-smalls-j
+offset_bounds-smalls-j c = omega arith
+
+pub bounds-smalls-j : goal.bounds-smalls-j
+bounds-smalls-j c = omega arith
+
+pub overflow_step-j : goal.overflow_step-j
+overflow_step-j c = omega arith
+
+pub loop-j-smaller : goal.loop-j-smaller
+loop-j-smaller c = omega arith
+
+module _ (c : After-start_value) where
+  abbrev at : At-loop
+  at = c.before.before.before.before
+
+  abbrev limits : Limits
+  limits = at.args.limits
+
+  abbrev j : ℕ
+  j = at.loop-j.j
+
+  fit-plain : SFits w32 c.start_value-value.result.plain
+  fit-plain = search rules
+
+  fit_small : SFits w32 c.start_value-value.result.small
+  fit_small = search rules
+
+  right : c.start_value-value.result ≡ value_of (start_from limits j)
+  right = c.start_value-value.ensures
+
+pub loop-j-preserved : goal.loop-j-preserved
+loop-j-preserved c =
+    let d = c in
+    simp (to_z-of_z (fit-plain c.before.before), to_z-of_z (fit_small c.before.before)) (
+      omega arith,
+      filled_more most_columns (pos 0) (plain_of (limits c.before.before)) (j c.before.before) (omega arith) (at c.before.before).loop-j.invariant.1
+          (ap (λ x. x.plain) (right c.before.before)),
+      filled_more most_columns (pos 0) (small_of (limits c.before.before)) (j c.before.before) (omega arith) (at c.before.before).loop-j.invariant.2
+          (ap (λ x. x.small) (right c.before.before)),
+    )
+
+abbrev starts : List ℤ → List ℤ → Starts
+starts a b = record { values = a; smalls = b }
+
+pub returns : goal.returns
+returns c =
+    let s = c in
+    let l = c.loop-j in
+    let e : l.j ≡ s.args.columns = omega arith in
+    ap₂ starts l.invariant.1 l.invariant.2 ∙ ap (starts_for s.args.limits) e

@@ -1,0 +1,66 @@
+-- `tokens::value_of` meets its contract. The loop's invariant: the value is that of the bytes passed, and no larger
+-- than so many bytes make it. The measure is how many bytes are left. Assumes nothing.
+use mathlib.Core.Path.{sym, ◌∙◌, ap}
+use Prim.Native.Nat.{◌+◌, ◌-◌, ◌*◌}
+use native.Mathlib.Omega.{arith}
+use borrow.Author.Rules.{rules}
+use Rattle.rules.specs.Program.Text.{reading}
+use Rattle.tokens.specs.Gaps.{part}
+use Rattle.tokens.proofs.Laws.Decimals.{most-few, most-more, part_none, value-more}
+use Rattle.tokens.proofs.value_of.Goals as goal
+
+pub loop-next-init : goal.loop-next-init
+unfolding reading
+loop-next-init c = (
+  omega arith,
+  omega arith,
+  ap (reading 0) (sym (part_none c.args.text.now
+      c.args.from)),
+  omega arith,
+)
+
+pub overflow_mul-value : goal.overflow_mul-value
+overflow_mul-value c =
+    let s = c in
+    omega (arith, s.loop-next.invariant.3, most-few (s.loop-next.next - s.args.from) (omega arith))
+
+pub bounds-text-next : goal.bounds-text-next
+bounds-text-next c = omega arith
+
+pub digit_of-requires : goal.digit_of-requires
+digit_of-requires c = search rules
+
+pub overflow_add-value : goal.overflow_add-value
+overflow_add-value c =
+    let s = c in
+    omega (
+      arith,
+      s.loop-next.invariant.3,
+      c.digit_of.ensures.1,
+      most-few (s.loop-next.next - s.args.from) (omega arith),
+    )
+
+pub overflow_add-next : goal.overflow_add-next
+overflow_add-next c = omega arith
+
+pub loop-next-smaller : goal.loop-next-smaller
+loop-next-smaller c = omega arith
+
+pub loop-next-preserved : goal.loop-next-preserved
+loop-next-preserved c =
+    let s = c in
+    let a = s.args in (
+      omega arith,
+      omega arith,
+      ap (λ d. 10 * s.loop-next.value + d) c.digit_of.ensures.0
+          ∙ value-more a.text.now a.from s.loop-next.next s.loop-next.value (omega arith) (omega arith)
+          s.loop-next.invariant.2,
+      most-more a.text.now a.from s.loop-next.next s.loop-next.value (omega arith) (omega arith) s.loop-next.invariant.3
+          c.digit_of.result c.digit_of.ensures.1,
+    )
+
+pub returns : goal.returns
+returns c =
+    let s = c in
+    let a = s.args in
+    s.loop-next.invariant.2 ∙ ap (λ k. reading 0 (part a.text.now a.from k)) (omega arith)

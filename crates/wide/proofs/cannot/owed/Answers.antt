@@ -1,0 +1,32 @@
+-- `wide::cannot::owed` meets its contract: by the multiplier's sign. Assumes nothing.
+use mathlib.Core.Path.{ap, ap₂, ◌∙◌}
+use mathlib.Core.Bool.{Bool, not, ◌&&◌, ◌||◌}
+use borrow.Author.Rules.{rules}
+use lib.Dec.{lit<, lit≤}
+use lib.IntN.{ℤ, pos}
+use mir.Facts.{to_z-of_z}
+use mir.Syntax.{w64}
+use mir.Val.{SFits}
+use Rattle.whole.proofs.Tells.{bits-eq}
+use Rattle.whole.specs.Numbers.{eq_z, is_neg}
+use Rattle.limbs.proofs.Laws.Sizes.{sized-le}
+use Rattle.limbs.specs.Limbs.{value}
+use Rattle.wide.proofs.Laws.Signs.{owed-joined}
+use Rattle.wide.proofs.cannot.owed.Goals as goal
+use Rattle.wide.proofs.cannot.owed.Goals.{After-sign-sign}
+
+zero-fits : SFits w64 (pos 0)
+zero-fits = record { sfits = lit< tt }
+
+pub sign-sign-requires : goal.sign-sign-requires
+sign-sign-requires c = sized-le c.requires (lit≤ tt)
+
+fit : (c : After-sign-sign) → SFits w64 c.sign-sign.result
+fit c = search rules
+
+pub returns : goal.returns
+returns c = let p = c in let l = p.args.limit in
+    simp (to_z-of_z (fit c.before))
+    (ap₂ (λ (z : ℤ) (b : Bool). (l.on && not (is_neg z)) || b) p.sign-sign.ensures
+    (bits-eq w64 (fit c.before) zero-fits ∙ ap (λ (z : ℤ). eq_z z (pos 0)) p.sign-sign.ensures)
+    ∙ owed-joined l.on _ (value p.args.k))

@@ -1,0 +1,23 @@
+-- `wire::count_refusal` meets its contract: each return is the first line of the table that applies. Assumes nothing.
+use mathlib.Core.Logic.{inl, inr}
+use mathlib.Core.Path.{refl, sym}
+use native.Mathlib.Omega.{arith}
+use Rattle.rules.proofs.Program.Counts.{count-exactly, count-fine}
+use Rattle.wire.proofs.count_refusal.Goals as goal
+
+pub returns-then-count-lt8 : goal.returns-then-count-lt8
+returns-then-count-lt8 c = sym ((count-exactly c.args.count 1).1 (inl (c.if-count-lt8.true, refl)))
+
+pub returns-then-count-ne0 : goal.returns-then-count-ne0
+returns-then-count-ne0 c =
+    sym ((count-exactly c.args.count 3).1 (inr (λ h. omega arith, inl (inl c.if-count-ne0.true, refl))))
+
+pub returns-then-count-gt-MOST_BYTES : goal.returns-then-count-gt-MOST_BYTES
+returns-then-count-gt-MOST_BYTES c =
+    let start = c in
+    sym ((count-exactly start.args.count 3).1 (inr (λ h. omega arith, inl (inr c.if-count-gt-MOST_BYTES.true, refl))))
+
+pub returns : goal.returns
+returns c =
+    let at = c in
+    sym ((count-fine at.args.count).1 (at.if-count-lt8.false, ((c.if-count-ne0.false, c.if-count-gt-MOST_BYTES.false), tt)))

@@ -1,0 +1,14 @@
+-- `wire::words_of` meets its contract. The invariant of its loop: the first i words are read, and the later ones are
+-- as they were. The measure is the number of words that are left. Assumes nothing.
+use mathlib.Core.Path.{◌≡◌}
+use mathlib.Core.List.{◌++◌}
+use Prim.Native.Nat.{◌-◌, ◌≤◌}
+use lib.ListN.{drop}
+use Rattle.whole.specs.Tables.{table}
+use Rattle.wire.proofs.words_of.Given as goal
+
+abbrev pub invariant-loop-i : goal.invariant-loop-i
+invariant-loop-i l = (l.i ≤ l.count) × (l.words ≡ table l.i (read l.bytes) ++ drop l.i l.initial.words)
+
+abbrev pub decreases-loop-i : goal.decreases-loop-i
+decreases-loop-i l = l.count - l.i
