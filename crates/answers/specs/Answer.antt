@@ -1,6 +1,7 @@
 -- The words of an answer, from the struct: docs/RULES.md, "Refusal numbers and their order", the paragraph on answered
 -- output.
-use Rattle.std.specs.Prelude.{Bool, true, false, List, ◌∷◌, ◌++◌, ◌≡◌, ℕ, ◌+◌, ◌*◌, ◌≤◌, ◌<◌, ltb, ℤ, pos, ◌*ℤ◌, get_or, take, drop, replicate}
+use Rattle.std.specs.Prelude.{Bool, true, false, List, ◌∷◌, ◌++◌, ◌≡◌, ℕ, ◌+◌, ◌*◌, ◌≤◌, ◌<◌, ltb, ℤ, pos, ◌*ℤ◌, get_or}
+use Rattle.std.specs.Prelude.{take, drop, replicate}
 use Rattle.whole.specs.Numbers.{Within}
 use Rattle.whole.specs.Tables.{table, filled}
 use Rattle.rules.specs.Sizes.{most_columns, most_rows, most_variables, largest_limit, largest_number}
@@ -35,7 +36,8 @@ numerator_laid o l x rows columns common s =
 -- .. of every variable, by the seats
 unfoldable pub numerators_laid : Order → List ℤ → List ℤ → List Seat → ℤ → ℕ → ℕ → List ℤ
 numerators_laid o l x seats common rows columns =
-    filled most_variables (pos 0) (rows + columns) (λ v. numerator_laid o l x rows columns common (get_or seats v nowhere))
+    filled most_variables (pos 0) (rows + columns) (λ v. numerator_laid o l x rows columns common
+    (get_or seats v nowhere))
 
 -- .. in the order in use
 abbrev pub numerator_of : List ℤ → List ℤ → ℕ → ℕ → ℤ → Seat → ℤ

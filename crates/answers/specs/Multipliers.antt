@@ -1,5 +1,6 @@
 -- The multipliers of "cannot", by place: docs/RULES.md, "The run", the sentences on verdict 2.
-use Rattle.std.specs.Prelude.{Bool, true, false, List, ℕ, ◌+◌, ◌≤◌, ◌<◌, ◌≡◌, eqb, ℤ, pos, neg_ℤ, get_or, replicate, set}
+use Rattle.std.specs.Prelude.{Bool, true, false, List, ℕ, ◌+◌, ◌≤◌, ◌<◌, ◌≡◌, eqb, ℤ, pos, neg_ℤ, get_or, replicate}
+use Rattle.std.specs.Prelude.{set}
 use Rattle.whole.specs.Numbers.{Within}
 use Rattle.whole.specs.Tables.{filled}
 use Rattle.rules.specs.Sizes.{most_columns, most_rows, most_variables, largest_number}
@@ -37,7 +38,8 @@ unfoldable pub multipliers_laid : Order → List ℤ → List Seat → ℤ → �
 multipliers_laid o l seats common rows columns b = record {
   lower = filled most_variables (pos 0) (rows + columns)
       (λ v. positive (neg_ℤ (pull_in_laid o l seats rows columns common b v)));
-  upper = filled most_variables (pos 0) (rows + columns) (λ v. positive (pull_in_laid o l seats rows columns common b v));
+  upper = filled most_variables (pos 0) (rows + columns)
+      (λ v. positive (pull_in_laid o l seats rows columns common b v));
 }
 
 -- .. in the order in use

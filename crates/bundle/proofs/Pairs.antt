@@ -23,7 +23,8 @@ use Rattle.whole.proofs.Bools.{or-false, true-false}
 use Rattle.whole.proofs.Numbers.Order.{false→le}
 use Rattle.whole.proofs.Tells.{tells-eq_z, tells-false, tells-not, tells-some, tells-true}
 use Rattle.rules.specs.Refusal.{first}
-use Rattle.rules.specs.Bundle.File.{bad_pair, bad_table, bad_total, count_in, head_size, pair_first, pair_length, start_for}
+use Rattle.rules.specs.Bundle.File.{bad_pair, bad_table, bad_total, count_in, head_size, pair_first, pair_length}
+use Rattle.rules.specs.Bundle.File.{start_for}
 use Rattle.rules.proofs.Refusal.First.{first-hit, first-skip}
 use Rattle.rules.proofs.Bundle.Places.{count_before, counts-next, counts-none, sum-counts}
 

@@ -29,5 +29,6 @@ written_read e lengths ws before after number n o z fit-lengths Fit-words =
   where
     front : take (4 * file_size lengths ws) after ≡ bytes_from (file_words e lengths ws)
     front = ap (take (4 * file_size lengths ws)) (o ∙ ap (λ k. file_left k e lengths ws before) z)
-        ∙ take_at (bytes_from (file_words e lengths ws)) (drop (4 * file_size lengths ws) before) (4 * file_size lengths ws)
+        ∙ take_at (bytes_from (file_words e lengths ws)) (drop (4 * file_size lengths ws) before)
+        (4 * file_size lengths ws)
         (omega (arith, bytes-length (file_words e lengths ws), file-length e lengths ws))

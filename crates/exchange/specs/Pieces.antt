@@ -4,7 +4,8 @@ use Rattle.std.specs.Prelude.{Bool, true, false, cond, List, ◌++◌, ℕ, ℤ,
 use Rattle.rules.specs.Limit.{has_lower, has_upper, strict_lower, strict_upper}
 use Rattle.rules.specs.Problem.{word}
 use Rattle.rules.specs.Program.Text.{lines_below}
-use Rattle.rules.specs.Exchange.Script.{assert_limit, assert_row, end_assert, limit_text, lower_relation, name_of, row_name}
+use Rattle.rules.specs.Exchange.Script.{assert_limit, assert_row, end_assert, limit_text, lower_relation, name_of}
+use Rattle.rules.specs.Exchange.Script.{row_name}
 use Rattle.rules.specs.Exchange.Script.{space, sum_text, term, upper_relation}
 use Rattle.exchange.specs.declared.limits.Shown.{Shown}
 

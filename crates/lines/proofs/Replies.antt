@@ -10,7 +10,7 @@
 use mathlib.Core.List.{List, [], ◌∷◌, ◌++◌}
 use mathlib.Core.Logic.{◌≢◌}
 use mathlib.Core.Path.{◌≡◌, ap, refl, sym, ◌∙◌}
-use Prim.Native.Nat.{ℕ, zero, suc, ◌/◌, ◌<◌, ◌≤◌}
+use Prim.Native.Nat.{ℕ, zero, suc, ◌/◌, ◌≤◌}
 use native.Mathlib.Omega.{arith}
 use lib.IntN.{ℤ, pos}
 use lib.ListN.{drop, length, take, length-append, get_or-append}
@@ -84,7 +84,8 @@ module _ (bs : List ℕ) where
   unfolding program_text reply_after
   program-refused r e n = go (count_refusal (length bs)) refl
     where
-      go : (k : ℕ) → count_refusal (length bs) ≡ k → refusal_text r ≡ reply_after (count_refusal (length bs)) (words_from bs)
+      go : (k : ℕ) → count_refusal (length bs) ≡ k → refusal_text r ≡ reply_after (count_refusal (length bs))
+          (words_from bs)
       go zero q = absurd (n (e ∙ q))
       go (suc k) q = ap refusal_text (e ∙ q) ∙ sym (ap (λ j. reply_after j (words_from bs)) q)
 

@@ -1,7 +1,8 @@
 // The whole text of an answer, put at a place of a lent slice. Each function answers the place behind
 // what it put.
 ghost use Rattle.std.specs.Prelude.{◌+◌, ◌*◌, ◌^◌, ◌≤◌, ◌<◌, length};
-ghost use Rattle.rules.specs.Sizes.{most_variables, most_pivots_line, most_value_line, most_multiplier_lines, most_text};
+ghost use Rattle.rules.specs.Sizes.{most_variables, most_pivots_line, most_value_line, most_multiplier_lines};
+ghost use Rattle.rules.specs.Sizes.{most_text};
 ghost use Rattle.rules.specs.Program.Text.{lines_below, head_lines, value_line, multiplier_lines};
 ghost use Rattle.rules.specs.Program.Text.{can_text, cannot_text, answer_text};
 ghost use Rattle.put.specs.Put.{PutShort};

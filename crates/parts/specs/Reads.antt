@@ -1,5 +1,6 @@
 -- The problem that a tableau's entries and limits hold at its start, and the checker's sums and tests over them.
-use Rattle.std.specs.Prelude.{◌≡◌, Bool, false, ◌&&◌, ◌||◌, List, ℕ, ◌+◌, ◌*◌, ◌≤◌, ◌<◌, ℤ, pos, ◌+ℤ◌, ◌-ℤ◌, ◌*ℤ◌, length}
+use Rattle.std.specs.Prelude.{◌≡◌, Bool, false, ◌&&◌, ◌||◌, List, ℕ, ◌+◌, ◌*◌, ◌≤◌, ◌<◌, ℤ, pos, ◌+ℤ◌, ◌-ℤ◌, ◌*ℤ◌}
+use Rattle.std.specs.Prelude.{length}
 use Rattle.std.proofs.Math.Option.{Option}
 use Rattle.whole.specs.Below.{all_below, some_below}
 use Rattle.whole.specs.Numbers.{Within, AllWithin, within, eq_z}

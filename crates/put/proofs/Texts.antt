@@ -51,7 +51,8 @@ module _ (f : ℕ → List ℕ) where
 
   -- where there is room for k lines, there is room for each
   pub put-lines-room :
-      {l m : List ℕ} {i j : ℕ} (k v : ℕ) → Room i (lines_below k f) → Put l i (lines_below v f) m j → v < k → Room j (f v)
+      {l m : List ℕ} {i j : ℕ} (k v : ℕ) → Room i (lines_below k f) → Put l i (lines_below v f) m j → v < k →
+      Room j (f v)
   put-lines-room k v r p h = record { room = omega (arith, p.place, r.room, lines-inside k v f h) }
 
   pub put-lines-more :

@@ -1,5 +1,6 @@
 -- One limit: which variable has it, and its words.
-use Rattle.std.specs.Prelude.{Bool, true, false, cond, ◌&&◌, List, [], ◌≡◌, ℕ, suc, ◌+◌, ◌-◌, ◌*◌, leb, ℤ, pos, ◌+ℤ◌, get_or, length, set}
+use Rattle.std.specs.Prelude.{Bool, true, false, cond, ◌&&◌, List, [], ◌≡◌, ℕ, suc, ◌+◌, ◌-◌, ◌*◌, leb}
+use Rattle.std.specs.Prelude.{ℤ, pos, ◌+ℤ◌, get_or, length, set}
 use Rattle.std.proofs.Math.Option.{Option, none, some}
 use Rattle.whole.specs.Below.{lowest}
 use Rattle.rules.specs.Exchange.Script.{name_of}

@@ -1,5 +1,6 @@
 -- A number by its next token: a numeral, or the size of a number below 0.
-use Rattle.std.specs.Prelude.{Bool, true, false, not, ◌&&◌, ◌||◌, List, [], ◌≡◌, ℕ, zero, suc, eqb, ltb, ℤ, negsuc, pos, length}
+use Rattle.std.specs.Prelude.{Bool, true, false, not, ◌&&◌, ◌||◌, List, [], ◌≡◌, ℕ, zero, suc}
+use Rattle.std.specs.Prelude.{eqb, ltb, ℤ, negsuc, pos, length}
 use Rattle.whole.specs.Numbers.{eq_z, within}
 use Rattle.rules.specs.Exchange.Reader.{Spot, fits, number, on, taken}
 use Rattle.tokens.specs.declared.Followed.{Followed}

@@ -47,7 +47,7 @@ use Rattle.rules.specs.Run.{Runs, after, bound, conflict}
 use Rattle.rules.specs.Facts.Evidence.{MetSmall}
 use Rattle.rules.specs.Sizes.{most_rows}
 use Rattle.rules.specs.Facts.State.{Apart, Ready, Sound}
-use Rattle.rules.specs.Step.{State, common, positive, scaled}
+use Rattle.rules.specs.Step.{State, common, scaled}
 use Rattle.rules.specs.Facts.Run.{Crosses, TheRun, begin}
 
 -- ---- fractions, in the answer from any state that is ready

@@ -1,11 +1,13 @@
 -- docs/RULES.md, "Refusal numbers and their order": a list of tests with their numbers, each asked of all words, the
 -- first that applies winning.
-use Rattle.std.specs.Prelude.{◌≡◌, ◌≢◌, Bool, true, false, ◌||◌, not, List, [], ◌∷◌, ◌++◌, ℕ, min, ◌+◌, ◌*◌, ◌≤◌, ◌<◌, ℤ, pos, ltb, eqb, length, ◌≤ℤ◌}
+use Rattle.std.specs.Prelude.{◌≡◌, ◌≢◌, Bool, true, false, ◌||◌, not, List, [], ◌∷◌, ◌++◌, ℕ, min, ◌+◌, ◌*◌, ◌≤◌, ◌<◌}
+use Rattle.std.specs.Prelude.{ℤ, pos, ltb, eqb, length, ◌≤ℤ◌}
 use Rattle.whole.specs.Below.{all_below, some_below}
 use Rattle.whole.specs.Numbers.{Within, eq_z, outside, within}
 use Rattle.rules.specs.Sizes.{most_columns, most_rows, largest_coefficient, largest_limit}
 use Rattle.rules.specs.Limit.{has_lower, has_upper, bad_limit_word, strict_lower, strict_upper, bad_kind_word}
-use Rattle.rules.specs.Problem.{word, n_of, m_of, vars_of, coefficient_word, kind, lower_word, upper_word, answer_length}
+use Rattle.rules.specs.Problem.{word, n_of, m_of, vars_of, coefficient_word, kind, lower_word, upper_word}
+use Rattle.rules.specs.Problem.{answer_length}
 
 -- the number beside the first test that applies, or 0
 unfoldable pub first : List (Bool × ℕ) → ℕ
@@ -30,7 +32,8 @@ bad_kind ws = some_below (vars_of ws) (λ v. bad_kind_word (kind ws v))
 
 unfoldable pub bad_limit : List ℤ → Bool
 bad_limit ws = some_below (vars_of ws) (λ v.
-    bad_limit_word (has_lower (kind ws v)) (lower_word ws v) || bad_limit_word (has_upper (kind ws v)) (upper_word ws v))
+    bad_limit_word (has_lower (kind ws v)) (lower_word ws v) || bad_limit_word (has_upper (kind ws v))
+    (upper_word ws v))
 
 -- a blank row: each of its n coefficients is 0
 unfoldable pub blank_row : List ℤ → ℕ → Bool

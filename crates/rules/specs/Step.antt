@@ -1,5 +1,6 @@
 -- docs/RULES.md, "The run": the start, the leaving and the entering variable, and one step. X is the type of values.
-use Rattle.std.specs.Prelude.{Bool, true, false, cond, List, ℕ, zero, suc, ◌-◌, ℤ, pos, negsuc, neg_ℤ, get_or, set, ltb, eqb}
+use Rattle.std.specs.Prelude.{Bool, true, false, cond, List, ℕ, zero, suc, ◌-◌, ℤ, pos, negsuc, neg_ℤ, get_or, set, ltb}
+use Rattle.std.specs.Prelude.{eqb}
 use Rattle.std.proofs.Math.Option.{Option, none, some}
 use Rattle.whole.specs.Below.{lowest}
 use Rattle.whole.specs.Numbers.{is_pos}

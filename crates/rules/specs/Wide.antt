@@ -2,7 +2,8 @@
 -- and word 1 is not judged; then come 1 + 2N numbers: the denominator, N numerators or lower multipliers, N small parts
 -- or upper multipliers. What is right is what is right of any numbers (Evidence); there is no range but that of the
 -- words.
-use Rattle.std.specs.Prelude.{Bool, true, false, cond, not, ◌&&◌, ◌||◌, List, [], ◌∷◌, ◌++◌, ℕ, zero, suc, ◌+◌, ◌*◌, ◌/◌, ◌%◌, ltb, ℤ, pos, negsuc, ◌+ℤ◌, ◌-ℤ◌, ◌*ℤ◌, length}
+use Rattle.std.specs.Prelude.{Bool, true, false, cond, not, ◌&&◌, ◌||◌, List, [], ◌∷◌, ◌++◌, ℕ, zero, suc, ◌+◌, ◌*◌}
+use Rattle.std.specs.Prelude.{◌/◌, ◌%◌, ltb, ℤ, pos, negsuc, ◌+ℤ◌, ◌-ℤ◌, ◌*ℤ◌, length}
 use Rattle.std.specs.Int.Signed.{lt_z}
 use Rattle.whole.specs.Below.{all_below}
 use Rattle.whole.specs.Numbers.{eq_z, outside}
@@ -62,7 +63,8 @@ wide_upper N a v = wide_at a (1 + N + v)
 unfoldable pub shows_wide : Problem Limit → List ℤ → Bool
 shows_wide P a =
     cond (eq_z (verdict_of a) (pos 1)) (right_can P (wide_denominator a) (wide_lower a) (wide_upper (vars P) a))
-    (cond (eq_z (verdict_of a) (pos 2)) (right_cannot P (wide_denominator a) (wide_lower a) (wide_upper (vars P) a)) false)
+    (cond (eq_z (verdict_of a) (pos 2)) (right_cannot P (wide_denominator a) (wide_lower a) (wide_upper (vars P) a))
+    false)
 
 unfoldable pub accepted_wide : Problem Limit → List ℤ → Bool
 accepted_wide P a = well_formed (vars P) a && shows_wide P a

@@ -1,6 +1,7 @@
 -- docs/RULES.md, "Switching limits", over the tableau by place: every limit off, one limit on or off, and the value of
 -- its variable by the limits that are on.
-use Rattle.std.specs.Prelude.{Bool, true, false, not, ◌&&◌, List, [], ◌∷◌, ◌≡◌, ℕ, ◌<◌, ltb, ℤ, pos, get_or, replicate, set}
+use Rattle.std.specs.Prelude.{Bool, true, false, not, ◌&&◌, List, [], ◌∷◌, ◌≡◌, ℕ, ◌<◌, ltb, ℤ, pos, get_or, replicate}
+use Rattle.std.specs.Prelude.{set}
 use Rattle.std.proofs.Math.Option.{Option}
 use Rattle.whole.specs.Tables.{filled}
 use Rattle.whole.specs.Values.{pairs}

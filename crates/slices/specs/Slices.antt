@@ -6,7 +6,8 @@ use Rattle.whole.specs.Values.{pairs}
 use Rattle.rules.specs.Limit.{Limit}
 use Rattle.rules.specs.Problem.{Problem, inner, problem, vars}
 use Rattle.rules.specs.Refusal.{problem_refusal}
-use Rattle.rules.specs.Runs.Slices.{begun, continued, is_answer, slice_answer, slice_length, slice_output, slice_refusal}
+use Rattle.rules.specs.Runs.Slices.{begun, continued, is_answer, slice_answer, slice_length, slice_output}
+use Rattle.rules.specs.Runs.Slices.{slice_refusal}
 use Rattle.rules.specs.Runs.Slices as rules
 use Rattle.tableau.specs.Start.{start_tableau}
 use Rattle.answers.specs.Answer.{is_short}

@@ -34,7 +34,8 @@ module _ (l : List ℕ) (at : ℕ) (ws : List ℤ) where
   no_word = refl
 
   pub next_word : (i : ℕ) → i < length ws → let u = unsigned (word ws i) in
-      sets (sets l at (bytes_from (take i ws))) (at + 4 * i) (byte_of u 0 ∷ byte_of u 1 ∷ byte_of u 2 ∷ byte_of u 3 ∷ [])
+      sets (sets l at (bytes_from (take i ws))) (at + 4 * i)
+      (byte_of u 0 ∷ byte_of u 1 ∷ byte_of u 2 ∷ byte_of u 3 ∷ [])
       ≡ sets l at (bytes_from (take (i + 1) ws))
   next_word i h =
       ap₂ (sets (sets l at (bytes_from (take i ws))))

@@ -5,7 +5,7 @@
 --   bodies_right    bodies of many rows, in either edition
 --   files-right, counts-right, writers-right    small files, counts of bytes, calls of the writer
 use mathlib.Core.Bool.{false, true}
-use mathlib.Core.List.{[], ◌++◌, flatten, map}
+use mathlib.Core.List.{◌++◌, flatten, map}
 use mathlib.Core.Path.{◌≡◌, refl}
 use lib.IntN.{pos}
 use lib.ListN.{replicate}
@@ -60,7 +60,8 @@ unfolding ten_bodies ten_head ten_texts flatten
     Text.ascii Text.digits_turns Text.digits Text.decimal Text.line Text.variable_line Text.multiplier_line
     Text.small_end Text.lines_below Text.head_lines Text.value_line Text.multiplier_lines
     Text.can_text Text.cannot_text Text.range_text Text.answer_text Text.refusal_text Reply.reply_to
-    File.editions File.edition File.bad_count File.bad_edition File.bad_bodies File.short_table File.bad_pair File.bad_table
+    File.editions File.edition File.bad_count File.bad_edition File.bad_bodies File.short_table File.bad_pair
+    File.bad_table
     File.bad_total File.file_tests File.file_refusal File.body_in File.bodies_in
     Day.body_refusal Day.body_text Day.day_after Day.day_text
 ten-printed = refl
@@ -69,13 +70,15 @@ pub bodies_right : map (λ c. body_refusal c.edition (many_rows c.rows)) body_ca
 unfolding body_cases Below.some_below Below.all_below Numbers.within Numbers.outside
     Limit.bit Limit.bad_kind_word Limit.bad_limit_word
     Refusal.first Refusal.too_few Refusal.bad_size Refusal.bad_length Refusal.bad_coefficient Refusal.bad_kind
-    Refusal.bad_limit Refusal.blank_row Refusal.some_blank Refusal.problem_tests File.editions File.edition Day.body_refusal
+    Refusal.bad_limit Refusal.blank_row Refusal.some_blank Refusal.problem_tests File.editions File.edition
+    Day.body_refusal
 bodies_right = refl
 
 pub files-right : map (λ c. file_refusal (bytes_from c.words)) file_cases ≡ map (λ c. c.number) file_cases
 unfolding file_cases empty_pairs Below.some_below Numbers.outside Sums.sum_by Tables.table_from Refusal.first
     Bytes.signed Bytes.word_at Bytes.words_from Bytes.unsigned Bytes.bytes_from
-    File.editions File.edition File.bad_count File.bad_edition File.bad_bodies File.short_table File.bad_pair File.bad_table
+    File.editions File.edition File.bad_count File.bad_edition File.bad_bodies File.short_table File.bad_pair
+    File.bad_table
     File.bad_total File.file_tests File.file_refusal
 files-right = refl
 

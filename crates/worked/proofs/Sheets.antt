@@ -39,12 +39,15 @@ unfolding sheet_cases Bundles.ten_bodies flatten
     Answer.words_of Answer.answer_from Answer.answer
     Bytes.signed Bytes.word_at Bytes.words_from Bytes.unsigned Bytes.bytes_from
     Text.ascii Text.digits_turns Text.digits Text.decimal Text.line Text.lines_below Text.refusal_text
-    File.editions File.edition File.bad_count File.bad_edition File.bad_bodies File.short_table File.bad_pair File.bad_table
+    File.editions File.edition File.bad_count File.bad_edition File.bad_bodies File.short_table File.bad_pair
+    File.bad_table
     File.bad_total File.file_tests File.file_refusal File.body_in File.bodies_in
     Writer.file_words Writer.head_words Writer.contents
     Totals.sum_below Totals.largest_below Totals.class_by Totals.class_of Totals.same_class Totals.answered_class
-    Totals.pivots_by Totals.pivots_of Totals.names Totals.names_lower Totals.names_upper Totals.of_class Totals.pivot_sum
-    Totals.largest_pivots Totals.reaches Totals.largest_body Totals.lower_named Totals.upper_named SheetText.refused_line
+    Totals.pivots_by Totals.pivots_of Totals.names Totals.names_lower Totals.names_upper Totals.of_class
+    Totals.pivot_sum
+    Totals.largest_pivots Totals.reaches Totals.largest_body Totals.lower_named Totals.upper_named
+    SheetText.refused_line
     SheetText.refused_lines SheetText.body_name SheetText.largest_line SheetText.named_line SheetText.sheet_lines
     SheetText.sheet_text SheetFile.sheet_after SheetFile.file_sheet
 sheets-right = refl

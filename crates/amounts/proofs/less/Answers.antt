@@ -11,7 +11,6 @@ use Rattle.amounts.proofs.Laws.Parts.{Parted}
 use Rattle.amounts.proofs.less.Goals as goal
 use Rattle.amounts.proofs.less.Lts as lts
 use Rattle.amounts.proofs.less.Reads as reads
-use Rattle.amounts.proofs.less.Tie as tie
 
 -- places of the code, as records of what is known there
 abbrev Start : Type 0
@@ -30,7 +29,15 @@ told false true rest = refl
 told false false rest = refl
 
 pub returns : goal.returns
-returns c = let s = c in
-    simp (to_z-of_z (fit-a c.before.before.before.before.before.before.before.before.before.before.before.before).plain, to_z-of_z (fit-a c.before.before.before.before.before.before.before.before.before.before.before.before).small, to_z-of_z (fit-b c.before.before.before.before.before.before.before.before.before.before.before.before).plain, to_z-of_z (fit-b c.before.before.before.before.before.before.before.before.before.before.before.before).small)
+returns c =
+    let here = c.before.before.before.before.before.before.before.before.before.before.before.before in
+    let s = c in
+    simp (
+      to_z-of_z (fit-a here).plain,
+      to_z-of_z (fit-a here).small,
+      to_z-of_z (fit-b here).plain,
+      to_z-of_z
+          (fit-b here).small,
+    )
     (told (lt_z s.args.a.plain s.args.b.plain) (lt_z s.args.b.plain s.args.a.plain)
     (lt_z s.args.a.small s.args.b.small))

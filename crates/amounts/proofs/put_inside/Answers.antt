@@ -48,7 +48,8 @@ pub returns-then-lower-is_below : goal.returns-then-lower-is_below
 returns-then-lower-is_below c =
     let d = c in
     d.lower_value-least.ensures
-    ∙ ap value_of (by_tests_lem c.before.before.before.before.before true _ (rw (sym (low-less c.before.before)) c.if-lower-is_below.true) refl)
+    ∙ ap value_of (by_tests_lem c.before.before.before.before.before true _
+    (rw (sym (low-less c.before.before)) c.if-lower-is_below.true) refl)
 
 pub is_below-requires-2 : goal.is_below-requires-2
 is_below-requires-2 c = search rules
@@ -58,7 +59,8 @@ module _ (c : After-is_below-2) where
   abbrev first : After-is_below
   first = c.before.before.before
 
-  not-raised : ((lower (begun first)).on && pairs.less (value (begun first)) (given_lower (lower (begun first)))) ≡ false
+  not-raised : ((lower (begun first)).on && pairs.less (value (begun first)) (given_lower (lower (begun first)))) ≡
+      false
   not-raised = rw (sym (low-less first)) c.if-lower-is_below.false
 
   high-less : c.is_below-2.result ≡ pairs.less (given_upper (upper (begun first))) (value (begun first))
@@ -69,9 +71,11 @@ pub returns-then-upper-is_below : goal.returns-then-upper-is_below
 returns-then-upper-is_below c =
     let d = c in
     (first c.before.before).upper_value-most.ensures
-    ∙ ap value_of (by_tests_lem (begun c.before.before.before.before.before) false true (not-raised c.before.before) (rw (sym (high-less c.before.before)) c.if-upper-is_below.true))
+    ∙ ap value_of (by_tests_lem (begun c.before.before.before.before.before) false true (not-raised c.before.before)
+    (rw (sym (high-less c.before.before)) c.if-upper-is_below.true))
 
 pub returns : goal.returns
 returns c =
     let d = c in
-    ap value_of (by_tests_lem (begun c.before.before.before.before.before) false false (not-raised c.before.before) (rw (sym (high-less c.before.before)) c.if-upper-is_below.false))
+    ap value_of (by_tests_lem (begun c.before.before.before.before.before) false false (not-raised c.before.before)
+    (rw (sym (high-less c.before.before)) c.if-upper-is_below.false))

@@ -10,7 +10,6 @@ use Rattle.amounts.proofs.Laws.Parts.{Parted}
 use Rattle.amounts.proofs.times.Goals as goal
 use Rattle.amounts.proofs.times.Lts as lts
 use Rattle.amounts.proofs.times.Reads as reads
-use Rattle.amounts.proofs.times.Tie as tie
 
 -- places of the code, as records of what is known there
 abbrev Start : Type 0
@@ -30,20 +29,24 @@ pub overflow_cast-result : goal.overflow_cast-result
 overflow_cast-result c = simp (to_z-of_z c.ranges.common) (wide c.ranges.common)
 
 pub overflow_cast-result-2 : goal.overflow_cast-result-2
-overflow_cast-result-2 c = let s = c in simp (to_z-of_z (fit c.before.before.before).plain) (wide (fit c.before.before.before).plain)
+overflow_cast-result-2 c = let s = c in simp (to_z-of_z (fit c.before.before.before).plain)
+    (wide (fit c.before.before.before).plain)
 
 pub overflow_mul-result : goal.overflow_mul-result
-overflow_mul-result c = let s = c in simp (widened s.ranges.common, widened (fit c.before.before.before).plain) (plain c.before.before.before)
+overflow_mul-result c = let s = c in simp (widened s.ranges.common, widened (fit c.before.before.before).plain)
+    (plain c.before.before.before)
 
 pub overflow_cast-result-3 : goal.overflow_cast-result-3
 overflow_cast-result-3 c = let s = c in simp (to_z-of_z s.ranges.common) (wide s.ranges.common)
 
 pub overflow_cast-result-4 : goal.overflow_cast-result-4
-overflow_cast-result-4 c = let s = c in simp (to_z-of_z (fit c.before.before.before.before).small) (wide (fit c.before.before.before.before).small)
+overflow_cast-result-4 c = let s = c in simp (to_z-of_z (fit c.before.before.before.before).small)
+    (wide (fit c.before.before.before.before).small)
 
 pub overflow_mul-result-2 : goal.overflow_mul-result-2
 overflow_mul-result-2 c = let s = c in
-    simp (widened s.ranges.common, widened (fit c.before.before.before.before).small) (small c.before.before.before.before)
+    simp (widened s.ranges.common, widened (fit c.before.before.before.before).small)
+    (small c.before.before.before.before)
 
 pub returns : goal.returns
 returns c = let s = c in

@@ -50,7 +50,8 @@ module _ (N : ℕ) (x y : List ℤ) (a b c : ℤ) where
   unfolding copied_at
   both r =
       ap (λ k. take (3 + N) (front k) ++ (first_of N y ++ drop (3 + N + N) (front k))) three
-      ∙ ap₂ (λ j k. take j (front (suc (suc (suc N)))) ++ (first_of N y ++ drop k (front (suc (suc (suc N)))))) three six
+      ∙ ap₂ (λ j k. take j (front (suc (suc (suc N)))) ++ (first_of N y ++ drop k (front (suc (suc (suc N)))))) three
+      six
       ∙ ap₂ (λ p q. a ∷ b ∷ c ∷ (p ++ (first_of N y ++ q))) front-half rest
       ∙ ap (λ p. a ∷ b ∷ c ∷ p) (sym (append_assoc (first_of N x) (first_of N y) (drop (2 * N) r)))
     where

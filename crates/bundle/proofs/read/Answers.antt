@@ -106,13 +106,15 @@ pub read_refusal-refused-requires : goal.read_refusal-refused-requires
 read_refusal-refused-requires c = search rules
 
 pub returns-then-refused-ne0 : goal.returns-then-refused-ne0
-returns-then-refused-ne0 c = let a = c in let s = c in (
-  contents-refused (words s) a.read_refusal-refused.result _ a.read_refusal-refused.ensures c.if-refused-ne0.true,
-  (
-    lengths-kept (words s) a.read_refusal-refused.result s.args.lengths.now c.if-refused-ne0.true,
-    words-kept (words s) a.read_refusal-refused.result s.args.words.now c.if-refused-ne0.true,
-  ),
-)
+returns-then-refused-ne0 c =
+    let ws = words_from c.args.file.now in
+    let refused = c.read_refusal-refused.result in
+    let n = c.if-refused-ne0.true in
+    record {
+      told = contents-refused ws refused _ c.read_refusal-refused.ensures n;
+      lengths = lengths-kept ws refused c.args.lengths.now n;
+      words = words-kept ws refused c.args.words.now n;
+    }
 
 pub word_at-requires : goal.word_at-requires
 word_at-requires c = omega (arith, (accepted c.before).enough)
@@ -129,7 +131,9 @@ count_of-bodies-requires c = rw (to_z-of_z (fit-number c.before), number_read c.
     (accepted c.before.before.before.before).count-least
 
 pub take_lengths-requires : goal.take_lengths-requires
-take_lengths-requires c = let k = c in (omega (arith, count-is c.before.before, roomy c.before.before.before.before.before.before), long c.before.before)
+take_lengths-requires c =
+    let place = c.before.before.before.before.before.before in
+    (omega (arith, count-is c.before.before, roomy place), long c.before.before)
 
 pub overflow_mul-start : goal.overflow_mul-start
 overflow_mul-start c = omega (arith, long c.before.before.before.before)
@@ -147,23 +151,25 @@ pub slice_bounds-words_of-end : goal.slice_bounds-words_of-end
 slice_bounds-words_of-end c = search rules
 
 pub words_of-requires : goal.words_of-requires
-words_of-requires c = let k = c in let bs = file (start c.before.before.before.before.before.before.before.before.before.before) in
+words_of-requires c = let bs = file (start c.before.before.before.before.before.before.before.before.before.before) in
     omega (
       arith,
       count-is c.before.before.before.before.before.before,
       roomy c.before.before.before.before.before.before.before.before.before.before,
       words-length bs,
-      length-take-le (length bs - (8 + 8 * k.count_of-bodies.result)) (drop (8 + 8 * k.count_of-bodies.result) bs)
-          (omega (arith, length-drop (8 + 8 * k.count_of-bodies.result) bs)),
+      length-take-le (length bs - (8 + 8 * c.count_of-bodies.result)) (drop (8 + 8 * c.count_of-bodies.result) bs)
+          (omega (arith, length-drop (8 + 8 * c.count_of-bodies.result) bs)),
     )
 
 pub overflow_cast-result : goal.overflow_cast-result
-overflow_cast-result c = let k = c in
+overflow_cast-result c =
+    let near = c.before.before.before.before.before.before.before.before in
+    let far = near.before.before.before.before in
     omega (
       arith,
-      edition-is c.before.before.before.before.before.before.before.before,
-      under-size (length editions) 1 (word (words (start c.before.before.before.before.before.before.before.before.before.before.before.before)) 0)
-          (accepted c.before.before.before.before.before.before.before.before.before.before.before.before).edition-least (accepted c.before.before.before.before.before.before.before.before.before.before.before.before).edition-most,
+      edition-is near,
+      under-size (length editions) 1 (word (words (start far)) 0)
+          (accepted far).edition-least (accepted far).edition-most,
       editions-few,
     )
 
@@ -174,14 +180,15 @@ pub shape_of-words : goal.shape_of-words
 shape_of-words c = search rules
 
 pub returns : goal.returns
-returns c = let k = c in let s = start c.before.before.before.before.before.before.before.before.before.before.before.before in (
-  contents-fine (words s) _ k.count_of-edition.result k.count_of-bodies.result (fine c.before.before.before.before.before.before.before.before.before.before.before.before)
-      (edition-is c.before.before.before.before.before.before.before.before) (count-is c.before.before.before.before.before.before.before.before),
-  (
-    c.take_lengths.ensures
-        ∙ lengths-told (words s) k.count_of-bodies.result s.args.lengths.now (count-is c.before.before.before.before.before.before.before.before),
-    c.words_of.ensures.content
-        ∙ words-told (file s) (8 + 8 * k.count_of-bodies.result) k.count_of-bodies.result c.words_of.result
-        s.args.words.now (omega arith) (count-is c.before.before.before.before.before.before.before.before) c.words_of.ensures.count,
-  ),
-)
+returns c =
+    let counts = c.before.before.before.before.before.before.before.before in
+    let known = passed counts in
+    let ws = words (start known) in
+    let bodies = c.count_of-bodies.result in
+    record {
+      told = contents-fine ws _ c.count_of-edition.result bodies (fine known) (edition-is counts) (count-is counts);
+      lengths = c.take_lengths.ensures ∙ lengths-told ws bodies c.args.lengths.now (count-is counts);
+      words = c.words_of.ensures.content
+          ∙ words-told c.args.file.now (8 + 8 * bodies) bodies c.words_of.result c.args.words.now (omega arith)
+          (count-is counts) c.words_of.ensures.count;
+    }

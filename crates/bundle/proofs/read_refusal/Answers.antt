@@ -72,8 +72,8 @@ pub file_refusal-refused-requires : goal.file_refusal-refused-requires
 file_refusal-refused-requires c = search rules
 
 pub returns-then-refused-ne0 : goal.returns-then-refused-ne0
-returns-then-refused-ne0 c = let a = c in let s = c in
-    read_kept (file s) s.args.sizes s.args.words a.file_refusal-refused.result a.file_refusal-refused.ensures
+returns-then-refused-ne0 c =
+    read_kept c.args.file.now c.args.sizes c.args.words c.file_refusal-refused.result c.file_refusal-refused.ensures
     c.if-refused-ne0.true
 
 pub word_at-requires : goal.word_at-requires
@@ -83,8 +83,10 @@ pub count_of-bodies-requires : goal.count_of-bodies-requires
 count_of-bodies-requires c = rw (to_z-of_z (fit c.before), number_is c.before) (accepted c.before.before).count-least
 
 pub returns-then-sizes-bodies : goal.returns-then-sizes-bodies
-returns-then-sizes-bodies c = let k = c in let s = start c.before.before.before.before in
-    read_short (file s) s.args.sizes s.args.words (fine c.before.before.before.before) (inl (omega (arith, count-is c.before.before)))
+returns-then-sizes-bodies c =
+    let place = c.before.before.before.before in
+    let s = start place in
+    read_short (file s) s.args.sizes s.args.words (fine place) (inl (omega (arith, count-is c.before.before)))
 
 pub overflow_mul-bodies : goal.overflow_mul-bodies
 overflow_mul-bodies c = omega (arith, few c.before.before)
@@ -93,15 +95,19 @@ pub overflow_add-bodies : goal.overflow_add-bodies
 overflow_add-bodies c = omega (arith, few c.before.before)
 
 pub overflow_sub-file : goal.overflow_sub-file
-overflow_sub-file c = let k = c in
-    omega (arith, count-is c.before.before, (accepted c.before.before.before.before).long, words-length (file (start c.before.before.before.before)))
+overflow_sub-file c =
+    let place = c.before.before.before.before in
+    omega (arith, count-is c.before.before, (accepted place).long, words-length (file (start place)))
 
 pub returns-then-words-file : goal.returns-then-words-file
-returns-then-words-file c = let k = c in let s = start c.before.before.before.before.before in
+returns-then-words-file c = let s = start c.before.before.before.before.before in
     read_short (file s) s.args.sizes s.args.words (fine c.before.before.before.before.before)
     (inr (omega (arith, count-is c.before.before.before, words-length (file s))))
 
 pub returns : goal.returns
-returns c = let k = c in let s = start c.before.before.before.before.before in
-    read-fine (file s) s.args.sizes s.args.words (fine c.before.before.before.before.before)
-    (omega (arith, count-is c.before.before.before)) (omega (arith, count-is c.before.before.before, words-length (file s)))
+returns c =
+    let near = c.before.before.before in
+    let far = near.before.before in
+    let s = start far in
+    read-fine (file s) s.args.sizes s.args.words (fine far)
+    (omega (arith, count-is near)) (omega (arith, count-is near, words-length (file s)))

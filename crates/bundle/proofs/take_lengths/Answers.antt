@@ -3,7 +3,7 @@
 use borrow.Author.Rules.{rules}
 use mathlib.Core.List.{List, ◌++◌}
 use mathlib.Core.Path.{◌≡◌, ap, refl, sym, ◌∙◌}
-use Prim.Native.Nat.{ℕ, ◌+◌, ◌*◌, ◌-◌}
+use Prim.Native.Nat.{ℕ, ◌+◌, ◌*◌}
 use native.Mathlib.Omega.{arith}
 use lib.IntN.{ℤ, pos}
 use lib.ListN.{length, drop, set, length-append, length-drop}
@@ -62,16 +62,16 @@ loop-i-smaller c = omega arith
 
 pub loop-i-preserved : goal.loop-i-preserved
 loop-i-preserved c =
-    let p = c in
-    let i = p.loop-i.i in
+    let place = c.before.before.before in
+    let i = c.loop-i.i in
     let fit : SFits w32 c.word_at-size.result = search rules in
-    let size : c.word_at-size.result ≡ pair_length (words_from (file c.before.before.before)) i =
-    c.word_at-size.ensures ∙ ap (word_at (file c.before.before.before)) (let z : 12 + 8 * i ≡ 4 * (3 + 2 * i) = omega arith in z)
-    ∙ sym (word-from (file c.before.before.before) (3 + 2 * i) (omega arith)) in (
+    let size : c.word_at-size.result ≡ pair_length (words_from (file place)) i =
+    c.word_at-size.ensures ∙ ap (word_at (file place)) (let z : 12 + 8 * i ≡ 4 * (3 + 2 * i) = omega arith in z)
+    ∙ sym (word-from (file place) (3 + 2 * i) (omega arith)) in (
       omega arith,
-      ap (set p.loop-i.lengths i) (to_z-of_z fit ∙ size)
-          ∙ ap (λ l. set l i (pair_length (words_from (file c.before.before.before)) i)) p.loop-i.invariant.1
-          ∙ set-table (pair_length (words_from (file c.before.before.before))) (pos 0) (first c.before.before.before) i (omega arith),
+      ap (set c.loop-i.lengths i) (to_z-of_z fit ∙ size)
+          ∙ ap (λ l. set l i (pair_length (words_from (file place)) i)) c.loop-i.invariant.1
+          ∙ set-table (pair_length (words_from (file place))) (pos 0) (first place) i (omega arith),
     )
 
 pub shape_of-lengths : goal.shape_of-lengths
@@ -79,6 +79,6 @@ shape_of-lengths c = long c.before.before
 
 pub returns : goal.returns
 returns c =
-    let p = c in
-    let all : p.loop-i.i ≡ p.args.bodies = omega arith in
-    p.loop-i.invariant.1 ∙ ap (λ k. table k (pair_length (words_from (file c.before.before))) ++ drop k (first c.before.before)) all
+    let all : c.loop-i.i ≡ c.args.bodies = omega arith in
+    c.loop-i.invariant.1
+    ∙ ap (λ k. table k (pair_length (words_from (file c.before.before))) ++ drop k (first c.before.before)) all

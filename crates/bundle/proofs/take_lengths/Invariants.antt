@@ -2,7 +2,7 @@
 -- words are as they were. The measure is the number of lengths that are left. Assumes nothing.
 use mathlib.Core.List.{◌++◌}
 use mathlib.Core.Path.{◌≡◌}
-use Prim.Native.Nat.{◌+◌, ◌-◌, ◌≤◌}
+use Prim.Native.Nat.{◌-◌, ◌≤◌}
 use lib.ListN.{drop}
 use Rattle.whole.specs.Tables.{table}
 use Rattle.rules.specs.Program.Bytes.{words_from}

@@ -1,7 +1,7 @@
 -- `bundle::write` meets its contract: the head is filled, and head and words are put as bytes, one behind the other.
 -- Assumes nothing.
 use borrow.Author.Rules.{rules}
-use mathlib.Core.List.{List}
+use mathlib.Core.List.{List, []}
 use mathlib.Core.Path.{◌≡◌, ap, refl, sym, ◌∙◌}
 use Prim.Native.Nat.{ℕ, zero, suc, ◌*◌}
 use native.Mathlib.Omega.{arith}
@@ -106,42 +106,58 @@ pub writer_refusal-refused-requires : goal.writer_refusal-refused-requires
 writer_refusal-refused-requires c = search rules
 
 pub returns-then-refused-ne0 : goal.returns-then-refused-ne0
-returns-then-refused-ne0 c = let a = c in let s = c in record { number = a.writer_refusal-refused.ensures; output = kept a.writer_refusal-refused.result s.args.edition s.args.lengths.now s.args.words.now
-      s.args.file.now c.if-refused-ne0.true }
+returns-then-refused-ne0 c = record {
+  number = c.writer_refusal-refused.ensures;
+  output = kept c.writer_refusal-refused.result c.args.edition c.args.lengths.now c.args.words.now
+      c.args.file.now c.if-refused-ne0.true;
+}
 
 pub slice_bounds-fill-end : goal.slice_bounds-fill-end
 slice_bounds-fill-end c = search rules
 
 pub fill-size-requires : goal.fill-size-requires
-fill-size-requires c = let p = c in (
+fill-size-requires c = (
   placed c.before.before,
   omega (arith, (placed c.before.before).counts.few),
   omega (arith, (accepted c.before.before).edition-most, editions-few),
 )
 
 pub slice_bounds-front-end : goal.slice_bounds-front-end
-slice_bounds-front-end c = let k = c in
-    omega (arith, size_is c.before.before, front_long c.before.before, length-take k.fill-size.result k.fill-size.new.front)
+slice_bounds-front-end c =
+    let cut = length-take c.fill-size.result c.fill-size.new.front in
+    omega (arith, size_is c.before.before, front_long c.before.before, cut)
 
 pub slice_bounds-bytes_of-end : goal.slice_bounds-bytes_of-end
 slice_bounds-bytes_of-end c = size_is c.before.before.before ∙ sym (front_long c.before.before.before)
 
 pub bytes_of-requires : goal.bytes_of-requires
-bytes_of-requires c = let k = c in omega (arith, front_long c.before.before.before, (accepted c.before.before.before.before.before).roomy)
+bytes_of-requires c =
+    let near = c.before.before.before in
+    let far = near.before.before in
+    omega (arith, front_long near, (accepted far).roomy)
 
 pub overflow_mul-size : goal.overflow_mul-size
-overflow_mul-size c = let k = c in
-    omega (arith, size_is c.before.before.before.before.before.before.before, (placed c.before.before.before.before.before.before.before.before.before).counts.few)
+overflow_mul-size c =
+    let near = c.before.before.before.before.before.before.before in
+    let far = near.before.before in
+    omega (arith, size_is near, (placed far).counts.few)
 
 pub bytes_of-requires-2 : goal.bytes_of-requires-2
-bytes_of-requires-2 c = let b = c in let k = c in
-    omega (arith, size_is c.before.before.before.before.before.before.before, (accepted c.before.before.before.before.before.before.before.before.before).roomy, long c.before.before.before)
+bytes_of-requires-2 c =
+    let near = c.before.before.before in
+    let mid = near.before.before.before.before in
+    let far = mid.before.before in
+    omega (arith, size_is mid, (accepted far).roomy, long near)
 
 pub shape_of-file : goal.shape_of-file
 shape_of-file c = search rules
 
 pub returns : goal.returns
-returns c = let b = c in let k = filled c.before.before.before.before.before.before.before in record { number = fine (passed k); output = c.bytes_of-2.ensures
-      ∙ ap (λ l. sets l (4 * k.fill-size.result) (bytes_from (words (passed k)))) (first-put c.before.before.before.before.before.before.before)
+returns c = let k = filled c.before.before.before.before.before.before.before in record {
+  number = fine (passed k);
+  output = c.bytes_of-2.ensures
+      ∙ ap (λ l. sets l (4 * k.fill-size.result) (bytes_from (words (passed k))))
+      (first-put c.before.before.before.before.before.before.before)
       ∙ file-put (e (passed k)) (lengths (passed k)) (words (passed k)) (file (passed k)) (accepted (passed k)).roomy
-      k.fill-size.result (size_is k) }
+      k.fill-size.result (size_is k);
+}

@@ -3,12 +3,10 @@ use mathlib.Core.Path.{◌≡◌, ap, sym, ◌∙◌}
 use mathlib.Core.Bool.{Bool, true, ◌&&◌}
 use Prim.Native.Nat.{ℕ, ◌+◌, ◌<◌}
 use native.Mathlib.Omega.{arith}
-use borrow.Author.Rules.{rules}
 use lib.IntN.{nat_abs}
 use mir.Facts.{to_z-of_z}
 use Rattle.whole.specs.Numbers.{Within}
 use Rattle.whole.proofs.Lists.Below.{all-each}
-use Rattle.whole.proofs.Bools.{not-true, not-false}
 use Rattle.whole.proofs.Numbers.Sizes.{within-le}
 use Rattle.whole.proofs.Tells.{tells-within}
 use Rattle.rules.specs.Sizes.{largest_numerator}
@@ -17,11 +15,9 @@ use Rattle.parts.specs.Reads.{numerators_fit, rows_hold}
 use Rattle.can.proofs.half_holds.Goals as goal
 use Rattle.can.proofs.half_holds.Goals.{After-numerators_fit, Else-not-numerators_fit, Start}
 
-pub overflow_add-columns : goal.overflow_add-columns
-overflow_add-columns c = search rules
-
 pub numerators_fit-requires : goal.numerators_fit-requires
-numerators_fit-requires c = simp (to_z-of_z c.ranges.largest) ((omega arith, omega arith), c.requires.pos_bound)
+numerators_fit-requires c = simp (to_z-of_z c.ranges.largest)
+    (record { variables_le_most_variables = (omega arith, omega arith); pos_bound = c.requires.pos_bound })
 
 module _ (c : After-numerators_fit) where
   abbrev start : Start
@@ -34,12 +30,12 @@ module _ (c : After-numerators_fit) where
 pub returns-then-not-numerators_fit : goal.returns-then-not-numerators_fit
 returns-then-not-numerators_fit c = let s = start c.before in
     ap (λ (b : Bool). b && rows_hold s.args.entries.now s.args.half.now s.args.rows s.args.columns)
-    (sym (not-true _ c.if-not-numerators_fit.true) ∙ fit_is c.before)
+    (sym (c.if-not-numerators_fit.true) ∙ fit_is c.before)
 
 module _ (c : Else-not-numerators_fit) where
   fits : numerators_fit (nat_abs (start c.before).args.largest) (start c.before).args.half.now
       ((start c.before).args.columns + (start c.before).args.rows) ≡ true
-  fits = sym (fit_is c.before) ∙ not-false _ c.if-not-numerators_fit.false
+  fits = sym (fit_is c.before) ∙ c.if-not-numerators_fit.false
 
   each : (v : ℕ) → v < (start c.before).args.columns + (start c.before).args.rows →
       Within (lower_part (start c.before).args.half.now v) largest_numerator
@@ -47,7 +43,11 @@ module _ (c : Else-not-numerators_fit) where
 
 pub rows_hold-requires : goal.rows_hold-requires
 rows_hold-requires c = let p = (start c.before).requires in
-    ((p.0.0, p.0.1, p.0.2), (p.1.0, λ v h. each c v (omega arith)))
+    record {
+      rows_le_most_rows = p.rows_le_most_rows;
+      all_within = p.all_within;
+      by_index = λ v h. each c v (omega arith);
+    }
 
 pub returns : goal.returns
 returns c = let s = start c.before.before in

@@ -1,7 +1,7 @@
 -- `can::is_zero` meets its contract. The invariant: whether the numbers passed are 0. The measure is how
 -- many are left. Assumes nothing.
 use mathlib.Core.Path.{◌≡◌, sym}
-use Prim.Native.Nat.{ℕ, ◌-◌}
+use Prim.Native.Nat.{ℕ}
 use native.Mathlib.Omega.{arith}
 use borrow.Author.Rules.{sfits_of}
 use lib.Dec.{lit<}
@@ -17,15 +17,6 @@ use Rattle.can.proofs.is_zero.Goals.{After-fine-1, After-loop-v, Start}
 
 pub loop-v-init : goal.loop-v-init
 loop-v-init c = (omega arith, sym (all_start _))
-
-pub overflow_add-at : goal.overflow_add-at
-overflow_add-at c = omega arith
-
-pub offset_bounds-half-at : goal.offset_bounds-half-at
-offset_bounds-half-at c = omega arith
-
-pub bounds-half-at : goal.bounds-half-at
-bounds-half-at c = omega arith
 
 -- the word; a test of its bits for 0 is one of the number
 module _ (c : After-fine-1) where
@@ -43,12 +34,6 @@ module _ (c : After-fine-1) where
 
   zero-fits : SFits w64 (pos 0)
   zero-fits = record { sfits = lit< tt }
-
-pub overflow_step-v : goal.overflow_step-v
-overflow_step-v c = omega arith
-
-pub loop-v-smaller : goal.loop-v-smaller
-loop-v-smaller c = omega arith
 
 pub loop-v-preserved : goal.loop-v-preserved
 loop-v-preserved c = (

@@ -2,7 +2,7 @@
 -- measure is how many are left. Assumes nothing.
 use mathlib.Core.Path.{◌≡◌, ap, ap₂, sym, ◌∙◌}
 use mathlib.Core.Bool.{Bool, ◌&&◌}
-use Prim.Native.Nat.{ℕ, ◌-◌}
+use Prim.Native.Nat.{ℕ}
 use native.Mathlib.Omega.{arith}
 use borrow.Author.Rules.{sfits_of}
 use lib.IntN.{ℤ}
@@ -21,33 +21,6 @@ use Rattle.can.proofs.limits_hold.Goals.{After-at_least-arg-1, After-at_most-und
 pub loop-v-init : goal.loop-v-init
 unfolding limits_up_to
 loop-v-init c = (omega arith, sym (all_start _))
-
-pub overflow_add-at : goal.overflow_add-at
-overflow_add-at c = omega arith
-
-pub overflow_add-beside : goal.overflow_add-beside
-overflow_add-beside c = omega arith
-
-pub overflow_add-beside-in-loop-v : goal.overflow_add-beside-in-loop-v
-overflow_add-beside-in-loop-v c = omega arith
-
-pub offset_bounds-answer-at : goal.offset_bounds-answer-at
-offset_bounds-answer-at c = omega arith
-
-pub bounds-answer-at : goal.bounds-answer-at
-bounds-answer-at c = omega arith
-
-pub offset_bounds-answer-beside : goal.offset_bounds-answer-beside
-offset_bounds-answer-beside c = omega arith
-
-pub bounds-answer-beside : goal.bounds-answer-beside
-bounds-answer-beside c = omega arith
-
-pub offset_bounds-limits-v : goal.offset_bounds-limits-v
-offset_bounds-limits-v c = omega arith
-
-pub bounds-limits-v : goal.bounds-limits-v
-bounds-limits-v c = omega arith
 
 -- the variable, its numerator and its small part
 module _ (c : After-at_least-arg-1) where
@@ -71,17 +44,17 @@ module _ (c : After-at_least-arg-1) where
 
 pub at_least-over-requires : goal.at_least-over-requires
 at_least-over-requires c = let s = start c in
-    simp (to_z-of_z s.ranges.denominator) (s.requires.variables_le_most_variables.2, s.requires.limited.lowers-within (place c))
-
-pub offset_bounds-limits-v-in-loop-v : goal.offset_bounds-limits-v-in-loop-v
-offset_bounds-limits-v-in-loop-v c = omega arith
-
-pub bounds-limits-v-in-loop-v : goal.bounds-limits-v-in-loop-v
-bounds-limits-v-in-loop-v c = omega arith
+    simp (to_z-of_z s.ranges.denominator) (
+      s.requires.variables_le_most_variables.2,
+      s.requires.limited.lowers-within (place c),
+    )
 
 pub at_most-under-requires : goal.at_most-under-requires
-at_most-under-requires c = let r = c in let s = start c.before.before in
-    simp (to_z-of_z s.ranges.denominator) (s.requires.variables_le_most_variables.2, s.requires.limited.uppers-within (place c.before.before))
+at_most-under-requires c = let s = start c.before.before in
+    simp (to_z-of_z s.ranges.denominator) (
+      s.requires.variables_le_most_variables.2,
+      s.requires.limited.uppers-within (place c.before.before),
+    )
 
 -- what the two calls say
 module _ (c : After-at_most-under) where
@@ -98,19 +71,13 @@ module _ (c : After-at_most-under) where
   test v = meets_both (lower_of (limits read) v) (upper_of (limits read) v) begun.args.denominator
       (pair_part begun.args.variables begun.args.answer.now v)
 
-  over : c.at_least_lem.result ≡ at_least (lower_of (limits read) v) begun.args.denominator (pair read)
+  over : c.at_least-over.result ≡ at_least (lower_of (limits read) v) begun.args.denominator (pair read)
   over = simp (to_z-of_z begun.ranges.denominator, to_z-of_z (fit-x read), to_z-of_z (fit_small read))
-      at c.at_least_lem.ensures
+      at c.at_least-over.ensures
 
   under : c.at_most-under.result ≡ at_most (upper_of (limits read) v) begun.args.denominator (pair read)
   under = simp (to_z-of_z begun.ranges.denominator, to_z-of_z (fit-x read), to_z-of_z (fit_small read))
       at c.at_most-under.ensures
-
-pub overflow_step-v : goal.overflow_step-v
-overflow_step-v c = omega arith
-
-pub loop-v-smaller : goal.loop-v-smaller
-loop-v-smaller c = omega arith
 
 pub loop-v-preserved : goal.loop-v-preserved
 unfolding limits_up_to
@@ -125,6 +92,6 @@ all : (c : After-loop-v) → c.loop-v.v ≡ c.args.variables
 all c = omega arith
 
 pub returns : goal.returns
-returns c = let s = c in let o = s.args in
-    simp (to_z-of_z s.ranges.denominator) at c.loop-v.invariant.1
-    ∙ ap (limits_up_to o.t1 o.answer.now o.variables o.denominator) (all c)
+returns c = let o = c.args in
+    simp (to_z-of_z c.ranges.denominator) at c.loop-v.invariant.1
+    ∙ ap (limits_up_to o.limits o.answer.now o.variables o.denominator) (all c)

@@ -2,7 +2,7 @@
 -- measure is how many are left. Assumes nothing.
 use mathlib.Core.Path.{◌≡◌, ap, sym, ◌∙◌}
 use mathlib.Core.Bool.{not}
-use Prim.Native.Nat.{ℕ, ◌-◌}
+use Prim.Native.Nat.{ℕ}
 use native.Mathlib.Omega.{arith}
 use borrow.Author.Rules.{sfits_of}
 use lib.IntN.{ℤ, nat_abs, neg_ℤ, +ℤ_idl}
@@ -21,23 +21,11 @@ use Rattle.can.proofs.numerators_fit.Goals.{After-is_outside, After-loop-v, Star
 pub loop-v-init : goal.loop-v-init
 loop-v-init c = (omega arith, sym (all_start _))
 
-pub overflow_add-at : goal.overflow_add-at
-overflow_add-at c = omega arith
-
-pub offset_bounds-half-at : goal.offset_bounds-half-at
-offset_bounds-half-at c = omega arith
-
-pub bounds-half-at : goal.bounds-half-at
-bounds-half-at c = omega arith
-
 negated : (s : Start) → SFits w64 (neg_ℤ s.args.largest)
 negated s = fits-by (within-neg s.requires.pos_bound.1) tt
 
 pub overflow_sub-largest : goal.overflow_sub-largest
-overflow_sub-largest c = let s = c in simp (to_z-of_z s.ranges.largest, +ℤ_idl) (negated c.before.before.before)
-
-pub is_outside-requires : goal.is_outside-requires
-is_outside-requires c = tt
+overflow_sub-largest c = simp (to_z-of_z c.ranges.largest, +ℤ_idl) (negated c.before.before.before)
 
 -- the numerator, and what the call says of it
 module _ (c : After-is_outside) where
@@ -57,12 +45,6 @@ module _ (c : After-is_outside) where
   told = ap not ((simp (to_z-of_z fit, to_z-of_z start.ranges.largest, +ℤ_idl, to_z-of_z (negated start))
       at c.is_outside.ensures) ∙ outside-largest start.args.largest number start.requires.pos_bound.0)
       ∙ not-not (within (nat_abs start.args.largest) number)
-
-pub overflow_step-v : goal.overflow_step-v
-overflow_step-v c = omega arith
-
-pub loop-v-smaller : goal.loop-v-smaller
-loop-v-smaller c = omega arith
 
 pub loop-v-preserved : goal.loop-v-preserved
 loop-v-preserved c = let f = (start c).ranges.largest in (

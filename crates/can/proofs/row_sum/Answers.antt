@@ -1,7 +1,7 @@
 -- `can::row_sum` meets its contract. The invariant: the sum is that of the columns passed, and is within so
 -- many times the largest coefficient times the largest numerator. The measure is the columns left. Assumes nothing.
 use mathlib.Core.Path.{◌≡◌, refl, ap, sym, ◌∙◌}
-use Prim.Native.Nat.{ℕ, ◌+◌, ◌*◌, ◌-◌, ◌≤◌, ◌<◌}
+use Prim.Native.Nat.{ℕ, ◌+◌, ◌*◌, ◌≤◌, ◌<◌}
 use native.Mathlib.Omega.{arith}
 use borrow.Author.Rules.{sfits_of}
 use lib.IntN.{ℤ, pos, ◌+ℤ◌, ◌*ℤ◌}
@@ -25,15 +25,6 @@ pub loop-j-init : goal.loop-j-init
 unfolding row_up_to sum_by
 loop-j-init c = (omega arith, refl)
 
-pub overflow_cast-j : goal.overflow_cast-j
-overflow_cast-j c = omega arith
-
-pub place-k-requires : goal.place-k-requires
-place-k-requires c = (omega arith, omega arith, omega arith, omega arith)
-
-pub overflow_add-at : goal.overflow_add-at
-overflow_add-at c = omega arith
-
 -- the flat place
 module _ (c : After-place-k) where
   in-entries : c.place-k.result < most_entries
@@ -47,12 +38,6 @@ offset_bounds-entries-k c = let h = in-entries c in omega arith
 
 pub bounds-entries-k : goal.bounds-entries-k
 bounds-entries-k c = let h = in-entries c in omega arith
-
-pub offset_bounds-half-at : goal.offset_bounds-half-at
-offset_bounds-half-at c = omega arith
-
-pub bounds-half-at : goal.bounds-half-at
-bounds-half-at c = omega arith
 
 module _ (c : After-x-1) where
   abbrev start : Start
@@ -100,7 +85,8 @@ module _ (c : After-x-1) where
   unfolding row_up_to
   fit-sum = rw more (fits-by (within-le (sum-within (j + 1) (λ k h. within-term k (omega arith))) bound) tt)
     where
-      bound : (j + 1) * (largest_coefficient * largest_numerator) ≤ most_columns * (largest_coefficient * largest_numerator)
+      bound : (j + 1) * (largest_coefficient * largest_numerator)
+          ≤ most_columns * (largest_coefficient * largest_numerator)
       bound = omega arith
 
 pub overflow_cast-sum : goal.overflow_cast-sum
@@ -119,12 +105,6 @@ overflow_add-sum c =
       c.loop-j.invariant.1,
     )
     (fit-sum c)
-
-pub overflow_step-j : goal.overflow_step-j
-overflow_step-j c = omega arith
-
-pub loop-j-smaller : goal.loop-j-smaller
-loop-j-smaller c = omega arith
 
 pub loop-j-preserved : goal.loop-j-preserved
 loop-j-preserved c = (

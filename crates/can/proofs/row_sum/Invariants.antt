@@ -2,7 +2,6 @@
 -- many times the largest coefficient times the largest numerator. The measure is the columns left. Assumes nothing.
 use mathlib.Core.Path.{◌≡◌}
 use Prim.Native.Nat.{◌-◌, ◌≤◌}
-use Rattle.whole.specs.Sums.{sum}
 use Rattle.parts.specs.Reads.{row_up_to}
 use Rattle.can.proofs.row_sum.Given as goal
 

@@ -1,7 +1,7 @@
 -- `can::rows_hold` meets its contract. The invariant: whether the rows passed hold. The measure is how many
 -- are left. Assumes nothing.
 use mathlib.Core.Path.{◌≡◌, ap, sym, ◌∙◌}
-use Prim.Native.Nat.{ℕ, ◌+◌, ◌-◌}
+use Prim.Native.Nat.{ℕ, ◌+◌}
 use native.Mathlib.Omega.{arith}
 use borrow.Author.Rules.{rules, sfits_of}
 use lib.Dec.{eqb}
@@ -20,24 +20,12 @@ use Rattle.can.proofs.rows_hold.Goals.{After-loop-i, After-row_sum, Start}
 pub loop-i-init : goal.loop-i-init
 loop-i-init c = (omega arith, sym (all_start _))
 
-pub overflow_add-at : goal.overflow_add-at
-overflow_add-at c = omega arith
-
-pub overflow_add-at-in-loop-i : goal.overflow_add-at-in-loop-i
-overflow_add-at-in-loop-i c = omega arith
-
-pub offset_bounds-half-at : goal.offset_bounds-half-at
-offset_bounds-half-at c = omega arith
-
-pub bounds-half-at : goal.bounds-half-at
-bounds-half-at c = omega arith
-
-pub overflow_cast-i : goal.overflow_cast-i
-overflow_cast-i c = omega arith
-
 pub row_sum-requires : goal.row_sum-requires
-row_sum-requires c = let s = c in
-    ((omega arith, omega arith, omega arith, omega arith), (s.requires.all_within, s.requires.by_index))
+row_sum-requires c = record {
+  row_lt_rows = (omega arith, omega arith, omega arith, omega arith);
+  all_within = c.requires.all_within;
+  by_index = c.requires.by_index;
+}
 
 module _ (c : After-row_sum) where
   abbrev start : Start
@@ -59,12 +47,6 @@ told : (c : After-row_sum) → eqb (of_z w64 (number c)) (of_z w64 c.row_sum.res
     ≡ eq_z (number c) (row_sum_at (start c).args.entries.now (start c).args.half.now (start c).args.rows
     (start c).args.columns (place c))
 told c = bits-eq w64 (fit-number c) (fit-sum c) ∙ ap (eq_z (number c)) c.row_sum.ensures
-
-pub overflow_step-i : goal.overflow_step-i
-overflow_step-i c = omega arith
-
-pub loop-i-smaller : goal.loop-i-smaller
-loop-i-smaller c = omega arith
 
 pub loop-i-preserved : goal.loop-i-preserved
 loop-i-preserved c = (omega arith, tests-more (place c) _ c.loop-i.invariant.1 (told c))

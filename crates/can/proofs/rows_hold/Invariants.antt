@@ -11,7 +11,8 @@ use Rattle.can.proofs.rows_hold.Given as goal
 abbrev pub invariant-loop-i : goal.invariant-loop-i
 invariant-loop-i l =
     (l.i ≤ l.rows)
-    × (l.fine ≡ all_below l.i (λ l.i. eq_z (lower_part l.half (l.columns + l.i)) (row_sum_at l.entries l.half l.rows l.columns l.i)))
+    × (l.fine ≡ all_below l.i (λ i. eq_z (lower_part l.half (l.columns + i))
+    (row_sum_at l.entries l.half l.rows l.columns i)))
 
 abbrev pub decreases-loop-i : goal.decreases-loop-i
 decreases-loop-i l = l.rows - l.i

@@ -5,14 +5,13 @@ use mathlib.Core.Bool.{true, false}
 use mathlib.Core.List.{List}
 use Prim.Native.Nat.{ℕ, ◌+◌}
 use native.Mathlib.Omega.{arith}
-use borrow.Author.Rules.{rules, sfits_of}
+use borrow.Author.Rules.{sfits_of}
 use lib.IntN.{ℤ}
 use lib.ListN.{drop}
 use mir.Facts.{to_z-of_z}
 use mir.Syntax.{w64}
 use mir.Val.{SFits}
 use Rattle.whole.specs.Numbers.{Within, outside}
-use Rattle.whole.proofs.Bools.{not-true, not-false}
 use Rattle.whole.proofs.Tells.{tells-outside}
 use Rattle.whole.proofs.Numbers.Tests.{under-size}
 use Rattle.rules.specs.Sizes.{largest_number, largest_numerator, largest_small}
@@ -21,22 +20,14 @@ use Rattle.parts.specs.Reads.{half_holds}
 use Rattle.parts.proofs.Laws.Halves.{lent-half}
 use Rattle.parts.proofs.Laws.Shown.{can-denominator, can-numerators, can-smalls, can-limits}
 use Rattle.can.proofs.shows_can.Goals as goal
-use Rattle.can.proofs.shows_can.Goals.{After-is_outside, After-smalls_hold, Else-is_outside, Else-not-half_holds, Else-not-smalls_hold, Start}
+use Rattle.can.proofs.shows_can.Goals.{After-is_outside, After-smalls_hold, Else-is_outside, Else-not-half_holds}
+use Rattle.can.proofs.shows_can.Goals.{Else-not-smalls_hold, Start}
 
 abbrev answer : Start → List ℤ
 answer s = s.args.answer.now
 
 abbrev variables : Start → ℕ
 variables s = s.args.columns + s.args.rows
-
-pub overflow_add-variables : goal.overflow_add-variables
-overflow_add-variables c = search rules
-
-pub bounds-answer-2 : goal.bounds-answer-2
-bounds-answer-2 c = search rules
-
-pub is_outside-requires : goal.is_outside-requires
-is_outside-requires c = tt
 
 -- ---- what each test says, where it passed; `first` and the like are the start of the call, seen from there
 
@@ -68,7 +59,7 @@ module _ (c : Else-not-half_holds) where
 
   numerators : half_holds largest_numerator second.args.entries.now (answer second) second.args.rows
       second.args.columns ≡ true
-  numerators = sym c.half_holds.ensures ∙ not-false _ c.if-not-half_holds.false
+  numerators = sym c.half_holds.ensures ∙ c.if-not-half_holds.false
 
 module _ (c : After-smalls_hold) where
   abbrev passed : Else-not-half_holds
@@ -86,35 +77,18 @@ module _ (c : After-smalls_hold) where
 -- ---- the calls and the returns-then-is_outside
 
 pub returns-then-is_outside : goal.returns-then-is_outside
-returns-then-is_outside c = sym (can-denominator (start c.before).requires (sym (outside-is c.before) ∙ c.if-is_outside.true))
-
-pub half_holds-requires : goal.half_holds-requires
-half_holds-requires c = search rules
+returns-then-is_outside c = sym (can-denominator (start c.before).requires
+    (sym (outside-is c.before) ∙ c.if-is_outside.true))
 
 pub returns-then-not-half_holds : goal.returns-then-not-half_holds
-returns-then-not-half_holds c = let b = c in
+returns-then-not-half_holds c =
     sym (can-numerators (first c.before.before).requires (in-range c.before.before)
-    (sym b.half_holds.ensures ∙ not-true _ c.if-not-half_holds.true))
-
-pub offset_bounds-answer-variables : goal.offset_bounds-answer-variables
-offset_bounds-answer-variables c = search rules
-
-pub slice_bounds-smalls_hold-count : goal.slice_bounds-smalls_hold-count
-slice_bounds-smalls_hold-count c = search rules
-
-pub slice_bounds-smalls_hold-start : goal.slice_bounds-smalls_hold-start
-slice_bounds-smalls_hold-start c = search rules
-
-pub slice_bounds-smalls_hold-end : goal.slice_bounds-smalls_hold-end
-slice_bounds-smalls_hold-end c = search rules
-
-pub smalls_hold-requires : goal.smalls_hold-requires
-smalls_hold-requires c = search rules
+    (sym c.half_holds.ensures ∙ c.if-not-half_holds.true))
 
 pub returns-then-not-smalls_hold : goal.returns-then-not-smalls_hold
-returns-then-not-smalls_hold c = let a = c in let b = passed c.before in
+returns-then-not-smalls_hold c = let b = passed c.before in
     sym (can-smalls (third c.before).requires (in-range b.before.before) (numerators b)
-    (sym (smalls-are c.before) ∙ not-true _ c.if-not-smalls_hold.true))
+    (sym (smalls-are c.before) ∙ c.if-not-smalls_hold.true))
 
 module _ (c : Else-not-smalls_hold) where
   abbrev fourth : Start
@@ -129,10 +103,15 @@ module _ (c : Else-not-smalls_hold) where
 pub limits_hold-requires : goal.limits_hold-requires
 limits_hold-requires c = let p = (fourth c).requires in
     simp (to_z-of_z (denominator-fits c))
-    ((omega (arith, p.few-rows, p.few-columns), p.long, within c.before.before.before.before.before), p.limited)
+    (record {
+      variables_le_most_variables =
+          (omega (arith, p.few-rows, p.few-columns), p.long, within c.before.before.before.before.before);
+      limited = p.limited;
+    })
 
 pub returns : goal.returns
-returns c = let e = c in let a = c in
+returns c =
     simp (to_z-of_z (denominator-fits c.before)) at c.limits_hold.ensures
-    ∙ sym (can-limits (fourth c.before).requires (in-range c.before.before.before.before.before.before) (numerators c.before.before.before.before)
-    (sym (smalls-are c.before.before) ∙ not-false _ e.if-not-smalls_hold.false))
+    ∙ sym (can-limits (fourth c.before).requires (in-range c.before.before.before.before.before.before)
+    (numerators c.before.before.before.before)
+    (sym (smalls-are c.before.before) ∙ c.if-not-smalls_hold.false))

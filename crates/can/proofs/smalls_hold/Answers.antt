@@ -1,23 +1,10 @@
 -- `can::smalls_hold` meets its contract: zeros are in range, and the rows hold of them. Assumes nothing.
 use mathlib.Core.Path.{sym, ◌∙◌}
-use borrow.Author.Rules.{rules}
 use Rattle.rules.specs.Sizes.{largest_small}
 use Rattle.parts.proofs.Laws.Halves.{zeros-hold}
 use Rattle.can.proofs.smalls_hold.Goals as goal
-
-pub overflow_add-columns : goal.overflow_add-columns
-overflow_add-columns c = search rules
-
-pub is_zero-requires : goal.is_zero-requires
-is_zero-requires c = search rules
 
 pub returns-then-is_zero : goal.returns-then-is_zero
 returns-then-is_zero c = let s = c.args in
     sym (zeros-hold s.entries.now s.half.now s.rows s.columns
     (sym c.is_zero.ensures ∙ c.if-is_zero.true) largest_small)
-
-pub half_holds-requires : goal.half_holds-requires
-half_holds-requires c = search rules
-
-pub returns : goal.returns
-returns c = c.half_holds.ensures

@@ -1,7 +1,7 @@
 -- `cannot::balance` meets its contract: the difference is within twice the largest number. Assumes nothing.
 use Prim.Native.Nat.{ℕ}
 use native.Mathlib.Omega.{arith}
-use borrow.Author.Rules.{rules, sfits_of}
+use borrow.Author.Rules.{sfits_of}
 use lib.IntN.{ℤ, ◌-ℤ◌}
 use mir.Facts.{to_z-of_z}
 use mir.Syntax.{w64}
@@ -10,30 +10,6 @@ use Rattle.whole.proofs.Numbers.Sizes.{within--, fits-by}
 use Rattle.rules.specs.Evidence.{lower_part, upper_part}
 use Rattle.cannot.proofs.balance.Goals as goal
 use Rattle.cannot.proofs.balance.Goals.{After-result-2-1, Start}
-
-pub overflow_cast-v : goal.overflow_cast-v
-overflow_cast-v c = search rules
-
-pub overflow_add-low : goal.overflow_add-low
-overflow_add-low c = omega arith
-
-pub overflow_add-high : goal.overflow_add-high
-overflow_add-high c = omega arith
-
-pub overflow_add-high-2 : goal.overflow_add-high-2
-overflow_add-high-2 c = omega arith
-
-pub offset_bounds-answer-low : goal.offset_bounds-answer-low
-offset_bounds-answer-low c = omega arith
-
-pub bounds-answer-low : goal.bounds-answer-low
-bounds-answer-low c = omega arith
-
-pub offset_bounds-answer-high : goal.offset_bounds-answer-high
-offset_bounds-answer-high c = omega arith
-
-pub bounds-answer-high : goal.bounds-answer-high
-bounds-answer-high c = omega arith
 
 module _ (c : After-result-2-1) where
   abbrev start : Start

@@ -2,7 +2,7 @@
 -- rows passed, each term within the largest coefficient times twice the largest number. The measure is the rows left.
 -- Assumes nothing.
 use mathlib.Core.Path.{◌≡◌, ap, ap₂, sym, ◌∙◌}
-use Prim.Native.Nat.{ℕ, ◌+◌, ◌*◌, ◌-◌, ◌≤◌, ◌<◌}
+use Prim.Native.Nat.{ℕ, ◌+◌, ◌*◌, ◌≤◌, ◌<◌}
 use native.Mathlib.Omega.{arith}
 use borrow.Author.Rules.{rules, sfits_of}
 use lib.IntN.{ℤ, pos, ◌+ℤ◌, ◌*ℤ◌, +ℤ_idr, +ℤ_assoc}
@@ -19,13 +19,14 @@ use Rattle.layout.specs.Layout.{most_entries, entry_in}
 use Rattle.layout.proofs.Laws.Layout.{flat_in}
 use Rattle.parts.specs.Reads.{balance_at, column_up_to}
 use Rattle.cannot.proofs.column_sum.Goals as goal
-use Rattle.cannot.proofs.column_sum.Goals.{After-balance, After-e-1, After-loop-i, After-own_balance-sum, After-place-k, Start}
-
-pub overflow_add-variables : goal.overflow_add-variables
-overflow_add-variables c = omega arith
+use Rattle.cannot.proofs.column_sum.Goals.{After-balance, After-e-1, After-loop-i, After-own_balance-sum}
+use Rattle.cannot.proofs.column_sum.Goals.{After-place-k, Start}
 
 pub own_balance-sum-requires : goal.own_balance-sum-requires
-own_balance-sum-requires c = record { column_lt_variables = (omega arith, omega arith, omega arith); multiplied = c.requires.multiplied }
+own_balance-sum-requires c = record {
+  column_lt_variables = (omega arith, omega arith, omega arith);
+  multiplied = c.requires.multiplied;
+}
 
 fit-first : (c : After-own_balance-sum) → SFits w64 c.own_balance-sum.result
 fit-first c = search rules
@@ -33,12 +34,6 @@ fit-first c = search rules
 pub loop-i-init : goal.loop-i-init
 unfolding column_up_to sum_by
 loop-i-init c = (omega arith, to_z-of_z (fit-first c) ∙ c.own_balance-sum.ensures ∙ sym (+ℤ_idr _))
-
-pub overflow_cast-i : goal.overflow_cast-i
-overflow_cast-i c = omega arith
-
-pub place-k-requires : goal.place-k-requires
-place-k-requires c = (omega arith, omega arith, omega arith, omega arith)
 
 -- the flat place
 module _ (c : After-place-k) where
@@ -68,14 +63,11 @@ module _ (c : After-e-1) where
 pub overflow_cast-sum : goal.overflow_cast-sum
 overflow_cast-sum c = simp (to_z-of_z (fit-entry c)) (wide-entry c)
 
-pub overflow_add-columns : goal.overflow_add-columns
-overflow_add-columns c = omega arith
-
-pub overflow_cast-columns : goal.overflow_cast-columns
-overflow_cast-columns c = omega arith
-
 pub balance-requires : goal.balance-requires
-balance-requires c = record { variable_lt_variables = (omega arith, omega arith, omega arith); multiplied = c.requires.multiplied }
+balance-requires c = record {
+  variable_lt_variables = (omega arith, omega arith, omega arith);
+  multiplied = c.requires.multiplied;
+}
 
 module _ (c : After-balance) where
   abbrev start : Start
@@ -107,9 +99,11 @@ module _ (c : After-balance) where
 
   within-balance : (v : ℕ) → v < variables →
       Within (balance_at start.args.answer.now variables v) (largest_number + largest_number)
-  within-balance v h = within-- (start.requires.multiplied.lower-within v h) (start.requires.multiplied.upper-within v h)
+  within-balance v h = within-- (start.requires.multiplied.lower-within v h)
+      (start.requires.multiplied.upper-within v h)
 
-  within-term : (k : ℕ) → k < start.args.rows → Within (term k) (largest_coefficient * (largest_number + largest_number))
+  within-term : (k : ℕ) → k < start.args.rows
+      → Within (term k) (largest_coefficient * (largest_number + largest_number))
   within-term k h = within-* (start.requires.all_within.each _) (within-balance (start.args.columns + k) (omega arith))
 
   fit-term : SFits w64 (read *ℤ c.balance.result)
@@ -143,12 +137,6 @@ overflow_add-sum c = simp (
   to_z-of_z (fit-term c),
   c.loop-i.invariant.1,
 ) (fit-sum c)
-
-pub overflow_step-i : goal.overflow_step-i
-overflow_step-i c = omega arith
-
-pub loop-i-smaller : goal.loop-i-smaller
-loop-i-smaller c = omega arith
 
 pub loop-i-preserved : goal.loop-i-preserved
 loop-i-preserved c = (

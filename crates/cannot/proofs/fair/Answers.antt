@@ -11,15 +11,12 @@ use Rattle.whole.proofs.Tells.{bits-eq}
 use Rattle.parts.proofs.Laws.Tests.{fair-joined}
 use Rattle.cannot.proofs.fair.Goals as goal
 
-pub is_outside-requires : goal.is_outside-requires
-is_outside-requires c = tt
-
 zero-fits : SFits w64 (pos 0)
 zero-fits = record { sfits = lit< tt }
 
 pub returns : goal.returns
 unfolding outside
-returns c = let o = c in
-    ap₂ (λ (a b : Bool). (o.args.limit.on && not a) || b)
-    (simp (to_z-of_z o.ranges.k) at c.is_outside.ensures)
-    (bits-eq w64 o.ranges.k zero-fits) ∙ fair-joined o.args.limit.on _ o.args.k
+returns c =
+    ap₂ (λ (a b : Bool). (c.args.limit.on && not a) || b)
+    (simp (to_z-of_z c.ranges.k) at c.is_outside.ensures)
+    (bits-eq w64 c.ranges.k zero-fits) ∙ fair-joined c.args.limit.on _ c.args.k

@@ -12,7 +12,7 @@ use mir.Facts.{to_z-of_z}
 use mir.Syntax.{w64}
 use mir.Val.{SFits, of_z, to_z}
 use Rattle.whole.specs.Numbers.{eq_z}
-use Rattle.whole.proofs.Bools.{not-true, not-false}
+use Rattle.whole.proofs.Bools.{not-true}
 use Rattle.whole.proofs.Tells.{tells-eq_z, tells-true, tells-false}
 use Rattle.rules.specs.Evidence.{denominator_of}
 use Rattle.parts.specs.Reads.{Multiplied, multipliers_fair, columns_cancel, surplus_of}
@@ -20,19 +20,15 @@ use Rattle.parts.proofs.Laws.Shown.{cannot-denominator, cannot-multipliers, cann
 use Rattle.parts.proofs.Laws.Shown.{cannot-plain, cannot-strict}
 use Rattle.parts.proofs.Laws.Weights.{multiplied}
 use Rattle.cannot.proofs.shows_cannot.Goals as goal
-use Rattle.cannot.proofs.shows_cannot.Goals.{After-surplus-total, After-t9-1, Else-answer-ne0, Else-not-columns_cancel, Else-not-multipliers_fair, Else-total-ne0, Start, Then-total-ne0}
+use Rattle.cannot.proofs.shows_cannot.Goals.{After-surplus-total, After-t9-1, Else-answer-ne0}
+use Rattle.cannot.proofs.shows_cannot.Goals.{Else-not-columns_cancel, Else-not-multipliers_fair, Else-total-ne0}
+use Rattle.cannot.proofs.shows_cannot.Goals.{Start, Then-total-ne0}
 
 abbrev answer : Start → List ℤ
 answer s = s.args.answer.now
 
 abbrev variables : Start → ℕ
 variables s = s.args.columns + s.args.rows
-
-pub overflow_add-variables : goal.overflow_add-variables
-overflow_add-variables c = search rules
-
-pub bounds-answer-2 : goal.bounds-answer-2
-bounds-answer-2 c = search rules
 
 -- ---- what each test says, where it passed; `second` and `third` are the start of the call, seen from there
 
@@ -47,7 +43,7 @@ module _ (c : Else-not-multipliers_fair) where
   second = c.before.before.before.before
 
   fair : multipliers_fair second.args.limits (answer second) (variables second) ≡ true
-  fair = sym c.multipliers_fair.ensures ∙ not-false _ c.if-not-multipliers_fair.false
+  fair = sym c.multipliers_fair.ensures ∙ c.if-not-multipliers_fair.false
 
   many : Multiplied (answer second) (variables second)
   many = multiplied _ _ _ fair
@@ -57,35 +53,40 @@ module _ (c : Else-not-columns_cancel) where
   third = second c.before.before
 
   cancel : columns_cancel third.args.entries.now (answer third) third.args.rows third.args.columns ≡ true
-  cancel = sym c.columns_cancel.ensures ∙ not-false _ c.if-not-columns_cancel.false
+  cancel = sym c.columns_cancel.ensures ∙ c.if-not-columns_cancel.false
 
 -- ---- the calls and the returns-then-answer-ne0
 
 pub returns-then-answer-ne0 : goal.returns-then-answer-ne0
-returns-then-answer-ne0 c = let s = c in
+returns-then-answer-ne0 c = let s = c.before.before in
     sym (cannot-denominator s.requires (tells-false (tells-eq_z (denominator_of (answer s)) (pos 0))
     (λ e. c.if-answer-ne0.true (ap (of_z w64) e))))
 
-pub multipliers_fair-requires : goal.multipliers_fair-requires
-multipliers_fair-requires c = search rules
-
 pub returns-then-not-multipliers_fair : goal.returns-then-not-multipliers_fair
-returns-then-not-multipliers_fair c = let b = c in
-    sym (cannot-multipliers b.requires (zero c.before.before)
-    (sym b.multipliers_fair.ensures ∙ not-true _ c.if-not-multipliers_fair.true))
+returns-then-not-multipliers_fair c =
+    sym (cannot-multipliers c.requires (zero c.before.before)
+    (sym c.multipliers_fair.ensures ∙ c.if-not-multipliers_fair.true))
 
 pub columns_cancel-requires : goal.columns_cancel-requires
 columns_cancel-requires c = let p = (second c).requires in
-    ((p.few-rows, p.few-columns, p.long), (p.entries-within, many c))
+    record {
+      rows_le_most_rows = (p.few-rows, p.few-columns, p.long);
+      all_within = p.entries-within;
+      multiplied = many c;
+    }
 
 pub returns-then-not-columns_cancel : goal.returns-then-not-columns_cancel
-returns-then-not-columns_cancel c = let b = c in
+returns-then-not-columns_cancel c =
     sym (cannot-columns (second c.before.before).requires (zero c.before.before.before.before) (fair c.before.before)
-    (sym b.columns_cancel.ensures ∙ not-true _ c.if-not-columns_cancel.true))
+    (sym c.columns_cancel.ensures ∙ c.if-not-columns_cancel.true))
 
 pub surplus-total-requires : goal.surplus-total-requires
 surplus-total-requires c = let p = (third c).requires in
-    ((omega arith, p.long), (many c.before.before, p.limited))
+    record {
+      variables_le_most_variables = (omega arith, p.long);
+      multiplied = many c.before.before;
+      limited = p.limited;
+    }
 
 -- ---- the total, which is 0 or not
 
@@ -104,10 +105,11 @@ not-zero c = tells-false (tells-eq_z (total c.before) (pos 0))
     (λ e. c.if-total-ne0.true (ap (of_z w64) (c.surplus-total.ensures ∙ e)))
 
 pub returns-then-total-ne0 : goal.returns-then-total-ne0
-returns-then-total-ne0 c = let b = c in let d = c in
+returns-then-total-ne0 c =
     simp (to_z-of_z (fit-total c.before))
-    (ap (lt_z (pos 0)) b.surplus-total.ensures
-    ∙ sym (cannot-surplus (third c.before.before).requires (zero c.before.before.before.before.before.before) (fair c.before.before.before.before)
+    (ap (lt_z (pos 0)) c.surplus-total.ensures
+    ∙ sym (cannot-surplus (third c.before.before).requires (zero c.before.before.before.before.before.before)
+    (fair c.before.before.before.before)
     (cancel c.before.before) (not-zero c)))
 
 module _ (c : Else-total-ne0) where
@@ -119,15 +121,12 @@ module _ (c : Else-total-ne0) where
       ∙ sym (to_z-of_z (fit-total c.before)) ∙ ap (to_z w64) c.if-total-ne0.false)
 
 pub returns-then-not-limits : goal.returns-then-not-limits
-returns-then-not-limits c = let e = c in let d = cancelled c.before.before in
+returns-then-not-limits c = let d = cancelled c.before.before in
     sym (cannot-plain (third d).requires (zero d.before.before.before.before) (fair d.before.before) (cancel d)
     (is_zero c.before.before) (not-true _ c.if-not-limits.true))
 
-pub some_named-requires : goal.some_named-requires
-some_named-requires c = search rules
-
 pub returns : goal.returns
-returns c = let e = c in let d = cancelled c.before.before.before in
+returns c = let d = cancelled c.before.before.before in
     c.some_named.ensures
     ∙ sym (cannot-strict (third d).requires (zero d.before.before.before.before) (fair d.before.before) (cancel d)
     (is_zero c.before.before.before))

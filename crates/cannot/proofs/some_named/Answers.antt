@@ -2,7 +2,7 @@
 -- multiplier other than 0. The measure is how many are left. Assumes nothing.
 use mathlib.Core.Path.{◌≡◌, ap₂, sym}
 use mathlib.Core.Bool.{Bool, ◌||◌}
-use Prim.Native.Nat.{ℕ, ◌-◌}
+use Prim.Native.Nat.{ℕ}
 use native.Mathlib.Omega.{arith}
 use borrow.Author.Rules.{sfits_of}
 use mir.Facts.{to_z-of_z}
@@ -18,45 +18,6 @@ use Rattle.cannot.proofs.some_named.Goals.{After-loop-v, After-strict_named-seco
 
 pub loop-v-init : goal.loop-v-init
 loop-v-init c = (omega arith, sym (some-start _))
-
-pub overflow_add-low : goal.overflow_add-low
-overflow_add-low c = omega arith
-
-pub overflow_add-high : goal.overflow_add-high
-overflow_add-high c = omega arith
-
-pub overflow_add-high-in-loop-v : goal.overflow_add-high-in-loop-v
-overflow_add-high-in-loop-v c = omega arith
-
-pub offset_bounds-limits-v : goal.offset_bounds-limits-v
-offset_bounds-limits-v c = omega arith
-
-pub bounds-limits-v : goal.bounds-limits-v
-bounds-limits-v c = omega arith
-
-pub offset_bounds-answer-low : goal.offset_bounds-answer-low
-offset_bounds-answer-low c = omega arith
-
-pub bounds-answer-low : goal.bounds-answer-low
-bounds-answer-low c = omega arith
-
-pub strict_named-first-requires : goal.strict_named-first-requires
-strict_named-first-requires c = tt
-
-pub offset_bounds-limits-v-in-loop-v : goal.offset_bounds-limits-v-in-loop-v
-offset_bounds-limits-v-in-loop-v c = omega arith
-
-pub bounds-limits-v-in-loop-v : goal.bounds-limits-v-in-loop-v
-bounds-limits-v-in-loop-v c = omega arith
-
-pub offset_bounds-answer-high : goal.offset_bounds-answer-high
-offset_bounds-answer-high c = omega arith
-
-pub bounds-answer-high : goal.bounds-answer-high
-bounds-answer-high c = omega arith
-
-pub strict_named-second-requires : goal.strict_named-second-requires
-strict_named-second-requires c = tt
 
 -- the two multipliers, and what the calls say of them
 module _ (c : After-strict_named-second) where
@@ -82,12 +43,6 @@ module _ (c : After-strict_named-second) where
   second : c.strict_named-second.result ≡ strict_named (upper_of start.args.limits place)
       (upper_part start.args.variables start.args.answer.now place)
   second = simp (to_z-of_z fit-high) at c.strict_named-second.ensures
-
-pub overflow_step-v : goal.overflow_step-v
-overflow_step-v c = omega arith
-
-pub loop-v-smaller : goal.loop-v-smaller
-loop-v-smaller c = omega arith
 
 pub loop-v-preserved : goal.loop-v-preserved
 loop-v-preserved c = (

@@ -13,6 +13,6 @@ zero-fits : SFits w64 (pos 0)
 zero-fits = record { sfits = lit< tt }
 
 pub returns : goal.returns
-returns c = let s = c in let l = s.args.limit in
-    ap (λ (b : Bool). l.on && (l.strict && not b)) (bits-eq w64 s.ranges.k zero-fits)
-    ∙ named-joined l.on _ s.args.k
+returns c = let l = c.args.limit in
+    ap (λ (b : Bool). l.on && (l.strict && not b)) (bits-eq w64 c.ranges.k zero-fits)
+    ∙ named-joined l.on _ c.args.k

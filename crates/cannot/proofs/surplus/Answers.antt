@@ -1,7 +1,7 @@
 -- `cannot::surplus` meets its contract. The invariant: the sum is that of the variables passed, each term
 -- within twice the largest limit times the largest number. The measure is how many are left. Assumes nothing.
 use mathlib.Core.Path.{◌≡◌, refl, ap, ap₂, sym, ◌∙◌}
-use Prim.Native.Nat.{ℕ, ◌+◌, ◌*◌, ◌-◌, ◌≤◌, ◌<◌}
+use Prim.Native.Nat.{ℕ, ◌+◌, ◌*◌, ◌≤◌, ◌<◌}
 use native.Mathlib.Omega.{arith}
 use borrow.Author.Rules.{rules, sfits_of}
 use lib.IntN.{ℤ, ◌+ℤ◌, ◌-ℤ◌, ◌*ℤ◌}
@@ -19,32 +19,12 @@ use Rattle.tableau.specs.Parts.{lower_given, lower_of, upper_given, upper_of}
 use Rattle.parts.specs.Reads.{surplus_up_to}
 use Rattle.parts.proofs.Laws.Weights.{net-within}
 use Rattle.cannot.proofs.surplus.Goals as goal
-use Rattle.cannot.proofs.surplus.Goals.{After-loop-v, After-weighed-arg-in-loop-v-1, After-weighed-arg-in-loop-v-3-1, After-weighed-loss, At-loop-v, Start}
+use Rattle.cannot.proofs.surplus.Goals.{After-loop-v, After-weighed-arg-in-loop-v-1, After-weighed-arg-in-loop-v-3-1}
+use Rattle.cannot.proofs.surplus.Goals.{After-weighed-loss, At-loop-v, Start}
 
 pub loop-v-init : goal.loop-v-init
 unfolding surplus_up_to sum_by
 loop-v-init c = (omega arith, refl)
-
-pub overflow_add-low : goal.overflow_add-low
-overflow_add-low c = omega arith
-
-pub overflow_add-high : goal.overflow_add-high
-overflow_add-high c = omega arith
-
-pub overflow_add-high-in-loop-v : goal.overflow_add-high-in-loop-v
-overflow_add-high-in-loop-v c = omega arith
-
-pub offset_bounds-limits-v : goal.offset_bounds-limits-v
-offset_bounds-limits-v c = omega arith
-
-pub bounds-limits-v : goal.bounds-limits-v
-bounds-limits-v c = omega arith
-
-pub offset_bounds-answer-low : goal.offset_bounds-answer-low
-offset_bounds-answer-low c = omega arith
-
-pub bounds-answer-low : goal.bounds-answer-low
-bounds-answer-low c = omega arith
 
 -- the variable, its lower limit and the limit's multiplier
 module _ (c : After-weighed-arg-in-loop-v-1) where
@@ -68,18 +48,6 @@ weighed-gain-requires c =
     simp (to_z-of_z (fit_low c))
     ((start c).requires.limited.lowers-within (v c), (start c).requires.multiplied.lower-within (v c) (omega arith))
 
-pub offset_bounds-limits-v-in-loop-v : goal.offset_bounds-limits-v-in-loop-v
-offset_bounds-limits-v-in-loop-v c = omega arith
-
-pub bounds-limits-v-in-loop-v : goal.bounds-limits-v-in-loop-v
-bounds-limits-v-in-loop-v c = omega arith
-
-pub offset_bounds-answer-high : goal.offset_bounds-answer-high
-offset_bounds-answer-high c = omega arith
-
-pub bounds-answer-high : goal.bounds-answer-high
-bounds-answer-high c = omega arith
-
 -- .. its upper limit's multiplier
 module _ (c : After-weighed-arg-in-loop-v-3-1) where
   abbrev first : After-weighed-arg-in-loop-v-1
@@ -90,8 +58,10 @@ module _ (c : After-weighed-arg-in-loop-v-3-1) where
 
 pub weighed-loss-requires : goal.weighed-loss-requires
 weighed-loss-requires c = let s = start c.before.before.before in
-    simp (to_z-of_z (fit-high c))
-    (s.requires.limited.uppers-within (v c.before.before.before), s.requires.multiplied.upper-within (v c.before.before.before) (omega arith))
+    simp (to_z-of_z (fit-high c)) (
+      s.requires.limited.uppers-within (v c.before.before.before),
+      s.requires.multiplied.upper-within (v c.before.before.before) (omega arith),
+    )
 
 -- what the two calls give, and the sum with it
 module _ (c : After-weighed-loss) where
@@ -153,13 +123,12 @@ overflow_sub-sum c = simp (to_z-of_z (fit-gain c), to_z-of_z (fit-loss c)) (fit-
 
 pub overflow_add-sum : goal.overflow_add-sum
 overflow_add-sum c =
-    simp (to_z-of_z (fit-gain c), to_z-of_z (fit-loss c), to_z-of_z (fit-net c), (turn c.before.before.before.before).loop-v.invariant.1) (fit-sum c)
-
-pub overflow_step-v : goal.overflow_step-v
-overflow_step-v c = omega arith
-
-pub loop-v-smaller : goal.loop-v-smaller
-loop-v-smaller c = omega arith
+    simp (
+      to_z-of_z (fit-gain c),
+      to_z-of_z (fit-loss c),
+      to_z-of_z (fit-net c),
+      (turn c.before.before.before.before).loop-v.invariant.1,
+    ) (fit-sum c)
 
 pub loop-v-preserved : goal.loop-v-preserved
 loop-v-preserved c = (
@@ -178,4 +147,4 @@ all c = omega arith
 
 pub returns : goal.returns
 returns c = let o = c.args in
-    c.loop-v.invariant.1 ∙ ap (λ (k : ℕ). surplus_up_to o.t1 o.answer.now o.variables k) (all c)
+    c.loop-v.invariant.1 ∙ ap (λ (k : ℕ). surplus_up_to o.limits o.answer.now o.variables k) (all c)

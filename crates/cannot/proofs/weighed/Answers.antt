@@ -45,5 +45,5 @@ returns-then-limit c = let s = start c in
 
 pub returns : goal.returns
 unfolding plain_of present
-returns c = let s = c in
-    sym (zero-*ℤ s.args.k) ∙ ap (λ (b : Bool). weight b s.args.limit s.args.k) (sym c.if-limit.false)
+returns c =
+    sym (zero-*ℤ c.args.k) ∙ ap (λ (b : Bool). weight b c.args.limit c.args.k) (sym c.if-limit.false)

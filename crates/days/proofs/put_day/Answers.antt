@@ -73,9 +73,8 @@ shape_of-out-then-refused-ne0 c = search rules
 
 pub returns-then-refused-ne0 : goal.returns-then-refused-ne0
 returns-then-refused-ne0 c =
-    let a = c in let s = c in
     put-more (omega arith) (put_as
-    (day-refused-by (bytes s) a.file_refusal-refused.result a.file_refusal-refused.ensures
+    (day-refused-by c.args.file.now c.file_refusal-refused.result c.file_refusal-refused.ensures
     c.if-refused-ne0.true)
     c.put_refusal.ensures)
 
@@ -100,8 +99,9 @@ shape_of-out c = search rules
 
 pub returns : goal.returns
 returns c =
-    let a = c in let w = c in
+    let read = c.before.before.before.before.before.before.before in
+    let known = passed read in
     put_as
-    (ap (λ ws. lines_below (count_in ws) (λ i. body_text (edition_in ws) (body_in ws i))) (front c.before.before.before.before.before.before.before)
-    ∙ sym (day-lines (bytes (start c.before.before.before.before.before.before.before.before.before)) (fine c.before.before.before.before.before.before.before.before.before)))
-    a.put_bodies.ensures
+    (ap (λ ws. lines_below (count_in ws) (λ i. body_text (edition_in ws) (body_in ws i))) (front read)
+    ∙ sym (day-lines (bytes (start known)) (fine known)))
+    c.put_bodies.ensures

@@ -31,7 +31,8 @@ module _ (l : List ℤ) (common : ℤ) where
   unfolding divisor_below fold_below
   divisor-none = refl
 
-  pub divisor-more : (k : ℕ) → divisor_below (k + 1) l common ≡ gcd (nat_abs (get_or l k (pos 0))) (divisor_below k l common)
+  pub divisor-more : (k : ℕ) → divisor_below (k + 1) l common ≡ gcd (nat_abs (get_or l k (pos 0)))
+      (divisor_below k l common)
   unfolding divisor_below fold_below
   divisor-more k = rw add-one refl
 

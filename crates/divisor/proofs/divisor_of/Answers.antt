@@ -2,7 +2,7 @@
 -- g is 1, so is the divisor of all. The measure is how many are left. Assumes nothing.
 use native.Mathlib.Omega.{arith}
 use mathlib.Core.Path.{◌≡◌, ap, ap₂, sym, ◌∙◌}
-use Prim.Native.Nat.{ℕ, ◌-◌}
+use Prim.Native.Nat.{ℕ}
 use borrow.Author.Rules.{sfits_of}
 use lib.ListN.{get_or}
 use lib.IntN.{pos, nat_abs}

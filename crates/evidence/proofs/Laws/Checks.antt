@@ -38,9 +38,11 @@ module _ (ws a : List ℤ) (fine : problem_refusal ws ≡ 0) where
 
     pub can-judged : verdict_of a ≡ pos 1 → checked ws a ≡ cond (shows_can (problem ws) a) 8 9
     can-judged e = judged
-        ∙ ap (λ b. cond b 8 9) (of-verdict true (eq_z (verdict_of a) (pos 2)) (tells-true (tells-eq_z _ (pos 1)) e) refl)
+        ∙ ap (λ b. cond b 8 9) (of-verdict true (eq_z (verdict_of a) (pos 2)) (tells-true (tells-eq_z _ (pos 1)) e)
+        refl)
 
-    pub cannot-judged : verdict_of a ≢ pos 1 → verdict_of a ≡ pos 2 → checked ws a ≡ cond (shows_cannot (problem ws) a) 8 9
+    pub cannot-judged : verdict_of a ≢ pos 1 → verdict_of a ≡ pos 2 → checked ws a
+        ≡ cond (shows_cannot (problem ws) a) 8 9
     cannot-judged n e = judged
         ∙ ap (λ b. cond b 8 9) (of-verdict false true (tells-false (tells-eq_z (verdict_of a) (pos 1)) n)
         (tells-true (tells-eq_z _ (pos 2)) e))

@@ -24,7 +24,9 @@ use Rattle.judge.specs.Words.{Framed}
 use Rattle.judge.proofs.Laws.Judged.{accepted-framed}
 use Rattle.evidence.proofs.Laws.Checks.{length-is, too_short_lem, can-judged, cannot-judged, other-judged}
 use Rattle.evidence.proofs.check.Goals as goal
-use Rattle.evidence.proofs.check.Goals.{After-can_holds, After-cannot_holds, After-count_at-rows, After-verdict-1, Else-answer-columns, Else-refused-ne0, Else-verdict-eq1, Start, Then-verdict-eq1, Then-verdict-eq2}
+use Rattle.evidence.proofs.check.Goals.{After-can_holds, After-cannot_holds, After-count_at-rows, After-verdict-1}
+use Rattle.evidence.proofs.check.Goals.{Else-answer-columns, Else-refused-ne0, Else-verdict-eq1, Start}
+use Rattle.evidence.proofs.check.Goals.{Then-verdict-eq1, Then-verdict-eq2}
 
 abbrev words : Start → List ℤ
 words s = s.args.words.now
@@ -32,12 +34,9 @@ words s = s.args.words.now
 abbrev answer : Start → List ℤ
 answer s = s.args.answer.now
 
-pub judge-refused-requires : goal.judge-refused-requires
-judge-refused-requires c = tt
-
 pub returns-then-refused-ne0 : goal.returns-then-refused-ne0
-returns-then-refused-ne0 c = let s = c in let j = c.judge-refused in
-    kept (words s) (answer s) j.result j.ensures c.if-refused-ne0.true
+returns-then-refused-ne0 c = let s = c.before.before in
+    kept (words s) (answer s) c.judge-refused.result c.judge-refused.ensures c.if-refused-ne0.true
   where
     kept : (ws a : List ℤ) (r : ℕ) → r ≡ problem_refusal ws → r ≢ 0 → r ≡ checked ws a
     kept ws a zero e n = absurd (n refl)
@@ -86,8 +85,9 @@ pub overflow_add-columns-2 : goal.overflow_add-columns-2
 overflow_add-columns-2 c = let F = framed c in omega (arith, F.few-columns, F.few-rows)
 
 pub returns-then-answer-columns : goal.returns-then-answer-columns
-returns-then-answer-columns c = let b = c in
-    sym (too_short_lem (words (start c.before)) (answer (start c.before)) (fine c.before.before.before) (rw (← long-here c.before) c.if-answer-columns.true))
+returns-then-answer-columns c =
+    sym (too_short_lem (words (start c.before)) (answer (start c.before)) (fine c.before.before.before)
+    (rw (← long-here c.before) c.if-answer-columns.true))
 
 -- ---- the answer is long enough
 
@@ -119,13 +119,18 @@ two : (c : Then-verdict-eq2) → verdict_of (answer (begun c.before.before.befor
 two c = sym (to_z-of_z (fit c.before.before)) ∙ ap (to_z w64) c.if-verdict-eq2.true
 
 pub can_holds-requires : goal.can_holds-requires
-can_holds-requires c = let l = c in
-    (framed c.before.before.before, (taken c.before.before.before.before.before, long c.before.before))
+can_holds-requires c =
+    record {
+      framed = framed c.before.before.before;
+      accepted = taken c.before.before.before.before.before;
+      words_in_bounds = long c.before.before;
+    }
 
 can-answers : (c : After-can_holds) → let b = begun c.before.before.before in
     checked (words b) (answer b) ≡ cond c.can_holds.result 8 9
-can-answers c = let v = c in let l = c in
-    can-judged (words (begun c.before.before.before)) (answer (begun c.before.before.before)) (not-refused c.before.before.before) (long c.before.before.before) (one c.before)
+can-answers c =
+    can-judged (words (begun c.before.before.before)) (answer (begun c.before.before.before))
+    (not-refused c.before.before.before) (long c.before.before.before) (one c.before)
     ∙ ap (λ (b : Bool). cond b 8 9) (sym c.can_holds.ensures)
 
 pub returns-then-can_holds : goal.returns-then-can_holds
@@ -135,13 +140,19 @@ pub returns-then-verdict-eq1 : goal.returns-then-verdict-eq1
 returns-then-verdict-eq1 c = sym (can-answers c.before ∙ ap (λ (b : Bool). cond b 8 9) c.if-can_holds.false)
 
 pub cannot_holds-requires : goal.cannot_holds-requires
-cannot_holds-requires c = let l = c in
-    (framed c.before.before.before.before, (taken c.before.before.before.before.before.before, long c.before.before.before))
+cannot_holds-requires c =
+    record {
+      framed = framed c.before.before.before.before;
+      accepted = taken c.before.before.before.before.before.before;
+      words_in_bounds = long c.before.before.before;
+    }
 
 cannot-answers : (c : After-cannot_holds) → let b = begun c.before.before.before.before in
     checked (words b) (answer b) ≡ cond c.cannot_holds.result 8 9
-cannot-answers c = let v = c in let l = c in
-    cannot-judged (words (begun c.before.before.before.before)) (answer (begun c.before.before.before.before)) (not-refused c.before.before.before.before) (long c.before.before.before.before) (not-one c.before.before) (two c.before)
+cannot-answers c =
+    cannot-judged (words (begun c.before.before.before.before)) (answer (begun c.before.before.before.before))
+    (not-refused c.before.before.before.before) (long c.before.before.before.before) (not-one c.before.before)
+    (two c.before)
     ∙ ap (λ (b : Bool). cond b 8 9) (sym c.cannot_holds.ensures)
 
 pub returns-then-cannot_holds : goal.returns-then-cannot_holds
@@ -151,6 +162,7 @@ pub returns-else-cannot_holds : goal.returns-else-cannot_holds
 returns-else-cannot_holds c = sym (cannot-answers c.before ∙ ap (λ (b : Bool). cond b 8 9) c.if-cannot_holds.false)
 
 pub returns-else-verdict-eq2 : goal.returns-else-verdict-eq2
-returns-else-verdict-eq2 c = let l = c in
-    sym (other-judged (words (begun c.before.before.before)) (answer (begun c.before.before.before)) (not-refused c.before.before.before) (long c.before.before.before) (not-one c.before)
+returns-else-verdict-eq2 c =
+    sym (other-judged (words (begun c.before.before.before)) (answer (begun c.before.before.before))
+    (not-refused c.before.before.before) (long c.before.before.before) (not-one c.before)
     (λ e. c.if-verdict-eq2.false (ap (of_z w64) e)))

@@ -18,8 +18,10 @@ use lib.ListN.{drop, length, take, length-drop}
 use lib.Seq.{get_or-drop, get_or-take, length-take-le}
 use Rattle.rules.specs.Problem.{word}
 use Rattle.rules.specs.Program.Text.{lines_below}
-use Rattle.rules.specs.Exchange.Script.{assert_limit, assert_row, check_sat, close, declaration, end_assert, exchange_text}
-use Rattle.rules.specs.Exchange.Script.{limit_text, limits_text, number_text, open_sum, row_name, row_text, set_logic, space}
+use Rattle.rules.specs.Exchange.Script.{assert_limit, assert_row, check_sat, close, declaration, end_assert}
+use Rattle.rules.specs.Exchange.Script.{exchange_text}
+use Rattle.rules.specs.Exchange.Script.{limit_text, limits_text, number_text, open_sum, row_name, row_text, set_logic}
+use Rattle.rules.specs.Exchange.Script.{space}
 use Rattle.rules.specs.Exchange.Script.{sum_text, term, terms_text}
 use Rattle.rules.proofs.Program.Same.{lines_same}
 use Rattle.judge.specs.Words.{Framed}

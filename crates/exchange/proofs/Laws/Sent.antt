@@ -33,7 +33,8 @@ module _ (ws : List ℤ) (before : List ℕ) where
   refused-by zero n = absurd (n refl)
   refused-by (suc k) n = refl
 
-  pub sends-refused : (k : ℕ) → k ≡ exchange_refusal ws (length before) → k ≢ 0 → Sends ws before (refused_with k) before
+  pub sends-refused : (k : ℕ) → k ≡ exchange_refusal ws (length before) → k ≢ 0 →
+      Sends ws before (refused_with k) before
   sends-refused k e n = (
     refused-by k n ∙ ap (λ j. sent_by j (exchange_text ws)) e,
     sym (output-refused k ws before n) ∙ ap (λ j. exchange_output j ws before) e,

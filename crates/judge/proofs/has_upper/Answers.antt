@@ -1,11 +1,7 @@
 -- `judge::has_upper` meets its contract. Assumes nothing.
-use borrow.Author.Rules.{rules}
 use mir.Facts.{to_z-of_z}
 use Rattle.rules.specs.Limit.{bit}
 use Rattle.judge.proofs.has_upper.Goals as goal
-
-pub has_bit-requires : goal.has_bit-requires
-has_bit-requires c = search rules
 
 pub returns : goal.returns
 unfolding bit

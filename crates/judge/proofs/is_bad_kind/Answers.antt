@@ -1,7 +1,6 @@
 -- `judge::is_bad_kind` meets its contract. Assumes nothing.
 use mathlib.Core.Bool.{not, ◌&&◌, ◌||◌}
 use mathlib.Core.Path.{ap₂}
-use borrow.Author.Rules.{rules}
 use mir.Facts.{sfits_widen, to_z-of_z}
 use mir.Syntax.{w32, w64}
 use mir.Val.{SFits}
@@ -10,26 +9,11 @@ use Rattle.rules.specs.Limit.{bad_kind_word}
 use Rattle.judge.proofs.is_bad_kind.Goals as goal
 use Rattle.judge.proofs.is_bad_kind.Goals.{Start}
 
-pub strict_lower-requires : goal.strict_lower-requires
-strict_lower-requires c = search rules
-
-pub has_lower-requires : goal.has_lower-requires
-has_lower-requires c = search rules
-
-pub strict_upper-requires : goal.strict_upper-requires
-strict_upper-requires c = search rules
-
-pub has_upper-requires : goal.has_upper-requires
-has_upper-requires c = search rules
-
 wide : (c : Start) → SFits w64 c.args.kind
 wide c = sfits_widen {w = w32} tt c.ranges.kind
 
 pub overflow_cast-kind : goal.overflow_cast-kind
 overflow_cast-kind c = let s = c in simp (to_z-of_z s.ranges.kind) (wide c.before.before.before.before)
-
-pub is_outside-requires : goal.is_outside-requires
-is_outside-requires c = search rules
 
 pub returns : goal.returns
 unfolding bad_kind_word outside

@@ -1,14 +1,10 @@
 -- `judge::is_bad_limit` meets its contract. Assumes nothing.
 use mathlib.Core.Path.{sym, ◌∙◌, ap}
 use mathlib.Core.Bool.{not}
-use borrow.Author.Rules.{rules}
 use mir.Facts.{to_z-of_z}
 use Rattle.rules.specs.Limit.{bad_limit_word}
 use Rattle.judge.proofs.Laws.Judged.{zero_bits}
 use Rattle.judge.proofs.is_bad_limit.Goals as goal
-
-pub is_within-requires : goal.is_within-requires
-is_within-requires c = search rules
 
 pub returns-then-present : goal.returns-then-present
 unfolding bad_limit_word

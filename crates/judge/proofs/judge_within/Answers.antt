@@ -2,11 +2,10 @@
 -- skip-3), and what is left are the tests over all words. Assumes nothing.
 use mathlib.Core.Path.{◌≡◌, sym, ◌∙◌, ap₂}
 use mathlib.Core.Bool.{Bool}
-use mathlib.Core.List.{List, ◌∷◌}
+use mathlib.Core.List.{List, [], ◌∷◌}
 use Prim.Native.Nat.{ℕ, ◌+◌, ◌*◌, ◌≤◌}
 use native.Mathlib.Nat.{le_trans, mul-le-mul}
 use native.Mathlib.Omega.{arith}
-use borrow.Author.Rules.{rules}
 use lib.IntN.{ℤ, pos}
 use lib.ListN.{drop}
 use lib.Signed.{le_z_yes}
@@ -21,7 +20,8 @@ use Rattle.rules.specs.Facts.Refusal.{InRange}
 use Rattle.rules.proofs.Refusal.Exactly.{few-tells, length-tells, size-tells}
 use Rattle.judge.specs.Words.{Framed}
 use Rattle.judge.proofs.judge_within.Goals as goal
-use Rattle.judge.proofs.judge_within.Goals.{After-count_at-rows, After-is_bad_size, Else-is_bad_size, Else-words-lt2, Else-words-rows, Start}
+use Rattle.judge.proofs.judge_within.Goals.{After-count_at-rows, After-is_bad_size, Else-is_bad_size, Else-words-lt2}
+use Rattle.judge.proofs.judge_within.Goals.{Else-words-rows, Start}
 
 abbrev words : Start → List ℤ
 words c = c.args.words.now
@@ -46,12 +46,6 @@ skip-1 c = first-skip 1 _ (tells-false (few-tells (words c.before)) c.if-words-l
 
 -- ---- 2: n or m outside its range
 
-pub overflow_cast-is_bad_size : goal.overflow_cast-is_bad_size
-overflow_cast-is_bad_size c = search rules
-
-pub is_bad_size-requires : goal.is_bad_size-requires
-is_bad_size-requires c = search rules
-
 bad-size-is : (c : After-is_bad_size) →
     c.is_bad_size.result ≡ bad_size (most c.before.before) (words c.before.before)
 unfolding bad_size
@@ -59,7 +53,9 @@ bad-size-is c = c.is_bad_size.ensures
 
 pub returns-then-is_bad_size : goal.returns-then-is_bad_size
 unfolding problem_tests
-returns-then-is_bad_size c = sym (skip-1 c.before.before ∙ first-hit 2 _ (sym (bad-size-is c.before) ∙ c.if-is_bad_size.true))
+returns-then-is_bad_size c =
+    let here = c.before.before in
+    sym (skip-1 here ∙ first-hit 2 _ (sym (bad-size-is c.before) ∙ c.if-is_bad_size.true))
 
 module _ (c : Else-is_bad_size) where
   abbrev start : Start
@@ -155,9 +151,6 @@ some_bad_variable-requires c = framed c.before
 
 pub some_bad_variable-requires-2 : goal.some_bad_variable-requires-2
 some_bad_variable-requires-2 c = framed c.before.before
-
-pub word_refusal-requires : goal.word_refusal-requires
-word_refusal-requires c = tt
 
 pub some_blank_row-requires : goal.some_blank_row-requires
 some_blank_row-requires c = framed c.before.before.before

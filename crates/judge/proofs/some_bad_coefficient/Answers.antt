@@ -1,28 +1,24 @@
 -- `judge::some_bad_coefficient` meets its contract. The invariant: whether one of the coefficients passed is
 -- outside its range. The measure is the coefficients left. Assumes nothing.
-use mathlib.Core.Bool.{Bool, not, ◌||◌}
+use mathlib.Core.Bool.{not, ◌||◌}
 use mathlib.Core.List.{List}
 use mathlib.Core.Path.{◌≡◌, sym, ◌∙◌, ap, ap₂}
-use Prim.Native.Nat.{ℕ, ◌+◌, ◌*◌, ◌-◌}
+use Prim.Native.Nat.{ℕ, ◌+◌, ◌*◌}
 use native.Mathlib.Numerals.{add-one}
 use native.Mathlib.Omega.{arith}
-use borrow.Author.Rules.{rules, sfits_of}
+use borrow.Author.Rules.{rules}
 use lib.IntN.{ℤ}
 use mir.Facts.{to_z-of_z}
 use mir.Syntax.{w32}
 use mir.Val.{SFits}
 use Rattle.whole.specs.Below.{some_below}
-use Rattle.whole.specs.Numbers.{within}
 use Rattle.whole.proofs.Lists.Below.{some_more, some-start}
-use Rattle.rules.specs.Sizes.{largest_coefficient}
 use Rattle.rules.specs.Problem.{word}
 use Rattle.rules.specs.Refusal.{bad_coefficient}
 use Rattle.judge.proofs.Laws.Judged.{few_words, size-product}
+use Rattle.judge.proofs.some_bad_coefficient.Invariants.{bad-at}
 use Rattle.judge.proofs.some_bad_coefficient.Goals as goal
 use Rattle.judge.proofs.some_bad_coefficient.Goals.{After-is_within, Start}
-
-abbrev bad-at : List ℤ → ℕ → Bool
-bad-at ws i = not (within largest_coefficient (word ws (2 + i)))
 
 pub overflow_mul-end : goal.overflow_mul-end
 overflow_mul-end c = omega (arith, few_words c.requires)
@@ -36,12 +32,6 @@ overflow_add-at c = omega (arith, few_words c.requires)
 pub offset_bounds-words-at : goal.offset_bounds-words-at
 offset_bounds-words-at c = omega (arith, few_words c.requires)
 
-pub bounds-words-at : goal.bounds-words-at
-bounds-words-at c = omega arith
-
-pub is_within-requires : goal.is_within-requires
-is_within-requires c = search rules
-
 -- what the call says of the coefficient
 module _ (c : After-is_within) where
   abbrev start : Start
@@ -54,19 +44,10 @@ module _ (c : After-is_within) where
   i = c.loop-i.i
 
   read : SFits w32 (word ws (2 + i))
-  read = sfits_of c.is_within-arg-1.given
+  read = search rules
 
   told : not c.is_within.result ≡ bad-at ws i
   told = ap not (simp (to_z-of_z read) at c.is_within.ensures)
-
-pub either-bad-requires : goal.either-bad-requires
-either-bad-requires c = search rules
-
-pub overflow_step-i : goal.overflow_step-i
-overflow_step-i c = omega arith
-
-pub loop-i-smaller : goal.loop-i-smaller
-loop-i-smaller c = omega arith
 
 pub loop-i-preserved : goal.loop-i-preserved
 loop-i-preserved c =

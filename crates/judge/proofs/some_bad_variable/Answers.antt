@@ -3,25 +3,23 @@
 use mathlib.Core.Bool.{Bool, true, false, ◌||◌}
 use mathlib.Core.List.{List}
 use mathlib.Core.Path.{◌≡◌, refl, sym, ◌∙◌, ap, ap₂}
-use Prim.Native.Nat.{ℕ, ◌+◌, ◌*◌, ◌-◌}
+use Prim.Native.Nat.{ℕ, ◌+◌, ◌*◌}
 use native.Mathlib.Numerals.{add-one}
 use native.Mathlib.Omega.{arith}
-use borrow.Author.Rules.{rules, sfits_of}
+use borrow.Author.Rules.{rules}
 use lib.IntN.{ℤ}
 use mir.Facts.{to_z-of_z}
 use mir.Syntax.{w32}
 use mir.Val.{SFits}
 use Rattle.whole.specs.Below.{some_below}
 use Rattle.whole.proofs.Lists.Below.{some_more, some-start}
-use Rattle.rules.specs.Problem.{kind, lower_word, upper_word, vars_of, word}
+use Rattle.rules.specs.Problem.{vars_of, word}
 use Rattle.rules.specs.Refusal.{bad_kind, bad_limit}
 use Rattle.judge.specs.Words.{bad_by, bad_variable}
 use Rattle.judge.proofs.Laws.Judged.{few_words, kind-place, vars-are}
+use Rattle.judge.proofs.some_bad_variable.Invariants.{bad-at}
 use Rattle.judge.proofs.some_bad_variable.Goals as goal
 use Rattle.judge.proofs.some_bad_variable.Goals.{After-is_bad_variable, At-loop-v, Start}
-
-abbrev bad-at : Bool → List ℤ → ℕ → Bool
-bad-at kinds ws v = bad_by kinds (kind ws v) (lower_word ws v) (upper_word ws v)
 
 pub overflow_mul-from : goal.overflow_mul-from
 overflow_mul-from c = omega (arith, few_words c.requires)
@@ -29,14 +27,8 @@ overflow_mul-from c = omega (arith, few_words c.requires)
 pub overflow_add-from : goal.overflow_add-from
 overflow_add-from c = omega (arith, few_words c.requires)
 
-pub overflow_add-end : goal.overflow_add-end
-overflow_add-end c = omega arith
-
 pub loop-v-init : goal.loop-v-init
 loop-v-init c = (omega arith, sym (some-start (bad-at c.args.kinds c.args.words.now)))
-
-pub overflow_mul-at : goal.overflow_mul-at
-overflow_mul-at c = omega arith
 
 pub overflow_add-at : goal.overflow_add-at
 overflow_add-at c = omega (arith, few_words c.requires)
@@ -50,23 +42,11 @@ overflow_add-upper c = omega (arith, few_words c.requires)
 pub offset_bounds-words-at : goal.offset_bounds-words-at
 offset_bounds-words-at c = omega (arith, few_words c.requires)
 
-pub bounds-words-at : goal.bounds-words-at
-bounds-words-at c = omega arith
-
 pub offset_bounds-words-lower : goal.offset_bounds-words-lower
 offset_bounds-words-lower c = omega (arith, few_words c.requires)
 
-pub bounds-words-lower : goal.bounds-words-lower
-bounds-words-lower c = omega arith
-
 pub offset_bounds-words-upper : goal.offset_bounds-words-upper
 offset_bounds-words-upper c = omega (arith, few_words c.requires)
-
-pub bounds-words-upper : goal.bounds-words-upper
-bounds-words-upper c = omega arith
-
-pub is_bad_variable-requires : goal.is_bad_variable-requires
-is_bad_variable-requires c = search rules
 
 -- what the call says of the two limits
 module _ (c : After-is_bad_variable) where
@@ -86,27 +66,18 @@ module _ (c : After-is_bad_variable) where
   place = 2 + start.args.rows * start.args.columns + 3 * v
 
   read-kind : SFits w32 (word ws place)
-  read-kind = sfits_of c.is_bad_variable-arg-1.given
+  read-kind = search rules
 
   read_lower : SFits w32 (word ws (place + 1))
-  read_lower = sfits_of c.is_bad_variable-arg-in-loop-v-1.given
+  read_lower = search rules
 
   read_upper : SFits w32 (word ws (place + 2))
-  read_upper = sfits_of c.is_bad_variable-arg-in-loop-v-2-1.given
+  read_upper = search rules
 
   told : c.is_bad_variable.result ≡ bad-at start.args.kinds ws v
   told = (simp (to_z-of_z read-kind, to_z-of_z read_lower, to_z-of_z read_upper) at c.is_bad_variable.ensures)
       ∙ ap (λ p. bad_by start.args.kinds (word ws p) (word ws (p + 1)) (word ws (p + 2)))
       (kind-place start.requires v)
-
-pub either-bad-requires : goal.either-bad-requires
-either-bad-requires c = search rules
-
-pub overflow_step-v : goal.overflow_step-v
-overflow_step-v c = omega arith
-
-pub loop-v-smaller : goal.loop-v-smaller
-loop-v-smaller c = omega arith
 
 pub loop-v-preserved : goal.loop-v-preserved
 loop-v-preserved c =
@@ -119,8 +90,8 @@ loop-v-preserved c =
 -- the test at each variable is the definition's at some
 some_is : (kinds : Bool) (ws : List ℤ) → some_below (vars_of ws) (bad-at kinds ws) ≡ bad_variable kinds ws
 unfolding bad_kind bad_limit
-some_is true ws = refl
-some_is false ws = refl
+some_is true _ = refl
+some_is false _ = refl
 
 pub returns : goal.returns
 returns c = let s = c in

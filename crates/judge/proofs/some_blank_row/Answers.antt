@@ -1,8 +1,8 @@
 -- `judge::some_blank_row` meets its contract. The invariant: no row passed is blank. The measure is those left.
 -- Assumes nothing.
-use mathlib.Core.Bool.{false, ◌||◌}
+use mathlib.Core.Bool.{◌||◌}
 use mathlib.Core.Path.{◌≡◌, sym, ◌∙◌, ap, ap₂}
-use Prim.Native.Nat.{◌-◌, ◌<◌}
+use Prim.Native.Nat.{◌<◌}
 use native.Mathlib.Numerals.{add-one}
 use native.Mathlib.Omega.{arith}
 use Rattle.whole.specs.Below.{some_below}
@@ -25,12 +25,6 @@ returns-then-is_blank_row c =
     sym (ap (λ k. some_below k (blank_row s.args.words.now)) (sym s.requires.rows_are)
     ∙ some_of s.args.rows at.loop-i.i (blank_row s.args.words.now) few
     (sym c.is_blank_row.ensures ∙ c.if-is_blank_row.true))
-
-pub overflow_step-i : goal.overflow_step-i
-overflow_step-i c = omega arith
-
-pub loop-i-smaller : goal.loop-i-smaller
-loop-i-smaller c = omega arith
 
 pub loop-i-preserved : goal.loop-i-preserved
 loop-i-preserved c =

@@ -1,7 +1,7 @@
 -- `judge::word_refusal` meets its contract. Assumes nothing.
 use mathlib.Core.Path.{◌≡◌, refl, sym, ◌∙◌}
 use mathlib.Core.Bool.{Bool}
-use mathlib.Core.List.{List, ◌∷◌}
+use mathlib.Core.List.{List, [], ◌∷◌}
 use Prim.Native.Nat.{ℕ}
 use Rattle.rules.specs.Refusal.{first}
 use Rattle.rules.proofs.Refusal.First.{first-hit, first-skip}

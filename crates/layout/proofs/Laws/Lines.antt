@@ -47,5 +47,6 @@ module _ (m n : ℕ) (f : ℕ → ℤ) where
         ∙ filled_more most_entries (pos 0) f (line_at m n line + step) (step_in h) q r
         ∙ ap up_to (let z : line_at m n line + step + 1 ≡ line_at m n line + (step + 1) = omega arith in z)
 
-    pub line-all : {step : ℕ} → step ≡ steps m n → l ≡ up_to (line_at m n line + step) → l ≡ up_to (line_at m n (line + 1))
+    pub line-all : {step : ℕ} → step ≡ steps m n → l ≡ up_to (line_at m n line + step) → l ≡ up_to
+        (line_at m n (line + 1))
     line-all e h = h ∙ ap (λ k. up_to (line_at m n line + k)) e ∙ ap up_to (line-next m n line)

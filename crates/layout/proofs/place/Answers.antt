@@ -12,11 +12,9 @@ use Rattle.layout.specs.Layout.{flat_laid}
 use Rattle.layout.proofs.place.Goals as goal
 
 product-fits : {a b : ℕ} → a ≤ most_rows → b ≤ most_rows → Fits w64 (a * b)
-
 product-fits {a} {b} h k = let z : a * b ≤ most_rows * most_rows = mul-le-mul h k in omega arith
 
 sum_fits : {a b c : ℕ} → a ≤ most_rows → b ≤ most_rows → c ≤ most_rows → Fits w64 (a * b + c)
-
 sum_fits {a} {b} h k l = let z : a * b ≤ most_rows * most_rows = mul-le-mul h k in omega arith
 
 pub overflow_cast-result : goal.overflow_cast-result

@@ -56,7 +56,8 @@ near_within {p} {i} n =
     one-within : Within (pos 1) 1
     one-within = record { within = omega arith }
 
-pub size-near : {ws : List ℤ} {room : ℕ} → AcceptedTimes ws room → (i : ℕ) → i < m_of ws → Near ((time_edges ws).size i) 1
+pub size-near : {ws : List ℤ} {room : ℕ} → AcceptedTimes ws room → (i : ℕ) → i < m_of ws → Near
+    ((time_edges ws).size i) 1
 size-near A i h = record {
   plain = within-le (A.lengths i h) (omega arith);
   small = within-neg (strict-within A i h);

@@ -1,6 +1,6 @@
 -- The number that limbs stand for.
 --   value-plus, value-less, value-times      limb by limb is number by number
---   value_of                                             a number of one word
+--   value_of_lem                                             a number of one word
 --   quot-rem, value-settled                              carries change no number
 use mathlib.Core.List.{[], ◌∷◌}
 use mathlib.Core.Path.{ap, refl, ◌∙◌, ◌≡◌}
@@ -80,8 +80,8 @@ value-settled w = carried T w.a w.b w.c w.d
     (rem_z w.a T) (quot_z w.a T) (rem_z (second_of w) T) (quot_z (second_of w) T) (rem_z (third_of w) T)
     (quot_z (third_of w) T) (quot-rem w.a) (quot-rem (second_of w)) (quot-rem (third_of w))
 
-pub value_of : (z : ℤ) → value (of_number z) ≡ z
-value_of z = plain T (rem_z z (pos limb_turn)) (quot_z z (pos limb_turn)) ∙ quot-rem z
+pub value_of_lem : (z : ℤ) → value (of_number z) ≡ z
+value_of_lem z = plain T (rem_z z (pos limb_turn)) (quot_z z (pos limb_turn)) ∙ quot-rem z
   where
     plain : (t r q : ℤ) → number_by t r q (pos 0) (pos 0) ≡ r +ℤ t *ℤ q
     plain t r q = ring-at (t ∷ r ∷ q ∷ []) (search reify depth 30) refl

@@ -15,7 +15,7 @@ use Rattle.whole.proofs.Numbers.Halves.{rem-most}
 use Rattle.whole.proofs.Numbers.Sizes.{within-le}
 use Rattle.whole.specs.Numbers.{Within}
 use Rattle.rules.specs.Sizes.{limb_turn}
-use Rattle.limbs.proofs.Laws.Numbers.{value-less, value_of, value-plus, value-times}
+use Rattle.limbs.proofs.Laws.Numbers.{value-less, value_of_lem, value-plus, value-times}
 use Rattle.limbs.proofs.Laws.Sizes.{sized-le, sized-less, sized-plus, sized-times, sized-zero}
 use Rattle.limbs.specs.Limbs.{StandsFor, less_of, of_number, plus_of, scaled_of, zero_wide}
 use Rattle.limbs.specs.declared.Wide.{Wide}
@@ -68,7 +68,7 @@ high-within z f = record { within = rw (size-quot z (pos limb_turn)) (few (nat_a
 
 pub stands_of : (z : ℤ) → SFits w64 z → StandsFor (of_number z) z limb_turn
 stands_of z f = record {
-  number = value_of z;
+  number = value_of_lem z;
   size = record {
     size-a = within-le (rem-most z) (lit≤ tt);
     size-b = high-within z f;

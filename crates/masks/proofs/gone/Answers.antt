@@ -47,7 +47,8 @@ loop-v-smaller c = omega arith
 pub loop-v-preserved : goal.loop-v-preserved
 loop-v-preserved c = let o = c in let a = (head c.before).args in (
   omega arith,
-  lowest-more (gone_at a.from a.to) (number c.before) (head c.before).loop-v.invariant.1 (went-by c.before c.if-went.false),
+  lowest-more (gone_at a.from a.to) (number c.before) (head c.before).loop-v.invariant.1
+      (went-by c.before c.if-went.false),
 )
 
 pub returns : goal.returns

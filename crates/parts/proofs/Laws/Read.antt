@@ -135,7 +135,8 @@ module _ (P : Problem Limit) (F : Fitting P) where
           };
         }
 
-    right-can-same : (d : ℤ) (x y : ℕ → ℤ) → right_can (problem_of entries limits rows columns) d x y ≡ right_can P d x y
+    right-can-same : (d : ℤ) (x y : ℕ → ℤ) → right_can (problem_of entries limits rows columns) d x y ≡ right_can P d
+        x y
     right-can-same d x y = ap (λ (Q : Problem Limit). right_can Q d x y) held-is ∙ right-can-start d x y
 
     right-cannot-same : (d : ℤ) (x y : ℕ → ℤ) →

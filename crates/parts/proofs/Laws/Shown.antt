@@ -21,7 +21,8 @@ use Rattle.rules.specs.Sizes.{largest_number, largest_numerator, largest_small}
 use Rattle.rules.specs.Limit.{Limit, present}
 use Rattle.rules.specs.Problem.{Problem}
 use Rattle.rules.specs.Evidence.{denominator_of, lower_part, upper_part, column, surplus, shows_can, shows_cannot}
-use Rattle.rules.specs.Evidence.{contradicts, modest, owed, ranged_can, ranged_cannot, right_can, right_cannot, some_strict}
+use Rattle.rules.specs.Evidence.{contradicts, modest, owed, ranged_can, ranged_cannot, right_can, right_cannot}
+use Rattle.rules.specs.Evidence.{some_strict}
 use Rattle.rules.specs.Evidence.{strict_named}
 use Rattle.layout.specs.Layout.{entry_in}
 use Rattle.tableau.specs.declared.Limits.{Limits}
@@ -58,7 +59,8 @@ both-sides d = not-either (lt_z d (pos 1)) (lt_z (pos largest_number) d) ∙ ap 
 
 -- multipliers: owed and modest, each for itself
 each-for-itself : (k : ℕ) (f g f' g' : ℕ → Bool) →
-    all_below k (λ v. (f v && g v) && (f' v && g' v)) ≡ (all_below k (λ v. f v && f' v) && all_below k (λ v. g v && g' v))
+    all_below k (λ v. (f v && g v) && (f' v && g' v)) ≡ (all_below k (λ v. f v && f' v) && all_below k
+    (λ v. g v && g' v))
 each-for-itself k f g f' g' = same_tests _ _
     (λ e. and-of (all_of k _ (λ v h. let p = parts e v h in and-of p.0.0 p.1.0))
     (all_of k _ (λ v h. let p = parts e v h in and-of p.0.1 p.1.1)))
@@ -126,7 +128,8 @@ module _ {entries : List ℤ} {limits : Limits} {rows columns : ℕ} {a : List �
       && all_below rows (λ i. eq_z (y (columns + i)) (sum columns (λ j. entry_in rows columns entries i j *ℤ y j)))
       && all-limits && (modest (denominator_of a) && numerators_fit largest_numerator a variables
       && all_below variables (λ v. within largest_small (y v)))) (sym (second-half a variables))
-      ∙ by-halves (is_pos (denominator_of a)) (rows_hold entries a rows columns) _ all-limits (modest (denominator_of a))
+      ∙ by-halves (is_pos (denominator_of a)) (rows_hold entries a rows columns) _ all-limits
+      (modest (denominator_of a))
       (numerators_fit largest_numerator a variables) _
       ∙ ap (λ (b : Bool). b && numerators_hold && smalls_hold && all-limits) (sym (both-sides (denominator_of a)))
 
@@ -151,7 +154,8 @@ module _ {entries : List ℤ} {limits : Limits} {rows columns : ℕ} {a : List �
 
   cannot-tests : shows_cannot P a ≡ (eq_z (denominator_of a) (pos 0) && multipliers_fair limits a variables
       && columns_cancel entries a rows columns && contradicts total (some_named limits a variables))
-  unfolding shows_cannot right_cannot ranged_cannot problem_of multipliers_fair column_up_to surplus_up_to column surplus
+  unfolding shows_cannot right_cannot ranged_cannot problem_of multipliers_fair column_up_to surplus_up_to column
+      surplus
       some_strict some_named
   cannot-tests = range-first (eq_z (denominator_of a) (pos 0)) _ (columns_cancel entries a rows columns)
       (contradicts total (some_named limits a variables)) _

@@ -3,7 +3,7 @@
 use native.Mathlib.Omega.{arith}
 use mathlib.Core.Path.{refl, ap, ◌∙◌}
 use mathlib.Core.List.{List}
-use Prim.Native.Nat.{ℕ, ◌-◌}
+use Prim.Native.Nat.{ℕ}
 use borrow.Author.Rules.{sfits_of}
 use lib.ListN.{get_or, set}
 use lib.IntN.{ℤ, pos}
@@ -12,19 +12,12 @@ use mir.Syntax.{w32}
 use mir.Val.{SFits}
 use Rattle.whole.specs.Tables.{table_from}
 use Rattle.whole.proofs.Lists.Prefix.{set-table}
-use Rattle.pivot.specs.Pivot.{kept_cells}
 use Rattle.pivot.proofs.keep.Goals as goal
 use Rattle.pivot.proofs.keep.Goals.{After-entries-1, Start}
 
 pub loop-k-init : goal.loop-k-init
 unfolding table_from
 loop-k-init c = (omega arith, refl)
-
-pub offset_bounds-next-k : goal.offset_bounds-next-k
-offset_bounds-next-k c = omega arith
-
-pub bounds-next-k : goal.bounds-next-k
-bounds-next-k c = omega arith
 
 module _ (c : After-entries-1) where
   abbrev start : Start
@@ -39,18 +32,6 @@ module _ (c : After-entries-1) where
   fit : SFits w32 (cells place)
   fit = sfits_of c.entries-1.given
 
-pub offset_bounds-entries-k : goal.offset_bounds-entries-k
-offset_bounds-entries-k c = omega arith
-
-pub bounds-entries-k : goal.bounds-entries-k
-bounds-entries-k c = omega arith
-
-pub overflow_step-k : goal.overflow_step-k
-overflow_step-k c = omega arith
-
-pub loop-k-smaller : goal.loop-k-smaller
-loop-k-smaller c = omega arith
-
 pub loop-k-preserved : goal.loop-k-preserved
 loop-k-preserved c = let s = start c in (
   omega arith,
@@ -58,7 +39,3 @@ loop-k-preserved c = let s = start c in (
       (ap (λ (l : List ℤ). set l (place c) (cells c (place c))) c.loop-k.invariant.1
       ∙ set-table (cells c) (pos 0) s.args.entries.now (place c) (rw s.requires.1 (omega arith))),
 )
-
-pub returns : goal.returns
-returns c = let s = c in c.loop-k.invariant.1
-    ∙ ap (λ (k : ℕ). kept_cells k s.args.next.now s.args.entries.now) (omega arith)

@@ -2,7 +2,7 @@
 -- alone. Assumes nothing.
 use borrow.Author.Rules.{rules}
 use mathlib.Core.Path.{◌≡◌, ◌∙◌, ap}
-use mathlib.Core.List.{◌∷◌}
+use mathlib.Core.List.{[], ◌∷◌}
 use lib.IntN.{ℤ, pos, nat_abs}
 use lib.Signed.{◌≤ℤ◌}
 use mir.Facts.{to_z-of_z, sfits_lit, Fits-nat_abs}
@@ -69,30 +69,28 @@ size_below-requires c = search rules
 
 pub put_digits-requires : goal.put_digits-requires
 put_digits-requires c =
-    rw (size_is c) (room-right (45 ∷ []) (digits (nat_abs (below c))) (low-room c.before.before.before.before.before.before) (sign c))
+    let room = low-room c.before.before.before.before.before.before in
+    rw (size_is c) (room-right (45 ∷ []) (digits (nat_abs (below c))) room (sign c))
 
 pub shape_of-out-then-n-lt0 : goal.shape_of-out-then-n-lt0
 shape_of-out-then-n-lt0 c = search rules
 
 pub returns-then-n-lt0 : goal.returns-then-n-lt0
 returns-then-n-lt0 c =
-    let at = c in
-    rw (low-text c.before.before.before.before.before.before.before.before.before.before) (put_then (sign c.before.before.before.before) (rw (size_is c.before.before.before.before) at c.put_digits.ensures))
+    let sized = c.before.before.before.before in
+    rw (low-text (branch sized)) (put_then (sign sized) (rw (size_is sized) at c.put_digits.ensures))
 
 pub overflow_cast-n : goal.overflow_cast-n
 overflow_cast-n c =
-    let start = c in
-    rw (to_z-of_z start.ranges.n) (not_neg 0 start.args.n (not-below c.before), Fits-nat_abs tt start.ranges.n)
+    rw (to_z-of_z c.ranges.n) (not_neg 0 c.args.n (not-below c.before), Fits-nat_abs tt c.ranges.n)
 
 pub put_digits-requires-2 : goal.put_digits-requires-2
-put_digits-requires-2 c =
-    let start = c in
-    rw (to_z-of_z start.ranges.n) (rw (high-text c.before) at start.requires)
+put_digits-requires-2 c = rw (to_z-of_z c.ranges.n) (rw (high-text c.before) at c.requires)
 
 pub shape_of-out : goal.shape_of-out
 shape_of-out c = search rules
 
 pub returns : goal.returns
 returns c =
-    let branch = c in
-    rw (high-text c.before.before.before.before.before) (rw (to_z-of_z branch.ranges.n) at c.put_digits-2.ensures)
+    let branch = c.before.before.before.before.before in
+    rw (high-text branch) (rw (to_z-of_z c.ranges.n) at c.put_digits-2.ensures)

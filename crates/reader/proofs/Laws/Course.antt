@@ -257,7 +257,8 @@ module _ {t : List ℕ} {n m : ℕ} where
     unfolding behind_term ahead
     row-due-end = rw (le-ltb (length r.row) n (omega (arith, r.size))) refl
 
-    pub row-closed : RowsAt t n m (suc i) ws (followed_on t (sum_on t so n (token_bytes close)) (token_bytes end_assert))
+    pub row-closed :
+        RowsAt t n m (suc i) ws (followed_on t (sum_on t so n (token_bytes close)) (token_bytes end_assert))
     unfolding closes with_row flatten
     row-closed = record {
       few = r.few;

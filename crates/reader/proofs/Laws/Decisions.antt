@@ -18,13 +18,15 @@ use Rattle.whole.specs.Below.{lowest}
 use Rattle.whole.proofs.Lists.Below.{lowest-passes, none_passes}
 use Rattle.rules.specs.Sizes.{most_columns, most_rows}
 use Rattle.rules.specs.Exchange.Tokens.{token_bytes}
-use Rattle.rules.specs.Exchange.Script.{assert_limit, check_sat, column_name, declare_const, less, more, no_less, no_more}
+use Rattle.rules.specs.Exchange.Script.{assert_limit, check_sat, column_name, declare_const, less, more, no_less}
+use Rattle.rules.specs.Exchange.Script.{no_more}
 use Rattle.rules.specs.Exchange.Script.{of_real}
 use Rattle.rules.specs.Exchange.Script.{name_of, open_minus, row_name}
 use Rattle.rules.specs.Exchange.Reader.{Bytes, Pieces, ReaderState, Spot, bounded, bounding, command, decided}
 use Rattle.rules.specs.Exchange.Reader.{declaring}
 use Rattle.rules.specs.Exchange.Reader.{ended, finish, going, is, limit_command, limiting, matched, name_read, naming}
-use Rattle.rules.specs.Exchange.Reader.{coefficient, number, on, pieces, relating, relation_read, relation_taken, row_head}
+use Rattle.rules.specs.Exchange.Reader.{coefficient, number, on, pieces, relating, relation_read, relation_taken}
+use Rattle.rules.specs.Exchange.Reader.{row_head}
 use Rattle.rules.specs.Exchange.Reader.{same_bytes, size, stuck, token_step, limit}
 use Rattle.rules.proofs.Exchange.Reader.Openings.{assert_word, declare_word, open_word, openings}
 use Rattle.tokens.specs.declared.Followed.{Followed}
@@ -176,10 +178,12 @@ module _ (t : List ℕ) (so : Followed) (s : StandsAt t so) where
             read_behind t (on [] (relating P)) so ≡ read_behind t (on [] (bounding P 1 false)) (skip_if t so true)
         unfolding relation_read
         no-more-related e = related-by 1 false true upper-left
-            (λ w q. step w (sym (token-same t so no_less w q) ∙ no_less_lem) (sym (token-same t so more w q) ∙ no_more_lem)
+            (λ w q. step w (sym (token-same t so no_less w q) ∙ no_less_lem)
+            (sym (token-same t so more w q) ∙ no_more_lem)
             (sym (token-same t so no_more w q) ∙ e))
           where
-            step : (w : Bytes) → same_bytes no_less w ≡ false → same_bytes more w ≡ false → same_bytes no_more w ≡ true →
+            step : (w : Bytes) → same_bytes no_less w ≡ false → same_bytes more w ≡ false →
+                same_bytes no_more w ≡ true →
                 relation_read P w ≡ relation_taken P 1 false
             step w a b q = rw (a, b, q) refl
 
@@ -189,11 +193,13 @@ module _ (t : List ℕ) (so : Followed) (s : StandsAt t so) where
         unfolding decided token_step relation_read relation_taken finish
         less-related e =
             chosen t (on [] (relating P)) (on [] (bounding P 1 true)) so (next_is t so less) s refl
-            (λ w q. step w (sym (token-same t so no_less w q) ∙ no_less_lem) (sym (token-same t so more w q) ∙ no_more_lem)
+            (λ w q. step w (sym (token-same t so no_less w q) ∙ no_less_lem)
+            (sym (token-same t so more w q) ∙ no_more_lem)
             (sym (token-same t so no_more w q) ∙ e)
             ∙ ap (λ b. cond b (some (on [] (bounding P 1 true))) none) (sym (token-same t so less w q)))
           where
-            step : (w : Bytes) → same_bytes no_less w ≡ false → same_bytes more w ≡ false → same_bytes no_more w ≡ false →
+            step : (w : Bytes) → same_bytes no_less w ≡ false → same_bytes more w ≡ false →
+                same_bytes no_more w ≡ false →
                 relation_read P w ≡ cond (same_bytes less w) (some (on [] (bounding P 1 true))) none
             step w a b q = rw (a, b, q, upper-left) refl
 

@@ -90,13 +90,15 @@ module _ {t : List ℕ} {ws : List ℤ} {count : ℕ} {so : Followed} (w : Whole
   array-length = ap length w.words ∙ push-length (pieces_words w.P) (omega (arith, w.size, w.room))
 
   pub halted-answer : (p : ℕ) → so ≡ Halted p → (out : List ℤ) →
-      (record { refused = 60; count = p } ≡ taken_by (read_text t) (length out)) × (out ≡ taken_output (read_text t) out)
+      (record { refused = 60; count = p } ≡ taken_by (read_text t) (length out))
+      × (out ≡ taken_output (read_text t) out)
   unfolding read_behind
   halted-answer p e = refused-answer t p (w.on-course.reads ∙ ap (read_behind t final) e)
 
   module _ (at : ℕ) (e : so ≡ Reached at) where
     pub more-answer : at < length t → (out : List ℤ) →
-        (record { refused = 60; count = at } ≡ taken_by (read_text t) (length out)) × (out ≡ taken_output (read_text t) out)
+        (record { refused = 60; count = at } ≡ taken_by (read_text t) (length out))
+        × (out ≡ taken_output (read_text t) out)
     unfolding read_behind token_step decided
     more-answer h =
         refused-answer t at
@@ -111,7 +113,8 @@ module _ {t : List ℕ} {ws : List ℤ} {count : ℕ} {so : Followed} (w : Whole
           w.on-course.reads ∙ ap (read_behind t final) e ∙ ap (read_from t final) z ∙ from_end t final
 
       pub short-answer : (out : List ℤ) → length out < count →
-          (record { refused = 7; count = 0 } ≡ taken_by (read_text t) (length out)) × (out ≡ taken_output (read_text t) out)
+          (record { refused = 7; count = 0 } ≡ taken_by (read_text t) (length out))
+          × (out ≡ taken_output (read_text t) out)
       unfolding taken_by taken_output fitting_by kept_by
       short-answer out l =
           let few : ltb (length out) (length (pieces_words w.P)) ≡ true =

@@ -102,7 +102,8 @@ module _ {t : List ℕ} {n m count : ℕ} {ws : List ℤ} {so : Followed} (r : L
               × (pos 0 ≤ℤ get_or ws (2 + m * n + 3 * v) (pos 0)) × (get_or ws (2 + m * n + 3 * v) (pos 0) ≤ℤ pos 5)
           place-room = (omega (arith, limits-length, words-fit n m r.held.few), kinds.0, kinds.1)
             where
-              kinds : (pos 0 ≤ℤ get_or ws (2 + m * n + 3 * v) (pos 0)) × (get_or ws (2 + m * n + 3 * v) (pos 0) ≤ℤ pos 5)
+              kinds : (pos 0 ≤ℤ get_or ws (2 + m * n + 3 * v) (pos 0))
+                  × (get_or ws (2 + m * n + 3 * v) (pos 0) ≤ℤ pos 5)
               kinds =
                   subst (λ w. (pos 0 ≤ℤ get_or w (2 + m * n + 3 * v) (pos 0))
                   × (get_or w (2 + m * n + 3 * v) (pos 0) ≤ℤ pos 5)) (sym r.held.words)

@@ -92,7 +92,8 @@ module _ (P : Pieces) (flat : length (flatten P.rows) ≡ P.m * P.n) where
         sym (append_assoc front (limit_words R) zeros)
         ∙ ap (λ k. pieces_words R ++ replicate (most_words - k) (pos 0)) same_size
 
-    pub pieces-set : limit_set (pushed (pieces_words P)) (2 + P.m * P.n + 3 * v) upper strict z ≡ pushed (pieces_words R)
+    pub pieces-set :
+        limit_set (pushed (pieces_words P)) (2 + P.m * P.n + 3 * v) upper strict z ≡ pushed (pieces_words R)
     pieces-set =
         ap₂ (λ s k. limit_set s k upper strict z) parted place
         ∙ limit-inside front (limit_words P) zeros (3 * v) upper strict z three

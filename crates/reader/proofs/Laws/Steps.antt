@@ -19,7 +19,8 @@ use Rattle.whole.specs.Numbers.{eq_z}
 use Rattle.whole.proofs.Bools.{and-true}
 use Rattle.rules.specs.Sizes.{most_cells, most_columns, most_rows, most_words}
 use Rattle.rules.specs.Exchange.Tokens.{token_bytes}
-use Rattle.rules.specs.Exchange.Script.{assert_row, close, column_name, declare_const, end_assert, of_real, open_sum, row_name}
+use Rattle.rules.specs.Exchange.Script.{assert_row, close, column_name, declare_const, end_assert, of_real, open_sum}
+use Rattle.rules.specs.Exchange.Script.{row_name}
 use Rattle.rules.specs.Exchange.Script.{set_logic}
 use Rattle.rules.specs.Exchange.Reader.{declaring, naming, on, outset}
 use Rattle.tokens.specs.declared.Followed.{Followed}
@@ -47,10 +48,12 @@ module _ (t : List ℕ) (first : ℕ) (f : first ≡ start_at t 0) where
 
   module _ (logic opened : Followed) (l : logic ≡ followed_on t (Reached first) (token_bytes set_logic))
       (o : opened ≡ followed_on t logic (token_bytes declare_const)) where
-    logic-reads : Reads t (on (token_bytes declare_const ++ (column_name 0 ∷ token_bytes of_real)) (declaring 1 0)) logic
+    logic-reads :
+        Reads t (on (token_bytes declare_const ++ (column_name 0 ∷ token_bytes of_real)) (declaring 1 0)) logic
     logic-reads =
         subst (Reads t _) (sym l)
-        (on-passed (token_bytes set_logic) (token_bytes declare_const ++ (column_name 0 ∷ token_bytes of_real)) (declaring 1 0)
+        (on-passed (token_bytes set_logic) (token_bytes declare_const ++ (column_name 0 ∷ token_bytes of_real))
+        (declaring 1 0)
         (on-as outset-is first_reads))
 
     opened-reads : Reads t (on (column_name 0 ∷ token_bytes of_real) (declaring 1 0)) opened
@@ -65,7 +68,8 @@ module _ (t : List ℕ) (first : ℕ) (f : first ≡ start_at t 0) where
     opened-stands = opened-reads.stands
 
     pub first-declared : (so : Followed) →
-        so ≡ followed_on t (skip_if t opened (next_is t opened (column_name 0))) (token_bytes of_real) → DeclaredAt t 1 0 so
+        so ≡ followed_on t (skip_if t opened (next_is t opened (column_name 0))) (token_bytes of_real) →
+        DeclaredAt t 1 0 so
     first-declared so e = subst (DeclaredAt t 1 0) (sym e) (declared-start opened-reads)
 
 module _ {t : List ℕ} {n m : ℕ} {so : Followed} (d : DeclaredAt t n m so)
@@ -78,7 +82,8 @@ module _ {t : List ℕ} {n m : ℕ} {so : Followed} (d : DeclaredAt t n m so)
   declare-stands = name-reads.stands
 
   pub one-column : (eqb m 0 && ltb n most_columns && next_is t opened (column_name n)) ≡ true → (to : Followed) →
-      to ≡ followed_on t (skip_if t opened (next_is t opened (column_name n))) (token_bytes of_real) → (k : ℕ) → k ≡ suc n →
+      to ≡ followed_on t (skip_if t opened (next_is t opened (column_name n))) (token_bytes of_real) →
+      (k : ℕ) → k ≡ suc n →
       DeclaredAt t k m to
   one-column e to q k z =
       let p = (and-true (eqb m 0 && ltb n most_columns) (next_is t opened (column_name n)) e).0 in
@@ -88,7 +93,8 @@ module _ {t : List ℕ} {n m : ℕ} {so : Followed} (d : DeclaredAt t n m so)
       (declared-column d.few name-reads e (ltb-true n most_columns r.1) (eqb-true m 0 r.0)))
 
   pub one-row : (eqb m 0 && ltb n most_columns && next_is t opened (column_name n)) ≡ false → (to : Followed) →
-      to ≡ followed_on t (skip_if t opened (next_is t opened (row_name m))) (token_bytes of_real) → (k : ℕ) → k ≡ suc m →
+      to ≡ followed_on t (skip_if t opened (next_is t opened (row_name m))) (token_bytes of_real) →
+      (k : ℕ) → k ≡ suc m →
       DeclaredAt t n k to
   one-row e to q k z =
       subst (λ j. DeclaredAt t n j to) (sym z)

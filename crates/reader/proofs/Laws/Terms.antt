@@ -13,7 +13,8 @@ use lib.Dec.{eqb, ltb}
 use lib.IntN.{ℤ}
 use Rattle.rules.specs.Sizes.{largest_coefficient}
 use Rattle.rules.specs.Exchange.Tokens.{token_bytes}
-use Rattle.rules.specs.Exchange.Script.{close, column_name, open_minus, open_term, less, more, name_of, no_less, no_more}
+use Rattle.rules.specs.Exchange.Script.{close, column_name, open_minus, open_term, less, more, name_of, no_less}
+use Rattle.rules.specs.Exchange.Script.{no_more}
 use Rattle.rules.specs.Exchange.Script.{row_name}
 use Rattle.rules.specs.Exchange.Reader.{ahead, all_zero, behind_term, coefficient, number, on, size, taken, Pieces}
 use Rattle.rules.proofs.Exchange.Reader.Openings.{open_word}

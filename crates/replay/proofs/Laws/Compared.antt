@@ -3,7 +3,7 @@
 --   tests-say            the tests of the code
 --   left-told, entered-told, mask-told    so the sets tell the words of the step
 --   compared_is          .. and the first word that differs
-use mathlib.Core.Bool.{Bool, cond, false, not, true, ◌&&◌}
+use mathlib.Core.Bool.{Bool, cond, false, not, true}
 use mathlib.Core.Logic.{◌≢◌}
 use mathlib.Core.Option.{none-ne-some, none, some}
 use mathlib.Core.Path.{ap, ap₂, refl, subst, sym, ◌∙◌, ◌≡◌}

@@ -35,8 +35,8 @@ use Rattle.steps.specs.declared.End.{End}
 use Rattle.steps.specs.Step.{Course, StepAt, on, over, stepped_at}
 use Rattle.steps.proofs.Laws.Stands.{StepIs, ends-can, ends-cannot, ends-range, goes_to, step_is}
 use Rattle.solver.specs.declared.spend.Spent.{Spent}
-use Rattle.solver.specs.Spend.{Holds, Ran, is_done, is_over, many_of, out_as, out_by, ran_at, ran_by, ran_out, spent_as, spent_by}
-use Rattle.solver.specs.Spend.{spent_from}
+use Rattle.solver.specs.Spend.{Holds, Ran, is_done, is_over, many_of, out_as, out_by, ran_at, ran_by, ran_out}
+use Rattle.solver.specs.Spend.{spent_as, spent_by, spent_from}
 use Rattle.solver.proofs.Laws.Stands.Slices.{out-where, spent-where}
 
 -- the state that the run goes to

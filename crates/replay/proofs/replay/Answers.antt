@@ -1,5 +1,4 @@
 -- `replay::replay` meets its contract: the refusals in their order, else the trace against the run. Assumes nothing.
-use borrow.Author.Rules.{rules}
 use mathlib.Core.List.{List}
 use mathlib.Core.Path.{◌≡◌, sym, ◌∙◌}
 use lib.IntN.{ℤ}
@@ -24,9 +23,6 @@ Else1 = lts.Else1 tie.the-claims reads.Pre reads.Post
 
 abbrev Start : Type 0
 Start = lts.Start tie.the-claims reads.Pre reads.Post
-
-pub judge-refused-requires : goal.judge-refused-requires
-judge-refused-requires c = search rules
 
 pub returns-then-refused-ne0 : goal.returns-then-refused-ne0
 returns-then-refused-ne0 c = let a = c.args in

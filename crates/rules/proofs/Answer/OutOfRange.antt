@@ -36,7 +36,6 @@ use Rattle.rules.specs.Sizes.{largest_number}
 use Rattle.rules.specs.Facts.State.{Ready, Rowed}
 use Rattle.rules.specs.Step.{Leaving, Outcome, State, entering, leaving, moved, range, start, step}
 use Rattle.rules.specs.Tableau.{Tableau, small}
-use Rattle.rules.specs.Facts.Run.{ended}
 use Rattle.rules.specs.Facts.Tableau.{SameNumbers}
 
 module _ {X : Type 0} (𝓥 : Values X) (P : Problem X) where

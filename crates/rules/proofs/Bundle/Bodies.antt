@@ -31,9 +31,9 @@ pub lengths-many : (ws : List ℤ) → length (lengths_in ws) ≡ count_in ws
 unfolding lengths_in
 lengths-many ws = table-length (count_in ws) (pair_length ws)
 
-pub length_at : (ws : List ℤ) (i : ℕ) → i < count_in ws → word (lengths_in ws) i ≡ pair_length ws i
+pub length_at_lem : (ws : List ℤ) (i : ℕ) → i < count_in ws → word (lengths_in ws) i ≡ pair_length ws i
 unfolding lengths_in
-length_at ws i h = table_at (count_in ws) (pair_length ws) (pos 0) i h
+length_at_lem ws i h = table_at (count_in ws) (pair_length ws) (pos 0) i h
 
 pub bodies-many : (ws : List ℤ) → length (bodies_in ws) ≡ count_in ws
 unfolding bodies_in
@@ -59,12 +59,12 @@ module _ {bs : List ℕ} {ws : List ℤ} (A : FileAccepted bs ws) where
   pub bodies-are : (i : ℕ) → i < count_in ws → body_in ws i
       ≡ take (nat_abs (word (lengths_in ws) i)) (drop (nat_abs (sum i (word (lengths_in ws)))) (words_in ws))
   unfolding words_in
-  bodies-are i h = body_is_lem i h ∙ ap₂ take (ap nat_abs (sym (length_at ws i h)))
+  bodies-are i h = body_is_lem i h ∙ ap₂ take (ap nat_abs (sym (length_at_lem ws i h)))
       (sym (drop-drop (count_before i (pair_length ws)) (head_size (count_in ws)) ws)
       ∙ ap (λ z. drop (nat_abs z) (drop (head_size (count_in ws)) ws)) (sym before))
     where
       before : sum i (word (lengths_in ws)) ≡ pos (count_before i (pair_length ws))
-      before = sum_same i (word (lengths_in ws)) (pair_length ws) (λ j l. length_at ws j (omega arith))
+      before = sum_same i (word (lengths_in ws)) (pair_length ws) (λ j l. length_at_lem ws j (omega arith))
           ∙ sum-counts (count_in ws) (pair_length ws) A.lengths i (omega arith)
 
   -- a body, and what stands behind it

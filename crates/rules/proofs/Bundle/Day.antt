@@ -56,4 +56,5 @@ pub day-lines : (bs : List ℕ) → file_refusal bs ≡ 0 → day_text bs
     ≡ lines_below (count_in (words_from bs)) (λ i. body_text (edition_in (words_from bs)) (body_in (words_from bs) i))
 unfolding bodies_in
 day-lines bs q =
-    day-is bs q ∙ lines-joined (body_text (edition_in (words_from bs))) (body_in (words_from bs)) (count_in (words_from bs))
+    day-is bs q ∙ lines-joined (body_text (edition_in (words_from bs))) (body_in (words_from bs))
+    (count_in (words_from bs))

@@ -6,7 +6,6 @@
 --   file-accepted-exactly     it is 0 exactly for an accepted file
 --   read-accepted-exactly, writer-accepted-exactly  .. with room enough; .. for what the writer accepts
 --   file-numbered             the numbers of refusals 30 to 35
-use mathlib.Core.Bool.{◌||◌}
 use mathlib.Core.List.{List, [], ◌++◌, ◌∷◌}
 use mathlib.Core.Logic.{◌↔◌}
 use mathlib.Core.Path.{◌≡◌}
@@ -14,7 +13,8 @@ use Prim.Native.Nat.{ℕ, ◌*◌, ◌-◌, ◌%◌, ◌≤◌}
 use native.Mathlib.Omega.{arith}
 use lib.IntN.{pos, ℤ}
 use lib.ListN.{length}
-use Rattle.whole.proofs.Tells.{tells-eq, tells-eq_z, tells-lt, tells-lt_z, tells-not, tells-or, tells-outside, tells-some}
+use Rattle.whole.proofs.Tells.{tells-eq, tells-eq_z, tells-lt, tells-lt_z, tells-not, tells-or, tells-outside}
+use Rattle.whole.proofs.Tells.{tells-some}
 use Rattle.whole.specs.Sums.{sum}
 use Rattle.rules.specs.Problem.{word}
 use Rattle.rules.specs.Sizes.{most_file_words}
@@ -154,14 +154,16 @@ module _ (bs : List ℕ) where
       (λ e. fine-accepted (r.0 e), λ A. r.1 (accepted-fine A))
 
   pub read-accepted-exactly : (length_room word_room : ℕ) → (read_refusal bs length_room word_room ≡ 0)
-      ↔ (FileAccepted bs words × ((count_in words ≤ length_room) × (length words - head_size (count_in words) ≤ word_room)))
+      ↔ (FileAccepted bs words × ((count_in words ≤ length_room) ×
+      (length words - head_size (count_in words) ≤ word_room)))
   unfolding read_refusal
   read-accepted-exactly length_room word_room =
       let r = first_fine (read-tested (length bs) words length_room word_room) (omega arith) in
       (λ e. split (r.0 e), λ A. r.1 (join (accepted-fine A.0) A.1))
     where
       split : AllFine (read_table (length bs) words length_room word_room) →
-          FileAccepted bs words × ((count_in words ≤ length_room) × (length words - head_size (count_in words) ≤ word_room))
+          FileAccepted bs words × ((count_in words ≤ length_room) ×
+          (length words - head_size (count_in words) ≤ word_room))
       split (count, (edition, (bodies, (table, (pairs, (total, (room, end))))))) =
           (fine-accepted (count, (edition, (bodies, (table, (pairs, (total, tt)))))), room)
 

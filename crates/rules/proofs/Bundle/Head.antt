@@ -20,7 +20,7 @@ use Rattle.rules.specs.Bundle.File.{words_in}
 use Rattle.rules.specs.Bundle.Writer.{contents, file_size, file_words, head_words}
 use Rattle.rules.specs.Bundle.Facts.{FileAccepted}
 use Rattle.rules.proofs.Bundle.Places.{count-own, edition-own}
-use Rattle.rules.proofs.Bundle.Bodies.{length_at, lengths-many}
+use Rattle.rules.proofs.Bundle.Bodies.{length_at_lem, lengths-many}
 
 -- ---- a written file
 
@@ -90,7 +90,8 @@ module _ (e : ℕ) (lengths ws : List ℤ) where
 
   pub words-read : words_in file ≡ ws
   unfolding words_in file_words
-  words-read = ap (λ n. drop (head_size n) file) count-read ∙ drop_at (head_words e lengths) ws (head_size k) head-length
+  words-read = ap (λ n. drop (head_size n) file) count-read ∙ drop_at (head_words e lengths) ws (head_size k)
+      head-length
 
 -- ---- writing what was read
 
@@ -108,9 +109,9 @@ module _ {bs : List ℕ} {ws : List ℤ} (A : FileAccepted bs ws) where
       go : Dec (p % 2 ≡ 0) → contents (lengths_in ws) p ≡ word ws (2 + p)
       go (yes q) = rw (eq-eqb (p % 2) 0 q, lengths-many)
           (ap (λ s. pos (head_size n) +ℤ s) (sum_same (p / 2) (word (lengths_in ws)) (pair_length ws)
-          (λ i l. length_at ws i (omega arith)))
+          (λ i l. length_at_lem ws i (omega arith)))
           ∙ sym (A.starts (p / 2) (omega arith)) ∙ ap (word ws) (let z : 2 + 2 * (p / 2) ≡ 2 + p = omega arith in z))
-      go (no q) = rw (ne_eqb (p % 2) 0 q) (length_at ws (p / 2) (omega arith)
+      go (no q) = rw (ne_eqb (p % 2) 0 q) (length_at_lem ws (p / 2) (omega arith)
           ∙ ap (word ws) (let z : 3 + 2 * (p / 2) ≡ 2 + p = omega arith in z))
 
   head-again : (i : ℕ) → i < head_size n → word again i ≡ word ws i

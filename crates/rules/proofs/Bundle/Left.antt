@@ -72,7 +72,8 @@ module _ (e : ℕ) (lengths ws : List ℤ) (before : List ℕ) where
   bytes-long : length bytes ≡ 4 * file_size lengths ws
   bytes-long = bytes-length (file_words e lengths ws) ∙ ap (λ n. 4 * n) (file-length e lengths ws)
 
-  pub file-front : take (4 * file_size lengths ws) (file_left 0 e lengths ws before) ≡ bytes_from (file_words e lengths ws)
+  pub file-front : take (4 * file_size lengths ws) (file_left 0 e lengths ws before) ≡ bytes_from
+      (file_words e lengths ws)
   unfolding file_left
   file-front = laid-front bytes before (4 * file_size lengths ws) bytes-long
 

@@ -28,7 +28,7 @@ use Rattle.rules.specs.Bundle.Facts.{FileAccepted, ReadsAs, WriterAccepted, Writ
 use Rattle.rules.proofs.Program.Words.{bytes_back, bytes-length, words_back, words-length}
 use Rattle.rules.proofs.Bundle.Exactly.{file-accepted-exactly, writer-accepted-exactly}
 use Rattle.rules.proofs.Bundle.Places.{bodies-few, count_before, counts-rise, editions-few, sum-counts}
-use Rattle.rules.proofs.Bundle.Bodies.{length_at, lengths-many}
+use Rattle.rules.proofs.Bundle.Bodies.{length_at_lem, lengths-many}
 use Rattle.rules.proofs.Bundle.Head.{behind-head, count_word, edition-word, file-back, file-length, first_word}
 use Rattle.rules.proofs.Bundle.Head.{length-word, lengths_read, size_back, table-word, words-many, words-read}
 
@@ -115,7 +115,8 @@ module _ (e : ℕ) (lengths ws : List ℤ) where
       ((i : ℕ) → SFits w32 (word lengths i)) → ((i : ℕ) → SFits w32 (word ws i)) →
       ReadsAs (bytes_from (file_words e lengths ws)) e lengths ws
   read-written room q fit-lengths Fit-words = record {
-    fine = (file-accepted-exactly (bytes_from file)).1 (subst (FileAccepted (bytes_from file)) (sym W) (file-accepted A));
+    fine = (file-accepted-exactly (bytes_from file)).1 (subst (FileAccepted (bytes_from file)) (sym W)
+        (file-accepted A));
     edition-is = ap edition_in W ∙ edition-is A;
     lengths-are = ap lengths_in W ∙ lengths_read e lengths ws;
     words_are = ap words_in W ∙ words-read e lengths ws;
@@ -150,9 +151,9 @@ module _ (bs : List ℕ) (small : (i : ℕ) → byte bs i < 256) (fine : file_re
           accepted.count-least accepted.count_most,
     );
     lengths-least = λ i h. let l : i < count_in words = omega (arith, many) in
-        rw (length_at words i l) (accepted.lengths i l);
+        rw (length_at_lem words i l) (accepted.lengths i l);
     total = ap (λ n. sum n (word (lengths_in words))) many
-        ∙ sum_same (count_in words) (word (lengths_in words)) (pair_length words) (length_at words) ∙ summed;
+        ∙ sum_same (count_in words) (word (lengths_in words)) (pair_length words) (length_at_lem words) ∙ summed;
     few = omega (arith, size_back accepted, words-length bs, accepted.few);
     roomy = omega (arith, size_back accepted, words-length bs);
   }
@@ -168,6 +169,7 @@ module _ (bs : List ℕ) (small : (i : ℕ) → byte bs i < 256) (fine : file_re
 
   pub write_read : WritesAs (edition_in words) (lengths_in words) (words_in words) bs
   write_read = record {
-    fine = (writer-accepted-exactly (edition_in words) (lengths_in words) (words_in words) (length bs)).1 writer-accepted;
+    fine = (writer-accepted-exactly (edition_in words) (lengths_in words) (words_in words) (length bs)).1
+        writer-accepted;
     bytes-are = ap bytes_from (file-back accepted) ∙ bytes_back bs accepted.whole small;
   }

@@ -60,7 +60,8 @@ first_three false false = refl
 -- ---- the table: refusals 1 to 6 and 10, an answer too short, evidence, and nothing else
 
 checker-tested : (ws a : List ℤ) →
-    Tested (problem_tests most_rows ws ++ ((too_short ws (length a), 7) ∷ (accepted (problem ws) a, 8) ∷ (true, 9) ∷ []))
+    Tested (problem_tests most_rows ws ++ ((too_short ws (length a), 7) ∷ (accepted (problem ws) a, 8) ∷ (true, 9) ∷
+    []))
     (checker_table ws a)
 checker-tested ws a = tested-then (problem-tested most_rows ws)
     (tested (room-tells ws (length a)) (tested (shown-tells (problem ws) a) (tested always no_test)))
@@ -124,7 +125,8 @@ module _ (ws a : List ℤ) where
           Checks ws a (cond b 7 (cond c 8 9))
       judged e true c p q = short e ((room-tells ws (length a)).if-true p)
       judged e false true p q = right e ((room-tells ws (length a)).if-false p) ((shown-tells (problem ws) a).if-true q)
-      judged e false false p q = wrong e ((room-tells ws (length a)).if-false p) ((shown-tells (problem ws) a).if-false q)
+      judged e false false p q = wrong e ((room-tells ws (length a)).if-false p)
+          ((shown-tells (problem ws) a).if-false q)
 
       go : (r : ℕ) → problem_refusal ws ≡ r → Checks ws a (checked ws a)
       go zero e = rw (checked-by-answer e) (judged e (too_short ws (length a)) (accepted (problem ws) a) refl refl)

@@ -35,7 +35,8 @@ or-none false = refl
 
 -- by both tests of the first numbers and both of the second: no branch asks whether a limit is strict
 pub clears-joined : (strict : Bool) (a b c d : ℤ) →
-    (lt_z a c || (not (lt_z c a) && ((strict && lt_z b d) || (not strict && not (lt_z d b))))) ≡ clears strict (a, b) (c, d)
+    (lt_z a c || (not (lt_z c a) && ((strict && lt_z b d) || (not strict && not (lt_z d b))))) ≡ clears strict (a, b)
+    (c, d)
 clears-joined true a b c d = go (lt_z a c) (lt_z c a) (lt_z b d)
   where
     go : (p q r : Bool) → (p || (not q && (r || false))) ≡ lexicographic p q r

@@ -1,5 +1,6 @@
 -- The two tests of evidence say what the plain facts of specs/Facts/Evidence do.
---   right-can, right-cannot      over any numbers: `right_can` passes exactly when `Solution` holds, `right_cannot` when
+--   right-can, right-cannot      over any numbers: `right_can` passes exactly when `Solution` holds, `right_cannot`
+--   when
 --                                `Refutation` does
 --   shows-can                    verdict 1: `shows_can` passes exactly when `ShowsCan` holds
 --   shows-cannot                 verdict 2: likewise

@@ -69,7 +69,8 @@ place-before S p r =
     }
 
 module _ (t : List ℕ) where
-  halted-refused : (k : ℕ) → read_text t ≡ refused_at (token_place t k) → Halted 0 outset (token_bytes t) k → RefusedBy t k
+  halted-refused : (k : ℕ) → read_text t ≡ refused_at (token_place t k) → Halted 0 outset (token_bytes t) k →
+      RefusedBy t k
   halted-refused k e s = record {
     in-text = omega (arith, s.count, ap length s.split, length-append s.before s.rest);
     before = subst (λ l. Begins l) (sym front) (place-before s.at s.before s.leads);

@@ -1,7 +1,7 @@
 -- What is written reads back.
 --   read-pieces    the tokens of fine parts are read
 --   read-any      a text with the tokens of the text of accepted words gives those words
---   read-back  so does that text itself
+--   read_back  so does that text itself
 use mathlib.Core.List.{List, [], append-nil}
 use mathlib.Core.Path.{◌≡◌, refl, sym, ◌∙◌, ap}
 use Prim.Native.Nat.{ℕ}

@@ -21,11 +21,15 @@ pub written-cases : map (λ ws. read_text (exchange_text ws)) exchanges ≡ map 
 unfolding exchanges Below.lowest Numbers.within Tables.table_from List.flatten Limit.bit Text.ascii Text.digits_turns
     Text.digits Text.lines_below Text.reading Script.set_logic Script.declare_const Script.of_real Script.assert_row
     Script.end_assert Script.open_sum Script.open_term Script.open_minus Script.close Script.space Script.assert_limit
-    Script.no_less Script.more Script.no_more Script.less Script.check_sat Script.column_name Script.row_name Script.name_of
-    Script.number_text Script.declaration Script.term Script.sum_text Script.terms_text Script.row_text Script.limit_text
+    Script.no_less Script.more Script.no_more Script.less Script.check_sat Script.column_name Script.row_name
+    Script.name_of
+    Script.number_text Script.declaration Script.term Script.sum_text Script.terms_text Script.row_text
+    Script.limit_text
     Script.lower_relation Script.upper_relation Script.limits_text Script.exchange_text Tokens.is_blank
-    Tokens.is_parenthesis Tokens.ends_line Tokens.is_comment Tokens.is_plain Tokens.begins Tokens.single Tokens.mode_after
-    Tokens.tokens_at Tokens.last Tokens.scan Tokens.tokens Tokens.token_bytes Tokens.token_place Reader.same_bytes Reader.is
+    Tokens.is_parenthesis Tokens.ends_line Tokens.is_comment Tokens.is_plain Tokens.begins Tokens.single
+    Tokens.mode_after
+    Tokens.tokens_at Tokens.last Tokens.scan Tokens.tokens Tokens.token_bytes Tokens.token_place Reader.same_bytes
+    Reader.is
     Reader.numeral Reader.opens Reader.closes Reader.row_head Reader.going Reader.with_row Reader.with_limit
     Reader.ahead Reader.all_zero Reader.fits Reader.behind_term Reader.taken Reader.with_sign Reader.admitted
     Reader.matched Reader.limit_command Reader.command Reader.relation_taken Reader.relation_read Reader.name_read
@@ -40,7 +44,8 @@ pub reading-cases :
 unfolding readings one_column readings_behind Below.lowest Numbers.within Tables.table_from List.flatten Text.ascii
     Text.digits_turns Text.digits Text.reading Script.set_logic Script.declare_const Script.of_real Script.assert_row
     Script.end_assert Script.open_sum Script.open_term Script.open_minus Script.close Script.space Script.assert_limit
-    Script.no_less Script.more Script.no_more Script.less Script.check_sat Script.column_name Script.row_name Script.name_of
+    Script.no_less Script.more Script.no_more Script.less Script.check_sat Script.column_name Script.row_name
+    Script.name_of
     Tokens.is_blank Tokens.is_parenthesis Tokens.ends_line Tokens.is_comment Tokens.is_plain Tokens.begins Tokens.single
     Tokens.mode_after Tokens.tokens_at Tokens.last Tokens.scan Tokens.tokens Tokens.token_bytes Tokens.token_place
     Reader.same_bytes Reader.is Reader.numeral Reader.opens Reader.closes Reader.row_head Reader.going Reader.with_row

@@ -58,7 +58,8 @@ unfolding table_from
 table_of a zero z = refl
 table_of a (suc k) z = ap (λ l. z ∷ l) (table_of (suc a) k z)
 
-level-words : (P : Problem ℤ) (e : Ending ℤ) → words_of (problem_through level P) (ending_through level e) ≡ plain_words P e
+level-words : (P : Problem ℤ) (e : Ending ℤ) → words_of (problem_through level P) (ending_through level e) ≡
+    plain_words P e
 unfolding words_of plain_words outcome_through
 level-words P e = go e.how
   where

@@ -16,7 +16,7 @@ use Rattle.rules.proofs.Plain.Tests.{crossed-through}
 use Rattle.rules.proofs.Plain.Steps.{step_through}
 use Rattle.rules.specs.Problem.{Problem, mapped, vars}
 use Rattle.rules.specs.Run.{bound, conflict, ending, run, spending}
-use Rattle.rules.specs.Step.{Outcome, State, can, cannot, common, goes, range, start, start_entry, start_seat}
+use Rattle.rules.specs.Step.{Outcome, State, can, cannot, goes, range, start, start_entry, start_seat}
 use Rattle.rules.specs.Step.{start_value, step}
 
 module _ {X Y : Type 0} (𝓧 : Values X) (𝓨 : Values Y) (h : X → Y) (K : Keeps 𝓧 𝓨 h) where

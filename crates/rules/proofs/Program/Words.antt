@@ -178,7 +178,8 @@ bytes-then a b = ext_get_or 0 (bytes_from (a ++ b)) (bytes_from a ++ bytes_from 
         ∙ ap (byte (bytes_from a ++ bytes_from b))
         (let z : length (bytes_from a) + j ≡ i = omega (arith, bytes-length a) in z)
 
-    same : (i : ℕ) → i < length (bytes_from (a ++ b)) → byte (bytes_from (a ++ b)) i ≡ byte (bytes_from a ++ bytes_from b) i
+    same : (i : ℕ) → i < length (bytes_from (a ++ b)) → byte (bytes_from (a ++ b)) i ≡ byte
+        (bytes_from a ++ bytes_from b) i
     same i h = elim (dec_lt i (4 * length a)) [ yes l ↦ front i h l | no l ↦ back i h (omega arith) ]
 
 pub bytes_one : (z : ℤ) → bytes_from (z ∷ [])
@@ -205,7 +206,8 @@ words-behind bs j = ext_get_or (pos 0) (words_from rest) (drop j (words_from bs)
         ∙ ap (byte bs) (let z : 4 * j + (4 * i + t) ≡ 4 * (j + i) + t = omega arith in z)
 
     at_first : (i : ℕ) → byte rest (4 * i) ≡ byte bs (4 * (j + i))
-    at_first i = get_or-drop (4 * j) bs (4 * i) 0 ∙ ap (byte bs) (let z : 4 * j + 4 * i ≡ 4 * (j + i) = omega arith in z)
+    at_first i = get_or-drop (4 * j) bs (4 * i) 0 ∙ ap (byte bs)
+        (let z : 4 * j + 4 * i ≡ 4 * (j + i) = omega arith in z)
 
     same : (i : ℕ) → i < length (words_from rest) → word (words_from rest) i ≡ word (drop j (words_from bs)) i
     same i h =

@@ -48,7 +48,8 @@ module _ {rows : ℕ} {ws : List ℤ} (A : Accepted rows ws) where
   pub m-few : m_of ws ≤ rows
   m-few = under-size rows 0 (word ws 1) A.m-least A.m-most
 
-  pub coefficient-within : (i j : ℕ) → i < m_of ws → j < n_of ws → Within ((problem ws).coefficient i j) largest_coefficient
+  pub coefficient-within : (i j : ℕ) → i < m_of ws → j < n_of ws → Within ((problem ws).coefficient i j)
+      largest_coefficient
   unfolding problem
   coefficient-within i j h k = A.coefficients (i * n_of ws + j) (digits_lt h k)
 

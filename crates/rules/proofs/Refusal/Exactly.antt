@@ -22,7 +22,8 @@ use lib.Dec.{le→leb}
 use lib.Signed.{le_z_yes}
 use Rattle.whole.proofs.Numbers.Order.{≤ℤ-trans}
 use Rattle.whole.specs.Tells.{Tells}
-use Rattle.whole.proofs.Tells.{tells_all, tells-eq, tells-eq_z, tells-lt, tells-not, tells-or, tells-outside, tells-some}
+use Rattle.whole.proofs.Tells.{tells_all, tells-eq, tells-eq_z, tells-lt, tells-not, tells-or, tells-outside}
+use Rattle.whole.proofs.Tells.{tells-some}
 use Rattle.whole.proofs.Tells.{tells-within}
 use Rattle.whole.proofs.Bools.{true-false}
 use Rattle.rules.proofs.Refusal.First.{Tested, Upto, first-exactly, first_fine, no_test, tested, tested-then}
@@ -31,7 +32,8 @@ use Rattle.rules.specs.Facts.Refusal.{AllFine, BadKind, BadLimit, FineKind, Firs
 use Rattle.rules.specs.Facts.Refusal.{coefficient_line}
 use Rattle.rules.specs.Facts.Refusal.{few_line, kind_line, length_line, limit_line, problem_table, room_line, size_line}
 use Rattle.rules.specs.Facts.Refusal.{solver_table, solver_table_within}
-use Rattle.rules.specs.Problem.{answer_length, coefficient_word, kind, lower_word, m_of, n_of, upper_word, vars_of, word}
+use Rattle.rules.specs.Problem.{answer_length, coefficient_word, kind, lower_word, m_of, n_of, upper_word, vars_of}
+use Rattle.rules.specs.Problem.{word}
 use Rattle.rules.specs.Refusal.{Accepted, FineLimit, bad_coefficient, bad_kind, bad_length, bad_limit, bad_size}
 use Rattle.rules.specs.Refusal.{blank_row, first, problem_refusal, problem_refusal_within, problem_tests, refusal}
 use Rattle.rules.specs.Refusal.{refusal_within, some_blank, too_few, too_short}
@@ -102,7 +104,8 @@ module _ (ws : List ℤ) where
 
   pub blank-tells : Tests (some_blank ws) (blank_line ws)
   unfolding some_blank blank_row
-  blank-tells = tells-some (m_of ws) _ (λ i h. tells_all (n_of ws) _ (λ j k. tells-eq_z (coefficient_word ws i j) (pos 0)))
+  blank-tells = tells-some (m_of ws) _ (λ i h. tells_all (n_of ws) _
+      (λ j k. tells-eq_z (coefficient_word ws i j) (pos 0)))
 
   pub room-tells : (room : ℕ) → Tests (too_short ws room) (room_line ws room)
   unfolding too_short

@@ -24,7 +24,7 @@ use Rattle.rules.specs.Problem.{Problem, vars}
 use Rattle.rules.specs.Run.{conflict, crossed}
 use Rattle.rules.specs.Facts.Run.{StartsAt, at_high, at_low, at-nil}
 use Rattle.rules.specs.Facts.State.{Apart, Housed, Rowed, Sound}
-use Rattle.rules.specs.Step.{common, positive, same, seat, start, start_entry, start_seat, start_value}
+use Rattle.rules.specs.Step.{common, same, seat, start, start_entry, start_seat, start_value}
 use Rattle.rules.specs.Tableau.{entry}
 
 module _ {X : Type 0} (𝓥 : Values X) where

@@ -11,7 +11,7 @@ use native.Mathlib.Omega.{arith}
 use lib.IntN.{neg_ℤ, pos, ℤ}
 use lib.Signed.{<ℤ_irrefl, lt_z, ◌<ℤ◌, ◌≤ℤ◌}
 use Rattle.whole.proofs.Bools.{true-false}
-use Rattle.whole.proofs.Numbers.Order.{<ℤ→≤ℤ, false→le, le→false, lt→true, true→lt, ≤ℤ-<ℤ-trans, ≤ℤ-antisym}
+use Rattle.whole.proofs.Numbers.Order.{<ℤ→≤ℤ, false→le, le→false, true→lt, ≤ℤ-<ℤ-trans, ≤ℤ-antisym}
 use Rattle.whole.proofs.Tells.{tells-false}
 use Rattle.whole.specs.Tells.{Tells}
 use Rattle.whole.specs.Values.{Lt, lexicographic, pairs}

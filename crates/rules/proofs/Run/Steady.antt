@@ -13,7 +13,7 @@ use Rattle.rules.proofs.Step.Entering.{entered}
 use Rattle.rules.proofs.Step.Leaving.{left}
 use Rattle.rules.proofs.Step.Cases.{step-goes}
 use Rattle.rules.proofs.Tableau.Pivot.{rowed-moved, was-some}
-use Rattle.rules.proofs.Termination.NoRepeat.{apart, no-arrangement-twice}
+use Rattle.rules.proofs.Termination.NoRepeat.{no-arrangement-twice}
 use Rattle.rules.specs.Problem.{Problem, vars}
 use Rattle.rules.specs.Facts.Rule.{Entered, Left, Outside, too-high, too-low}
 use Rattle.rules.specs.Run.{Runs, after, next}

@@ -119,7 +119,8 @@ module _ (P : Problem (ℤ × ℤ)) (s : State (ℤ × ℤ)) where
   module _ (v : ℕ) (e : conflict pairs P ≡ some v) where
     -- finished at 0
     pub conflict-slice : (b : ℕ) →
-        (continued pairs (first_slice P s) b ≡ first_slice P s) × (slice_answer (first_slice P s) b ≡ some (answer_from P s))
+        (continued pairs (first_slice P s) b ≡ first_slice P s) ×
+        (slice_answer (first_slice P s) b ≡ some (answer_from P s))
     unfolding slice_answer answer_from
     conflict-slice b = (
       crossed-stays pairs P s v e 0 b,

@@ -67,7 +67,8 @@ module _ (P : Problem (ℤ × ℤ)) (s : State (ℤ × ℤ)) where
   violation-exactly A d r L =
       subst (Names s r) (sym (shown-is (some r) ((leaving-exactly pairs pairs-laws P s A d r).1 L))) (names r)
 
-  pub violation-none : ((v : ℕ) → v < vars P → seat s v ≡ none → Inside pairs P s v) → violation_of P s ≡ nothing_shown 0
+  pub violation-none : ((v : ℕ) → v < vars P → seat s v ≡ none → Inside pairs P s v) → violation_of P s ≡
+      nothing_shown 0
   unfolding shown_by
   violation-none I = shown-is none ((none-leaving-exactly pairs P s).1 I)
 

@@ -87,7 +87,8 @@ unfolding over_classes
 over_none [] = refl
 over_none (c ∷ cs) = let r = over_none cs in omega (arith, r)
 
-over-plus : (cs : List Class) (f g : Class → ℕ) → over_classes cs (λ c. f c + g c) ≡ over_classes cs f + over_classes cs g
+over-plus : (cs : List Class) (f g : Class → ℕ) → over_classes cs (λ c. f c + g c) ≡ over_classes cs f + over_classes
+    cs g
 unfolding over_classes
 over-plus [] f g = refl
 over-plus (c ∷ cs) f g = let r = over-plus cs f g in omega (arith, r)

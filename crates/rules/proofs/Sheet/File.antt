@@ -62,6 +62,7 @@ module _ (e : ℕ) (body : List ℤ) where
   unfolding body_refusal class_of class_by
   class-refused k q = ap (λ r. class_by r body) q
 
-  pub class-answered : body_refusal e body ≡ 0 → class_of (rows_in e) body ≡ verdict (nat_abs (verdict_of (answer body)))
+  pub class-answered : body_refusal e body ≡ 0 → class_of (rows_in e) body ≡ verdict
+      (nat_abs (verdict_of (answer body)))
   unfolding body_refusal class_of class_by
   class-answered q = ap (λ r. class_by r body) q

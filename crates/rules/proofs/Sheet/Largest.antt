@@ -4,7 +4,7 @@
 --                                       body has more (Leads)
 --   none-exactly                        no body is named exactly where none has a verdict
 --   none-nought                         and then the sum and the largest are 0
-use mathlib.Core.Bool.{Bool, false, true, ◌&&◌}
+use mathlib.Core.Bool.{Bool, false, true}
 use mathlib.Core.List.{List}
 use mathlib.Core.Logic.{inl, inr, ◌↔◌, ◌⊎◌}
 use mathlib.Core.Option.{none, some}

@@ -17,7 +17,7 @@ use Rattle.rules.specs.Evidence.{AtLeast, AtMost, Meets, Unmet}
 use Rattle.rules.specs.Problem.{Problem, vars}
 use Rattle.rules.specs.Facts.Rule.{Left}
 use Rattle.rules.specs.Facts.State.{Sound}
-use Rattle.rules.specs.Step.{Leaving, Side, State, common, entering, leaves, leaving, limit_at, positive, scaled}
+use Rattle.rules.specs.Step.{Leaving, Side, State, common, entering, leaves, leaving, limit_at, scaled}
 use Rattle.rules.specs.Step.{seat, seated}
 use Rattle.rules.specs.Tableau.{entry}
 

@@ -11,8 +11,7 @@ use Prim.Native.Nat.{ℕ}
 use lib.IntN.{pos, ℤ}
 use lib.Signed.{◌<ℤ◌}
 use Rattle.whole.proofs.Values.Instances.{turned-laws}
-use Rattle.whole.proofs.Ring.Normal.{scale}
-use Rattle.whole.proofs.Numbers.Order.{neg-down, neg-down-back, neg-up, neg-up-back, plus}
+use Rattle.whole.proofs.Numbers.Order.{neg-down, neg-down-back, neg-up, neg-up-back}
 use Rattle.whole.specs.Values.{Laws, Le, Lt, Values}
 use Rattle.rules.specs.Problem.{Problem}
 use Rattle.rules.specs.Facts.Rule.{Outside, Stuck, Suits, may-go-down, may-go-up, too-high, too-low}

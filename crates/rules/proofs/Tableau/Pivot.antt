@@ -31,7 +31,7 @@ use Rattle.rules.specs.Evidence.{Rows, row_sum}
 use Rattle.rules.specs.Problem.{Problem, vars}
 use Rattle.rules.specs.Facts.Rule.{Entered, Left, Suits, Swap, may-go-down, may-go-up}
 use Rattle.rules.specs.Facts.State.{Rowed}
-use Rattle.rules.specs.Step.{Leaving, Side, State, above, below, common, limit_at, moved, positive, pull, seat}
+use Rattle.rules.specs.Step.{Leaving, Side, State, above, below, common, limit_at, moved, pull, seat}
 use Rattle.rules.specs.Tableau.{Tableau, divisor_size, entry, pivot, reduced, relation, solved}
 
 pub pivot-nonzero : {X : Type 0} (𝓥 : Values X) (P : Problem X) (σ : Side) (w : ℕ) (a : ℤ) (x : X) →

@@ -11,7 +11,6 @@ use lib.Arith.{le→nltb}
 use lib.Dec.{eqb, eqb_refl, eqb→eq, ltb, lt→ltb}
 use lib.IntN.{*ℤ-one, *ℤ-zero, one, pos, ℤ, ◌*ℤ◌}
 use Rattle.whole.proofs.Bools.{T→false, T→true}
-use Rattle.whole.proofs.Ring.Normal.{scale}
 use Rattle.whole.proofs.Numbers.Sums.{sum_one, sum_same}
 use Rattle.whole.proofs.Values.Laws.{scale-total, sum-scale, total-one, total-same, total-swap}
 use Rattle.whole.specs.Sums.{sum}

@@ -13,7 +13,6 @@ use Prim.Native.Nat.{suc, zero, ℕ, ◌+◌, ◌<◌, ◌^◌, ◌≤◌}
 use native.Mathlib.Decide.{dec_lt, ℕ_discrete}
 use native.Mathlib.Nat.{le_trans, mul-le-mul, mul-pos, one-le-pow, pow-le-pow_right, two-pow-succ}
 use native.Mathlib.Omega.{arith}
-use lib.IntN.{one}
 use lib.ListN.{get_or-eq_default, get_or, length, length-set, set}
 use lib.Seq.{get_or-set_other}
 use Rattle.whole.proofs.Lists.Tables.{table_at, table_from-length}

@@ -13,7 +13,6 @@ use native.Mathlib.Decide.{dec_lt, ℕ_discrete}
 use native.Mathlib.Omega.{arith}
 use lib.IntN.{pos, ℤ}
 use lib.Signed.{◌<ℤ◌}
-use Rattle.whole.proofs.Ring.Normal.{scale}
 use Rattle.whole.proofs.Numbers.Order.{Sign, minus, null, plus, sign}
 use Rattle.whole.proofs.Values.Laws.{down, down-strict, le-le, le_lt_trans, lt_irrefl, lt-le-trans, same-le, scale-comm}
 use Rattle.whole.proofs.Values.Laws.{scale-total, total-le, total-lt, total-same, up, up_strict, weaken}

@@ -55,7 +55,8 @@ module _ {X : Type 0} (𝓥 : Values X) where
   seated-from P a zero e = omega arith
   seated-from P a (suc k) e = go (start_seat 𝓥 P a) refl (seated-from P (suc a) k (omega arith))
     where
-      go : (o : Option X) → start_seat 𝓥 P a ≡ o → how_many_seated (table_from (suc a) k (start_seat 𝓥 P)) ≡ P.n - suc a →
+      go : (o : Option X) → start_seat 𝓥 P a ≡ o → how_many_seated (table_from (suc a) k (start_seat 𝓥 P)) ≡ P.n - suc
+          a →
           how_many_seated (o ∷ table_from (suc a) k (start_seat 𝓥 P)) ≡ P.n - a
       go none q h = let z : P.n ≤ a = basic-row 𝓥 P a q in h ∙ (omega arith)
       go (some x) q h = let z : a < P.n = (seated-problem 𝓥 P a x q).0 in ap suc h ∙ (omega arith)

@@ -22,7 +22,7 @@ use Rattle.rules.specs.Problem.{Problem, vars}
 use Rattle.rules.specs.Facts.Rule.{Entered, Left, Swap}
 use Rattle.rules.specs.Run.{Moves, Runs, after}
 use Rattle.rules.specs.Facts.State.{Sound}
-use Rattle.rules.specs.Step.{Leaving, Side, State, above, below, common, entering, leaves, leaving, limit_at}
+use Rattle.rules.specs.Step.{Leaving, Side, State, below, common, entering, leaves, leaving, limit_at}
 use Rattle.rules.specs.Step.{scaled, seat, seated, step}
 use Rattle.rules.specs.Tableau.{entry}
 

@@ -10,7 +10,6 @@ use Prim.Native.Nat.{suc, zero, ℕ, ◌+◌, ◌-◌, ◌<◌, ◌≤◌}
 use native.Mathlib.Decide.{dec_le, ℕ_discrete}
 use native.Mathlib.Omega.{arith}
 use Rattle.rules.specs.Facts.Rule.{Swap}
-use Rattle.rules.specs.Step.{seat}
 
 pub none-some : {X : Type 0} {o : Option X} {x : X} → o ≡ none → o ≡ some x → ⊥
 none-some {x} p q = none-ne-some x (sym p ∙ q)

@@ -18,7 +18,8 @@ use lib.Signed.{◌<ℤ◌, ◌≤ℤ◌}
 use Rattle.whole.proofs.Bools.{not-true, same_tests, true-false}
 use Rattle.whole.proofs.Lists.Tables.{table_same}
 use Rattle.whole.proofs.Numbers.Tests.{under-size}
-use Rattle.whole.proofs.Tells.{tells_all, tells-and, tells-eq_z, tells-lt, tells-lt_z, tells-not, tells-or, tells-outside}
+use Rattle.whole.proofs.Tells.{tells_all, tells-and, tells-eq_z, tells-lt, tells-lt_z, tells-not, tells-or}
+use Rattle.whole.proofs.Tells.{tells-outside}
 use Rattle.whole.proofs.Tells.{tells-false, tells-true}
 use Rattle.whole.specs.Numbers.{eq_z}
 use Rattle.whole.specs.Tables.{table}

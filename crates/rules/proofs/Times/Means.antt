@@ -42,7 +42,8 @@ use Rattle.rules.proofs.Times.Refused.{vertices-some, accepted-ends, strict-is}
 -- ---- a row, and the row as it is read
 
 -- z is at most c less s times e: so a row that is strict is met strictly
-pub row_read : (e s z c : ℤ) → pos 0 <ℤ e → (s ≡ pos 0) ⊎ (s ≡ pos 1) → z ≤ℤ (c -ℤ e *ℤ s) → RowSays (eq_z s (pos 1)) z c
+pub row_read : (e s z c : ℤ) → pos 0 <ℤ e → (s ≡ pos 0) ⊎ (s ≡ pos 1) → z ≤ℤ (c -ℤ e *ℤ s) → RowSays (eq_z s (pos 1))
+    z c
 row_read e s z c p (inl q) h =
     subst (λ s. z ≤ℤ (c -ℤ e *ℤ s) → RowSays (eq_z s (pos 1)) z c) (sym q)
     (λ h. le-at (e ∷ z ∷ c ∷ []) (of_le h) (search reify depth 30) slk) h

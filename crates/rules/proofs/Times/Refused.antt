@@ -20,7 +20,8 @@ use Rattle.rules.specs.Sizes.{most_vertices, most_time_rows, largest_length}
 use Rattle.rules.specs.Problem.{word, n_of, m_of}
 use Rattle.rules.specs.Times.Walks.{EndsIn}
 use Rattle.rules.specs.Times.Words.{from_word, to_word, strict_word, length_word, times_length, bad_time_size}
-use Rattle.rules.specs.Times.Words.{bad_word_count, bad_end, bad_strict, bad_row_length, no_room, time_tests, time_refusal}
+use Rattle.rules.specs.Times.Words.{bad_word_count, bad_end, bad_strict, bad_row_length, no_room, time_tests}
+use Rattle.rules.specs.Times.Words.{time_refusal}
 use Rattle.rules.specs.Times.Words.{AcceptedTimes, time_edges, times_table}
 use Rattle.rules.proofs.Refusal.First.{Tested, first-exactly, first_fine, no_test, tested}
 use Rattle.rules.proofs.Refusal.Exactly.{few-tells}
@@ -49,7 +50,8 @@ module _ (ws : List ℤ) where
   strict-tells i = tells-outside 0 1 (strict_word ws i)
 
   span-tells : (i : ℕ) →
-      Tells (bad_row_length ws i) (¬ Within (length_word ws i) largest_length) (Within (length_word ws i) largest_length)
+      Tells (bad_row_length ws i) (¬ Within (length_word ws i) largest_length)
+      (Within (length_word ws i) largest_length)
   unfolding bad_row_length
   span-tells i = tells-not (tells-within largest_length (length_word ws i))
 

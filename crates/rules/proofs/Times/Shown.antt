@@ -43,7 +43,8 @@ k-least e k K p a m =
 
 module _ {ws : List ℤ} {room : ℕ} (A : AcceptedTimes ws room) (a : List ℤ) where
   pub times-mean : TimesShown ws a → (K : ℕ) → ((v : ℕ) → v < n_of ws → Within (time_in ws a v).1 K) →
-      (e k : ℤ) → pos 0 <ℤ e → (e *ℤ ((pos K +ℤ pos K) +ℤ pos 1)) ≤ℤ k → MeetsRows ws k (λ v. mixed e k (time_in ws a v))
+      (e k : ℤ) → pos 0 <ℤ e → (e *ℤ ((pos K +ℤ pos K) +ℤ pos 1)) ≤ℤ k → MeetsRows ws k
+      (λ v. mixed e k (time_in ws a v))
   times-mean S K small e k p m i h =
       row_read e (strict_word ws i) _ (k *ℤ length_word ws i) p (strict-is A i h)
       (as-mixed e k x.0 x.1 y.0 y.1 (length_word ws i) (strict_word ws i)

@@ -37,13 +37,15 @@ pub answer-can : (ws : List ℤ) (rows : List ℕ) → can_meet pairs (time_edge
     times_answer ws rows ≡ pos 1 ∷ pos (n_of ws) ∷ times_of ws
 unfolding times_answer
 answer-can ws rows e =
-    ap (λ b. cond b (pos 1 ∷ pos (n_of ws) ∷ times_of ws) (pos 2 ∷ pos (length rows) ∷ cycle_words (2 * n_of ws) rows)) e
+    ap (λ b. cond b (pos 1 ∷ pos (n_of ws) ∷ times_of ws)
+    (pos 2 ∷ pos (length rows) ∷ cycle_words (2 * n_of ws) rows)) e
 
 pub answer-cannot : (ws : List ℤ) (rows : List ℕ) → can_meet pairs (time_edges ws) ≡ false →
     times_answer ws rows ≡ pos 2 ∷ pos (length rows) ∷ cycle_words (2 * n_of ws) rows
 unfolding times_answer
 answer-cannot ws rows e =
-    ap (λ b. cond b (pos 1 ∷ pos (n_of ws) ∷ times_of ws) (pos 2 ∷ pos (length rows) ∷ cycle_words (2 * n_of ws) rows)) e
+    ap (λ b. cond b (pos 1 ∷ pos (n_of ws) ∷ times_of ws)
+    (pos 2 ∷ pos (length rows) ∷ cycle_words (2 * n_of ws) rows)) e
 
 kept_same : (k : ℕ) (ws : List ℤ) (rows other : List ℕ) (before : List ℤ) →
     times_written (suc k) ws rows before ≡ times_written (suc k) ws other before

@@ -5,7 +5,7 @@
 --   wide-accepted                  8 exactly when its facts hold
 --   wide-same                      word 1 and the words past 6 + 8N never matter
 --   wide-only                      what is allowed to come out is one number
-use mathlib.Core.Bool.{Bool, cond, false, true, ◌&&◌}
+use mathlib.Core.Bool.{Bool, cond, false, true}
 use mathlib.Core.List.{List, [], ◌++◌, ◌∷◌}
 use mathlib.Core.Logic.{inl, inr, ◌↔◌, ◌≢◌}
 use mathlib.Core.Path.{ap, refl, sym, ◌∙◌, ◌≡◌}

@@ -21,7 +21,8 @@ wide-means ws a c = let S = ((wide-accepted ws a).0 c).2 in go S S.shown
   where
     go : ShownWide (problem ws) a → RightWide (problem ws) a → MeantWide (problem ws) a
     go S (inl (v, R)) = can-be-met v
-        (solution-satisfied (problem ws) (wide_denominator a) (wide_lower a) (wide_upper (vars (problem ws)) a) largest_wide
+        (solution-satisfied (problem ws) (wide_denominator a) (wide_lower a) (wide_upper (vars (problem ws)) a)
+        largest_wide
         R (λ v h. wide-within a (1 + vars (problem ws) + v) (S.formed (1 + vars (problem ws) + v) (omega arith))))
     go S (inr (v, R)) = cannot-be-met v
         (farkas (problem ws) (wide_denominator a) (wide_lower a) (wide_upper (vars (problem ws)) a) R)

@@ -70,7 +70,8 @@ wide-within a slot F = number-within _ _ _ _ F.limb-0 F.limb-1 F.limb-2 F.head
 -- ---- the words that a number is put into
 
 -- parts of a natural number
-rest_sum : (n : ℕ) → n % limb_turn + limb_turn * (n / limb_turn % limb_turn + limb_turn * (n / limb_turn / limb_turn % limb_turn
+rest_sum : (n : ℕ) → n % limb_turn + limb_turn * (n / limb_turn % limb_turn + limb_turn *
+    (n / limb_turn / limb_turn % limb_turn
     + limb_turn * (n / limb_turn / limb_turn / limb_turn))) ≡ n
 rest_sum n = omega arith
 
@@ -154,7 +155,8 @@ module _ (N : ℕ) (a : List ℤ) (slot : ℕ) (h : slot < numbers_of N) where
   limb-is : (i : ℕ) → i < 4 → limb_at (wide_form N a) slot i ≡ limb_of (word a (2 + slot)) i
   unfolding wide_form
   limb-is i k =
-      ap (word (word a 0 ∷ word a 1 ∷ table (4 * numbers_of N) f)) (let z : 2 + 4 * slot + i ≡ suc (suc (4 * slot + i)) =
+      ap (word (word a 0 ∷ word a 1 ∷ table (4 * numbers_of N) f))
+      (let z : 2 + 4 * slot + i ≡ suc (suc (4 * slot + i)) =
       omega arith in z)
       ∙ table_at (4 * numbers_of N) f (pos 0) (4 * slot + i) (omega arith)
       ∙ ap (λ s. limb_of (word a (2 + s)) ((4 * slot + i) % 4)) (let z : (4 * slot + i) / 4 ≡ slot = omega arith in z)

@@ -36,7 +36,8 @@ use Rattle.rules.specs.Wide.{well_formed, wide_form}
 pub all_right : AllRight cases
 unfolding cases limit_cases evidence_cases wide_cases time_cases time_checks comes_out wanted
     answer answer_from words_of ending spending conflict crossed run bound choose step
-    leaving broken under over entering suits may_rise may_fall pull moved limit_at admit evidence scaled seated shortfall_by
+    leaving broken under over entering suits may_rise may_fall pull moved limit_at admit evidence scaled seated
+    shortfall_by
     start start_entry start_seat start_value pivot solved reduced relation divisor divisor_size small
     problem present bit mapped bad_kind_word
     refusal first problem_tests too_few bad_size bad_length bad_coefficient bad_kind

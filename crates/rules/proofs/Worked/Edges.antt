@@ -34,7 +34,8 @@ use Rattle.rules.specs.Times.Words.{time_refusal, time_tests}
 pub solver-edges : map solver_call solver_calls ≡ map wanted_call solver_calls
 unfolding solver_call solver_calls lent refusal written
     answer answer_from words_of ending spending conflict crossed run bound choose step
-    leaving broken under over entering suits may_rise may_fall pull moved limit_at admit evidence scaled seated shortfall_by
+    leaving broken under over entering suits may_rise may_fall pull moved limit_at admit evidence scaled seated
+    shortfall_by
     start start_entry start_seat start_value pivot solved reduced relation divisor divisor_size small
     problem present bit mapped bad_kind_word first problem_tests too_few bad_size bad_length bad_coefficient bad_kind
     bad_limit blank_row some_blank bad_limit_word too_short
@@ -59,17 +60,22 @@ time-edges = refl
 pub check-edges : map check_call check_calls ≡ map wanted_call check_calls
 unfolding check_call check_calls lent opened check_refusal check_answer kept first
     answer_from words_of ending spending conflict crossed run bound choose step
-    leaving broken under over entering suits may_rise may_fall pull moved limit_at admit evidence scaled seated shortfall_by
+    leaving broken under over entering suits may_rise may_fall pull moved limit_at admit evidence scaled seated
+    shortfall_by
     start start_entry start_seat start_value pivot solved reduced relation divisor divisor_size small
-    problem present bit mapped lowest some_below all_below fold_below sum_by table_from matrix gcd gcd_turns within outside
+    problem present bit mapped lowest some_below all_below fold_below sum_by table_from matrix gcd gcd_turns within
+    outside
 check-edges = refl
 
 pub slice-edges : map slice_call slice_calls ≡ map wanted_call slice_calls
-unfolding slice_call slice_calls lent begun slice_refusal slice_answer slice_output told first words_of spending conflict
+unfolding slice_call slice_calls lent begun slice_refusal slice_answer slice_output told first words_of spending
+    conflict
     crossed run step
-    leaving broken under over entering suits may_rise may_fall pull moved limit_at admit evidence scaled seated shortfall_by
+    leaving broken under over entering suits may_rise may_fall pull moved limit_at admit evidence scaled seated
+    shortfall_by
     start start_entry start_seat start_value pivot solved reduced relation divisor divisor_size small
-    problem present bit mapped lowest some_below all_below fold_below sum_by table_from matrix gcd gcd_turns within outside
+    problem present bit mapped lowest some_below all_below fold_below sum_by table_from matrix gcd gcd_turns within
+    outside
 slice-edges = refl
 
 pub sizes-right : map (λ s. s.0) sizes_told ≡ map (λ s. s.1) sizes_told

@@ -20,20 +20,25 @@ use Rattle.rules.specs.Step.{suits, under}
 use Rattle.rules.specs.Tableau.{divisor, divisor_size, pivot, reduced, relation, small, solved}
 
 pub replays-right : ReplaysRight replay_cases
-unfolding replay_cases replay_refusal bad_trace replayed replayed_from step_words first_wrong mask_below conflict crossed step
-    leaving broken under over entering suits may_rise may_fall pull moved limit_at admit evidence scaled seated shortfall_by
+unfolding replay_cases replay_refusal bad_trace replayed replayed_from step_words first_wrong mask_below conflict
+    crossed step
+    leaving broken under over entering suits may_rise may_fall pull moved limit_at admit evidence scaled seated
+    shortfall_by
     start start_entry start_seat start_value pivot solved reduced relation divisor divisor_size small
     problem present bit mapped first
-    problem_tests too_few bad_size bad_length bad_coefficient bad_kind bad_kind_word bad_limit bad_limit_word some_blank blank_row
+    problem_tests too_few bad_size bad_length bad_coefficient bad_kind bad_kind_word bad_limit bad_limit_word
+    some_blank blank_row
     lowest some_below all_below fold_below sum_by table_from matrix gcd gcd_turns within outside
 replays-right = refl
 
 pub traces-right : TracesRight trace_cases
 unfolding trace_cases trace_refusal run_count ending spending run after next bound choose step_words mask_below
     conflict crossed step
-    leaving broken under over entering suits may_rise may_fall pull moved limit_at admit evidence scaled seated shortfall_by
+    leaving broken under over entering suits may_rise may_fall pull moved limit_at admit evidence scaled seated
+    shortfall_by
     start start_entry start_seat start_value pivot solved reduced relation divisor divisor_size small
     problem present bit mapped first
-    problem_tests too_few bad_size bad_length bad_coefficient bad_kind bad_kind_word bad_limit bad_limit_word some_blank blank_row
+    problem_tests too_few bad_size bad_length bad_coefficient bad_kind bad_kind_word bad_limit bad_limit_word
+    some_blank blank_row
     lowest some_below all_below fold_below sum_by table_from matrix gcd gcd_turns within outside
 traces-right = refl

@@ -30,12 +30,15 @@ pub sessions-right : SessionsRight session_cases
 unfolding session_cases replies_to opened switched switch_refusal switch_tests
     flagged all_inside inside_seat inside kept rested
     check_answer answer_from words_of ending spending conflict crossed run bound choose step
-    leaving broken under over entering suits may_rise may_fall pull moved limit_at admit evidence scaled seated shortfall_by
+    leaving broken under over entering suits may_rise may_fall pull moved limit_at admit evidence scaled seated
+    shortfall_by
     start start_entry start_seat start_value pivot solved reduced relation divisor divisor_size small
     problem present bit mapped first live_words live_word live_limit live_kind kind_of
-    checked accepted shows_can shows_cannot right_can right_cannot ranged_can ranged_cannot at_least at_most plain_of owed
+    checked accepted shows_can shows_cannot right_can right_cannot ranged_can ranged_cannot at_least at_most plain_of
+    owed
     strict_named column surplus some_strict contradicts
-    problem_tests too_few bad_size bad_length bad_coefficient bad_kind bad_kind_word bad_limit bad_limit_word some_blank blank_row
+    problem_tests too_few bad_size bad_length bad_coefficient bad_kind bad_kind_word bad_limit bad_limit_word
+    some_blank blank_row
     too_short violation_of shown_by
     lowest some_below all_below fold_below sum_by table_from matrix gcd gcd_turns within outside
 sessions-right = refl
@@ -44,6 +47,7 @@ pub violations-right : ViolationsRight violation_cases
 unfolding violation_cases first_violation violation_of shown_by
     leaving broken under over scaled seated shortfall_by start start_entry start_seat start_value
     problem present bit mapped first problem_refusal
-    problem_tests too_few bad_size bad_length bad_coefficient bad_kind bad_kind_word bad_limit bad_limit_word some_blank blank_row
+    problem_tests too_few bad_size bad_length bad_coefficient bad_kind bad_kind_word bad_limit bad_limit_word
+    some_blank blank_row
     lowest some_below all_below sum_by table_from matrix within outside
 violations-right = refl

@@ -18,7 +18,8 @@ use Rattle.rules.specs.Tableau.{divisor, divisor_size, pivot, reduced, relation,
 
 pub slices-right : SlicesRight slice_cases
 unfolding slice_cases replies_of slice_answer continued begun told words_of spending conflict crossed run step
-    leaving broken under over entering suits may_rise may_fall pull moved limit_at admit evidence scaled seated shortfall_by
+    leaving broken under over entering suits may_rise may_fall pull moved limit_at admit evidence scaled seated
+    shortfall_by
     start start_entry start_seat start_value pivot solved reduced relation divisor divisor_size small
     problem present bit mapped
     lowest some_below all_below fold_below sum_by table_from matrix gcd gcd_turns within outside

@@ -4,7 +4,8 @@
 --   WriterAccepted                       what is written without a refusal
 --   ReadsAs, WritesAs                    the two round trips
 -- specs/Bundle has the tests that compute; they give what these lines say (`file-refusal-exactly`).
-use Rattle.std.specs.Prelude.{List, [], ◌++◌, ◌∷◌, ◌≢◌, ◌⊎◌, ◌≡◌, ℕ, ◌*◌, ◌-◌, ◌%◌, ◌<◌, ◌≤◌, pos, ℤ, length, ◌<ℤ◌, ◌≤ℤ◌}
+use Rattle.std.specs.Prelude.{List, [], ◌++◌, ◌∷◌, ◌≢◌, ◌⊎◌, ◌≡◌, ℕ, ◌*◌, ◌-◌, ◌%◌, ◌<◌, ◌≤◌, pos, ℤ, length, ◌<ℤ◌}
+use Rattle.std.specs.Prelude.{◌≤ℤ◌}
 use Rattle.whole.specs.Sums.{sum}
 use Rattle.rules.specs.Facts.Refusal.{InRange, Line, OutOfRange, line_of}
 use Rattle.rules.specs.Problem.{word}

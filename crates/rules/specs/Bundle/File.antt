@@ -1,7 +1,9 @@
 -- docs/RULES.md, "A day's file": an edition, a count k, k pairs (first word, length), and then the bodies, in the order
--- of the pairs, with no gap, and nothing behind the last. `file_refusal` judges the bytes of a file; what a file that is
+-- of the pairs, with no gap, and nothing behind the last. `file_refusal` judges the bytes of a file; what a file that
+-- is
 -- not refused holds is `bodies_in` of its words.
-use Rattle.std.specs.Prelude.{Bool, not, ◌||◌, List, [], ◌∷◌, ◌++◌, ℕ, zero, suc, ◌+◌, ◌-◌, ◌*◌, ◌%◌, ltb, eqb, ℤ, pos, nat_abs, ◌+ℤ◌, length, take, drop, get_or}
+use Rattle.std.specs.Prelude.{Bool, not, ◌||◌, List, [], ◌∷◌, ◌++◌, ℕ, zero, suc, ◌+◌, ◌-◌, ◌*◌, ◌%◌, ltb, eqb, ℤ, pos}
+use Rattle.std.specs.Prelude.{nat_abs, ◌+ℤ◌, length, take, drop, get_or}
 use Rattle.whole.specs.Below.{some_below}
 use Rattle.whole.specs.Numbers.{outside, eq_z, is_neg}
 use Rattle.whole.specs.Sums.{sum}
@@ -112,7 +114,8 @@ bodies_in ws = table (count_in ws) (body_in ws)
 -- ---- the reader: refusal 36, last, where what is lent for the lengths or for the words is too short
 
 unfoldable pub short_room : List ℤ → ℕ → ℕ → Bool
-short_room ws length_room word_room = ltb length_room (count_in ws) || ltb word_room (length ws - head_size (count_in ws))
+short_room ws length_room word_room = ltb length_room (count_in ws) || ltb word_room
+    (length ws - head_size (count_in ws))
 
 unfoldable pub read_refusal : List ℕ → ℕ → ℕ → ℕ
 read_refusal bs length_room word_room =

@@ -1,6 +1,7 @@
 -- docs/RULES.md, "A day's file": the file of an edition that k lengths and the words of all bodies, back to back,
 -- make. No body is judged.
-use Rattle.std.specs.Prelude.{Bool, cond, not, ◌||◌, List, [], ◌∷◌, ◌++◌, ℕ, zero, suc, ◌+◌, ◌*◌, ◌/◌, ◌%◌, ltb, eqb, ℤ, pos, length, drop}
+use Rattle.std.specs.Prelude.{Bool, cond, not, ◌||◌, List, [], ◌∷◌, ◌++◌, ℕ, zero, suc, ◌+◌, ◌*◌, ◌/◌, ◌%◌, ltb, eqb, ℤ}
+use Rattle.std.specs.Prelude.{pos, length, drop}
 use Rattle.whole.specs.Below.{some_below}
 use Rattle.whole.specs.Numbers.{eq_z, is_neg}
 use Rattle.whole.specs.Sums.{sum}

@@ -36,7 +36,8 @@ comes_out ws (checks a k) = pos (checked ws a) ∷ []
 comes_out ws (checks_wide a k) = pos (checked_wide ws a) ∷ []
 comes_out ws (times a) = pos (time_refusal ws (times_length ws)) ∷ pos (checked_times ws a) ∷ times_answer ws []
 comes_out ws (cycle rows total a) =
-    pos (time_refusal ws (times_length ws)) ∷ (around pairs (time_edges ws) rows).0 ∷ (around pairs (time_edges ws) rows).1
+    pos (time_refusal ws (times_length ws)) ∷ (around pairs (time_edges ws) rows).0 ∷
+    (around pairs (time_edges ws) rows).1
     ∷ cond (is_bad_cycle pairs (time_edges ws) rows) (pos 1) (pos 0) ∷ pos (checked_times ws a) ∷ times_answer ws rows
 comes_out ws (checks_times a k) = pos (checked_times ws a) ∷ []
 

@@ -107,7 +107,8 @@ abbrev looks : SessionCase
 looks = record {
   words = two (pos 2) (pos 2) ++ two (pos 1) (pos 1) ++ two (minus 1) (pos 2)
       ++ upper_only (minus 1) ++ free ++ (pos 3 ∷ pos 2 ∷ pos 1 ∷ []) ++ more_than (pos 1);
-  script = look ∷ on_at 2 below ∷ on_at 3 below ∷ look ∷ check ∷ look ∷ on_at 0 above ∷ look ∷ on_at 2 above ∷ look ∷ [];
+  script = look ∷ on_at 2 below ∷ on_at 3 below ∷ look ∷ check ∷ look ∷ on_at 0 above ∷ look ∷ on_at 2 above ∷ look ∷
+      [];
   replies = shows (nothing_shown 0) ∷ number 0 ∷ number 0 ∷ shows (must_rise 2 (pos 1) (pos 2, pos 0))
       ∷ answers (pos 1 ∷ pos 2 ∷ pos 3 ∷ pos 3 ∷ pos 3 ∷ pos 6 ∷ pos 3
       ∷ minus 1 ∷ pos 1 ∷ pos 0 ∷ pos 3 ∷ []) 8

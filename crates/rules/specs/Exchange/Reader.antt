@@ -2,7 +2,8 @@
 -- A text is read token by token. What was read so far says which tokens must follow, one after the other (`todo`), and
 -- what has to be decided then (`stage`); each decision is made by one token (`next`). The first token that is not taken
 -- is the one at whose place the text is refused.
-use Rattle.std.specs.Prelude.{Bool, true, false, cond, not, ◌&&◌, ℕ, zero, suc, ◌+◌, ◌-◌, ◌*◌, ◌/◌, ◌%◌, leb, ltb, eqb, ℤ, pos, negsuc, length, get_or, replicate}
+use Rattle.std.specs.Prelude.{Bool, true, false, cond, not, ◌&&◌, ℕ, zero, suc, ◌+◌, ◌-◌, ◌*◌, ◌/◌, ◌%◌, leb, ltb, eqb}
+use Rattle.std.specs.Prelude.{ℤ, pos, negsuc, length, get_or, replicate}
 use mathlib.Core.List.{List, [], ◌∷◌, ◌++◌, flatten}
 use Rattle.std.proofs.Math.Option.{Option, none, some}
 use Rattle.whole.specs.Below.{lowest}

@@ -8,7 +8,8 @@
 --   MetSmall, MetActually, Meant     what the number 8 means
 -- The records are over the numbers that the words stand for, so that they speak of numbers that stand in no list too.
 -- `checked` of specs/Evidence gives what the table says (`checked-exactly`).
-use Rattle.std.specs.Prelude.{Bool, false, true, List, [], ◌++◌, ◌∷◌, ◌≢◌, ◌⊎◌, ◌≡◌, suc, ℕ, ◌<◌, pos, ℤ, ◌*ℤ◌, ◌-ℤ◌, length, ◌<ℤ◌, ◌≤ℤ◌}
+use Rattle.std.specs.Prelude.{Bool, false, true, List, [], ◌++◌, ◌∷◌, ◌≢◌, ◌⊎◌, ◌≡◌, suc, ℕ, ◌<◌, pos, ℤ, ◌*ℤ◌, ◌-ℤ◌}
+use Rattle.std.specs.Prelude.{length, ◌<ℤ◌, ◌≤ℤ◌}
 use Rattle.std.proofs.Math.Option.{Option, none, some}
 use Rattle.whole.specs.Numbers.{Within}
 use Rattle.whole.specs.Values.{Le, Lt, mixed, pairs, whole}
@@ -92,7 +93,8 @@ Shown P a = ((verdict_of a ≡ pos 1) × ShowsCan P a) ⊎ ((verdict_of a ≡ po
 -- refusals 1 to 6 and 10, an answer too short, evidence, and nothing else
 abbrev pub checker_table : List ℤ → List ℤ → List Line
 checker_table ws a = problem_table most_rows ws
-    ++ (room_line ws (length a) ∷ line_of 8 (Shown (problem ws) a) (¬ Shown (problem ws) a) ∷ line_of 9 (Unit {0}) ⊥ ∷ [])
+    ++ (room_line ws (length a) ∷ line_of 8 (Shown (problem ws) a) (¬ Shown (problem ws) a) ∷ line_of 9 (Unit {0}) ⊥ ∷
+    [])
 
 -- ---- what the number 8 means
 

@@ -5,11 +5,13 @@
 --   Tests       a test is true exactly where a line applies, and false exactly where it does not
 --   problem_table, solver_table    the lines of the page; solver_table_within, within any most rows
 -- specs/Refusal has the tests that compute; they give what these lines say (`refusal-exactly`).
-use Rattle.std.specs.Prelude.{Bool, false, true, List, [], ◌++◌, ◌∷◌, ◌≢◌, ◌⊎◌, ◌≡◌, ℕ, ◌*◌, ◌+◌, ◌<◌, ◌≤◌, pos, ℤ, length, ◌<ℤ◌, ◌≤ℤ◌}
+use Rattle.std.specs.Prelude.{Bool, false, true, List, [], ◌++◌, ◌∷◌, ◌≢◌, ◌⊎◌, ◌≡◌, ℕ, ◌*◌, ◌+◌, ◌<◌, ◌≤◌, pos, ℤ}
+use Rattle.std.specs.Prelude.{length, ◌<ℤ◌, ◌≤ℤ◌}
 use Rattle.whole.specs.Numbers.{Within}
 use Rattle.whole.specs.Tells.{Tells}
 use Rattle.rules.specs.Limit.{has_lower, has_upper, strict_lower, strict_upper}
-use Rattle.rules.specs.Problem.{answer_length, coefficient_word, kind, lower_word, m_of, n_of, upper_word, vars_of, word}
+use Rattle.rules.specs.Problem.{answer_length, coefficient_word, kind, lower_word, m_of, n_of, upper_word, vars_of}
+use Rattle.rules.specs.Problem.{word}
 use Rattle.rules.specs.Refusal.{FineLimit}
 use Rattle.rules.specs.Sizes.{largest_coefficient, largest_limit, most_columns, most_rows}
 
@@ -53,7 +55,8 @@ BadKind k = OutOfRange 0 15 k
     ⊎ (((strict_lower k ≡ true) × (has_lower k ≡ false)) ⊎ ((strict_upper k ≡ true) × (has_upper k ≡ false)))
 
 abbrev pub FineKind : ℤ → Type 0
-FineKind k = InRange 0 15 k × ((strict_lower k ≡ true → has_lower k ≡ true) × (strict_upper k ≡ true → has_upper k ≡ true))
+FineKind k = InRange 0 15 k × ((strict_lower k ≡ true → has_lower k ≡ true) ×
+    (strict_upper k ≡ true → has_upper k ≡ true))
 
 -- ---- the lines of a problem
 
@@ -97,7 +100,8 @@ room_line ws room = line_of 7 (room < answer_length ws) (answer_length ws ≤ ro
 
 abbrev pub problem_table : ℕ → List ℤ → List Line
 problem_table rows ws =
-    few_line ws ∷ size_line rows ws ∷ length_line ws ∷ coefficient_line ws ∷ kind_line ws ∷ limit_line ws ∷ blank_line ws ∷ []
+    few_line ws ∷ size_line rows ws ∷ length_line ws ∷ coefficient_line ws ∷ kind_line ws ∷ limit_line ws ∷ blank_line
+    ws ∷ []
 
 abbrev pub solver_table_within : ℕ → List ℤ → ℕ → List Line
 solver_table_within rows ws room = problem_table rows ws ++ (room_line ws room ∷ [])

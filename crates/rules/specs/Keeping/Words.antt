@@ -17,7 +17,8 @@ kind_of a b c d = pos (bit_value 0 a + bit_value 1 b + bit_value 2 c + bit_value
 
 -- a kind of which the lower limit is kept, or dropped, and the upper one
 unfoldable pub live_kind : (lower upper : Bool) → ℤ → ℤ
-live_kind low high k = kind_of (low && has_lower k) (high && has_upper k) (low && strict_lower k) (high && strict_upper k)
+live_kind low high k = kind_of (low && has_lower k) (high && has_upper k) (low && strict_lower k)
+    (high && strict_upper k)
 
 -- word r of the three of variable v: kind, lower, upper
 unfoldable pub live_limit : (Side → ℕ → Bool) → List ℤ → ℕ → ℕ → ℤ

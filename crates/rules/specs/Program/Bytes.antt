@@ -1,6 +1,7 @@
 -- docs/RULES.md, "The program": bytes as 32-bit signed words, little-endian, and back; and the byte count, which is
 -- judged first. A byte is a number below 256.
-use Rattle.std.specs.Prelude.{cond, not, ◌||◌, List, [], ◌∷◌, ◌≢◌, ◌⊎◌, ◌≡◌, ℕ, suc, ◌+◌, ◌-◌, ◌*◌, ◌/◌, ◌%◌, ◌^◌, ◌<◌, ◌≤◌, ℤ, pos, negsuc, ◌-ℤ◌, length, get_or, ltb, eqb}
+use Rattle.std.specs.Prelude.{cond, not, ◌||◌, List, [], ◌∷◌, ◌≢◌, ◌⊎◌, ◌≡◌, ℕ, suc, ◌+◌, ◌-◌, ◌*◌, ◌/◌, ◌%◌, ◌^◌, ◌<◌}
+use Rattle.std.specs.Prelude.{◌≤◌, ℤ, pos, negsuc, ◌-ℤ◌, length, get_or, ltb, eqb}
 use Rattle.whole.specs.Tables.{table}
 use Rattle.rules.specs.Facts.Refusal.{Line, line_of}
 use Rattle.rules.specs.Sizes.{most_bytes}
@@ -51,4 +52,5 @@ count_refusal count = first ((ltb count 8, 1) ∷ (not (eqb (count % 4) 0) || lt
 
 -- under 8; not a multiple of four, or over the most
 abbrev pub count_table : ℕ → List Line
-count_table n = line_of 1 (n < 8) (8 ≤ n) ∷ line_of 3 ((n % 4 ≢ 0) ⊎ (most_bytes < n)) ((n % 4 ≡ 0) × (n ≤ most_bytes)) ∷ []
+count_table n = line_of 1 (n < 8) (8 ≤ n) ∷ line_of 3 ((n % 4 ≢ 0) ⊎ (most_bytes < n))
+    ((n % 4 ≡ 0) × (n ≤ most_bytes)) ∷ []

@@ -1,9 +1,9 @@
 -- docs/RULES.md, "The program": numbers, answers and refusals as text, byte for byte as they are printed.
 -- Every line ends in a newline.
-use Prim.Native.String
 use Prim.Native.String.{String}
 use Prim.Native.Char.{code}
-use Rattle.std.specs.Prelude.{true, false, cond, List, [], ◌∷◌, ◌++◌, ℕ, zero, suc, ◌+◌, ◌-◌, ◌*◌, ◌/◌, ◌%◌, ℤ, pos, negsuc, neg_ℤ, eqb, leb, ltb, length, drop, get_or}
+use Rattle.std.specs.Prelude.{true, false, cond, List, [], ◌∷◌, ◌++◌, ℕ, zero, suc, ◌+◌, ◌-◌, ◌*◌, ◌/◌, ◌%◌, ℤ, pos}
+use Rattle.std.specs.Prelude.{negsuc, neg_ℤ, eqb, leb, ltb, length, drop, get_or}
 use Rattle.whole.specs.Numbers.{eq_z}
 use Rattle.rules.specs.Problem.{word}
 

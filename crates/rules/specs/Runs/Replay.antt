@@ -6,7 +6,8 @@
 --   replayed_from          the run from a state against the steps of a trace from one on
 --   replayed              .. from the start. A start conflict has no step
 --   replay_refusal         the problem's own refusals, then 51
-use Rattle.std.specs.Prelude.{Bool, true, false, cond, not, List, [], ◌∷◌, ◌++◌, ℕ, zero, suc, ◌+◌, ◌*◌, ◌/◌, ◌%◌, ◌^◌, eqb, ℤ, get_or, length}
+use Rattle.std.specs.Prelude.{Bool, true, false, cond, not, List, [], ◌∷◌, ◌++◌, ℕ, zero, suc, ◌+◌, ◌*◌, ◌/◌, ◌%◌, ◌^◌}
+use Rattle.std.specs.Prelude.{eqb, ℤ, get_or, length}
 use Rattle.std.proofs.Math.Option.{Option, none, some}
 use Rattle.whole.specs.Values.{Values, pairs}
 use Rattle.rules.specs.Problem.{Problem, inner, problem, vars}

@@ -1,7 +1,9 @@
 -- docs/RULES.md, "Switching limits": a session holds a problem with every limit that was handed in, which of them are
--- on, and the state that its next check starts from. Demands 2 and 3 of a check speak of `live_of`, the problem with the
+-- on, and the state that its next check starts from. Demands 2 and 3 of a check speak of `live_of`, the problem with
+-- the
 -- limits that are on.
-use Rattle.std.specs.Prelude.{Bool, true, false, cond, not, ◌&&◌, List, [], ◌∷◌, ◌++◌, ℕ, zero, suc, ◌+◌, ◌*◌, ltb, ℤ, drop, get_or, replicate, set}
+use Rattle.std.specs.Prelude.{Bool, true, false, cond, not, ◌&&◌, List, [], ◌∷◌, ◌++◌, ℕ, zero, suc, ◌+◌, ◌*◌, ltb, ℤ}
+use Rattle.std.specs.Prelude.{drop, get_or, replicate, set}
 use Rattle.std.proofs.Math.Option.{Option, none, some}
 use Rattle.whole.specs.Tables.{table}
 use Rattle.whole.specs.Values.{Values}

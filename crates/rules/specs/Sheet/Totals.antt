@@ -8,7 +8,8 @@
 --   pivot_sum, largest_pivots   of all bodies together, and the most of one; 0 where none has a verdict
 --   largest_body               the lowest body with a verdict that reached the most
 --   lower_named, upper_named    in how many "cannot" answers a limit is named, whatever its multiplier
-use Rattle.std.specs.Prelude.{Bool, true, false, cond, not, ◌&&◌, List, [], ◌∷◌, ℕ, zero, suc, ◌+◌, max, ltb, eqb, ℤ, pos, nat_abs, get_or}
+use Rattle.std.specs.Prelude.{Bool, true, false, cond, not, ◌&&◌, List, [], ◌∷◌, ℕ, zero, suc, ◌+◌, max, ltb, eqb, ℤ}
+use Rattle.std.specs.Prelude.{pos, nat_abs, get_or}
 use Rattle.std.proofs.Math.Option.{Option, none, some}
 use Rattle.whole.specs.Below.{lowest}
 use Rattle.whole.specs.Numbers.{eq_z}
@@ -82,7 +83,8 @@ unfoldable pub names_lower : ℕ → ℕ → List ℤ → Bool
 names_lower rows v b = same_class (class_of rows b) (verdict 2) && names (vars_of b) v (lower_part (answer b) v)
 
 unfoldable pub names_upper : ℕ → ℕ → List ℤ → Bool
-names_upper rows v b = same_class (class_of rows b) (verdict 2) && names (vars_of b) v (upper_part (vars_of b) (answer b) v)
+names_upper rows v b = same_class (class_of rows b) (verdict 2) && names (vars_of b) v
+    (upper_part (vars_of b) (answer b) v)
 
 -- a number for each class, all of them together
 unfoldable pub over_classes : List Class → (Class → ℕ) → ℕ

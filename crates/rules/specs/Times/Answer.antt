@@ -1,6 +1,7 @@
 -- docs/RULES.md, "Time rows": what the answer's words are, what `times` promises, and what a row says of times. All of
 -- the promise is an equation, but for the choice of a bad cycle and of its first row.
-use Rattle.std.specs.Prelude.{◌≡◌, Bool, true, false, cond, List, ◌∷◌, ◌++◌, map, ℕ, zero, suc, ◌+◌, ◌*◌, ◌-◌, ◌<◌, ◌≤◌, ℤ, pos, nat_abs, negsuc, neg_ℤ, ◌-ℤ◌, ◌*ℤ◌, length, drop, replicate, ◌≤ℤ◌, ◌<ℤ◌}
+use Rattle.std.specs.Prelude.{◌≡◌, Bool, true, false, cond, List, ◌∷◌, ◌++◌, map, ℕ, zero, suc, ◌+◌, ◌*◌, ◌-◌, ◌<◌, ◌≤◌}
+use Rattle.std.specs.Prelude.{ℤ, pos, nat_abs, negsuc, neg_ℤ, ◌-ℤ◌, ◌*ℤ◌, length, drop, replicate, ◌≤ℤ◌, ◌<ℤ◌}
 use Rattle.whole.specs.Numbers.{eq_z}
 use Rattle.whole.specs.Values.{pairs, mixed}
 use Rattle.rules.specs.Problem.{n_of, m_of, word}

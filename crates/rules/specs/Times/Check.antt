@@ -4,7 +4,8 @@
 --   cycle_shown, CycleShown     a bad cycle: how many rows, the rows, and zeros
 --   checked_times               11 to 17 by the rows and the answer's length, 8 accepted, 9 not
 --   ShownTimes, times_check_table    its number, line by line (specs/Facts/Refusal)
-use Rattle.std.specs.Prelude.{◌≡◌, Bool, true, false, cond, not, ◌&&◌, ◌||◌, List, [], ◌∷◌, ◌++◌, ◌⊎◌, ℕ, ◌+◌, ◌*◌, ◌<◌, ltb, ℤ, nat_abs, pos, ◌-ℤ◌, length, ◌<ℤ◌, ◌≤ℤ◌}
+use Rattle.std.specs.Prelude.{◌≡◌, Bool, true, false, cond, not, ◌&&◌, ◌||◌, List, [], ◌∷◌, ◌++◌, ◌⊎◌, ℕ, ◌+◌, ◌*◌, ◌<◌}
+use Rattle.std.specs.Prelude.{ltb, ℤ, nat_abs, pos, ◌-ℤ◌, length, ◌<ℤ◌, ◌≤ℤ◌}
 use Rattle.std.specs.Int.Signed.{lt_z}
 use Rattle.whole.specs.Below.{all_below}
 use Rattle.whole.specs.Numbers.{eq_z, is_neg, outside}

@@ -29,5 +29,6 @@ module _ {X : Type 0} (𝓥 : Values X) (E : Edges X) where
       all_below (length rows) (λ k. ltb (row_told rows k) E.count)
       && all_below (length rows - 1) (λ k. eqb (E.head (row_told rows k)) (E.tail (row_told rows (suc k))))
       && eqb (E.head (row_told rows (length rows - 1))) (E.tail (row_told rows 0))
-      && all_below (length rows) (λ k. all_below k (λ j. not (eqb (E.tail (row_told rows j)) (E.tail (row_told rows k)))))
+      && all_below (length rows) (λ k. all_below k (λ j. not
+      (eqb (E.tail (row_told rows j)) (E.tail (row_told rows k)))))
       && 𝓥.less (around rows) 𝓥.nil

@@ -1,6 +1,7 @@
 -- docs/RULES.md, "Time rows", first two paragraphs: the words n, m, then m rows x, y, strict, c; their refusals in
 -- order; and the edges that they are.
-use Rattle.std.specs.Prelude.{Bool, ◌||◌, not, List, [], ◌∷◌, ◌≢◌, ◌⊎◌, ℕ, ◌+◌, ◌*◌, ◌-◌, ◌≤◌, ◌<◌, ◌≡◌, ℤ, pos, nat_abs, neg_ℤ, length, ltb, eqb, ◌≤ℤ◌}
+use Rattle.std.specs.Prelude.{Bool, ◌||◌, not, List, [], ◌∷◌, ◌≢◌, ◌⊎◌, ℕ, ◌+◌, ◌*◌, ◌-◌, ◌≤◌, ◌<◌, ◌≡◌, ℤ, pos}
+use Rattle.std.specs.Prelude.{nat_abs, neg_ℤ, length, ltb, eqb, ◌≤ℤ◌}
 use Rattle.whole.specs.Below.{some_below}
 use Rattle.whole.specs.Numbers.{Within, within, outside}
 use Rattle.rules.specs.Sizes.{most_vertices, most_time_rows, largest_length}
@@ -54,7 +55,8 @@ row_tests ws k after = (some_below k (bad_end ws), 14) ∷ (some_below k (bad_st
 
 unfoldable pub time_tests : List ℤ → ℕ → List (Bool × ℕ)
 time_tests ws room =
-    (too_few ws, 11) ∷ (bad_time_size ws, 12) ∷ (bad_word_count ws, 13) ∷ row_tests ws (m_of ws) ((no_room ws room, 17) ∷ [])
+    (too_few ws, 11) ∷ (bad_time_size ws, 12) ∷ (bad_word_count ws, 13) ∷ row_tests ws (m_of ws)
+    ((no_room ws room, 17) ∷ [])
 
 -- room is the length of the output
 unfoldable pub time_refusal : List ℤ → ℕ → ℕ
@@ -70,7 +72,8 @@ times_table ws room =
     ∷ line_of 13 (length ws ≢ 2 + 4 * m_of ws) (length ws ≡ 2 + 4 * m_of ws)
     -- an end of some row is no vertex
     ∷ line_of 14
-    ((i : ℕ) × (i < m_of ws) × (OutOfRange 0 (n_of ws - 1) (from_word ws i) ⊎ OutOfRange 0 (n_of ws - 1) (to_word ws i)))
+    ((i : ℕ) × (i < m_of ws) × (OutOfRange 0 (n_of ws - 1) (from_word ws i) ⊎ OutOfRange 0 (n_of ws - 1)
+    (to_word ws i)))
     ((i : ℕ) → i < m_of ws → InRange 0 (n_of ws - 1) (from_word ws i) × InRange 0 (n_of ws - 1) (to_word ws i))
     ∷ line_of 15 ((i : ℕ) × (i < m_of ws) × OutOfRange 0 1 (strict_word ws i))
     ((i : ℕ) → i < m_of ws → InRange 0 1 (strict_word ws i))

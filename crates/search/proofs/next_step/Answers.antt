@@ -1,189 +1,140 @@
 -- `search::next_step` meets its contract. The outer loop's invariant: no variable passed leaves; the inner loop's: no
--- variable passed enters. The measures are the variables that are left. Proof/Places has what is known on the way.
--- Assumes nothing.
-use Rattle.search.proofs.next_step.Goals as goal
-
-mod Places
-use mathlib.Core.Path.{sym, ◌∙◌}
+-- variable passed enters. The measures are the variables that are left. Assumes nothing.
+--   breach-by             the breach of a variable, from D times its value
+--   fitting-by            whether a variable can move the one that leaves, from its entry
+use mathlib.Core.Bool.{Bool}
+use mathlib.Core.Option.{some}
+use mathlib.Core.Path.{◌≡◌, ap, ap₂, sym, ◌∙◌}
+use Prim.Native.Nat.{ℕ}
 use native.Mathlib.Omega.{arith}
 use borrow.Author.Rules.{rules}
-use borrow.Author.Tests.{not-true}
+use borrow.Author.Tests.{not-false, not-true}
+use lib.IntN.{ℤ}
 use mir.Facts.{to_z-of_z}
+use mir.Syntax.{w32, w64}
+use mir.Val.{SFits, of_z, to_z}
+use Rattle.whole.specs.Values.{pairs}
 use Rattle.whole.proofs.Lists.Turns.{lowest_start}
-use Rattle.sides.specs.Sides.{side_by}
-use Rattle.search.specs.Search.{broken_at}
-use Rattle.search.proofs.Laws.Turns.{enters-here, past-basic, past-nonbasic, past-unfit, past-within}
-use Rattle.search.proofs.Laws.Turns.{next-pivot, next-stuck, next-within}
+use Rattle.rules.specs.Step.{pull, suits}
+use Rattle.amounts.specs.Amounts.{pair_of}
+use Rattle.tableau.specs.declared.Tableau.{Tableau}
+use Rattle.tableau.specs.Parts.{column_of, highest_of, lower_given, lowest_of, plain_at, row_of}
+use Rattle.tableau.specs.Parts.{small_at, upper_given, value_at}
+use Rattle.layout.specs.Layout.{entry_in}
+use Rattle.sides.specs.declared.Breach.{Breach}
+use Rattle.sides.specs.Sides.{as_breach, breach_at, breach_of, side_by, suits_of}
+use Rattle.search.specs.Search.{broken_at, fitting, scaled_at, seen, short_at, side_at}
 use Rattle.search.proofs.Laws.Shortfalls.{scaled-modest}
-use Rattle.search.proofs.next_step.Proof.Places.{Inv-loop, Inv-search, μ-loop, μ-search, read}
-use Rattle.search.proofs.next_step.Proof.Places.{start, t, v, in-range, few, none_before, outer, is-basic}
-use Rattle.search.proofs.next_step.Proof.Places.{row_small, basic-one, its, fit-common, fit-plain, fit_small}
-use Rattle.search.proofs.next_step.Proof.Places.{value-is, bounded, here, breach-is, it, i, rises, leaving}
-use Rattle.search.proofs.next_step.Proof.Places.{row_in, left, w, none_yet, w-in, w-few, inner, one, is_free}
-use Rattle.search.proofs.next_step.Proof.Places.{column-in, free-few, free-by, free_one, at, moves-is}
-use Rattle.search.proofs.next_step.Statement.{statement}
-use Rattle.search.proofs.next_step.Tie as tie
+use Rattle.search.proofs.Laws.Turns.{enters-here, leaves-here, next-pivot, next-stuck, next-within}
+use Rattle.search.proofs.Laws.Turns.{past-basic, past-nonbasic, past-unfit, past-within}
+use Rattle.search.proofs.next_step.Goals as goal
 
-add-end : tie.Need-overflow-add-end Inv-loop μ-loop Inv-search μ-search
-add-end c = omega arith
+-- the breach of a variable, from D times its value, by their bits
+breach-by : (t : Tableau) (v : ℕ) {x y : ℤ} {b : Breach} → SFits w32 t.common → SFits w64 x → SFits w64 y →
+    x ≡ (scaled_at t v).0 → y ≡ (scaled_at t v).1 →
+    b ≡ breach_of (to_z w32 (of_z w32 t.common)) (to_z w64 (of_z w64 x), to_z w64 (of_z w64 y))
+    (record { lower = lower_given t.limits v; upper = upper_given t.limits v }) →
+    b ≡ as_breach (side_at t v) (short_at t v)
+unfolding breach_of
+breach-by t v f g h p q e = (simp (to_z-of_z f, to_z-of_z g, to_z-of_z h) at e)
+    ∙ ap₂ (λ x y. breach_at t.common (x, y) (lowest_of t.limits v) (highest_of t.limits v)) p q
 
-search-holds : tie.Need-search-init Inv-loop μ-loop Inv-search μ-search
-search-holds c = (lowest_start (broken_at (read c.before)), omega arith)
-
-cast-at : tie.Need-overflow-cast-at Inv-loop μ-loop Inv-search μ-search
-cast-at c = search rules
+-- whether a variable can move the one that leaves, from its entry and its value, by their bits
+fitting-by : (t : Tableau) (i w : ℕ) (rises : Bool) {e : ℤ} {b : Bool} → SFits w32 e →
+    SFits w32 (plain_at t (column_of t w)) → SFits w32 (small_at t (column_of t w)) →
+    e ≡ entry_in t.rows t.columns t.entries i (column_of t w) →
+    b ≡ suits_of rises (to_z w32 (of_z w32 e))
+    (to_z w32 (of_z w32 (plain_at t (column_of t w))), to_z w32 (of_z w32 (small_at t (column_of t w))))
+    (record { lower = lower_given t.limits w; upper = upper_given t.limits w }) →
+    b ≡ fitting t i (side_by rises) w
+unfolding suits_of
+fitting-by t i w rises f g h p q = (simp (to_z-of_z f, to_z-of_z g, to_z-of_z h) at q)
+    ∙ ap (λ e. suits pairs (pull (side_by rises) e) (some (value_at t (column_of t w)))
+    (lowest_of t.limits w) (highest_of t.limits w)) p
 
 -- ---- a variable of the outer loop
 
-mul-seat : tie.Need-overflow-mul-seat Inv-loop μ-loop Inv-search μ-search
-mul-seat c = omega (arith, few c)
+pub search-init : goal.search-init
+search-init c = (lowest_start (broken_at (seen c.args.entries.now c.args.view c.args.limits)), omega arith)
 
-element-copy-out-seat : tie.Need-element-copy-out-seat Inv-loop μ-loop Inv-search μ-search
-element-copy-out-seat c = few c
+pub search-preserved-then-not-seat : goal.search-preserved-then-not-seat
+search-preserved-then-not-seat c = let t = seen c.args.entries.now c.args.view c.args.limits in rw c.after-v.ensures
+    (past-nonbasic t c.search.v.0 c.search.invariant.0 (not-true _ c.if-not-seat.true), omega arith)
 
-after-requires : tie.Need-after-requires Inv-loop μ-loop Inv-search μ-search
-after-requires c κs = few c.before.before.before
+pub breach_of-outside-requires-clause-modest : goal.breach_of-outside-requires-clause-modest
+breach_of-outside-requires-clause-modest c = let t = seen c.args.entries.now c.args.view c.args.limits in
+    let fit-plain : SFits w64 c.row_value-plain.result = search rules in
+    let fit-small : SFits w64 c.row_small-small.result = search rules in
+    let value : (c.row_value-plain.result, c.row_small-small.result) ≡ scaled_at t c.search.v.0 =
+    ap₂ (λ x y. (x, y)) c.row_value-plain.ensures c.row_small-small.ensures in
+    simp (to_z-of_z fit-plain, to_z-of_z fit-small) (rw value (scaled-modest t c.requires c.search.v.0))
 
-search-less : tie.Need-search-smaller Inv-loop μ-loop Inv-search μ-search
-search-less c = let z = in-range c.before.before.before.before in rw c.after-v.ensures (omega arith)
-
-search-again : tie.Need-search-preserved Inv-loop μ-loop Inv-search μ-search
-search-again c = let o = c.before.before.before.before in rw c.after-v.ensures
-    (past-nonbasic (t o) (v o) (none_before o) (not-true _ c.if-not-seat.true), omega arith)
-
--- a basic one: D times its value
-row-value-requires : tie.Need-row-value-requires Inv-loop μ-loop Inv-search μ-search
-row-value-requires c κs = let o = c.before.before.before in let p = (start (outer o)).requires in
-    ((p.few-rows, p.few-columns, row_small o), (p.cells.cell-within, p.values-within))
-
-row-small-requires : tie.Need-row-small-requires Inv-loop μ-loop Inv-search μ-search
-row-small-requires c κs = let o = c.before.before.before.before.before.before in
-    let p = (start (outer o)).requires in
-    ((p.few-rows, p.few-columns, row_small o), (p.cells.cell-within, (p.smalls-within, p.smalls-plain)))
-
--- its limits
-mul-t31 : tie.Need-overflow-mul-t31 Inv-loop μ-loop Inv-search μ-search
-mul-t31 c = omega (arith, few (its c))
-
-element-copy-out-t39 : tie.Need-element-copy-out-t39 Inv-loop μ-loop Inv-search μ-search
-element-copy-out-t39 c = few (its c)
-
-mul-t40 : tie.Need-overflow-mul-t40 Inv-loop μ-loop Inv-search μ-search
-mul-t40 c = omega (arith, few (its c.before))
-
-element-copy-out-t43 : tie.Need-element-copy-out-t43 Inv-loop μ-loop Inv-search μ-search
-element-copy-out-t43 c = few (its c.before)
-
-breach-of-requires : tie.Need-breach-of-requires Inv-loop μ-loop Inv-search μ-search
-breach-of-requires c κs = let a = c.before.before.before in let p = (start (its a)).requires in
-    simp (to_z-of_z (fit-common a), to_z-of_z (fit-plain a), to_z-of_z (fit_small a)) (
-      (p.cells.common-within, p.lowers-within (v (its a)), p.uppers-within (v (its a))),
-      rw (value-is a) (scaled-modest _ p (v (its a))),
-    )
-
-after-requires-2 : tie.Need-after-requires-2 Inv-loop μ-loop Inv-search μ-search
-after-requires-2 c κs = few (here c.before.before)
-
-search-less-2 : tie.Need-search-smaller-2 Inv-loop μ-loop Inv-search μ-search
-search-less-2 c = let z = in-range (here c.before.before.before) in rw c.after-v-then-not-outside.ensures (omega arith)
-
-search-again-2 : tie.Need-search-preserved-2 Inv-loop μ-loop Inv-search μ-search
-search-again-2 c = let a = c.before.before.before in let o = here a in let z = in-range o in
+pub search-preserved : goal.search-preserved
+search-preserved c = let t = seen c.args.entries.now c.args.view c.args.limits in let v = c.search.v.0 in
+    let fit-common : SFits w32 c.args.view.common = search rules in
+    let fit-plain : SFits w64 c.row_value-plain.result = search rules in
+    let fit-small : SFits w64 c.row_small-small.result = search rules in
+    let b = breach-by t v fit-common fit-plain fit-small c.row_value-plain.ensures c.row_small-small.ensures
+    c.breach_of-outside.ensures in
     rw c.after-v-then-not-outside.ensures (
-      past-within (t o) (v o) (none_before o) (is-basic (basic-one (bounded a))) (breach-is a)
-          (not-true _ c.if-not-outside.true),
+      past-within t v c.search.invariant.0 (not-false _ c.if-not-seat.false) b (not-true _ c.if-not-outside.true),
       omega arith,
     )
 
 -- ---- a variable of the inner loop
 
-loop-holds : tie.Need-loop-init Inv-loop μ-loop Inv-search μ-search
-loop-holds c = (omega arith, lowest_start _)
+pub loop-w-init : goal.loop-w-init
+loop-w-init c = (omega arith, lowest_start _)
 
-cast-if4 : tie.Need-overflow-cast-if4 Inv-loop μ-loop Inv-search μ-search
-cast-if4 c = search rules
+pub loop-w-preserved-then-other : goal.loop-w-preserved-then-other
+loop-w-preserved-then-other c = let t = seen c.args.entries.now c.args.view c.args.limits in
+    let σ = side_by c.breach_of-outside.result.rises in
+    rw c.after-w.ensures (omega arith, past-basic t _ σ c.loop-w.w.0 c.loop-w.invariant.1 c.if-other.true)
 
-cast-place : tie.Need-overflow-cast-place Inv-loop μ-loop Inv-search μ-search
-cast-place c = search rules
-
-mul-other : tie.Need-overflow-mul-other Inv-loop μ-loop Inv-search μ-search
-mul-other c = omega (arith, w-few c.before)
-
-element-copy-out-other : tie.Need-element-copy-out-other Inv-loop μ-loop Inv-search μ-search
-element-copy-out-other c = w-few c.before
-
-after-requires-3 : tie.Need-after-requires-3 Inv-loop μ-loop Inv-search μ-search
-after-requires-3 c κs = w-few c.before.before.before
-
-loop-less : tie.Need-loop-smaller Inv-loop μ-loop Inv-search μ-search
-loop-less c = let z = w-in c.before.before.before.before in rw c.after-w.ensures (omega arith)
-
-loop-again : tie.Need-loop-preserved Inv-loop μ-loop Inv-search μ-search
-loop-again c = let n = c.before.before.before.before in let l = left n in let z = w-in n in
-    rw c.after-w.ensures
-    (omega arith, past-basic (t (it l)) (i l) (side_by (rises l)) (w n) (none_yet n) c.if-other.true)
-
--- a nonbasic one: its entry, its limits and its value
-cast-j : tie.Need-overflow-cast-j Inv-loop μ-loop Inv-search μ-search
-cast-j c = search rules
-
-entry-at-requires : tie.Need-entry-at-requires Inv-loop μ-loop Inv-search μ-search
-entry-at-requires c κs = let a = c.before.before in let p = (start (one a)).requires in
-    (row_in (left (inner a)), column-in a, p.few-rows, p.few-columns)
-
-mul-t46 : tie.Need-overflow-mul-t46 Inv-loop μ-loop Inv-search μ-search
-mul-t46 c = omega (arith, w-few (inner (free-by c)))
-
-element-copy-out-t53 : tie.Need-element-copy-out-t53 Inv-loop μ-loop Inv-search μ-search
-element-copy-out-t53 c = w-few (inner (free-by c))
-
-mul-t54 : tie.Need-overflow-mul-t54 Inv-loop μ-loop Inv-search μ-search
-mul-t54 c = omega (arith, w-few (inner (free-by c.before)))
-
-element-copy-out-t57 : tie.Need-element-copy-out-t57 Inv-loop μ-loop Inv-search μ-search
-element-copy-out-t57 c = w-few (inner (free-by c.before))
-
-mul-t46-2 : tie.Need-overflow-mul-t46-2 Inv-loop μ-loop Inv-search μ-search
-mul-t46-2 c = omega (arith, free-few (free-by c.before.before))
-
-element-copy-out-t60 : tie.Need-element-copy-out-t60 Inv-loop μ-loop Inv-search μ-search
-element-copy-out-t60 c = free-few (free-by c.before.before)
-
-mul-t54-2 : tie.Need-overflow-mul-t54-2 Inv-loop μ-loop Inv-search μ-search
-mul-t54-2 c = omega (arith, free-few (free-by c.before.before.before))
-
-element-copy-out-t63 : tie.Need-element-copy-out-t63 Inv-loop μ-loop Inv-search μ-search
-element-copy-out-t63 c = free-few (free-by c.before.before.before)
-
-suits-requires : tie.Need-suits-requires Inv-loop μ-loop Inv-search μ-search
-suits-requires c κs = tt
-
-after-requires-4 : tie.Need-after-requires-4 Inv-loop μ-loop Inv-search μ-search
-after-requires-4 c κs = w-few (at c.before)
-
-loop-less-2 : tie.Need-loop-smaller-2 Inv-loop μ-loop Inv-search μ-search
-loop-less-2 c = let z = w-in (at c.before.before) in rw c.after-w-in-loop-w.ensures (omega arith)
-
-loop-again-2 : tie.Need-loop-preserved-2 Inv-loop μ-loop Inv-search μ-search
-loop-again-2 c = let a = c.before.before in let n = at a in let l = left n in let z = w-in n in
+pub loop-w-preserved : goal.loop-w-preserved
+loop-w-preserved c = let t = seen c.args.entries.now c.args.view c.args.limits in
+    let i = row_of t c.search.v.0 in let w = c.loop-w.w.0 in
+    let fit-entry : SFits w32 c.entry_at-entry.result = search rules in
+    let fit-plain : SFits w32 (plain_at t (column_of t w)) = search rules in
+    let fit-small : SFits w32 (small_at t (column_of t w)) = search rules in
+    let rises = c.breach_of-outside.result.rises in
+    let f = fitting-by t i w rises fit-entry fit-plain fit-small c.entry_at-entry.ensures c.suits.ensures in
     rw c.after-w-in-loop-w.ensures (
       omega arith,
-      past-unfit (t (it l)) (i l) (side_by (rises l)) (w n) (none_yet n) (is_free (free_one a))
-          (sym (moves-is a) ∙ c.if-suits.false),
+      past-unfit t i (side_by rises) w c.loop-w.invariant.1 c.if-other.false (sym f ∙ c.if-suits.false),
     )
 
 -- ---- what is found
 
-returns : tie.Need-returns Inv-loop μ-loop Inv-search μ-search
-returns c = let h = c.before.before in
-    next-within (read h.before.before) h.search.v.0 (omega arith) h.search.invariant.0
+pub returns-then-at-end : goal.returns-then-at-end
+returns-then-at-end c = let t = seen c.args.entries.now c.args.view c.args.limits in
+    next-within t c.search.v.0 (omega arith) c.search.invariant.0
 
-returns-2 : tie.Need-returns-2 Inv-loop μ-loop Inv-search μ-search
-returns-2 c = let a = c.before in let n = at a in let l = left n in
-    next-pivot _ _ (rises l) _ (leaving l) (w n)
-    (enters-here (t (it l)) (i l) (side_by (rises l)) (w n) (none_yet n) (w-in n) (is_free (free_one a))
-    (sym (moves-is a) ∙ c.if-suits.true))
+pub returns-then-suits : goal.returns-then-suits
+returns-then-suits c = let t = seen c.args.entries.now c.args.view c.args.limits in
+    let v = c.search.v.0 in let i = row_of t v in let w = c.loop-w.w.0 in
+    let fit-common : SFits w32 c.args.view.common = search rules in
+    let fit-value : SFits w64 c.row_value-plain.result = search rules in
+    let fit-part : SFits w64 c.row_small-small.result = search rules in
+    let b = breach-by t v fit-common fit-value fit-part c.row_value-plain.ensures c.row_small-small.ensures
+    c.breach_of-outside.ensures in
+    let fit-entry : SFits w32 c.entry_at-entry.result = search rules in
+    let fit-plain : SFits w32 (plain_at t (column_of t w)) = search rules in
+    let fit-small : SFits w32 (small_at t (column_of t w)) = search rules in
+    let rises = c.breach_of-outside.result.rises in
+    let f = fitting-by t i w rises fit-entry fit-plain fit-small c.entry_at-entry.ensures c.suits.ensures in
+    next-pivot t v rises (pair_of c.breach_of-outside.result.shortfall)
+    (leaves-here t v c.search.invariant.0 (not-false _ c.if-not-seat.false) b (omega arith)
+    (not-false _ c.if-not-outside.false)) w
+    (enters-here t i (side_by rises) w c.loop-w.invariant.1 (omega arith) c.if-other.false (sym f ∙ c.if-suits.true))
 
-returns-3 : tie.Need-returns-3 Inv-loop μ-loop Inv-search μ-search
-returns-3 c = let h = c.before.before in let l = h.before.before in
-    next-stuck _ _ (rises l) _ (leaving l) h.loop-w.w.0 (omega arith) h.loop-w.invariant.1
+pub returns-after-loop-w : goal.returns-after-loop-w
+returns-after-loop-w c = let t = seen c.args.entries.now c.args.view c.args.limits in let v = c.search.v.0 in
+    let fit-common : SFits w32 c.args.view.common = search rules in
+    let fit-plain : SFits w64 c.row_value-plain.result = search rules in
+    let fit-small : SFits w64 c.row_small-small.result = search rules in
+    let b = breach-by t v fit-common fit-plain fit-small c.row_value-plain.ensures c.row_small-small.ensures
+    c.breach_of-outside.ensures in
+    next-stuck t v c.breach_of-outside.result.rises (pair_of c.breach_of-outside.result.shortfall)
+    (leaves-here t v c.search.invariant.0 (not-false _ c.if-not-seat.false) b (omega arith)
+    (not-false _ c.if-not-outside.false)) c.loop-w.w.0 (omega arith) c.loop-w.invariant.1

@@ -1,14 +1,15 @@
 -- `search::row_value` meets its contract. The loop's invariant: the sum is that of the columns passed. The measure is
 -- the columns that are left. The sum of at most 8 products stays in 64 bits. Assumes nothing.
+use mathlib.Core.List.{List}
 use mathlib.Core.Path.{◌≡◌, refl, ap, subst, sym, ◌∙◌}
-use Prim.Native.Nat.{ℕ, ◌*◌, ◌-◌, ◌<◌}
+use Prim.Native.Nat.{ℕ, ◌*◌, ◌<◌}
 use native.Mathlib.Omega.{arith}
-use borrow.Author.Rules.{rules, sfits_of}
+use borrow.Author.Rules.{rules}
 use lib.IntN.{ℤ, pos, ◌+ℤ◌, ◌*ℤ◌}
 use lib.ListN.{get_or}
 use mir.Facts.{to_z-of_z}
 use mir.Syntax.{w32, w64}
-use mir.Val.{SFits}
+use mir.Val.{SFits, of_z, to_z}
 use Rattle.whole.specs.Numbers.{Within}
 use Rattle.whole.specs.Sums.{sum_by}
 use Rattle.whole.proofs.Numbers.Sizes.{within-+, within-*, within-le, fits-by}
@@ -17,104 +18,58 @@ use Rattle.layout.specs.Layout.{flat, entry_in}
 use Rattle.search.specs.Search.{part_sum, sum_laid}
 use Rattle.search.proofs.Laws.Sums.{row_more, row_within}
 use Rattle.search.proofs.row_value.Goals as goal
-use Rattle.search.proofs.row_value.Goals.{After-loop-j, After-product-sum, At-loop-j, Start}
 
 pub loop-j-init : goal.loop-j-init
 unfolding sum_laid sum_by
 loop-j-init c = (omega arith, refl)
 
-pub entry_at-e-requires : goal.entry_at-e-requires
-entry_at-e-requires c = (omega arith, omega arith, omega arith, omega arith)
-
-pub overflow_cast-j : goal.overflow_cast-j
-overflow_cast-j c = omega arith
-
-pub offset_bounds-values-j : goal.offset_bounds-values-j
-offset_bounds-values-j c = omega arith
-
-pub bounds-values-j : goal.bounds-values-j
-bounds-values-j c = omega arith
-
-pub product-sum-requires : goal.product-sum-requires
-product-sum-requires c = tt
-
--- at a column
-module _ (c : After-product-sum) where
-  abbrev head : At-loop-j
-  head = c.before.before.before.before
-
-  abbrev start : Start
-  start = head.before
-
-  abbrev column-at : ℕ
-  column-at = head.loop-j.j
-
-  abbrev rows : ℕ
-  rows = start.args.size.rows
-
-  abbrev columns : ℕ
-  columns = start.args.size.columns
-
-  abbrev entry : ℤ
-  entry = entry_in rows columns start.args.entries.now start.args.row.0 column-at
-
-  abbrev value : ℤ
-  value = get_or start.args.values.now column-at (pos 0)
-
+-- a term, and the sum with it
+module _ (rows columns : ℕ) (l x : List ℤ) (i j : ℕ)
+    (hl : (k : ℕ) → Within (get_or l k (pos 0)) largest_number) (hx : (k : ℕ) → Within (get_or x k (pos 0)) largest_limit) where
   abbrev old : ℤ
-  old = part_sum rows columns start.args.entries.now start.args.values.now start.args.row.0 column-at
+  old = part_sum rows columns l x i j
 
-  within-entry : Within entry largest_number
-  within-entry = start.requires.by_index (flat rows columns start.args.row.0 column-at)
+  abbrev term : ℤ
+  term = entry_in rows columns l i j *ℤ get_or x j (pos 0)
 
-  fit-entry : SFits w32 c.entry_at-e.result
-  fit-entry = search rules
+  fit-sum : j < most_columns → (p : ℤ) → p ≡ term → SFits w64 (old +ℤ p)
+  fit-sum h p e =
+      let a : Within old (most_columns * (largest_number * largest_limit)) =
+      within-le (row_within rows columns l x i hl hx j) (omega arith) in
+      let b : Within term (largest_number * largest_limit) = within-* (hl (flat rows columns i j)) (hx j) in
+      subst (λ z. SFits w64 (old +ℤ z)) (sym e) (fits-by (within-+ a b) tt)
 
-  fit-value : SFits w32 value
-  fit-value = sfits_of c.x-1.given
-
-  fit-product : SFits w64 c.product-sum.result
-  fit-product = search rules
-
-  product_is : c.product-sum.result ≡ entry *ℤ value
-  product_is = (simp (to_z-of_z fit-entry, to_z-of_z fit-value) at c.product-sum.ensures)
-      ∙ ap (λ e. e *ℤ value) c.entry_at-e.ensures
-
-  within-term : Within (entry *ℤ value) (largest_number * largest_limit)
-  within-term = within-* within-entry (start.requires.by_index_2 column-at)
-
-  within-old : Within old (most_columns * (largest_number * largest_limit))
-  within-old =
-      within-le (row_within rows columns start.args.entries.now start.args.values.now start.args.row.0
-      start.requires.by_index start.requires.by_index_2 column-at)
-      (let h : column-at < most_columns = omega arith in omega arith)
-
-  sum_is : old +ℤ c.product-sum.result ≡ old +ℤ entry *ℤ value
-  sum_is = ap (λ z. old +ℤ z) product_is
-
-  fit-sum : SFits w64 (old +ℤ c.product-sum.result)
-  fit-sum = subst (SFits w64) (sym sum_is) (fits-by (within-+ within-old within-term) tt)
+-- the product of an entry and a value, by their bits
+product-is : {e a x p : ℤ} → SFits w32 e → SFits w32 x → e ≡ a →
+    p ≡ to_z w32 (of_z w32 e) *ℤ to_z w32 (of_z w32 x) → p ≡ a *ℤ x
+product-is {x} f g q h = (simp (to_z-of_z f, to_z-of_z g) at h) ∙ ap (λ e. e *ℤ x) q
 
 pub overflow_add-sum : goal.overflow_add-sum
-overflow_add-sum c = simp (to_z-of_z (fit-product c), (head c).loop-j.invariant.1) (fit-sum c)
-
-pub overflow_step-j : goal.overflow_step-j
-overflow_step-j c = omega arith
-
-pub loop-j-smaller : goal.loop-j-smaller
-loop-j-smaller c = omega arith
+overflow_add-sum c = let s = c.args in let r = c.requires in
+    let fit-entry : SFits w32 c.entry_at-e.result = search rules in
+    let fit-value : SFits w32 (get_or s.values.now c.loop-j.j (pos 0)) = search rules in
+    let fit-product : SFits w64 c.product-sum.result = search rules in
+    let p = product-is fit-entry fit-value c.entry_at-e.ensures c.product-sum.ensures in
+    let f = fit-sum s.size.rows s.size.columns s.entries.now s.values.now s.row.0 c.loop-j.j
+    r.by_index r.by_index_2 (omega arith) _ p in
+    simp (to_z-of_z fit-product, c.loop-j.invariant.1) f
 
 pub loop-j-preserved : goal.loop-j-preserved
-loop-j-preserved c = let s = (start c).args in (
-  omega arith,
-  simp (to_z-of_z (fit-product c), (head c).loop-j.invariant.1, to_z-of_z (fit-sum c))
-      (sum_is c ∙ sym (row_more (rows c) (columns c) s.entries.now s.values.now s.row.0 (column-at c))),
-)
-
-all : (c : After-loop-j) → c.loop-j.j ≡ c.args.size.columns
-all c = omega arith
+loop-j-preserved c = let s = c.args in let r = c.requires in
+    let fit-entry : SFits w32 c.entry_at-e.result = search rules in
+    let fit-value : SFits w32 (get_or s.values.now c.loop-j.j (pos 0)) = search rules in
+    let fit-product : SFits w64 c.product-sum.result = search rules in
+    let p = product-is fit-entry fit-value c.entry_at-e.ensures c.product-sum.ensures in
+    let f = fit-sum s.size.rows s.size.columns s.entries.now s.values.now s.row.0 c.loop-j.j
+    r.by_index r.by_index_2 (omega arith) _ p in
+    let sum = part_sum s.size.rows s.size.columns s.entries.now s.values.now s.row.0 c.loop-j.j in (
+      omega arith,
+      simp (to_z-of_z fit-product, c.loop-j.invariant.1, to_z-of_z f)
+          (ap (λ z. sum +ℤ z) p
+          ∙ sym (row_more s.size.rows s.size.columns s.entries.now s.values.now s.row.0 c.loop-j.j)),
+    )
 
 pub returns : goal.returns
 returns c = let s = c.args in
-    c.loop-j.invariant.1
-    ∙ ap (part_sum s.size.rows s.size.columns s.entries.now s.values.now s.row.0) (all c)
+    let all : c.loop-j.j ≡ s.size.columns = omega arith in
+    c.loop-j.invariant.1 ∙ ap (part_sum s.size.rows s.size.columns s.entries.now s.values.now s.row.0) all

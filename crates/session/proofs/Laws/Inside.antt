@@ -14,7 +14,8 @@ use Rattle.amounts.specs.Amounts.{given_lower, given_upper, put_inside}
 use Rattle.sides.specs.Sides.{least_in, most_in}
 
 module _ (g h : Given) (x : ℤ × ℤ) where
-  inside_is : inside pairs (least_in g) (most_in h) x ≡ cond (crossed pairs (least_in g) (most_in h)) x (put_inside g h x)
+  inside_is : inside pairs (least_in g) (most_in h) x
+      ≡ cond (crossed pairs (least_in g) (most_in h)) x (put_inside g h x)
   unfolding inside crossed present mapped put_inside
   inside_is = go g.on h.on
     where

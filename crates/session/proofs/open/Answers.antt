@@ -1,7 +1,6 @@
 -- `session::open` meets its contract: the first state of a run in slices, with every limit off and every value 0.
 -- Assumes nothing.
 use mathlib.Core.Path.{◌≡◌, ap, ◌∙◌}
-use borrow.Author.Rules.{rules}
 use Rattle.tableau.specs.declared.Tableau.{Tableau}
 use Rattle.slices.specs.declared.Begun.{Begun}
 use Rattle.slices.specs.Slices.{begun_at}
@@ -11,12 +10,6 @@ use Rattle.session.specs.Switching.{quiet_at}
 use Rattle.session.proofs.Laws.Stands.Open.{opens_as}
 use Rattle.session.proofs.open.Goals as goal
 use Rattle.session.proofs.open.Goals.{After-quiet-tableau}
-
-pub start-begun-requires : goal.start-begun-requires
-start-begun-requires c = search rules
-
-pub quiet-tableau-requires : goal.quiet-tableau-requires
-quiet-tableau-requires c = search rules
 
 -- what is handed back, by what the start of a run hands back
 abbrev opened-by : Begun → Tableau → Opened

@@ -74,9 +74,8 @@ shape_of-out-then-refused-ne0 c = search rules
 
 pub returns-then-refused-ne0 : goal.returns-then-refused-ne0
 returns-then-refused-ne0 c =
-    let a = c in let s = c in
-    refused-put (bytes s) a.file_refusal-refused.result a.file_refusal-refused.ensures
-    c.if-refused-ne0.true c.put_refusal.ensures
+    refused-put c.args.file.now c.file_refusal-refused.result c.file_refusal-refused.ensures c.if-refused-ne0.true
+    c.put_refusal.ensures
 
 pub slice_bounds-words_of-end : goal.slice_bounds-words_of-end
 slice_bounds-words_of-end c = search rules

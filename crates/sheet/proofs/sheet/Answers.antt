@@ -25,8 +25,9 @@ shape_of-out c = search rules
 
 pub returns : goal.returns
 returns c =
-    let a = c in
-    let p = a.put_file-size.ensures in (
-      omega (arith, p.put.place),
-      (omega (arith, p.put.place, p.short), (printed-from p (omega arith) a.write_text.ensures).bytes),
-    )
+    let p = c.put_file-size.ensures in
+    record {
+      size = omega (arith, p.put.place);
+      most = omega (arith, p.put.place, p.short);
+      output = (printed-from p (omega arith) c.write_text.ensures).bytes;
+    }

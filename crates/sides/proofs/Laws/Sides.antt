@@ -20,7 +20,8 @@ use Rattle.whole.proofs.Ring.Reify.{reify}
 use Rattle.whole.proofs.Ring.Tools.{ring-at}
 use Rattle.rules.specs.Limit.{Limit, lower_pair, present, upper_pair}
 use Rattle.rules.specs.Problem.{mapped}
-use Rattle.rules.specs.Step.{Side, above, below, gap, may_fall, may_rise, over, pull, seated, shortfall_by, suits, under}
+use Rattle.rules.specs.Step.{Side, above, below, gap, may_fall, may_rise, over, pull, seated, shortfall_by, suits}
+use Rattle.rules.specs.Step.{under}
 use Rattle.amounts.specs.declared.Given.{Given}
 use Rattle.amounts.specs.Amounts.{amount_of, given_lower, given_upper}
 use Rattle.sides.specs.declared.LimitPair.{LimitPair}

@@ -2,8 +2,6 @@
 -- are so small that their difference fits. Assumes nothing.
 use mathlib.Core.Bool.{Bool, false, true, ◌||◌}
 use mathlib.Core.Path.{◌≡◌, ap, ap₂, refl, sym, ◌∙◌}
-use borrow.Author.Rules.{rules}
-use borrow.Author.Tests.{not-false, not-true}
 use lib.IntN.{ℤ}
 use mir.Facts.{to_z-of_z}
 use Rattle.whole.specs.Values.{pairs}
@@ -40,12 +38,6 @@ module _ (s : Start) where
   most-modest : Modest most
   most-modest = limit-modest d (given_upper pair.upper) s.requires.within.0 (upper-near pair.upper s.requires.within.2)
 
-pub under-low-requires : goal.under-low-requires
-under-low-requires c = search rules
-
-pub over-high-requires : goal.over-high-requires
-over-high-requires c = search rules
-
 -- what the two tests say
 module _ (c : After-over-high) where
   abbrev start : Start
@@ -64,14 +56,9 @@ module _ (c : After-over-high) where
   high_is = simp (to_z-of_z start.ranges.common) at c.over-high.ensures
 
 pub returns-then-not-low-high : goal.returns-then-not-low-high
-returns-then-not-low-high c = let o = c in let s = start c.before in let h = or-false (low c.before) (high c.before) (not-true _ c.if-not-low-high.true) in
+returns-then-not-low-high c = let s = start c.before in
+    let h = or-false (low c.before) (high c.before) c.if-not-low-high.true in
     breach-none (d s) (x s) (pair s) (sym (low-is c.before) ∙ h.0) (sym (high_is c.before) ∙ h.1)
-
-pub lower_value-requires : goal.lower_value-requires
-lower_value-requires c = search rules
-
-pub times-least-requires : goal.times-least-requires
-times-least-requires c = search rules
 
 -- below
 module _ (c : After-times-least) where
@@ -92,12 +79,6 @@ returns-then-low c = let b = c in let o = tested c.before in let s = start o in
     ap (λ z. record { violated = true; rises = true; shortfall = z })
     (c.gap.ensures ∙ ap (λ l. amount_of (gap pairs (pair_of l) (x s))) (least-is c.before))
     ∙ breach-under (d s) (x s) (pair s) (sym (low-is o) ∙ b.if-low.true)
-
-pub upper_value-requires : goal.upper_value-requires
-upper_value-requires c = search rules
-
-pub times-most-requires : goal.times-most-requires
-times-most-requires c = search rules
 
 -- the second of two tests, where one of them passes
 second : (a b : Bool) → (a || b) ≡ true → a ≡ false → b ≡ true
@@ -123,4 +104,4 @@ returns c = let b = c in let o = passed c.before in let s = start o in let e = b
     ap (λ z. record { violated = true; rises = false; shortfall = z })
     (c.gap-2.ensures ∙ ap (λ u. amount_of (gap pairs (x s) (pair_of u))) (most-is c.before))
     ∙ breach-over (d s) (x s) (pair s) (sym (low-is o) ∙ e)
-    (sym (high_is o) ∙ second (low o) (high o) (not-false _ b.if-not-low-high.false) e)
+    (sym (high_is o) ∙ second (low o) (high o) b.if-not-low-high.false e)

@@ -12,7 +12,6 @@ use Rattle.sides.proofs.Laws.Sides.{gap_parts}
 use Rattle.sides.proofs.gap.Goals as goal
 use Rattle.sides.proofs.gap.Lts as lts
 use Rattle.sides.proofs.gap.Reads as reads
-use Rattle.sides.proofs.gap.Tie as tie
 
 -- places of the code, as records of what is known there
 abbrev Start : Type 0
@@ -32,12 +31,16 @@ module _ (s : Start) where
   small = fits-by (within-- s.requires.0.small s.requires.1.small) tt
 
 pub overflow_sub-result : goal.overflow_sub-result
-overflow_sub-result c = let s = c in
-    simp (to_z-of_z (fit-a c.before.before.before.before.before).plain, to_z-of_z (fit-b c.before.before.before.before.before).plain) (plain c.before.before.before.before.before)
+overflow_sub-result c =
+    let here = c.before.before.before.before.before in
+    let s = c in
+    simp (to_z-of_z (fit-a here).plain, to_z-of_z (fit-b here).plain) (plain here)
 
 pub overflow_sub-result-2 : goal.overflow_sub-result-2
-overflow_sub-result-2 c = let s = c in
-    simp (to_z-of_z (fit-a c.before.before.before.before.before.before.before.before).small, to_z-of_z (fit-b c.before.before.before.before.before.before.before.before).small) (small c.before.before.before.before.before.before.before.before)
+overflow_sub-result-2 c =
+    let here = c.before.before.before.before.before.before.before.before in
+    let s = c in
+    simp (to_z-of_z (fit-a here).small, to_z-of_z (fit-b here).small) (small here)
 
 pub returns : goal.returns
 returns c = let s = c in

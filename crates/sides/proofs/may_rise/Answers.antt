@@ -1,17 +1,10 @@
 -- `sides::may_rise` meets its contract. Assumes nothing.
 use mathlib.Core.Bool.{not, ◌||◌}
 use mathlib.Core.Path.{ap, ◌∙◌}
-use borrow.Author.Rules.{rules}
 use Rattle.whole.specs.Values.{pairs}
 use Rattle.amounts.specs.Amounts.{pair_in}
 use Rattle.sides.proofs.Laws.Sides.{rise-joined}
 use Rattle.sides.proofs.may_rise.Goals as goal
-
-pub upper_value-requires : goal.upper_value-requires
-upper_value-requires c = search rules
-
-pub is_below-requires : goal.is_below-requires
-is_below-requires c = search rules
 
 pub returns : goal.returns
 returns c = let l = c in let a = l.args in

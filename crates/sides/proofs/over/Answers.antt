@@ -1,22 +1,12 @@
 -- `sides::over` meets its contract. Assumes nothing.
 use mathlib.Core.Bool.{◌&&◌}
 use mathlib.Core.Path.{◌≡◌, ap, ◌∙◌}
-use borrow.Author.Rules.{rules}
 use mir.Facts.{to_z-of_z}
 use Rattle.whole.specs.Values.{pairs}
 use Rattle.amounts.specs.Amounts.{amount_of, given_upper, pair_in, pair_of}
 use Rattle.sides.proofs.Laws.Sides.{over-joined}
 use Rattle.sides.proofs.over.Goals as goal
 use Rattle.sides.proofs.over.Goals.{After-less, Start}
-
-pub upper_value-requires : goal.upper_value-requires
-upper_value-requires c = search rules
-
-pub times-requires : goal.times-requires
-times-requires c = search rules
-
-pub less-requires : goal.less-requires
-less-requires c = search rules
 
 module _ (c : After-less) where
   abbrev s : Start

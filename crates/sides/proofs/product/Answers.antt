@@ -24,7 +24,8 @@ pub overflow_cast-result-2 : goal.overflow_cast-result-2
 overflow_cast-result-2 c = simp (to_z-of_z c.ranges.b) (wide-b c)
 
 pub overflow_mul-result : goal.overflow_mul-result
-overflow_mul-result c = simp (to_z-of_z c.ranges.a, to_z-of_z c.ranges.b, to_z-of_z (wide-a c), to_z-of_z (wide-b c)) (both c)
+overflow_mul-result c = simp (to_z-of_z c.ranges.a, to_z-of_z c.ranges.b, to_z-of_z (wide-a c), to_z-of_z (wide-b c))
+    (both c)
 
 pub returns : goal.returns
 returns c = simp (

@@ -1,7 +1,6 @@
 -- `sides::suits` meets its contract: the sign of the entry and the side say which way the variable has to move.
 -- Assumes nothing.
 use mathlib.Core.Path.{◌≡◌, ap, ◌∙◌}
-use borrow.Author.Rules.{rules}
 use lib.Dec.{lit<}
 use lib.IntN.{pos}
 use mir.Facts.{to_z-of_z}
@@ -15,12 +14,6 @@ use Rattle.sides.specs.Sides.{lower_in, upper_in}
 use Rattle.sides.proofs.Laws.Sides.{falls, suits_joined, suits-joined}
 use Rattle.sides.proofs.suits.Goals as goal
 use Rattle.sides.proofs.suits.Goals.{After-may_rise, Start}
-
-pub may_fall-requires : goal.may_fall-requires
-may_fall-requires c = search rules
-
-pub may_rise-requires : goal.may_rise-requires
-may_rise-requires c = search rules
 
 module _ (c : After-may_rise) where
   abbrev start : Start

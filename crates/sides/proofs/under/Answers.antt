@@ -1,22 +1,12 @@
 -- `sides::under` meets its contract. Assumes nothing.
 use mathlib.Core.Bool.{◌&&◌}
 use mathlib.Core.Path.{◌≡◌, ap, ◌∙◌}
-use borrow.Author.Rules.{rules}
 use mir.Facts.{to_z-of_z}
 use Rattle.whole.specs.Values.{pairs}
 use Rattle.amounts.specs.Amounts.{amount_of, given_lower, pair_in, pair_of}
 use Rattle.sides.proofs.Laws.Sides.{under-joined}
 use Rattle.sides.proofs.under.Goals as goal
 use Rattle.sides.proofs.under.Goals.{After-less, Start}
-
-pub lower_value-requires : goal.lower_value-requires
-lower_value-requires c = search rules
-
-pub times-requires : goal.times-requires
-times-requires c = search rules
-
-pub less-requires : goal.less-requires
-less-requires c = search rules
 
 module _ (c : After-less) where
   abbrev s : Start

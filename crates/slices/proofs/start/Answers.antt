@@ -1,14 +1,7 @@
 -- `slices::start` meets its contract: the refusal of the problem with the state of case H, or 0 with the first state of
 -- the run. Assumes nothing.
-use borrow.Author.Rules.{rules}
 use Rattle.slices.proofs.Laws.Stands.Start.{begun-refused, begun-fine, idle-fine, starts-as}
 use Rattle.slices.proofs.start.Goals as goal
-
-pub judge-refused-requires : goal.judge-refused-requires
-judge-refused-requires c = search rules
-
-pub slice_bounds-new-end : goal.slice_bounds-new-end
-slice_bounds-new-end c = search rules
 
 pub new-tableau-requires : goal.new-tableau-requires
 new-tableau-requires c = idle-fine
@@ -18,9 +11,6 @@ returns-then-refused-ne0 c = let o = c in let ws = o.args.words.now in
     let e = begun-refused ws o.judge-refused.result o.judge-refused.ensures c.if-refused-ne0.true c.new-tableau.result
     c.new-tableau.ensures in
     record { exact = e; meaning = starts-as ws _ e }
-
-pub new-tableau-requires-2 : goal.new-tableau-requires-2
-new-tableau-requires-2 c = search rules
 
 pub returns : goal.returns
 returns c = let o = c in let ws = o.args.words.now in

@@ -27,8 +27,10 @@ use Rattle.rules.proofs.Refusal.Exactly.{accepted-exactly, numbered}
 use Rattle.rules.proofs.Refusal.First.{first-most}
 use Rattle.rules.specs.Problem.{vars_of, word}
 use Rattle.rules.specs.Refusal.{first, problem_tests}
-use Rattle.rules.specs.Sheet.Totals.{Class, answered_class, class_by, class_of, largest_below, largest_body, largest_pivots}
-use Rattle.rules.specs.Sheet.Totals.{lower_named, names, names_lower, names_upper, of_class, pivot_sum, pivots_by, pivots_of}
+use Rattle.rules.specs.Sheet.Totals.{Class, answered_class, class_by, class_of, largest_below, largest_body}
+use Rattle.rules.specs.Sheet.Totals.{largest_pivots}
+use Rattle.rules.specs.Sheet.Totals.{lower_named, names, names_lower, names_upper, of_class, pivot_sum, pivots_by}
+use Rattle.rules.specs.Sheet.Totals.{pivots_of}
 use Rattle.rules.specs.Sheet.Totals.{refused, same_class, sum_below, upper_named, verdict}
 use Rattle.rules.specs.Sizes.{most_rows, most_variables}
 use Rattle.tally.specs.Counting.{audited_at, audited_by, counted_at, leader_of, naming_of, refused_at, tallied_at}
@@ -147,7 +149,8 @@ module _ (rows : ℕ) (body : ℕ → List ℤ) (k : ℕ) where
     upper-kept : (v : ℕ) → upper_named rows k body v ≡ upper_named rows (suc k) body v
     upper-kept v = plus-nought (upper_named rows k body v) ∙ sym (upper-more v
         ∙ ap (λ b. upper_named rows k body v
-        + cond (b && names (vars_of (body k)) v (upper_part (vars_of (body k)) (answer (body k)) v)) 1 0) (no-verdict 2))
+        + cond (b && names (vars_of (body k)) v (upper_part (vars_of (body k)) (answer (body k)) v)) 1 0)
+        (no-verdict 2))
 
     refused-next : refused_at (totals_of rows k body) j ≡ totals_of rows (suc k) body
     unfolding refused_at totals_of
@@ -167,67 +170,69 @@ module _ (rows : ℕ) (body : ℕ → List ℤ) (k : ℕ) where
   abbrev told : List ℤ
   told = answer (body k)
 
-  module _ (w : ℕ) (is : verdict_of told ≡ pos w) (e : class ≡ verdict w) (few : vars_of (body k) ≤ most_variables) where
-    verdict-more : (v : ℕ) →
-        of_class rows k body (verdict v) + cond (eq_z (word told 0) (pos v)) 1 0 ≡ of_class rows (suc k) body (verdict v)
-    unfolding same_class
-    verdict-more v =
-        ap (λ z. of_class rows k body (verdict v) + cond (eq_z z (pos v)) 1 0) is
-        ∙ sym (class-more (verdict v)
-        ∙ ap (λ c. of_class rows k body (verdict v) + cond (same_class c (verdict v)) 1 0) e)
-
-    not-refused : (i : ℕ) → same_class class (refused i) ≡ false
-    unfolding same_class
-    not-refused i = ap (λ c. same_class c (refused i)) e
-
-    has-answer : answered_class class ≡ true
-    unfolding answered_class
-    has-answer = ap answered_class e
-
-    pivots-are : pivots_of rows (body k) ≡ nat_abs (word told 1)
-    unfolding pivots_of pivots_by
-    pivots-are = ap (λ c. pivots_by c (body k)) e
-
-    -- the counts of one side, with their multipliers from a place on
-    module _ (f g : ℕ → ℕ) (at : ℕ)
-        (more : (v : ℕ) → g v ≡ f v
-        + cond (same_class class (verdict 2) && names (vars_of (body k)) v (word told (at + v))) 1 0) where
-      by-verdict : (v : ℕ) → g v ≡ f v + cond (eqb w 2 && names (vars_of (body k)) v (word told (at + v))) 1 0
+  module _ (w : ℕ) (is : verdict_of told ≡ pos w) (e : class ≡ verdict w) (few : vars_of (body k) ≤ most_variables)
+    where
+      verdict-more : (v : ℕ) →
+          of_class rows k body (verdict v) + cond (eq_z (word told 0) (pos v)) 1 0 ≡ of_class rows (suc k) body
+          (verdict v)
       unfolding same_class
-      by-verdict v = more v ∙ ap (λ c. f v
-          + cond (same_class c (verdict 2) && names (vars_of (body k)) v (word told (at + v))) 1 0) e
+      verdict-more v =
+          ap (λ z. of_class rows k body (verdict v) + cond (eq_z z (pos v)) 1 0) is
+          ∙ sym (class-more (verdict v)
+          ∙ ap (λ c. of_class rows k body (verdict v) + cond (same_class c (verdict v)) 1 0) e)
 
-      naming-is : naming_of (word told 0) (vars_of (body k)) ≡ cond (eqb w 2) (vars_of (body k)) 0
-      unfolding naming_of
-      naming-is = ap (λ z. cond (eq_z z (pos 2)) (vars_of (body k)) 0) is
+      not-refused : (i : ℕ) → same_class class (refused i) ≡ false
+      unfolding same_class
+      not-refused i = ap (λ c. same_class c (refused i)) e
 
-      side-more : tallied_at (table most_variables f) told at (naming_of (word told 0) (vars_of (body k)))
-          ≡ table most_variables g
-      side-more = ap (tallied_at (table most_variables f) told at) naming-is ∙ go (eqb w 2) refl
-        where
-          go : (b : Bool) → eqb w 2 ≡ b →
-              tallied_at (table most_variables f) told at (cond (eqb w 2) (vars_of (body k)) 0) ≡ table most_variables g
-          go true q = ap (λ b. tallied_at (table most_variables f) told at (cond b (vars_of (body k)) 0)) q
-              ∙ tallied-table most_variables f told at (vars_of (body k)) few
-              ∙ table_same most_variables _ g (λ v l. sym (by-verdict v
-              ∙ ap (λ b. f v + cond (b && names (vars_of (body k)) v (word told (at + v))) 1 0) q))
-          go false q = ap (λ b. tallied_at (table most_variables f) told at (cond b (vars_of (body k)) 0)) q
-              ∙ tallied-none (table most_variables f) told at
-              ∙ table_same most_variables f g (λ v l. plus-nought (f v) ∙ sym (by-verdict v
-              ∙ ap (λ b. f v + cond (b && names (vars_of (body k)) v (word told (at + v))) 1 0) q))
+      has-answer : answered_class class ≡ true
+      unfolding answered_class
+      has-answer = ap answered_class e
 
-    counted_next : counted_at (totals_of rows k body) told (vars_of (body k)) k ≡ totals_of rows (suc k) body
-    unfolding counted_at totals_of
-    counted_next =
-        made-same (add-one k) (verdict-more 1) (verdict-more 2) (verdict-more 3)
-        (table_same 11 (λ i. of_class rows k body (refused i)) (λ i. of_class rows (suc k) body (refused i))
-        (λ i l. same_count (refused i) (not-refused i)))
-        (sym (pivots-more ∙ ap (λ p. pivot_sum rows k body + p) pivots-are))
-        (sym (largest-more ∙ ap (λ p. max (largest_pivots rows k body) p) pivots-are))
-        (sym (leader-answered rows body k has-answer
-        ∙ ap (λ p. leader_of (reached_by (largest_body rows k body)) (largest_pivots rows k body) p k) pivots-are))
-        (side-more (lower_named rows k body) (lower_named rows (suc k) body) 3 lower-more)
-        (side-more (upper_named rows k body) (upper_named rows (suc k) body) (3 + vars_of (body k)) upper-more)
+      pivots-are : pivots_of rows (body k) ≡ nat_abs (word told 1)
+      unfolding pivots_of pivots_by
+      pivots-are = ap (λ c. pivots_by c (body k)) e
+
+      -- the counts of one side, with their multipliers from a place on
+      module _ (f g : ℕ → ℕ) (at : ℕ)
+          (more : (v : ℕ) → g v ≡ f v
+          + cond (same_class class (verdict 2) && names (vars_of (body k)) v (word told (at + v))) 1 0) where
+        by-verdict : (v : ℕ) → g v ≡ f v + cond (eqb w 2 && names (vars_of (body k)) v (word told (at + v))) 1 0
+        unfolding same_class
+        by-verdict v = more v ∙ ap (λ c. f v
+            + cond (same_class c (verdict 2) && names (vars_of (body k)) v (word told (at + v))) 1 0) e
+
+        naming-is : naming_of (word told 0) (vars_of (body k)) ≡ cond (eqb w 2) (vars_of (body k)) 0
+        unfolding naming_of
+        naming-is = ap (λ z. cond (eq_z z (pos 2)) (vars_of (body k)) 0) is
+
+        side-more : tallied_at (table most_variables f) told at (naming_of (word told 0) (vars_of (body k)))
+            ≡ table most_variables g
+        side-more = ap (tallied_at (table most_variables f) told at) naming-is ∙ go (eqb w 2) refl
+          where
+            go : (b : Bool) → eqb w 2 ≡ b →
+                tallied_at (table most_variables f) told at (cond (eqb w 2) (vars_of (body k)) 0) ≡ table most_variables g
+            go true q = ap (λ b. tallied_at (table most_variables f) told at (cond b (vars_of (body k)) 0)) q
+                ∙ tallied-table most_variables f told at (vars_of (body k)) few
+                ∙ table_same most_variables _ g (λ v l. sym (by-verdict v
+                ∙ ap (λ b. f v + cond (b && names (vars_of (body k)) v (word told (at + v))) 1 0) q))
+            go false q = ap (λ b. tallied_at (table most_variables f) told at (cond b (vars_of (body k)) 0)) q
+                ∙ tallied-none (table most_variables f) told at
+                ∙ table_same most_variables f g (λ v l. plus-nought (f v) ∙ sym (by-verdict v
+                ∙ ap (λ b. f v + cond (b && names (vars_of (body k)) v (word told (at + v))) 1 0) q))
+
+      counted_next : counted_at (totals_of rows k body) told (vars_of (body k)) k ≡ totals_of rows (suc k) body
+      unfolding counted_at totals_of
+      counted_next =
+          made-same (add-one k) (verdict-more 1) (verdict-more 2) (verdict-more 3)
+          (table_same 11 (λ i. of_class rows k body (refused i)) (λ i. of_class rows (suc k) body (refused i))
+          (λ i l. same_count (refused i) (not-refused i)))
+          (sym (pivots-more ∙ ap (λ p. pivot_sum rows k body + p) pivots-are))
+          (sym (largest-more ∙ ap (λ p. max (largest_pivots rows k body) p) pivots-are))
+          (sym (leader-answered rows body k has-answer
+          ∙ ap (λ p. leader_of (reached_by (largest_body rows k body)) (largest_pivots rows k body) p k) pivots-are))
+          (side-more (lower_named rows k body) (lower_named rows (suc k) body) 3 lower-more)
+          (side-more (upper_named rows k body) (upper_named rows (suc k) body) (3 + vars_of (body k)) upper-more)
 
 -- ---- whichever it is
 

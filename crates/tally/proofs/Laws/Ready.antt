@@ -16,7 +16,6 @@ use Rattle.whole.specs.Numbers.{eq_z}
 use Rattle.whole.specs.Tables.{table, table_from}
 use Rattle.rules.proofs.Sheet.Fits.{class-few, lower-few, pivot-sum-few, upper-few}
 use Rattle.rules.specs.Problem.{word}
-use Rattle.rules.specs.Refusal.{first}
 use Rattle.rules.specs.Sheet.Totals.{largest_below, largest_body, largest_pivots, lower_named, of_class}
 use Rattle.rules.specs.Sheet.Totals.{pivot_sum, refused, sum_below, upper_named}
 use Rattle.rules.specs.Sizes.{most_bodies, most_rows, most_variables}

@@ -20,7 +20,8 @@ use Rattle.rules.specs.Sheet.Totals.{names}
 use Rattle.tally.specs.Counting.{one_more, tallied_at}
 
 pub as-table : (n : ℕ) (l : List ℕ) (g : ℕ → ℕ) → length l ≡ n → ((i : ℕ) → i < n → get_or l i 0 ≡ g i) → l ≡ table n g
-as-table n l g e h = sym (table-all l 0) ∙ ap (λ k. table k (λ i. get_or l i 0)) e ∙ table_same n (λ i. get_or l i 0) g h
+as-table n l g e h = sym (table-all l 0) ∙ ap (λ k. table k (λ i. get_or l i 0)) e ∙ table_same n (λ i. get_or l i 0)
+    g h
 
 module _ (n : ℕ) (f : ℕ → ℕ) (a : List ℤ) (at : ℕ) where
   tallied-at : (N v : ℕ) → N ≤ n → v < n → Dec (v < N) →

@@ -5,7 +5,7 @@ use mathlib.Core.Path.{◌≡◌, ap, refl, ◌∙◌}
 use Prim.Native.Nat.{ℕ, max, ◌+◌, ◌≤◌}
 use native.Mathlib.Nat.{le_trans}
 use native.Mathlib.Omega.{arith}
-use borrow.Author.Rules.{rules, sfits_of}
+use borrow.Author.Rules.{sfits_of}
 use lib.Dec.{eqb}
 use lib.IntN.{ℤ, nat_abs, pos}
 use mir.Facts.{Fits-nat_abs, sfits_lit, to_z-of_z}
@@ -20,13 +20,8 @@ use Rattle.tally.specs.Counting.{counted_at, leader_of, naming_of, tallied_at}
 use Rattle.tally.proofs.Laws.More.{made-same}
 use Rattle.tally.proofs.Laws.Ready.{naming-most}
 use Rattle.tally.proofs.counted.Goals as goal
-use Rattle.tally.proofs.counted.Goals.{After-naming-named, After-pivots-1, After-plus-can, After-struct_known-2-1, Start}
-
-pub bounds-answer-0 : goal.bounds-answer-0
-bounds-answer-0 c = search rules
-
-pub bounds-answer-1 : goal.bounds-answer-1
-bounds-answer-1 c = search rules
+use Rattle.tally.proofs.counted.Goals.{After-naming-named, After-pivots-1, After-plus-can, After-struct_known-2-1}
+use Rattle.tally.proofs.counted.Goals.{Start}
 
 -- the count of pivots is read
 module _ (c : After-pivots-1) where
@@ -49,9 +44,6 @@ pub overflow_cast-pivots : goal.overflow_cast-pivots
 overflow_cast-pivots c = rw (to_z-of_z (fit-pivots c))
     (not_neg 0 (word (answer c) 1) (start c).requires.1.count-least, Fits-nat_abs tt (fit-pivots c))
 
-pub naming-named-requires : goal.naming-named-requires
-naming-named-requires c = search rules
-
 -- how many variables may be named
 module _ (c : After-naming-named) where
   abbrev read : After-pivots-1
@@ -64,40 +56,24 @@ module _ (c : After-naming-named) where
   named-few = let h = naming-most (N read) (word (answer read) 0) in let e = named-is in omega (arith, h, e)
 
 pub tallied-lower-requires : goal.tallied-lower-requires
-tallied-lower-requires c = let n = c in let s = start c.before.before.before.before in let h = named-few c.before.before.before in (
-  le_trans h s.requires.1.few-variables,
-  omega (arith, h, s.requires.1.whole),
-  s.requires.0.few-lower,
-)
-
-pub overflow_add-variables : goal.overflow_add-variables
-overflow_add-variables c = search rules
+tallied-lower-requires c =
+    let here = c.before.before.before in
+    let above = c.before.before.before.before in
+    let n = c in let s = start above in let h = named-few here in (
+      le_trans h s.requires.1.few-variables,
+      omega (arith, h, s.requires.1.whole),
+      s.requires.0.few-lower,
+    )
 
 pub tallied-upper-requires : goal.tallied-upper-requires
 tallied-upper-requires c =
-    let n = c in let s = start c.before.before.before.before.before in let h = named-few c.before.before.before.before in (
+    let here = c.before.before.before.before in
+    let above = c.before.before.before.before.before in
+    let n = c in let s = start above in let h = named-few here in (
       le_trans h s.requires.1.few-variables,
       omega (arith, h, s.requires.1.whole),
       s.requires.0.few-upper,
     )
-
-pub plus-can-requires : goal.plus-can-requires
-plus-can-requires c = search rules
-
-pub plus-cannot-requires : goal.plus-cannot-requires
-plus-cannot-requires c = search rules
-
-pub plus-range-requires : goal.plus-range-requires
-plus-range-requires c = search rules
-
-pub larger-largest-requires : goal.larger-largest-requires
-larger-largest-requires c = search rules
-
-pub leader-reached-requires : goal.leader-reached-requires
-leader-reached-requires c = search rules
-
-pub overflow_add-result : goal.overflow_add-result
-overflow_add-result c = search rules
 
 -- all parts are there
 module _ (c : After-struct_known-2-1) where
@@ -119,7 +95,8 @@ module _ (c : After-struct_known-2-1) where
   fits : SFits w64 (word told 1)
   fits = fit-pivots (read named)
 
-  verdict-bits : (v : ℕ) → SFits w64 (pos v) → eqb (of_z w64 (word told 0)) (of_z w64 (pos v)) ≡ eq_z (word told 0) (pos v)
+  verdict-bits : (v : ℕ) → SFits w64 (pos v) → eqb (of_z w64 (word told 0)) (of_z w64 (pos v)) ≡ eq_z (word told 0)
+      (pos v)
   verdict-bits v f = bits-eq w64 {a = word told 0} {b = pos v} (fit-verdict (read named)) f
 
 pub overflow_add-result-2 : goal.overflow_add-result-2
@@ -129,6 +106,7 @@ overflow_add-result-2 c = rw (to_z-of_z (fits c))
 pub returns : goal.returns
 unfolding counted_at
 returns c =
+    let here = c.before.before.before.before.before.before.before.before.before.before.before.before in
     let p = tallied-both c in
     made-same refl
     (p.plus-can.ensures ∙ ap (λ b. (t c).can + cond b 1 0) (verdict-bits c 1 (sfits_lit tt)))
@@ -141,6 +119,6 @@ returns c =
     (c.larger-largest.ensures ∙ ap (λ z. max (t c).largest (nat_abs z)) (to_z-of_z (fits c)))
     (c.leader-reached.ensures
     ∙ ap (λ z. leader_of (t c).reached (t c).largest (nat_abs z) (begin c).args.body) (to_z-of_z (fits c)))
-    (p.tallied-lower.ensures ∙ ap (tallied_at (t c).lower (told c) 3) (named-is c.before.before.before.before.before.before.before.before.before.before.before.before))
+    (p.tallied-lower.ensures ∙ ap (tallied_at (t c).lower (told c) 3) (named-is here))
     (p.tallied-upper.ensures
-    ∙ ap (tallied_at (t c).upper (told c) (3 + (begin c).args.variables)) (named-is c.before.before.before.before.before.before.before.before.before.before.before.before))
+    ∙ ap (tallied_at (t c).upper (told c) (3 + (begin c).args.variables)) (named-is here))

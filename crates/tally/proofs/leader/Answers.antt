@@ -3,7 +3,6 @@ use mathlib.Core.Bool.{cond}
 use mathlib.Core.Path.{◌≡◌, ap, refl, sym, ◌∙◌}
 use Prim.Native.Nat.{ℕ, ◌<◌, ◌≤◌}
 use native.Mathlib.Omega.{arith}
-use borrow.Author.Rules.{rules}
 use borrow.Author.Tests.{le-ltb, lt-ltb}
 use Rattle.tally.specs.Counting.{leader_of}
 use Rattle.tally.specs.declared.Reached.{Reached}
@@ -23,20 +22,14 @@ module _ (l p i : ℕ) where
   unfolding leader_of
   no-more-pivots j e h = ap (λ b. cond b (Body i) (Body j)) (sym (le-ltb l p h)) ∙ ap (λ r. leader_of r l p i) (sym e)
 
-pub enum_told-1 : goal.enum_told-1
-enum_told-1 c = search rules
-
-pub enum_known-reached : goal.enum_known-reached
-enum_known-reached c = search rules
-
 pub returns-then-largest-pivots : goal.returns-then-largest-pivots
 returns-then-largest-pivots c = let s = c.args in
-    more-pivots s.largest s.pivots s.body _ c.reached-1.given.1 (omega arith)
+    more-pivots s.largest s.pivots s.body _ c.in-Body.is (omega arith)
 
 pub returns-in-Nobody : goal.returns-in-Nobody
 returns-in-Nobody c = let s = c.args in
-    first-verdict s.largest s.pivots s.body c.enum_told-1.given.1
+    first-verdict s.largest s.pivots s.body c.in-Nobody.is
 
 pub returns-else-largest-pivots : goal.returns-else-largest-pivots
 returns-else-largest-pivots c = let s = c.args in
-    no-more-pivots s.largest s.pivots s.body _ c.reached-1.given.1 (omega arith)
+    no-more-pivots s.largest s.pivots s.body _ c.in-Body.is (omega arith)

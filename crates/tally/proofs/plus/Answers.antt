@@ -3,11 +3,7 @@ use mathlib.Core.Bool.{cond}
 use mathlib.Core.Path.{◌≡◌, ap, sym, ◌∙◌}
 use Prim.Native.Nat.{◌+◌}
 use native.Mathlib.Omega.{arith}
-use borrow.Author.Rules.{rules}
 use Rattle.tally.proofs.plus.Goals as goal
-
-pub overflow_add-result : goal.overflow_add-result
-overflow_add-result c = search rules
 
 pub returns-then-more : goal.returns-then-more
 returns-then-more c = ap (λ b. c.args.n + cond b 1 0) (sym c.if-more.true)

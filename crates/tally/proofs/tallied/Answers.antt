@@ -3,9 +3,9 @@
 use mathlib.Core.Bool.{cond, not}
 use mathlib.Core.List.{List, ◌++◌}
 use mathlib.Core.Path.{◌≡◌, ap, ap₂, refl, ◌∙◌}
-use Prim.Native.Nat.{ℕ, ◌+◌, ◌-◌, ◌<◌, ◌≤◌}
+use Prim.Native.Nat.{ℕ, ◌+◌, ◌<◌, ◌≤◌}
 use native.Mathlib.Omega.{arith}
-use borrow.Author.Rules.{rules, sfits_of}
+use borrow.Author.Rules.{sfits_of}
 use lib.IntN.{ℤ, pos}
 use lib.ListN.{drop, get_or, length, set}
 use mir.Facts.{sfits_lit}
@@ -23,17 +23,8 @@ pub loop-v-init : goal.loop-v-init
 unfolding table_from
 loop-v-init c = (omega arith, refl)
 
-pub overflow_add-multiplier : goal.overflow_add-multiplier
-overflow_add-multiplier c = search rules
-
-pub offset_bounds-answer-at : goal.offset_bounds-answer-at
-offset_bounds-answer-at c = search rules
-
 pub bounds-answer-at : goal.bounds-answer-at
 bounds-answer-at c = omega (arith, c.requires)
-
-pub offset_bounds-counts-v : goal.offset_bounds-counts-v
-offset_bounds-counts-v c = search rules
 
 pub bounds-counts-v : goal.bounds-counts-v
 bounds-counts-v c = omega (arith, c.requires)
@@ -67,17 +58,8 @@ module _ (c : After-multiplier-1) where
 pub plus-count-requires : goal.plus-count-requires
 plus-count-requires c = let h = few c in omega (arith, h)
 
-pub offset_bounds-counts-v-in-loop-v : goal.offset_bounds-counts-v-in-loop-v
-offset_bounds-counts-v-in-loop-v c = search rules
-
 pub bounds-counts-v-in-loop-v : goal.bounds-counts-v-in-loop-v
 bounds-counts-v-in-loop-v c = omega (arith, (start c.before).requires.0)
-
-pub overflow_step-v : goal.overflow_step-v
-overflow_step-v c = search rules
-
-pub loop-v-smaller : goal.loop-v-smaller
-loop-v-smaller c = search rules
 
 -- one more, or none
 told : (c : After-plus-count) → c.plus-count.result ≡ more c.before (v c.before)

@@ -2,7 +2,7 @@
 -- they were. The measure is how many variables are left. Assumes nothing.
 use mathlib.Core.List.{◌++◌}
 use mathlib.Core.Path.{◌≡◌}
-use Prim.Native.Nat.{◌+◌, ◌-◌, ◌≤◌}
+use Prim.Native.Nat.{◌-◌, ◌≤◌}
 use lib.ListN.{drop}
 use Rattle.whole.specs.Tables.{table}
 use Rattle.tally.specs.Counting.{one_more}

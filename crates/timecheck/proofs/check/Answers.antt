@@ -35,7 +35,7 @@ pub judge-refusal-requires : goal.judge-refusal-requires
 judge-refusal-requires c = tt
 
 pub returns-then-refusal-ne0 : goal.returns-then-refusal-ne0
-returns-then-refusal-ne0 c = let s = c in let j = c.judge-refusal in
+returns-then-refusal-ne0 c = let s : Start = c.before.before in let j = c.judge-refusal in
     kept (words s) (answer s) j.result j.ensures c.if-refusal-ne0.true
   where
     kept : (ws a : List ℤ) (r : ℕ) → r ≡ time_refusal ws (length a) → r ≢ 0 → r ≡ checked_times ws a

@@ -4,7 +4,7 @@
 use mathlib.Core.Path.{◌≡◌, refl}
 use mathlib.Core.Logic.{◌≢◌}
 use mathlib.Core.Bool.{Bool, true, false, ◌||◌}
-use mathlib.Core.List.{List, [], ◌∷◌}
+use mathlib.Core.List.{List, ◌∷◌}
 use Prim.Native.Nat.{ℕ, suc, ◌≤◌, min}
 use native.Mathlib.Omega.{arith}
 use lib.IntN.{ℤ}
@@ -51,7 +51,8 @@ module _ (ws : List ℤ) where
   pub rows_more : (i : ℕ) → rows_number ws (suc i) ≡ min (rows_number ws i) (row_number ws i)
   unfolding rows_number row_number
   rows_more i =
-      rw (some_more i (bad_end ws), some_more i (bad_strict ws), some_more i (bad_row_length ws)) (either-least _ _ _ _ _ _)
+      rw (some_more i (bad_end ws), some_more i (bad_strict ws), some_more i (bad_row_length ws))
+      (either-least _ _ _ _ _ _)
 
   -- ---- the tests of all rows
 

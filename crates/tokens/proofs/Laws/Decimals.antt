@@ -94,7 +94,8 @@ module _ (t : List ℕ) (from end rest : ℕ) (h : from ≤ end) (l : end < leng
   unfolding same_bytes
   decimal-far few n =
       last_byte ∙ decimal-single rest (part t from end) (get_or t end 0) few
-      ∙ ap (λ b. b && eqb (digit rest) (get_or t end 0)) (filled (part t from end) (part_length t from end (omega arith)))
+      ∙ ap (λ b. b && eqb (digit rest) (get_or t end 0))
+      (filled (part t from end) (part_length t from end (omega arith)))
     where
       filled : (s : List ℕ) → length s ≡ end - from → same_bytes [] s ≡ false
       filled [] e = let o : ⊥ = omega arith in absurd o

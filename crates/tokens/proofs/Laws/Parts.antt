@@ -1,9 +1,9 @@
 -- The bytes between two places, and when they are those of a word.
---   part_length, part_at     how many there are, and each of them
+--   part_length, part_at_lem     how many there are, and each of them
 --   part-token               the bytes of a token
 --   same_in, same_out, same_end, same-long   compared with a word, byte by byte
 use mathlib.Core.Bool.{true, false, ◌&&◌}
-use mathlib.Core.List.{List, []}
+use mathlib.Core.List.{List}
 use mathlib.Core.Path.{◌≡◌, sym, ◌∙◌, ap, ap₂}
 use Prim.Native.Nat.{ℕ, suc, ◌+◌, ◌-◌, ◌≤◌, ◌<◌}
 use native.Mathlib.Omega.{arith}
@@ -19,9 +19,9 @@ module _ (t : List ℕ) (from to : ℕ) where
   unfolding part
   part_length h = simp (length-take, length-drop) (omega arith)
 
-  pub part_at : (i : ℕ) → from + i < to → get_or (part t from to) i 0 ≡ get_or t (from + i) 0
+  pub part_at_lem : (i : ℕ) → from + i < to → get_or (part t from to) i 0 ≡ get_or t (from + i) 0
   unfolding part
-  part_at i h = get_or-take (to - from) (drop from t) i 0 (omega arith) ∙ get_or-drop from t i 0
+  part_at_lem i h = get_or-take (to - from) (drop from t) i 0 (omega arith) ∙ get_or-drop from t i 0
 
 pub part-token : (t : List ℕ) (at : ℕ) → bytes_at t at ≡ part t at (stop_at t at)
 unfolding bytes_at part stop_at
@@ -40,7 +40,8 @@ module _ (v s : List ℕ) where
         ap₂ same_bytes (drop-cons v i 0 h) (drop-cons s i 0 l)
         ∙ ap (λ b. b && same_bytes (drop (suc i) v) (drop (suc i) s)) (eq-eqb (get_or v i 0) (get_or s i 0) e)
 
-    pub same_out : i < length v → i < length s → (get_or v i 0 ≡ get_or s i 0 → ⊥) → same_bytes (drop i v) (drop i s) ≡ false
+    pub same_out : i < length v → i < length s → (get_or v i 0 ≡ get_or s i 0 → ⊥) → same_bytes (drop i v) (drop i s)
+        ≡ false
     unfolding same_bytes
     same_out h l n =
         ap₂ same_bytes (drop-cons v i 0 h) (drop-cons s i 0 l)

@@ -15,7 +15,8 @@ use lib.Seq.{drop-cons, drop-drop}
 use Rattle.whole.proofs.Bools.{or-false, or-true, true-false}
 use Rattle.whole.proofs.Tells.{tells-eq}
 use Rattle.rules.specs.Exchange.Tokens.{Mode, Token, begins, between, comment, ends_line, is_blank, is_comment}
-use Rattle.rules.specs.Exchange.Tokens.{is_parenthesis, is_plain, last, mode_after, running, scan, single, token, tokens}
+use Rattle.rules.specs.Exchange.Tokens.{is_parenthesis, is_plain, last, mode_after, running, scan, single, token}
+use Rattle.rules.specs.Exchange.Tokens.{tokens}
 use Rattle.rules.specs.Exchange.Tokens.{tokens_at}
 use Rattle.tokens.proofs.Laws.Gaps.{gap-in, gap-passed, gap-stopped, run-passed, run-stopped, width-run}
 use Rattle.tokens.proofs.Laws.Gaps.{width-single}
@@ -115,13 +116,15 @@ scan-gap noted p (b ∷ t) = go (stands_between noted b) refl (scan-gap (noting 
 
 abbrev Ran : ℕ → List ℕ → ℕ → List ℕ → Type 0
 Ran q w p t =
-    scan (running q w) p t ≡ token q (w ++ take (run_length t) t) ∷ scan between (p + run_length t) (drop (run_length t) t)
+    scan (running q w) p t ≡ token q (w ++ take (run_length t) t) ∷ scan between (p + run_length t)
+    (drop (run_length t) t)
 
 ran-more : (q : ℕ) (w : List ℕ) (p b : ℕ) (t : List ℕ) (c : Bool) → is_plain b ≡ c → Ran q (w ++ (b ∷ [])) (suc p) t →
     Ran q w p (b ∷ t)
 unfolding scan mode_after tokens_at
 ran-more q w p b t true e h = rw (e, run-passed b t e)
-    (h ∙ ap₂ (λ v n. token q v ∷ scan between n (drop (run_length t) t)) (append_assoc w (b ∷ []) (take (run_length t) t))
+    (h ∙ ap₂ (λ v n. token q v ∷ scan between n (drop (run_length t) t))
+    (append_assoc w (b ∷ []) (take (run_length t) t))
     (let z : suc p + run_length t ≡ p + suc (run_length t) = omega arith in z))
 ran-more q w p b t false e h = rw (e, run-stopped b t e)
     (ap₂ (λ v n. token q v ∷ scan between n (b ∷ t)) (sym (append-nil w)) (let z : p ≡ p + 0 = omega arith in z))

@@ -2,18 +2,12 @@
 -- script from `due` on as they do from the start, and both places are of tokens, or the end (Walked). The measure is
 -- what is left of the script; a token has a byte. Assumes nothing.
 use mathlib.Core.Path.{sym, ◌∙◌, ap, subst, subst₂}
-use Prim.Native.Nat.{◌-◌}
 use native.Mathlib.Omega.{arith}
-use borrow.Author.Rules.{rules}
-use Rattle.whole.proofs.Bools.{not-false, not-true}
 use Rattle.tokens.specs.Gaps.{part, start_at}
 use Rattle.tokens.proofs.Laws.Follows.{Walked, follow-end, follow-more, follow-other, follow-short}
 use Rattle.tokens.proofs.Laws.Follows.{follow-start, tokens-same}
 use Rattle.tokens.proofs.Laws.Places.{start-least, stop-ends}
 use Rattle.tokens.proofs.follow.Goals as goal
-
-pub start-due-requires : goal.start-due-requires
-start-due-requires c = search rules
 
 pub loop-due-init : goal.loop-due-init
 loop-due-init c =
@@ -24,12 +18,6 @@ loop-due-init c =
 
 pub returns-then-text-next : goal.returns-then-text-next
 returns-then-text-next c = sym (follow-short c.loop-due.invariant (omega arith) (omega arith))
-
-pub stop-end-requires : goal.stop-end-requires
-stop-end-requires c = omega arith
-
-pub stop-last-requires : goal.stop-last-requires
-stop-last-requires c = omega arith
 
 pub slice_bounds-is-count : goal.slice_bounds-is-count
 slice_bounds-is-count c =
@@ -81,7 +69,7 @@ returns-then-not-is c =
     (sym
     (tokens-same a.text.now a.script.now s.loop-due.next s.loop-due.due _ _
     c.stop-end.ensures c.stop-last.ensures)
-    ∙ sym c.is.ensures ∙ not-true _ c.if-not-is.true))
+    ∙ sym c.is.ensures ∙ c.if-not-is.true))
 
 pub start-next-requires : goal.start-next-requires
 start-next-requires c =
@@ -130,7 +118,7 @@ loop-due-preserved c =
     (follow-more s.loop-due.invariant (omega arith) (omega arith)
     (sym
     (tokens-same a.text.now a.script.now s.loop-due.next s.loop-due.due _ _ end.ensures last.ensures)
-    ∙ sym c.is.ensures ∙ not-false _ c.if-not-is.false))
+    ∙ sym c.is.ensures ∙ c.if-not-is.false))
 
 pub returns : goal.returns
 returns c = sym (follow-end c.loop-due.invariant (omega arith))

@@ -1,17 +1,13 @@
 -- `tokens::is` meets its contract. Bytes of another number are not those of the word. The loop's invariant: from `i` on
 -- both are the same exactly where they are as wholes. The measure is what is left of the word. Assumes nothing.
 use mathlib.Core.Path.{refl, sym, ◌∙◌, ap}
-use Prim.Native.Nat.{◌-◌}
 use native.Mathlib.Numerals.{add-one}
 use native.Mathlib.Omega.{arith}
 use lib.ListN.{drop}
 use Rattle.rules.specs.Exchange.Reader.{same_bytes}
 use Rattle.tokens.specs.Gaps.{part}
-use Rattle.tokens.proofs.Laws.Parts.{part_at, part_length, same_end, same_in, same-long, same_out}
+use Rattle.tokens.proofs.Laws.Parts.{part_at_lem, part_length, same_end, same_in, same-long, same_out}
 use Rattle.tokens.proofs.is.Goals as goal
-
-pub overflow_sub-to : goal.overflow_sub-to
-overflow_sub-to c = omega arith
 
 pub returns-then-to-from : goal.returns-then-to-from
 returns-then-to-from c =
@@ -23,15 +19,6 @@ returns-then-to-from c =
 pub loop-i-init : goal.loop-i-init
 loop-i-init c = (omega arith, refl)
 
-pub overflow_add-own : goal.overflow_add-own
-overflow_add-own c = omega arith
-
-pub bounds-text-from : goal.bounds-text-from
-bounds-text-from c = omega arith
-
-pub bounds-word-i : goal.bounds-word-i
-bounds-word-i c = omega arith
-
 pub returns-then-due-own : goal.returns-then-due-own
 returns-then-due-own c =
     let s = c in
@@ -41,13 +28,7 @@ returns-then-due-own c =
     sym
     (s.loop-i.invariant.1
     ∙ same_out a.word.now w s.loop-i.i (omega arith) (omega (arith, long))
-    (λ e. c.if-due-own.true (e ∙ part_at a.text.now a.from a.to s.loop-i.i (omega arith))))
-
-pub overflow_add-i : goal.overflow_add-i
-overflow_add-i c = omega arith
-
-pub loop-i-smaller : goal.loop-i-smaller
-loop-i-smaller c = omega arith
+    (λ e. c.if-due-own.true (e ∙ part_at_lem a.text.now a.from a.to s.loop-i.i (omega arith))))
 
 pub loop-i-preserved : goal.loop-i-preserved
 loop-i-preserved c =
@@ -58,7 +39,7 @@ loop-i-preserved c =
       omega arith,
       s.loop-i.invariant.1
           ∙ same_in a.word.now w s.loop-i.i (omega arith) (omega (arith, long))
-          (c.if-due-own.false ∙ sym (part_at a.text.now a.from a.to s.loop-i.i (omega arith)))
+          (c.if-due-own.false ∙ sym (part_at_lem a.text.now a.from a.to s.loop-i.i (omega arith)))
           ∙ ap (λ k. same_bytes (drop k a.word.now) (drop k w)) (sym (add-one s.loop-i.i)),
     )
 

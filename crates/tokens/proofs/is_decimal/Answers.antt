@@ -3,7 +3,6 @@
 use mathlib.Core.Path.{◌≡◌, refl, sym, ◌∙◌, ap}
 use Prim.Native.Nat.{◌+◌, ◌-◌}
 use native.Mathlib.Omega.{arith}
-use borrow.Author.Rules.{rules}
 use lib.Dec.{eqb}
 use Rattle.tokens.proofs.Laws.Decimals.{Decimal, decimal-far, decimal-here, decimal-more, decimal-none}
 use Rattle.tokens.proofs.Laws.Decimals.{decimal-other}
@@ -11,15 +10,6 @@ use Rattle.tokens.proofs.is_decimal.Goals as goal
 
 pub loop-end-init : goal.loop-end-init
 loop-end-init c = (omega arith, omega arith, refl)
-
-pub overflow_sub-end : goal.overflow_sub-end
-overflow_sub-end c = omega arith
-
-pub bounds-text-end : goal.bounds-text-end
-bounds-text-end c = omega arith
-
-pub wide-byte-requires : goal.wide-byte-requires
-wide-byte-requires c = search rules
 
 pub returns-then-end-from : goal.returns-then-end-from
 returns-then-end-from c =
@@ -30,9 +20,6 @@ returns-then-end-from c =
     (s.loop-end.invariant.2 ∙ ap (λ k. Decimal a.text.now a.from k s.loop-end.rest) back
     ∙ decimal-far a.text.now a.from (s.loop-end.end - 1) s.loop-end.rest (omega arith) (omega arith)
     (omega arith) c.if-end-from.true)
-
-pub overflow_add-result : goal.overflow_add-result
-overflow_add-result c = omega arith
 
 pub returns-then-rest-lt10 : goal.returns-then-rest-lt10
 returns-then-rest-lt10 c =
@@ -45,9 +32,6 @@ returns-then-rest-lt10 c =
     (omega arith) c.if-end-from.false
     ∙ ap (eqb (48 + s.loop-end.rest)) (sym c.wide-byte.ensures))
 
-pub overflow_add-rest : goal.overflow_add-rest
-overflow_add-rest c = omega arith
-
 pub returns-then-rest-byte : goal.returns-then-rest-byte
 returns-then-rest-byte c =
     let s = c in
@@ -58,9 +42,6 @@ returns-then-rest-byte c =
     ∙ decimal-other a.text.now a.from (s.loop-end.end - 1) s.loop-end.rest (omega arith) (omega arith)
     (omega arith)
     (λ e. c.if-rest-byte.true (e ∙ sym c.wide-byte.ensures)))
-
-pub loop-end-smaller : goal.loop-end-smaller
-loop-end-smaller c = omega arith
 
 pub loop-end-preserved : goal.loop-end-preserved
 loop-end-preserved c =

@@ -8,7 +8,8 @@ use Rattle.tokens.proofs.is_decimal.Given as goal
 
 abbrev pub invariant-loop-end : goal.invariant-loop-end
 invariant-loop-end l =
-    (l.from ≤ l.end) × (l.end ≤ length l.text) × (Decimal l.text l.from l.to l.value ≡ Decimal l.text l.from l.end l.rest)
+    (l.from ≤ l.end) × (l.end ≤ length l.text) × (Decimal l.text l.from l.to l.value ≡ Decimal l.text l.from l.end
+    l.rest)
 
 abbrev pub decreases-loop-end : goal.decreases-loop-end
 decreases-loop-end l = l.end - l.from

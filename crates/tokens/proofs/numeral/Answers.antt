@@ -2,14 +2,10 @@
 -- nothing.
 use mathlib.Core.Path.{sym, ◌∙◌}
 use native.Mathlib.Omega.{arith}
-use borrow.Author.Rules.{rules}
 use Rattle.tokens.specs.Gaps.{part}
 use Rattle.tokens.proofs.Laws.Numerals.{short-long, short_none, short-some}
 use Rattle.tokens.proofs.Laws.Parts.{part_length}
 use Rattle.tokens.proofs.numeral.Goals as goal
-
-pub overflow_sub-to : goal.overflow_sub-to
-overflow_sub-to c = search rules
 
 pub returns-then-to-from-gt5 : goal.returns-then-to-from-gt5
 returns-then-to-from-gt5 c =
@@ -17,12 +13,6 @@ returns-then-to-from-gt5 c =
     sym
     (short-long (part a.text.now a.from a.to)
     (omega (arith, part_length a.text.now a.from a.to (omega arith))))
-
-pub value_of-value-requires : goal.value_of-value-requires
-value_of-value-requires c = search rules
-
-pub is_decimal-requires : goal.is_decimal-requires
-is_decimal-requires c = search rules
 
 pub returns-then-is_decimal : goal.returns-then-is_decimal
 returns-then-is_decimal c =

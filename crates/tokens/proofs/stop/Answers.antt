@@ -1,24 +1,13 @@
 -- `tokens::stop` meets its contract. A parenthesis stops behind itself. The loop's invariant: from `next` on the run
 -- ends where the token does. The measure is what is left of the text. Assumes nothing.
 use mathlib.Core.Path.{sym, ◌∙◌, ap}
-use Prim.Native.Nat.{◌+◌, ◌-◌}
+use Prim.Native.Nat.{◌+◌}
 use native.Mathlib.Numerals.{add-one}
 use native.Mathlib.Omega.{arith}
-use borrow.Author.Rules.{rules}
 use lib.ListN.{drop}
-use Rattle.whole.proofs.Bools.{not-false, not-true}
 use Rattle.tokens.specs.Gaps.{run_length}
 use Rattle.tokens.proofs.Laws.Gaps.{run-over, run_in, run_out, stop-run, stop-single}
 use Rattle.tokens.proofs.stop.Goals as goal
-
-pub bounds-text-at : goal.bounds-text-at
-bounds-text-at c = omega arith
-
-pub overflow_add-next : goal.overflow_add-next
-overflow_add-next c = omega arith
-
-pub is_parenthesis-requires : goal.is_parenthesis-requires
-is_parenthesis-requires c = search rules
 
 pub returns-then-is_parenthesis : goal.returns-then-is_parenthesis
 returns-then-is_parenthesis c =
@@ -35,25 +24,13 @@ loop-next-init c =
           (sym c.is_parenthesis.ensures ∙ c.if-is_parenthesis.false),
     )
 
-pub bounds-text-next : goal.bounds-text-next
-bounds-text-next c = omega arith
-
-pub is_plain-requires : goal.is_plain-requires
-is_plain-requires c = search rules
-
 pub returns-then-not-is_plain : goal.returns-then-not-is_plain
 returns-then-not-is_plain c =
     let s = c in
     sym
     (s.loop-next.invariant.1
     ∙ run_out s.args.text.now s.loop-next.next (omega arith)
-    (sym c.is_plain.ensures ∙ not-true _ c.if-not-is_plain.true))
-
-pub overflow_add-next-in-loop-next : goal.overflow_add-next-in-loop-next
-overflow_add-next-in-loop-next c = omega arith
-
-pub loop-next-smaller : goal.loop-next-smaller
-loop-next-smaller c = omega arith
+    (sym c.is_plain.ensures ∙ c.if-not-is_plain.true))
 
 pub loop-next-preserved : goal.loop-next-preserved
 loop-next-preserved c =
@@ -61,7 +38,7 @@ loop-next-preserved c =
     let t = s.args.text.now in (
       omega arith,
       s.loop-next.invariant.1
-          ∙ run_in t s.loop-next.next (omega arith) (sym c.is_plain.ensures ∙ not-false _ c.if-not-is_plain.false)
+          ∙ run_in t s.loop-next.next (omega arith) (sym c.is_plain.ensures ∙ c.if-not-is_plain.false)
           ∙ ap (λ k. k + run_length (drop k t)) (sym (add-one s.loop-next.next)),
     )
 

@@ -3,7 +3,6 @@
 use mathlib.Core.Path.{sym, ◌∙◌, ap}
 use Prim.Native.Nat.{◌+◌, ◌-◌, ◌*◌}
 use native.Mathlib.Omega.{arith}
-use borrow.Author.Rules.{rules}
 use Rattle.rules.specs.Program.Text.{reading}
 use Rattle.tokens.specs.Gaps.{part}
 use Rattle.tokens.proofs.Laws.Decimals.{most-few, most-more, part_none, value-more}
@@ -24,12 +23,6 @@ overflow_mul-value c =
     let s = c in
     omega (arith, s.loop-next.invariant.3, most-few (s.loop-next.next - s.args.from) (omega arith))
 
-pub bounds-text-next : goal.bounds-text-next
-bounds-text-next c = omega arith
-
-pub digit_of-requires : goal.digit_of-requires
-digit_of-requires c = search rules
-
 pub overflow_add-value : goal.overflow_add-value
 overflow_add-value c =
     let s = c in
@@ -39,12 +32,6 @@ overflow_add-value c =
       c.digit_of.ensures.1,
       most-few (s.loop-next.next - s.args.from) (omega arith),
     )
-
-pub overflow_add-next : goal.overflow_add-next
-overflow_add-next c = omega arith
-
-pub loop-next-smaller : goal.loop-next-smaller
-loop-next-smaller c = omega arith
 
 pub loop-next-preserved : goal.loop-next-preserved
 loop-next-preserved c =

@@ -9,7 +9,8 @@ use Rattle.tokens.proofs.value_of.Given as goal
 
 abbrev pub invariant-loop-next : goal.invariant-loop-next
 invariant-loop-next l =
-    (l.from ≤ l.next) × (l.next ≤ l.to) × (l.value ≡ reading 0 (part l.text l.from l.next)) × (l.value ≤ most (l.next - l.from))
+    (l.from ≤ l.next) × (l.next ≤ l.to) × (l.value ≡ reading 0 (part l.text l.from l.next)) ×
+    (l.value ≤ most (l.next - l.from))
 
 abbrev pub decreases-loop-next : goal.decreases-loop-next
 decreases-loop-next l = l.to - l.next

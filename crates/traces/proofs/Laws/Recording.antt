@@ -203,7 +203,8 @@ module _ {first : Tableau} {count : ℕ} {before : List ℕ} {N mask : ℕ} {t :
 
         -- three words more
         word-is : (j : ℕ) → j < 3 → word_at P (3 * k + j) ≡ step_word_at (own P k) j
-        word-is j l = ap (λ i. step_word_at (own P i) ((3 * k + j) % 3)) (let z : (3 * k + j) / 3 ≡ k = omega arith in z)
+        word-is j l = ap (λ i. step_word_at (own P i) ((3 * k + j) % 3))
+            (let z : (3 * k + j) / 3 ≡ k = omega arith in z)
             ∙ ap (step_word_at (own P k)) (let z : (3 * k + j) % 3 ≡ j = omega arith in z)
 
         one_word : (j x : ℕ) → j < 3 → x ≡ step_word_at (own P k) j →

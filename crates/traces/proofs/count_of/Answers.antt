@@ -12,7 +12,8 @@ pub slice_bounds-spend-end : goal.slice_bounds-spend-end
 slice_bounds-spend-end c = search rules
 
 pub spend-whole-requires : goal.spend-whole-requires
-spend-whole-requires c = let S = c.requires in let h = few-variables S.holds in record { standing = S; columns_in_bounds = omega (arith, h) }
+spend-whole-requires c = let S = c.requires in let h = few-variables S.holds in record
+    { standing = S; columns_in_bounds = omega (arith, h) }
 
 pub returns : goal.returns
 returns c = λ P H. ap (λ (r : Spent). r.count) c.spend-whole.ensures.state

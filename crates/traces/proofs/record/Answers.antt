@@ -3,7 +3,7 @@
 use borrow.Author.Rules.{rules}
 use mathlib.Core.Bool.{false}
 use mathlib.Core.Path.{ap, refl, ◌∙◌, ◌≡◌}
-use Prim.Native.Nat.{ℕ, ◌*◌, ◌+◌, ◌-◌, ◌<◌, ◌≤◌}
+use Prim.Native.Nat.{ℕ, ◌*◌, ◌+◌, ◌<◌, ◌≤◌}
 use native.Mathlib.Omega.{arith}
 use lib.ListN.{length, length-set, set}
 use mir.Syntax.{w64}
@@ -22,27 +22,33 @@ use Rattle.traces.proofs.record.Tie as tie
 -- places of the code, as records of what is known there
 abbrev After-gone : Type 0
 After-gone =
-    lts.After-gone tie.the-claims reads.Pre reads.Post goal.the-invariant-loop-made goal.the-decreases-loop-made tie.handed_clauses
+    lts.After-gone tie.the-claims reads.Pre reads.Post goal.the-invariant-loop-made goal.the-decreases-loop-made
+    tie.handed_clauses
 
 abbrev After-gone2 : Type 0
 After-gone2 =
-    lts.After-gone2 tie.the-claims reads.Pre reads.Post goal.the-invariant-loop-made goal.the-decreases-loop-made tie.handed_clauses
+    lts.After-gone2 tie.the-claims reads.Pre reads.Post goal.the-invariant-loop-made goal.the-decreases-loop-made
+    tie.handed_clauses
 
 abbrev After-spend : Type 0
 After-spend =
-    lts.After-spend tie.the-claims reads.Pre reads.Post goal.the-invariant-loop-made goal.the-decreases-loop-made tie.handed_clauses
+    lts.After-spend tie.the-claims reads.Pre reads.Post goal.the-invariant-loop-made goal.the-decreases-loop-made
+    tie.handed_clauses
 
 abbrev At-loop : Type 0
 At-loop =
-    lts.At-loop tie.the-claims reads.Pre reads.Post goal.the-invariant-loop-made goal.the-decreases-loop-made tie.handed_clauses
+    lts.At-loop tie.the-claims reads.Pre reads.Post goal.the-invariant-loop-made goal.the-decreases-loop-made
+    tie.handed_clauses
 
 abbrev In-loop : Type 0
 In-loop =
-    lts.In-loop tie.the-claims reads.Pre reads.Post goal.the-invariant-loop-made goal.the-decreases-loop-made tie.handed_clauses
+    lts.In-loop tie.the-claims reads.Pre reads.Post goal.the-invariant-loop-made goal.the-decreases-loop-made
+    tie.handed_clauses
 
 abbrev Start : Type 0
 Start =
-    lts.Start tie.the-claims reads.Pre reads.Post goal.the-invariant-loop-made goal.the-decreases-loop-made tie.handed_clauses
+    lts.Start tie.the-claims reads.Pre reads.Post goal.the-invariant-loop-made goal.the-decreases-loop-made
+    tie.handed_clauses
 
 pub overflow_add-variables : goal.overflow_add-variables
 overflow_add-variables c = let h = few-variables c.requires.pivots.holds in omega (arith, h)
@@ -53,7 +59,8 @@ mask_of-before-requires c = few-variables c.requires.pivots.holds
 pub loop-made-init : goal.loop-made-init
 loop-made-init c = let s = c in (
   refl,
-  recording-start s.args.first s.args.count s.args.trace.now c.mask_of-before.result s.requires.pivots s.requires.count_in_bounds
+  recording-start s.args.first s.args.count s.args.trace.now c.mask_of-before.result s.requires.pivots
+      s.requires.count_in_bounds
       c.mask_of-before.ensures,
 )
 
@@ -93,7 +100,8 @@ slice_bounds-spend-end c = search rules
 
 pub spend-spent-requires : goal.spend-spent-requires
 spend-spent-requires c = let l = c in let S = recording-standing (recording c.before) in
-    let h = few-variables S.holds in let z = (head c.before).loop-made.invariant.0 in record { standing = S; columns_in_bounds = omega (arith, h, z) }
+    let h = few-variables S.holds in let z = (head c.before).loop-made.invariant.0 in record
+    { standing = S; columns_in_bounds = omega (arith, h, z) }
 
 -- the pivot that is made
 module _ (c : After-spend) where
@@ -166,12 +174,14 @@ pub loop-made-smaller : goal.loop-made-smaller
 loop-made-smaller c = let h = another (turn c.before.before.before.before.before.before) in omega (arith, h)
 
 pub loop-made-preserved : goal.loop-made-preserved
-loop-made-preserved c = let o = turn c.before.before.before.before.before.before in (
-  ap length (recording-out (recording o) (another o) (spent-is c.before.before.before.before.before.before) (here c).spend-spent.ensures.output)
-      ∙ (head o).loop-made.invariant.0,
-  recording-more (recording o) (another o) (spent-is c.before.before.before.before.before.before) (mask_is c) c.gone.ensures
-      c.gone-in-loop-made.ensures,
-)
+loop-made-preserved c =
+    let there = c.before.before.before.before.before.before in
+    let o = turn there in (
+      ap length (recording-out (recording o) (another o) (spent-is there) (here c).spend-spent.ensures.output)
+          ∙ (head o).loop-made.invariant.0,
+      recording-more (recording o) (another o) (spent-is there) (mask_is c) c.gone.ensures
+          c.gone-in-loop-made.ensures,
+    )
 
 -- ---- behind the last
 

@@ -36,8 +36,11 @@ pub judge-refused-requires : goal.judge-refused-requires
 judge-refused-requires c = search rules
 
 pub returns-then-refused-ne0 : goal.returns-then-refused-ne0
-returns-then-refused-ne0 c = let a = c.args in record { told = traced-problem a.words.now (length a.trace.now) c.judge-refused.result c.judge-refused.ensures
-      c.if-refused-ne0.true; output = traced-keeps a.words.now (length a.trace.now) c.judge-refused.result c.if-refused-ne0.true a.trace.now }
+returns-then-refused-ne0 c = let a = c.args in record {
+  told = traced-problem a.words.now (length a.trace.now) c.judge-refused.result c.judge-refused.ensures
+      c.if-refused-ne0.true;
+  output = traced-keeps a.words.now (length a.trace.now) c.judge-refused.result c.if-refused-ne0.true a.trace.now;
+}
 
 -- the words are a problem
 module _ (c : Else1) where
@@ -75,8 +78,11 @@ count_of-count-requires c = record {
 }
 
 pub returns-then-trace-count : goal.returns-then-trace-count
-returns-then-trace-count c = let o = c in let a = (start c.before.before.before.before).args in record { told = traced-short a.words.now (length a.trace.now) (fine c.before.before.before.before)
-      (let e = count-is c.before.before in let h = c.if-trace-count.true in omega (arith, e, h)); output = refl }
+returns-then-trace-count c = let o = c in let a = (start c.before.before.before.before).args in record {
+  told = traced-short a.words.now (length a.trace.now) (fine c.before.before.before.before)
+      (let e = count-is c.before.before in let h = c.if-trace-count.true in omega (arith, e, h));
+  output = refl;
+}
 
 -- and there is room for all of them
 module _ (c : Else2) where
@@ -90,7 +96,12 @@ module _ (c : Else2) where
   room = let h = c.if-trace-count.false in omega (arith, h)
 
 pub record-requires : goal.record-requires
-record-requires c = let o = counted c.before in record { pivots = record { problem = _; holds = first_holds o; count-is = o.count_of-count.ensures _ (first_holds o) }; count_in_bounds = room c.before }
+record-requires c = let o = counted c.before in record {
+  pivots = record
+      { problem = _; holds = first_holds o; count-is = o.count_of-count.ensures _ (first_holds o) };
+  count_in_bounds =
+      room c.before;
+}
 
 pub overflow_mul-result : goal.overflow_mul-result
 overflow_mul-result c = let h = room c.before.before.before.before.before in omega (arith, h)
@@ -99,6 +110,12 @@ pub shape_of-trace : goal.shape_of-trace
 shape_of-trace c = search rules
 
 pub returns : goal.returns
-returns c = let e = c in let o = counted c.before.before.before.before.before in let p = problem-there o in record { told = traced-fine (ws p) (length (before c.before.before.before.before.before)) (fine p) (let h = room c.before.before.before.before.before in let q = count-is o in omega (arith, h, q))
-      (count o) (count-is o); output = c.«record».ensures (inner (problem (ws p))) (first_holds o)
-      ∙ ap (λ k. trace_words k (own_step (ws p)) ++ drop (3 * k) (before c.before.before.before.before.before)) (count-is o) }
+returns c =
+    let here = c.before.before.before.before.before in
+    let e = c in let o = counted here in let p = problem-there o in record {
+      told = traced-fine (ws p) (length (before here)) (fine p)
+          (let h = room here in let q = count-is o in omega (arith, h, q))
+          (count o) (count-is o);
+      output = c.«record».ensures (inner (problem (ws p))) (first_holds o)
+          ∙ ap (λ k. trace_words k (own_step (ws p)) ++ drop (3 * k) (before here)) (count-is o);
+    }

@@ -24,7 +24,7 @@ use Rattle.rules.specs.Runs.Session.{live_of}
 use Rattle.rules.specs.Runs.Slices.{begun}
 use Rattle.rules.specs.Runs.Violation.{first_violation, has_to_rise, shown_by, start_shown, violation_of}
 use Rattle.rules.specs.Sizes.{most_rows}
-use Rattle.rules.specs.Step.{Leaving, Side, State, above, below, common, entering, leaving, start}
+use Rattle.rules.specs.Step.{Leaving, Side, State, above, below, entering, leaving, start}
 use Rattle.tableau.specs.declared.Tableau.{Tableau}
 use Rattle.tableau.specs.Parts.{row_of}
 use Rattle.tableau.specs.Stands.{HasRow, Stands}

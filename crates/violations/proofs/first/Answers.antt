@@ -1,15 +1,8 @@
 -- `violations::first` meets its contract: the number of a refusal, or what is shown of the first state of the run.
 -- Assumes nothing.
 use mathlib.Core.Path.{refl, ◌∙◌}
-use borrow.Author.Rules.{rules}
 use Rattle.violations.proofs.Laws.Shown.{start-held, start-refused, start-shown}
 use Rattle.violations.proofs.first.Goals as goal
-
-pub start-begun-requires : goal.start-begun-requires
-start-begun-requires c = search rules
-
-pub nothing-requires : goal.nothing-requires
-nothing-requires c = search rules
 
 pub returns-then-begun-ne0 : goal.returns-then-begun-ne0
 returns-then-begun-ne0 c = let o = c in

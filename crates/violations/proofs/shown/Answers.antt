@@ -21,17 +21,10 @@ module _ (s : Start) where
   fit_small : SFits w64 s.args.found.shortfall.small
   fit_small = search rules
 
-pub overflow_cast-i : goal.overflow_cast-i
-overflow_cast-i c = search rules
-
-pub bounds-basic-i : goal.bounds-basic-i
-bounds-basic-i c = search rules
-
-pub overflow_cast-result : goal.overflow_cast-result
-overflow_cast-result c = search rules
-
 pub overflow_cast-result-2 : goal.overflow_cast-result-2
-overflow_cast-result-2 c = let s = c in simp (to_z-of_z (fit-common c.before.before.before.before.before)) (wide-common c.before.before.before.before.before)
+overflow_cast-result-2 c =
+    let here = c.before.before.before.before.before in
+    let s = c in simp (to_z-of_z (fit-common here)) (wide-common here)
 
 pub returns : goal.returns
 returns c = let s = c in simp (

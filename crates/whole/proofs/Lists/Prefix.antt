@@ -79,7 +79,8 @@ module _ {A : Type 0} (f : A → A) where
 -- A list that a loop fills by a function, from the front.
 module _ {A : Type 0} (f : ℕ → A) (d : A) (l : List A) where
   pub table-next : (k : ℕ) → get_or (table k f ++ drop k l) k d ≡ get_or l k d
-  table-next k = ap (λ i. get_or (table k f ++ drop k l) i d) (let z : k ≡ k + 0 = omega arith in rw (table-length k f) z)
+  table-next k = ap (λ i. get_or (table k f ++ drop k l) i d)
+      (let z : k ≡ k + 0 = omega arith in rw (table-length k f) z)
       ∙ get_or-append-add (table k f) (drop k l) 0 d ∙ get_or-drop k l 0 d
       ∙ ap (λ i. get_or l i d) (let z : k + 0 ≡ k = omega arith in z)
 

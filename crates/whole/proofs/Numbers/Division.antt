@@ -10,7 +10,7 @@ use Prim.Native.Nat.{ℕ, zero, suc, ◌*◌, ◌/◌, ◌%◌, ◌≤◌, ◌<�
 use native.Mathlib.Omega.{arith}
 use native.Mathlib.Nat.{mul-div_cancel, mod-eq-zero_of_dvd, div-add-mod, div-le_self, le_trans, zero-div}
 use lib.IntN.{ℤ, pos, negsuc, neg_ℤ, nat_abs, ◌*ℤ◌, neg_ℤ-neg_ℤ}
-use lib.Signed.{quot_z, ◌<ℤ◌}
+use lib.Signed.{quot_z}
 use mir.Facts.{to_z-of_z}
 use mir.Syntax.{Width}
 use mir.Val.{SFits, of_z, to_z}

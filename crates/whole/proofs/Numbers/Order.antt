@@ -9,9 +9,9 @@ use mathlib.Core.Path.{◌≡◌, refl, sym, ◌∙◌, ap}
 use mathlib.Core.Logic.{◌≢◌, ◌⊎◌, inl, inr}
 use mathlib.Core.Bool.{Bool, true, false, not}
 use mathlib.Core.List.{[], ◌∷◌}
-use Prim.Native.Nat.{zero, suc, ◌≤◌, ◌<◌}
+use Prim.Native.Nat.{zero, suc, ◌≤◌}
 use native.Mathlib.Omega.{arith}
-use lib.Dec.{T, leb→le, ltb→lt, lt→ltb, nleb→lt}
+use lib.Dec.{T, leb→le, lt→ltb, nleb→lt}
 use lib.Signed.{le_z, lt_z, ◌≤ℤ◌, ◌<ℤ◌, lt_z_yes, lt_z_no, <ℤ_irrefl, <ℤ-≤ℤ_trans}
 use lib.IntN.{ℤ, pos, negsuc, neg_ℤ, ◌+ℤ◌, ◌*ℤ◌, *ℤ-zero, *ℤ_comm}
 use Rattle.whole.proofs.Bools.{T→true}

@@ -18,7 +18,7 @@ use native.Mathlib.Omega.{arith}
 use native.Mathlib.Nat.{le_refl, suc_inj, add-zero, add-suc}
 use lib.Dec.{T, eqb, eqb→eq, eqb_refl}
 use lib.ListN.{length, get_or}
-use lib.Signed.{◌≤ℤ◌, ◌<ℤ◌, ≤ℤ_refl}
+use lib.Signed.{◌≤ℤ◌, ≤ℤ_refl}
 use lib.IntN.{ℤ, pos, ◌+ℤ◌, ◌*ℤ◌, +ℤ_idr, +ℤ_assoc}
 use Rattle.whole.specs.Numbers.{Within}
 use Rattle.whole.specs.Sums.{sum, sum_by}

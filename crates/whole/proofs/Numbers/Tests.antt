@@ -1,4 +1,5 @@
--- What a test of two signed locals says. The flag of a branch is `lt_z (to_z w (of_z w a)) (to_z w (of_z w b))`, since a
+-- What a test of two signed locals says. The flag of a branch is `lt_z (to_z w (of_z w a)) (to_z w (of_z w b))`, since
+-- a
 -- signed local holds bits.
 --   test-lt, test-nlt, test-eq                      the branch, as an order of the two numbers, at any width
 --   le_z-true, le_z-false                             the same of a plain test

@@ -2,7 +2,7 @@
 use mathlib.Core.Path.{◌≡◌, refl, sym, ◌∙◌, ap}
 use mathlib.Core.List.{List, [], ◌∷◌}
 use Prim.Native.Nat.{ℕ, zero, suc, compare, Ordering}
-use lib.Dec.{T, compare_is_eq, eqb, eqb→eq}
+use lib.Dec.{T, compare_is_eq, eqb→eq}
 use lib.IntN.{ℤ, pos, negsuc, neg_ℤ, ◌+ℤ◌, ◌-ℤ◌, ◌*ℤ◌, +ℤ_idl, +ℤ_idr, +ℤ_assoc, +ℤ_comm, zero-*ℤ, *ℤ-zero}
 use Rattle.whole.proofs.Ring.Laws.{+ℤ-left-comm, *ℤ-assoc, *ℤ-left-comm, *ℤ-distribr, *ℤ-distribl, neg-*ℤ}
 use Rattle.whole.proofs.Ring.Laws.{*ℤ-idl, *ℤ-idr}
@@ -127,7 +127,8 @@ module _ (ρ : List ℤ) where
       → (t : Hor) → eval_h ρ (add_x i p fp fq t) ≡ (atom_at ρ i *ℤ eval_h ρ p +ℤ Q) +ℤ eval_h ρ t
   add_x-sound i p fp fq Q hp hq (kon b) = add_x-lt i p (fq (kon b)) (kon b) Q (hq (kon b))
   add_x-sound i p fp fq Q hp hq (hor j r s) =
-      cmp3-ind (compare i j) (λ u. hor i p (fq (hor j r s))) (λ u. mk i (fp r) (fq s)) (λ u. hor j r (add_x i p fp fq s))
+      cmp3-ind (compare i j) (λ u. hor i p (fq (hor j r s))) (λ u. mk i (fp r) (fq s))
+      (λ u. hor j r (add_x i p fp fq s))
       (λ z. eval_h ρ z ≡ (atom_at ρ i *ℤ eval_h ρ p +ℤ Q) +ℤ (atom_at ρ j *ℤ eval_h ρ r +ℤ eval_h ρ s))
       (add_x-lt i p (fq (hor j r s)) (hor j r s) Q (hq (hor j r s)))
       (λ e. add_x-eq i j p r s (fp r) (fq s) Q (eqb→eq i j e) (hp r) (hq s))

@@ -1,9 +1,9 @@
 -- ℤ goals through `omega`: each atom z is pos (pp z) - pos (nn z); an expression is a difference of two naturals.
 use mathlib.Core.Path.{◌≡◌, refl, sym, ◌∙◌, ap, ap₂, subst}
 use mathlib.Core.List.{List, [], ◌∷◌}
-use Prim.Native.Nat.{ℕ, suc, ◌+◌, ◌*◌, ◌≤◌, ◌<◌}
+use Prim.Native.Nat.{ℕ, suc, ◌+◌, ◌*◌, ◌≤◌}
 use native.Mathlib.Omega.{arith}
-use lib.Signed.{◌≤ℤ◌, ◌<ℤ◌}
+use lib.Signed.{◌≤ℤ◌}
 use lib.Dec.{le→leb, leb→le}
 use lib.IntN.{ℤ, pos, negsuc, neg_ℤ, ◌+ℤ◌, ◌-ℤ◌, ◌*ℤ◌}
 use Rattle.whole.proofs.Ring.Normal.{Expr, var, con, ◌⊕◌, ◌⊖◌, ◌⊗◌, ⊝, atom_at, eval}
@@ -67,7 +67,8 @@ n0 : (n : ℕ) → pos n ≡ pos n -ℤ pos 0
 n0 n = ap pos (omega arith)
 
 n1 : (n : ℕ) → negsuc n ≡ pos 0 -ℤ pos (suc n)
-n1 n = ring-at (pos (suc n) ∷ []) {x = neg_ℤ (pos (suc n))} {y = pos 0 -ℤ pos (suc n)} (search reify·atoms depth 30) refl
+n1 n = ring-at (pos (suc n) ∷ []) {x = neg_ℤ (pos (suc n))} {y = pos 0 -ℤ pos (suc n)} (search reify·atoms depth 30)
+    refl
 
 PM : (ρ : List ℤ) (e : Expr) → eval ρ e ≡ pos (P ρ e) -ℤ pos (M ρ e)
 PM ρ (var i) = parts (atom_at ρ i)

@@ -1,6 +1,6 @@
 -- The syntax of an integer expression, found by `search`: an element of `Q ρ z` is an Expr whose value over ρ is z.
 use mathlib.Core.Path.{◌≡◌, refl, sym, ◌∙◌, ap, ap₂}
-use mathlib.Core.List.{List, [], ◌∷◌}
+use mathlib.Core.List.{List, ◌∷◌}
 use Prim.Native.Nat.{ℕ, zero, suc, ◌+◌, ◌*◌}
 use lib.IntN.{ℤ, pos, negsuc, neg_ℤ, ◌+ℤ◌, ◌*ℤ◌}
 use Rattle.whole.proofs.Ring.Normal.{Expr, var, con, ◌⊕◌, ◌⊗◌, ⊝, atom_at, eval, norm, ring}

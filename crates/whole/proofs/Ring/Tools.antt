@@ -6,7 +6,6 @@
 -- From about ten atoms on the search wants `fits 20000`.
 use mathlib.Core.Path.{◌≡◌, refl, sym, ◌∙◌, ap, ap₂, subst}
 use mathlib.Core.List.{List, [], ◌∷◌}
-use Prim.Native.Nat.{◌<◌}
 use lib.Signed.{◌≤ℤ◌, ◌<ℤ◌}
 use lib.IntN.{ℤ, pos, ◌+ℤ◌, ◌-ℤ◌, ◌*ℤ◌, +ℤ_idl, +ℤ_invr, *ℤ-zero}
 use Rattle.whole.proofs.Ring.Normal.{norm, norm-sound, kon, eval_h}

@@ -24,7 +24,10 @@ use Rattle.wide.specs.Reads.{AllFormed}
 
 pub formed-all : (N : ℕ) (a : List ℤ) → well_formed N a ≡ true → AllFormed a (numbers_of N)
 unfolding well_formed
-formed-all N a e = record { each = λ slot h. (fits-exactly a slot).0 (all-each (numbers_of N) (number_fits a) e slot h) }
+formed-all N a e = record {
+  each = λ slot h. (fits-exactly a slot).0
+      (all-each (numbers_of N) (number_fits a) e slot h);
+}
 
 module _ (ws a : List ℤ) (e : problem_refusal ws ≡ 0) where
   abbrev P : Problem Limit
@@ -36,7 +39,8 @@ module _ (ws a : List ℤ) (e : problem_refusal ws ≡ 0) where
       ∙ ap (λ b. cond b 7 (cond (accepted_wide P a) 8 9)) (tells-true (tells-lt (length a) (wide_length ws)) h)
 
   module _ (l : wide_length ws ≤ length a) where
-    by_tests_lem : (f s : Bool) → well_formed (vars P) a ≡ f → shows_wide P a ≡ s → checked_wide ws a ≡ cond (f && s) 8 9
+    by_tests_lem : (f s : Bool) → well_formed (vars P) a ≡ f → shows_wide P a ≡ s → checked_wide ws a
+        ≡ cond (f && s) 8 9
     unfolding accepted_wide
     by_tests_lem f s p q = wide-judged ws a e l ∙ ap₂ (λ b c. cond (b && c) 8 9) p q
 

@@ -18,7 +18,8 @@ module _ (entries : List ℤ) (limits : Limits) (rows columns : ℕ) (a : List �
   abbrev N : ℕ
   N = columns + rows
 
-  pub can-tests : right_can (problem_of entries limits rows columns) (wide_denominator a) (wide_lower a) (wide_upper N a)
+  pub can-tests : right_can (problem_of entries limits rows columns) (wide_denominator a) (wide_lower a)
+      (wide_upper N a)
       ≡ (is_pos (wide_denominator a) && rows_solved entries a 1 rows columns rows
       && rows_solved entries a (1 + N) rows columns rows && limits_met limits a N (wide_denominator a) N)
   unfolding right_can problem_of rows_solved row_in limits_met

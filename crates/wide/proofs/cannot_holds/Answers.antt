@@ -29,22 +29,21 @@ many : (s : Start) → s.args.columns + s.args.rows ≡ (problem (words s)).n + 
 many s = let F = s.requires.framed in ap (λ k. k + s.args.rows) (F.columns-are ∙ sym (problem-n (words s)))
     ∙ ap (λ k. (problem (words s)).n + k) (F.rows_are ∙ sym (problem-m (words s)))
 
-pub start_entries-entries-requires : goal.start_entries-entries-requires
-start_entries-entries-requires c = c.requires.framed
-
 pub limits_of-limits-requires : goal.limits_of-limits-requires
-limits_of-limits-requires c = let p = c.requires in record { framed = p.0; accepted = p.1.0 }
+limits_of-limits-requires c = record { framed = c.requires.framed; accepted = c.requires.accepted }
 
 pub shows_cannot-requires : goal.shows_cannot-requires
-shows_cannot-requires c = let l = c in let b = c in (
-  words-held b.requires.framed b.requires.accepted l.start_entries-entries.ensures l.limits_of-limits.ensures,
-  (long c.before.before.before, subst (λ N. AllFormed (answer b) (numbers_of N)) (sym (many c.before.before.before)) b.requires.all_formed),
-)
+shows_cannot-requires c = let s = c.before.before.before in record {
+  in_ranges = words-held c.requires.framed c.requires.accepted c.start_entries-entries.ensures
+      c.limits_of-limits.ensures;
+  rows_in_bounds = long s;
+  all_formed = subst (λ N. AllFormed (answer s) (numbers_of N)) (sym (many s)) s.requires.all_formed;
+}
 
 pub returns : goal.returns
-returns c = let l = c in let b = c in
+returns c = let s = c.before.before.before.before in
     c.shows_cannot.ensures
-    ∙ right-cannot-read b.requires.framed b.requires.accepted l.start_entries-entries.ensures l.limits_of-limits.ensures
-    (wide_denominator (answer b)) (wide_lower (answer b)) (wide_upper (b.args.columns + b.args.rows) (answer b))
-    ∙ ap (λ N. right_cannot (problem (words b)) (wide_denominator (answer b)) (wide_lower (answer b))
-    (wide_upper N (answer b))) (many c.before.before.before.before)
+    ∙ right-cannot-read c.requires.framed c.requires.accepted c.start_entries-entries.ensures c.limits_of-limits.ensures
+    (wide_denominator (answer s)) (wide_lower (answer s)) (wide_upper (s.args.columns + s.args.rows) (answer s))
+    ∙ ap (λ N. right_cannot (problem (words s)) (wide_denominator (answer s)) (wide_lower (answer s))
+    (wide_upper N (answer s))) (many s)

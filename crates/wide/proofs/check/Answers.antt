@@ -14,7 +14,6 @@ use mir.Facts.{to_z-of_z}
 use mir.Syntax.{w64}
 use mir.Val.{SFits, of_z, to_z}
 use Rattle.whole.specs.Below.{all_below}
-use Rattle.whole.proofs.Bools.{not-false, not-true}
 use Rattle.whole.proofs.Numbers.Order.{≤ℤ-trans}
 use Rattle.rules.specs.Sizes.{most_columns, most_rows}
 use Rattle.rules.specs.Problem.{n_of, problem, vars}
@@ -28,7 +27,9 @@ use Rattle.judge.specs.Words.{Framed}
 use Rattle.judge.proofs.Laws.Judged.{accepted-framed}
 use Rattle.wide.proofs.Laws.Checks.{can-wide, cannot-wide, formed-all, ill-formed, other-wide, too-short-wide}
 use Rattle.wide.proofs.check.Goals as goal
-use Rattle.wide.proofs.check.Goals.{After-can_holds, After-cannot_holds, After-count_at-rows, After-numbers_fit, After-verdict-1, Else-answer-variables, Else-not-numbers_fit, Else-refused-ne0, Else-verdict-eq1, Start, Then-verdict-eq1, Then-verdict-eq2}
+use Rattle.wide.proofs.check.Goals.{After-can_holds, After-cannot_holds, After-count_at-rows, After-numbers_fit}
+use Rattle.wide.proofs.check.Goals.{After-verdict-1, Else-answer-variables, Else-not-numbers_fit, Else-refused-ne0}
+use Rattle.wide.proofs.check.Goals.{Else-verdict-eq1, Start, Then-verdict-eq1, Then-verdict-eq2}
 
 abbrev words : Start → List ℤ
 words s = s.args.words.now
@@ -36,12 +37,9 @@ words s = s.args.words.now
 abbrev answer : Start → List ℤ
 answer s = s.args.answer.now
 
-pub judge-refused-requires : goal.judge-refused-requires
-judge-refused-requires c = tt
-
 pub returns-then-refused-ne0 : goal.returns-then-refused-ne0
-returns-then-refused-ne0 c = let s = c in let j = c.judge-refused in
-    kept (words s) (answer s) j.result j.ensures c.if-refused-ne0.true
+returns-then-refused-ne0 c = let s = c.before.before in
+    kept (words s) (answer s) c.judge-refused.result c.judge-refused.ensures c.if-refused-ne0.true
   where
     kept : (ws a : List ℤ) (r : ℕ) → r ≡ problem_refusal ws → r ≢ 0 → r ≡ checked_wide ws a
     kept ws a zero e n = absurd (n refl)
@@ -95,7 +93,7 @@ pub overflow_add-variables-2 : goal.overflow_add-variables-2
 overflow_add-variables-2 c = let F = framed c in omega (arith, F.few-columns, F.few-rows)
 
 pub returns-then-answer-variables : goal.returns-then-answer-variables
-returns-then-answer-variables c = let b = c in
+returns-then-answer-variables c =
     sym (too-short-wide (words (start c.before)) (answer (start c.before)) (fine c.before.before.before)
     (rw (← long-here c.before) c.if-answer-variables.true))
 
@@ -133,9 +131,10 @@ module _ (c : After-numbers_fit) where
       ∙ ap (λ k. all_below (numbers_of k) (number_fits (answer (begun c.before)))) (many c.before.before)
 
 pub returns-then-not-numbers_fit : goal.returns-then-not-numbers_fit
-returns-then-not-numbers_fit c = let b = c in let l = c in
-    sym (ill-formed (words (begun c.before.before)) (answer (begun c.before.before)) (not-refused c.before.before) (long c.before.before)
-    (sym (formed-is c.before) ∙ not-true _ c.if-not-numbers_fit.true))
+returns-then-not-numbers_fit c =
+    sym (ill-formed (words (begun c.before.before)) (answer (begun c.before.before)) (not-refused c.before.before)
+    (long c.before.before)
+    (sym (formed-is c.before) ∙ c.if-not-numbers_fit.true))
 
 module _ (c : Else-not-numbers_fit) where
   abbrev enough : Else-answer-variables
@@ -145,7 +144,7 @@ module _ (c : Else-not-numbers_fit) where
   here = begun enough
 
   formed : well_formed (vars (problem (words here))) (answer here) ≡ true
-  formed = sym (formed-is c.before) ∙ not-false _ c.if-not-numbers_fit.false
+  formed = sym (formed-is c.before) ∙ c.if-not-numbers_fit.false
 
 pub bounds-answer-0 : goal.bounds-answer-0
 bounds-answer-0 c = let h = long c.before.before in omega (arith, h)
@@ -165,13 +164,19 @@ two : (c : Then-verdict-eq2) → verdict_of (answer (here c.before.before.before
 two c = sym (to_z-of_z (fit c.before.before)) ∙ ap (to_z w64) c.if-verdict-eq2.true
 
 pub can_holds-requires : goal.can_holds-requires
-can_holds-requires c = let f = c in let l = enough c.before.before in
-    (framed l.before, (taken l.before.before.before, (long l, formed-all _ (answer (here c.before.before)) (formed c.before.before))))
+can_holds-requires c = let l = enough c.before.before in
+    record {
+      framed = framed l.before;
+      accepted = taken l.before.before.before;
+      words_in_bounds = long l;
+      all_formed = formed-all _ (answer (here c.before.before)) (formed c.before.before);
+    }
 
 can-answers : (c : After-can_holds) → let b = here c.before.before.before in
     checked_wide (words b) (answer b) ≡ cond c.can_holds.result 8 9
-can-answers c = let v = c in let f = c in let l = enough c.before.before.before in
-    can-wide (words (here c.before.before.before)) (answer (here c.before.before.before)) (not-refused l) (long l) (formed c.before.before.before) (one c.before)
+can-answers c = let l = enough c.before.before.before in
+    can-wide (words (here c.before.before.before)) (answer (here c.before.before.before)) (not-refused l) (long l)
+    (formed c.before.before.before) (one c.before)
     ∙ ap (λ (b : Bool). cond b 8 9) (sym c.can_holds.ensures)
 
 pub returns-then-can_holds : goal.returns-then-can_holds
@@ -181,13 +186,19 @@ pub returns-then-verdict-eq1 : goal.returns-then-verdict-eq1
 returns-then-verdict-eq1 c = sym (can-answers c.before ∙ ap (λ (b : Bool). cond b 8 9) c.if-can_holds.false)
 
 pub cannot_holds-requires : goal.cannot_holds-requires
-cannot_holds-requires c = let f = c in let l = enough c.before.before.before in
-    (framed l.before, (taken l.before.before.before, (long l, formed-all _ (answer (here c.before.before.before)) (formed c.before.before.before))))
+cannot_holds-requires c = let l = enough c.before.before.before in
+    record {
+      framed = framed l.before;
+      accepted = taken l.before.before.before;
+      words_in_bounds = long l;
+      all_formed = formed-all _ (answer (here c.before.before.before)) (formed c.before.before.before);
+    }
 
 cannot-answers : (c : After-cannot_holds) → let b = here c.before.before.before.before in
     checked_wide (words b) (answer b) ≡ cond c.cannot_holds.result 8 9
-cannot-answers c = let v = c in let f = c in let l = enough c.before.before.before.before in
-    cannot-wide (words (here c.before.before.before.before)) (answer (here c.before.before.before.before)) (not-refused l) (long l) (formed c.before.before.before.before) (not-one c.before.before) (two c.before)
+cannot-answers c = let l = enough c.before.before.before.before in
+    cannot-wide (words (here c.before.before.before.before)) (answer (here c.before.before.before.before))
+    (not-refused l) (long l) (formed c.before.before.before.before) (not-one c.before.before) (two c.before)
     ∙ ap (λ (b : Bool). cond b 8 9) (sym c.cannot_holds.ensures)
 
 pub returns-then-cannot_holds : goal.returns-then-cannot_holds
@@ -197,6 +208,7 @@ pub returns-else-cannot_holds : goal.returns-else-cannot_holds
 returns-else-cannot_holds c = sym (cannot-answers c.before ∙ ap (λ (b : Bool). cond b 8 9) c.if-cannot_holds.false)
 
 pub returns-else-verdict-eq2 : goal.returns-else-verdict-eq2
-returns-else-verdict-eq2 c = let f = c in let l = enough c.before.before.before in
-    sym (other-wide (words (here c.before.before.before)) (answer (here c.before.before.before)) (not-refused l) (long l) (formed c.before.before.before) (not-one c.before)
+returns-else-verdict-eq2 c = let l = enough c.before.before.before in
+    sym (other-wide (words (here c.before.before.before)) (answer (here c.before.before.before)) (not-refused l)
+    (long l) (formed c.before.before.before) (not-one c.before)
     (λ e. c.if-verdict-eq2.false (ap (of_z w64) e)))

@@ -1,9 +1,9 @@
 -- `wire::bytes_of` meets its contract. The invariant of its loop: the bytes of the first i words are put. The measure
 -- is the number of words that are left. Assumes nothing.
-use borrow.Author.Rules.{rules, sfits_of}
+use borrow.Author.Rules.{rules}
 use mathlib.Core.Path.{◌≡◌, ap, ◌∙◌}
-use mathlib.Core.List.{List, ◌∷◌}
-use Prim.Native.Nat.{ℕ, ◌+◌, ◌*◌, ◌-◌}
+use mathlib.Core.List.{List, [], ◌∷◌}
+use Prim.Native.Nat.{ℕ, ◌+◌, ◌*◌}
 use native.Mathlib.Omega.{arith}
 use lib.IntN.{ℤ}
 use lib.ListN.{length, take}
@@ -41,8 +41,7 @@ abbrev four : ℕ → List ℕ
 four u = byte_of u 0 ∷ byte_of u 1 ∷ byte_of u 2 ∷ byte_of u 3 ∷ []
 
 pub loop-i-init : goal.loop-i-init
-loop-i-init c = let start = c in
-    (omega arith, no_word start.args.bytes.now start.args.at start.args.words.now)
+loop-i-init c = (omega arith, no_word c.args.bytes.now c.args.at c.args.words.now)
 
 pub offset_bounds-words-i : goal.offset_bounds-words-i
 offset_bounds-words-i c = omega arith
@@ -70,22 +69,21 @@ loop-i-smaller c = omega arith
 
 pub loop-i-preserved : goal.loop-i-preserved
 loop-i-preserved c =
-    let put = c in
-    let arg = c in
-    let place = c in
-    let i = place.loop-i.i in
-    let fit : SFits w32 (word (words c.before.before.before.before.before.before.before.before) i) = sfits_of arg.unsign-arg-1.given in
-    let number : put.unsign-number.result ≡ unsigned (word (words c.before.before.before.before.before.before.before.before) i) =
-    put.unsign-number.ensures ∙ ap unsigned (to_z-of_z fit) in (
+    let start = c.before.before.before.before.before.before.before.before in
+    let i = c.loop-i.i in
+    let one = word (words start) i in
+    let fit : SFits w32 one = search rules in
+    let number : c.unsign-number.result ≡ unsigned one = c.unsign-number.ensures ∙ ap unsigned (to_z-of_z fit) in (
       omega arith,
-      rw (number) at put.put_word.ensures
-          ∙ ap (λ l. sets l (at c.before.before.before.before.before.before.before.before + 4 * i) (four (unsigned (word (words c.before.before.before.before.before.before.before.before) i)))) place.loop-i.invariant.1
-          ∙ next_word (first c.before.before.before.before.before.before.before.before) (at c.before.before.before.before.before.before.before.before) (words c.before.before.before.before.before.before.before.before) i (omega arith),
+      rw number at c.put_word.ensures
+          ∙ ap (λ l. sets l (at start + 4 * i) (four (unsigned one))) c.loop-i.invariant.1
+          ∙ next_word (first start) (at start) (words start) i (omega arith),
     )
 
 pub shape_of-bytes : goal.shape_of-bytes
 shape_of-bytes c = long c.before
 
 pub returns : goal.returns
-returns c = let place = c in
-    place.loop-i.invariant.1 ∙ all_words (first c.before) (at c.before) (words c.before) place.loop-i.i (omega arith)
+returns c =
+    let start = c.before in
+    c.loop-i.invariant.1 ∙ all_words (first start) (at start) (words start) c.loop-i.i (omega arith)

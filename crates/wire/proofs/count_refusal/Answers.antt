@@ -14,10 +14,9 @@ returns-then-count-ne0 c =
 
 pub returns-then-count-gt-MOST_BYTES : goal.returns-then-count-gt-MOST_BYTES
 returns-then-count-gt-MOST_BYTES c =
-    let start = c in
-    sym ((count-exactly start.args.count 3).1 (inr (λ h. omega arith, inl (inr c.if-count-gt-MOST_BYTES.true, refl))))
+    sym ((count-exactly c.args.count 3).1 (inr (λ h. omega arith, inl (inr c.if-count-gt-MOST_BYTES.true, refl))))
 
 pub returns : goal.returns
 returns c =
-    let at = c in
-    sym ((count-fine at.args.count).1 (at.if-count-lt8.false, ((c.if-count-ne0.false, c.if-count-gt-MOST_BYTES.false), tt)))
+    sym ((count-fine c.args.count).1
+    (c.if-count-lt8.false, ((c.if-count-ne0.false, c.if-count-gt-MOST_BYTES.false), tt)))

@@ -53,7 +53,8 @@ pub returns-then-u-lt2147483648 : goal.returns-then-u-lt2147483648
 unfolding signed
 returns-then-u-lt2147483648 c =
     let u = c.args.u in
-    rw (wide u c.requires, to_z-of_z (low_fits u c.if-u-lt2147483648.true), lt-ltb u (2 ^ 31) c.if-u-lt2147483648.true) refl
+    rw (wide u c.requires, to_z-of_z (low_fits u c.if-u-lt2147483648.true), lt-ltb u (2 ^ 31) c.if-u-lt2147483648.true)
+    refl
 
 pub overflow_sub-result : goal.overflow_sub-result
 overflow_sub-result c = rw (wide (u c) c.requires) (fit_wide c)

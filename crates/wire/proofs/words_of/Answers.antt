@@ -3,7 +3,7 @@
 use borrow.Author.Rules.{rules}
 use mathlib.Core.Path.{◌≡◌, refl, ◌∙◌, ap}
 use mathlib.Core.List.{List, ◌++◌}
-use Prim.Native.Nat.{ℕ, ◌-◌, ◌*◌, ◌/◌}
+use Prim.Native.Nat.{ℕ, ◌/◌}
 use native.Mathlib.Omega.{arith}
 use lib.IntN.{ℤ, pos}
 use lib.ListN.{length, drop, length-append, length-drop}
@@ -13,7 +13,8 @@ use mir.Val.{SFits}
 use Rattle.whole.specs.Tables.{table, table_from}
 use Rattle.whole.proofs.Lists.Tables.{table-length}
 use Rattle.whole.proofs.Lists.Prefix.{set-table}
-use Rattle.rules.specs.Program.Bytes.{word_at, words_from}
+use Rattle.rules.specs.Program.Bytes.{words_from}
+use Rattle.wire.proofs.words_of.Invariants.{read}
 use Rattle.wire.proofs.words_of.Goals as goal
 use Rattle.wire.proofs.words_of.Lts as lts
 use Rattle.wire.proofs.words_of.Reads as reads
@@ -22,11 +23,8 @@ use Rattle.wire.proofs.words_of.Tie as tie
 -- places of the code, as records of what is known there
 abbrev At-loop : Type 0
 At-loop =
-    lts.At-loop tie.the-claims reads.Pre reads.Post goal.the-invariant-loop-i goal.the-decreases-loop-i tie.handed_clauses
-
--- word i of the bytes
-abbrev read : List ℕ → ℕ → ℤ
-read bytes i = word_at bytes (4 * i)
+    lts.At-loop tie.the-claims reads.Pre reads.Post goal.the-invariant-loop-i goal.the-decreases-loop-i
+    tie.handed_clauses
 
 module _ (c : At-loop) where
   abbrev bytes : List ℕ
@@ -64,12 +62,12 @@ loop-i-smaller c = omega arith
 
 pub loop-i-preserved : goal.loop-i-preserved
 loop-i-preserved c =
-    let at = c in
-    let i = at.loop-i.i in
+    let start = c.before.before.before in
+    let i = c.loop-i.i in
     let fit : SFits w32 c.word_at-word.result = search rules in (
       omega arith,
-      rw (to_z-of_z fit, c.word_at-word.ensures, at.loop-i.invariant.1)
-          (set-table (read (bytes c.before.before.before)) (pos 0) (before c.before.before.before) i (omega arith)),
+      rw (to_z-of_z fit, c.word_at-word.ensures, c.loop-i.invariant.1)
+          (set-table (read (bytes start)) (pos 0) (before start) i (omega arith)),
     )
 
 pub shape_of-words : goal.shape_of-words
@@ -78,6 +76,10 @@ shape_of-words c = long c.before.before
 pub returns : goal.returns
 unfolding words_from
 returns c =
-    let at = c in
-    let all : at.loop-i.i ≡ length (bytes c.before.before) / 4 = omega arith in
-    record { count = refl; content = at.loop-i.invariant.1 ∙ ap (λ k. table k (read (bytes c.before.before)) ++ drop k (before c.before.before)) all }
+    let start = c.before.before in
+    let all : c.loop-i.i ≡ length (bytes start) / 4 = omega arith in
+    record {
+      count = refl;
+      content =
+          c.loop-i.invariant.1 ∙ ap (λ k. table k (read (bytes start)) ++ drop k (before start)) all;
+    }

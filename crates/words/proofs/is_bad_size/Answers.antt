@@ -62,9 +62,11 @@ is_outside-requires-2 c = search rules
 pub returns : goal.returns
 unfolding outside
 returns c =
+    let here = c.before.before in
+    let above = c.before.before.before in
     let m = c in
     let n = c in
     let fits = n.ranges in
     ap₂ ◌||◌
-    (simp (to_z-of_z (read-n c.before.before.before), to_z-of_z (wide-n c.before.before.before), natural-bits fits.first) at c.is_outside.ensures)
-    (simp (to_z-of_z (read-m c.before.before), to_z-of_z (wide-m c.before.before), natural-bits fits.second) at c.is_outside-2.ensures)
+    (simp (to_z-of_z (read-n above), to_z-of_z (wide-n above), natural-bits fits.first) at c.is_outside.ensures)
+    (simp (to_z-of_z (read-m here), to_z-of_z (wide-m here), natural-bits fits.second) at c.is_outside-2.ensures)

@@ -18,10 +18,12 @@ pub returns-then-word-largest : goal.returns-then-word-largest
 returns-then-word-largest c =
     let s = c in
     sym (within-below s.args.largest s.args.word s.requires
-    (simp (to_z-of_z s.ranges.word, to_z-of_z s.ranges.largest, +ℤ_idl, to_z-of_z (negated c.before)) at c.if-word-largest.true))
+    (simp (to_z-of_z s.ranges.word, to_z-of_z s.ranges.largest, +ℤ_idl, to_z-of_z (negated c.before)) at
+    c.if-word-largest.true))
 
 pub returns : goal.returns
 returns c =
     let s = c in
     simp (to_z-of_z s.ranges.word, to_z-of_z s.ranges.largest) (within-above s.args.largest s.args.word s.requires
-    (simp (to_z-of_z s.ranges.word, to_z-of_z s.ranges.largest, +ℤ_idl, to_z-of_z (negated c.before)) at c.if-word-largest.false))
+    (simp (to_z-of_z s.ranges.word, to_z-of_z s.ranges.largest, +ℤ_idl, to_z-of_z (negated c.before)) at
+    c.if-word-largest.false))

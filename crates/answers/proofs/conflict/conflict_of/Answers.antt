@@ -3,7 +3,7 @@
 use mathlib.Core.Bool.{Bool, cond}
 use mathlib.Core.Option.{none, some}
 use mathlib.Core.Path.{◌≡◌, ap, sym, ◌∙◌}
-use Prim.Native.Nat.{ℕ, ◌-◌}
+use Prim.Native.Nat.{ℕ}
 use native.Mathlib.Omega.{arith}
 use borrow.Author.Rules.{rules}
 use Rattle.whole.specs.Below.{lowest}
@@ -58,7 +58,8 @@ module _ (c : After-is_crossed) where
 pub returns-then-is_crossed : goal.returns-then-is_crossed
 unfolding conflict_at crossed_from
 returns-then-is_crossed c = let o = c in
-    sym (ap crossed_from (lowest-here (crosses_at (limits c.before)) (head c.before).args.variables (number c.before) (number c.before)
+    sym (ap crossed_from (lowest-here (crosses_at (limits c.before)) (head c.before).args.variables (number c.before)
+    (number c.before)
     (omega arith) (head c.before).loop-v.invariant.1 (crossed-by c.before c.if-is_crossed.true)))
 
 pub after-v-requires : goal.after-v-requires
@@ -68,10 +69,13 @@ pub loop-v-smaller : goal.loop-v-smaller
 loop-v-smaller c = rw c.after-v.ensures (omega arith)
 
 pub loop-v-preserved : goal.loop-v-preserved
-loop-v-preserved c = let o = c in rw c.after-v.ensures (
-  omega arith,
-  lowest-more (crosses_at (limits c.before.before)) (number c.before.before) (head c.before.before).loop-v.invariant.1 (crossed-by c.before.before c.if-is_crossed.false),
-)
+loop-v-preserved c =
+    let here = c.before.before in
+    let o = c in rw c.after-v.ensures (
+      omega arith,
+      lowest-more (crosses_at (limits here)) (number here) (head here).loop-v.invariant.1
+          (crossed-by here c.if-is_crossed.false),
+    )
 
 pub returns : goal.returns
 unfolding conflict_at crossed_from

@@ -13,9 +13,9 @@ abbrev pub invariant-loop-v : goal.invariant-loop-v
 invariant-loop-v l =
     (l.v.0 ≤ l.variables)
     × (l.lower ≡ filled most_variables (pos 0) l.v.0
-    (λ l.v. positive (neg_ℤ (pull_in l.entries l.seats l.size.rows l.size.columns l.common l.blocked l.v))))
+    (λ v. positive (neg_ℤ (pull_in l.entries l.seats l.size.rows l.size.columns l.common l.blocked v))))
     × (l.upper ≡ filled most_variables (pos 0) l.v.0
-    (λ l.v. positive (pull_in l.entries l.seats l.size.rows l.size.columns l.common l.blocked l.v)))
+    (λ v. positive (pull_in l.entries l.seats l.size.rows l.size.columns l.common l.blocked v)))
 
 abbrev pub decreases-loop-v : goal.decreases-loop-v
 decreases-loop-v l = l.variables - l.v.0

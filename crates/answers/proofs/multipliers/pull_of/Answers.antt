@@ -1,7 +1,6 @@
 -- `answers::multipliers::pull_of` meets its contract. Assumes nothing.
 use mathlib.Core.Bool.{Bool, true, false}
-use mathlib.Core.Path.{◌≡◌, ap, ap₂, refl, subst, sym, ◌∙◌}
-use Prim.Native.Nat.{◌<◌}
+use mathlib.Core.Path.{◌≡◌, ap, ap₂, refl, sym, ◌∙◌}
 use borrow.Author.Rules.{rules}
 use borrow.Author.Tests.{eq-eqb, ne_eqb, not-false, not-true}
 use lib.Dec.{eqb}
@@ -18,108 +17,74 @@ use Rattle.layout.specs.Layout.{flat, entry_in}
 use Rattle.sides.specs.Sides.{side_by}
 use Rattle.answers.specs.Multipliers.{pull_laid, relation_from}
 use Rattle.answers.proofs.multipliers.pull_of.Goals as goal
-use Rattle.answers.proofs.multipliers.pull_of.Goals.{After-entry_at-e, After-turned, After-turned-then-own-row, Else-not-seat, Start, Then-not-seat}
 
--- the relation by the two tests, of the parameters
-abbrev relation : Start → Bool → Bool → ℤ
-relation s basic own = let a = s.args in
-    pull (side_by a.blocked.rises) (relation_from basic own a.common
-    (entry_in a.size.rows a.size.columns a.entries.now a.blocked.row.0 a.seat.column.0))
+-- the relation by the two tests, of the entry
+abbrev relation : (rises : Bool) (common entry : ℤ) → Bool → Bool → ℤ
+relation rises common entry basic own = pull (side_by rises) (relation_from basic own common entry)
 
 pull-zero : (b : Bool) → pull (side_by b) (pos 0) ≡ pos 0
 unfolding pull
 pull-zero true = refl
 pull-zero false = refl
 
--- the seat's column is one
-in-columns : (c : Then-not-seat) → let a = c.args in a.seat.column.0 < a.size.columns
-in-columns c = c.requires.in-columns (not-true _ c.if-not-seat.true)
-
 pub entry_at-e-requires : goal.entry_at-e-requires
 entry_at-e-requires c = let p = c.requires in
-    (p.in_rows, in-columns c.before, p.few-rows, p.few-columns)
-
--- its entry
-module _ (c : After-entry_at-e) where
-  abbrev first : Start
-  first = c.before.before.before.before.before
-
-  abbrev entry : ℤ
-  entry = let a = first.args in
-      entry_in a.size.rows a.size.columns a.entries.now a.blocked.row.0 a.seat.column.0
-
-  entry-is : c.entry_at-e.result ≡ entry
-  entry-is = c.entry_at-e.ensures
-
-  within-entry : Within entry largest_number
-  within-entry = let a = first.args in
-      first.requires.entries-within (flat a.size.rows a.size.columns a.blocked.row.0 a.seat.column.0)
-
-  fit-entry : SFits w32 c.entry_at-e.result
-  fit-entry = search rules
-
-  fit_wide : SFits w64 c.entry_at-e.result
-  fit_wide = wide fit-entry
+    (p.in_rows, p.in-columns (not-true _ c.if-not-seat.true), p.few-rows, p.few-columns)
 
 pub overflow_cast-e : goal.overflow_cast-e
-overflow_cast-e c = simp (to_z-of_z (fit-entry c)) (fit_wide c)
+overflow_cast-e c =
+    let fit : SFits w32 c.entry_at-e.result = search rules in simp (to_z-of_z fit) (wide fit)
 
 pub turned-requires : goal.turned-requires
-turned-requires c = simp (to_z-of_z (fit-entry c), to_z-of_z (fit_wide c))
-    (subst (λ z. Within z largest_number) (sym (entry-is c)) (within-entry c))
+turned-requires c = let a = c.args in
+    let fit : SFits w32 c.entry_at-e.result = search rules in
+    let small : Within c.entry_at-e.result largest_number = rw c.entry_at-e.ensures
+    (c.requires.entries-within (flat a.size.rows a.size.columns a.blocked.row.0 a.seat.column.0)) in
+    simp (to_z-of_z fit, to_z-of_z (wide fit)) small
 
 -- the seat's variable is not basic
-free-is : (c : Then-not-seat) → c.args.seat.basic ≡ false
-free-is c = not-true _ c.if-not-seat.true
-
-fit-turned : (c : After-turned) → SFits w64 c.turned.result
-fit-turned c = search rules
-
 pub returns-then-not-seat : goal.returns-then-not-seat
 unfolding pull_laid
-returns-then-not-seat c = let o = c in let s = first c.before in
-    to_z-of_z (fit-turned c) ∙ (simp (to_z-of_z (fit-entry c.before), to_z-of_z (fit_wide c.before)) at c.turned.ensures)
-    ∙ ap (pull (side_by s.args.blocked.rises)) (entry-is c.before)
-    ∙ sym (ap (λ b. relation s b (eqb s.args.seat.row.0 s.args.blocked.row.0)) (free-is c.before.before.before))
-
-wide-common : (c : Start) → SFits w64 c.args.common
-wide-common c = wide c.ranges.common
-
-fit-common : (c : Start) → SFits w64 (neg_ℤ c.args.common)
-fit-common c = fits-by (within-neg c.requires.common-within) tt
+returns-then-not-seat c = let a = c.args in
+    let fit : SFits w32 c.entry_at-e.result = search rules in
+    let fit-turned : SFits w64 c.turned.result = search rules in
+    let entry = entry_in a.size.rows a.size.columns a.entries.now a.blocked.row.0 a.seat.column.0 in
+    to_z-of_z fit-turned ∙ (simp (to_z-of_z fit, to_z-of_z (wide fit)) at c.turned.ensures)
+    ∙ ap (pull (side_by a.blocked.rises)) c.entry_at-e.ensures
+    ∙ sym (ap (λ b. relation a.blocked.rises a.common entry b (eqb a.seat.row.0 a.blocked.row.0))
+    (not-true _ c.if-not-seat.true))
 
 pub overflow_cast-common : goal.overflow_cast-common
-overflow_cast-common c = let s = c in
-    simp (to_z-of_z s.ranges.common) (wide-common c.before.before.before.before.before.before.before)
+overflow_cast-common c = simp (to_z-of_z c.ranges.common) (wide c.ranges.common)
+
+-- minus the common number
+fit-less : {d : ℤ} → Within d largest_number → SFits w64 (neg_ℤ d)
+fit-less h = fits-by (within-neg h) tt
 
 pub overflow_sub-common : goal.overflow_sub-common
-overflow_sub-common c = let s = c in
-    simp (to_z-of_z s.ranges.common, to_z-of_z (wide-common c.before.before.before.before.before.before.before), +ℤ_idl) (fit-common c.before.before.before.before.before.before.before)
+overflow_sub-common c = let f = c.ranges.common in
+    simp (to_z-of_z f, to_z-of_z (wide f), +ℤ_idl) (fit-less c.requires.common-within)
 
 pub turned-requires-then-own-row : goal.turned-requires-then-own-row
-turned-requires-then-own-row c = let s = c in
-    simp (to_z-of_z s.ranges.common, to_z-of_z (wide-common c.before.before.before.before.before.before.before), +ℤ_idl, to_z-of_z (fit-common c.before.before.before.before.before.before.before))
-    (within-neg s.requires.common-within)
-
-fit-own : (c : After-turned-then-own-row) → SFits w64 c.turned-then-own-row.result
-fit-own c = search rules
+turned-requires-then-own-row c = let f = c.ranges.common in let h = c.requires.common-within in
+    simp (to_z-of_z f, to_z-of_z (wide f), +ℤ_idl, to_z-of_z (fit-less h)) (within-neg h)
 
 -- the seat's variable is basic
-basic-is : (c : Else-not-seat) → c.args.seat.basic ≡ true
-basic-is c = not-false _ c.if-not-seat.false
-
 pub returns-then-own-row : goal.returns-then-own-row
 unfolding pull_laid
-returns-then-own-row c = let s = c in
-    to_z-of_z (fit-own c)
-    ∙ (simp (to_z-of_z s.ranges.common, to_z-of_z (wide-common c.before.before.before.before.before.before.before.before), +ℤ_idl, to_z-of_z (fit-common c.before.before.before.before.before.before.before.before))
+returns-then-own-row c = let a = c.args in let f = c.ranges.common in
+    let fit : SFits w64 c.turned-then-own-row.result = search rules in
+    let entry = entry_in a.size.rows a.size.columns a.entries.now a.blocked.row.0 a.seat.column.0 in
+    to_z-of_z fit
+    ∙ (simp (to_z-of_z f, to_z-of_z (wide f), +ℤ_idl, to_z-of_z (fit-less c.requires.common-within))
     at c.turned-then-own-row.ensures)
-    ∙ sym (ap₂ (relation s) (basic-is c.before.before.before.before.before)
-    (eq-eqb s.args.seat.row.0 s.args.blocked.row.0 c.if-own-row.true))
+    ∙ sym (ap₂ (relation a.blocked.rises a.common entry) (not-false _ c.if-not-seat.false)
+    (eq-eqb a.seat.row.0 a.blocked.row.0 c.if-own-row.true))
 
 pub returns : goal.returns
 unfolding pull_laid
-returns c = let s = c in
-    sym (ap₂ (relation s) (basic-is c.before.before.before.before)
-    (ne_eqb s.args.seat.row.0 s.args.blocked.row.0 c.if-own-row.false)
-    ∙ pull-zero s.args.blocked.rises)
+returns c = let a = c.args in
+    let entry = entry_in a.size.rows a.size.columns a.entries.now a.blocked.row.0 a.seat.column.0 in
+    sym (ap₂ (relation a.blocked.rises a.common entry) (not-false _ c.if-not-seat.false)
+    (ne_eqb a.seat.row.0 a.blocked.row.0 c.if-own-row.false)
+    ∙ pull-zero a.blocked.rises)

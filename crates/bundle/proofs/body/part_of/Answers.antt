@@ -42,11 +42,17 @@ pub overflow_add-i-2 : goal.overflow_add-i-2
 overflow_add-i-2 c = omega (arith, long c.before)
 
 pub count_at-requires : goal.count_at-requires
-count_at-requires c = let s = c in (omega (arith, long c.before), (accepted c.before).lengths (i c.before) s.requires.1)
+count_at-requires c = (omega (arith, long c.before), (accepted c.before).lengths (i c.before) c.requires.1)
 
 pub overflow_add-end : goal.overflow_add-end
-overflow_add-end c = let s = c in
-    omega (arith, c.count_at-first.ensures, c.count_at.ensures, pair-within (accepted c.before.before) (i c.before.before) s.requires.1)
+overflow_add-end c =
+    omega (
+      arith,
+      c.count_at-first.ensures,
+      c.count_at.ensures,
+      pair-within (accepted c.before.before)
+          (i c.before.before) c.requires.1,
+    )
 
 pub returns : goal.returns
 unfolding part_at

@@ -1,9 +1,9 @@
 -- `bundle::head::fill` meets its contract. The invariant of its loop: edition, count and the first i pairs are there,
 -- and `at` is the place behind their bodies. The measure is the number of pairs that are left. Assumes nothing.
-use borrow.Author.Rules.{sfits_of}
-use mathlib.Core.List.{List, ◌++◌}
+use borrow.Author.Rules.{rules}
+use mathlib.Core.List.{List, [], ◌++◌}
 use mathlib.Core.Path.{◌≡◌, ap, refl, sym, ◌∙◌}
-use Prim.Native.Nat.{ℕ, suc, ◌+◌, ◌*◌, ◌-◌, ◌≤◌, ◌<◌}
+use Prim.Native.Nat.{ℕ, suc, ◌+◌, ◌*◌, ◌≤◌, ◌<◌}
 use native.Mathlib.Numerals.{add-one}
 use native.Mathlib.Omega.{arith}
 use lib.IntN.{ℤ, pos, nat_abs}
@@ -22,7 +22,7 @@ use Rattle.rules.proofs.Bundle.Places.{count_before, counts-next, counts-none}
 use Rattle.bundle.proofs.Heads.{head_over, head-begun, head_done, head-kept, head_more, head_word, place-few}
 use Rattle.bundle.proofs.Heads.{word_first, word_size}
 use Rattle.bundle.proofs.head.fill.Goals as goal
-use Rattle.bundle.proofs.head.fill.Goals.{After-count_of-at, After-size-1, At-loop-i, Start}
+use Rattle.bundle.proofs.head.fill.Goals.{After-count_of-at, At-loop-i, Start}
 
 module _ (c : Start) where
   abbrev lengths : List ℤ
@@ -60,10 +60,6 @@ module _ (c : At-loop-i) where
   place-fits : c.loop-i.i ≤ length (lengths c.before) → SFits w32 (pos c.loop-i.at)
   place-fits h = fits-abs (place-small h)
 
-fit : (c : After-size-1) →
-    SFits w32 (word (lengths c.before.before.before) c.loop-i.i)
-fit c = sfits_of c.size-1.given
-
 module _ (c : After-count_of-at) where
   abbrev place : At-loop-i
   place = c.before.before.before
@@ -71,8 +67,11 @@ module _ (c : After-count_of-at) where
   abbrev sizes : List ℤ
   sizes = lengths place.before
 
+  fit : SFits w32 (word sizes place.loop-i.i)
+  fit = search rules
+
   counted : c.count_of-at.result ≡ nat_abs (word sizes place.loop-i.i)
-  counted = c.count_of-at.ensures ∙ ap nat_abs (to_z-of_z (fit c.before))
+  counted = c.count_of-at.ensures ∙ ap nat_abs (to_z-of_z fit)
 
   next-is : place.loop-i.at + c.count_of-at.result
       ≡ head_size (length sizes) + count_before (suc place.loop-i.i) (word sizes)
@@ -100,14 +99,18 @@ pub overflow_add-at : goal.overflow_add-at
 overflow_add-at c = omega arith
 
 pub loop-i-init : goal.loop-i-init
-loop-i-init c = (
-  omega arith,
-  omega (arith, counts-none (word (lengths c))),
-  head-begun (edition c) (lengths c) (first c) (omega (arith, c.requires.1)) (to_z w32 (edition c))
-      (to_z w32 (length (lengths c))) (edition-is c) (count-is c)
-      ∙ ap (λ l. table 2 (head_word (edition c) (lengths c)) ++ l) (sym (head-kept (edition c) (lengths c) (first c) 2
-      (omega arith) (to_z w32 (edition c)) (to_z w32 (length (lengths c))))),
-)
+loop-i-init c =
+    let e = edition c in
+    let ls = lengths c in
+    let first-word = to_z w32 e in
+    let second-word = to_z w32 (length ls) in
+    let begun = head-begun e ls (first c) (omega (arith, c.requires.1)) first-word second-word (edition-is c)
+    (count-is c) in
+    let later = head-kept e ls (first c) 2 (omega arith) first-word second-word in (
+      omega arith,
+      omega (arith, counts-none (word ls)),
+      begun ∙ ap (λ l. table 2 (head_word e ls) ++ l) (sym later),
+    )
 
 pub overflow_cast-front-in-loop-i : goal.overflow_cast-front-in-loop-i
 overflow_cast-front-in-loop-i c = place-fits c.before (omega arith)
@@ -143,8 +146,9 @@ pub bounds-front-i-in-loop-i : goal.bounds-front-i-in-loop-i
 bounds-front-i-in-loop-i c = rw length-set (omega (arith, long c.before.before, c.requires.1))
 
 pub count_of-at-requires : goal.count_of-at-requires
-count_of-at-requires c = let p = c in
-    rw (to_z-of_z (fit c)) (p.requires.0.counts.least p.loop-i.i (omega arith))
+count_of-at-requires c =
+    let fit : SFits w32 (word c.args.lengths.now c.loop-i.i) = search rules in
+    rw (to_z-of_z fit) (c.requires.0.counts.least c.loop-i.i (omega arith))
 
 pub overflow_add-at-in-loop-i : goal.overflow_add-at-in-loop-i
 overflow_add-at-in-loop-i c = omega (arith, next-is c, next-few c, c.requires.0.counts.few)
@@ -156,17 +160,22 @@ pub loop-i-smaller : goal.loop-i-smaller
 loop-i-smaller c = omega arith
 
 pub loop-i-preserved : goal.loop-i-preserved
-loop-i-preserved c = let p = c in let i = p.loop-i.i in let s = c in (
-  omega arith,
-  rw add-one (next-is c),
-  ap (λ l. set (set l (2 + 2 * i) (to_z w32 p.loop-i.at)) (3 + 2 * i) (to_z w32 (of_z w32 (word (lengths c.before.before.before.before) i))))
-      p.loop-i.invariant.2
-      ∙ head_more (edition c.before.before.before.before) (lengths c.before.before.before.before) (kept c.before.before.before.before) i (rw length-set (rw length-set (omega (arith, s.requires.1))))
-      (to_z w32 p.loop-i.at) (to_z w32 (of_z w32 (word (lengths c.before.before.before.before) i)))
-      (to_z_pos w32 (place-small c.before.before.before (omega arith)) ∙ ap pos p.loop-i.invariant.1
-      ∙ sym (word_first (edition c.before.before.before.before) (lengths c.before.before.before.before) s.requires.0.counts i (omega arith)))
-      (to_z-of_z (fit c.before) ∙ sym (word_size (edition c.before.before.before.before) (lengths c.before.before.before.before) i (omega arith))),
-)
+loop-i-preserved c =
+    let s = c.before.before.before.before in
+    let e = edition s in
+    let ls = lengths s in
+    let i = c.loop-i.i in
+    let place-word = to_z w32 c.loop-i.at in
+    let size-word = to_z w32 (of_z w32 (word ls i)) in
+    let place-told = to_z_pos w32 (place-small c.before.before.before (omega arith)) ∙ ap pos c.loop-i.invariant.1
+    ∙ sym (word_first e ls c.requires.0.counts i (omega arith)) in
+    let size-told = to_z-of_z (fit c) ∙ sym (word_size e ls i (omega arith)) in (
+      omega arith,
+      rw add-one (next-is c),
+      ap (λ l. set (set l (2 + 2 * i) place-word) (3 + 2 * i) size-word) c.loop-i.invariant.2
+          ∙ head_more e ls (kept s) i (rw length-set (rw length-set (omega (arith, c.requires.1)))) place-word size-word
+          place-told size-told,
+    )
 
 pub overflow_mul-result : goal.overflow_mul-result
 overflow_mul-result c = omega arith
@@ -178,8 +187,14 @@ pub shape_of-front : goal.shape_of-front
 shape_of-front c = long c.before
 
 pub returns : goal.returns
-returns c = let p = c in let s = c in
-    let all : 2 + 2 * p.loop-i.i ≡ head_size (length (lengths c.before.before)) = omega arith in record { size = refl; content = p.loop-i.invariant.2 ∙ ap (λ n. head_over (edition c.before.before) (lengths c.before.before) n (kept c.before.before)) all
-          ∙ head_done (edition c.before.before) (lengths c.before.before) (kept c.before.before)
-          ∙ ap (λ l. file_words (edition c.before.before) (lengths c.before.before) [] ++ l) (head-kept (edition c.before.before) (lengths c.before.before) (first c.before.before)
-          (head_size (length (lengths c.before.before))) (omega arith) (to_z w32 (edition c.before.before)) (to_z w32 (length (lengths c.before.before)))) }
+returns c =
+    let s = c.before.before in
+    let e = edition s in
+    let ls = lengths s in
+    let all : 2 + 2 * c.loop-i.i ≡ head_size (length ls) = omega arith in
+    let later = head-kept e ls (first s) (head_size (length ls)) (omega arith) (to_z w32 e) (to_z w32 (length ls)) in
+    record {
+      size = refl;
+      content = c.loop-i.invariant.2 ∙ ap (λ n. head_over e ls n (kept s)) all ∙ head_done e ls (kept s)
+          ∙ ap (λ l. file_words e ls [] ++ l) later;
+    }

@@ -154,17 +154,19 @@ module _ (c : After-count_of2) where
       ∙ ap nat_abs (to_z-of_z (fit-number c.before.before) ∙ number_is c.before.before)
 
   few : c.count_of-bodies.result ≤ most_bodies
-  few = omega (
-    arith,
-    count-is,
-    bodies-most bs (early c.before.before.before.before.before.before) (edition-fine c.before.before.before.before.before.before) (bodies-fine c.before),
-  )
+  few =
+      let place = c.before.before.before.before.before.before in
+      omega (
+        arith,
+        count-is,
+        bodies-most bs (early place) (edition-fine place) (bodies-fine c.before),
+      )
 
 pub is_bad_count-requires : goal.is_bad_count-requires
 is_bad_count-requires c = search rules
 
 pub returns-then-is_bad_count : goal.returns-then-is_bad_count
-returns-then-is_bad_count c = count-hit (file c.before.before.before) (sym c.is_bad_count.ensures ∙ c.if-is_bad_count.true)
+returns-then-is_bad_count c = count-hit c.args.file.now (sym c.is_bad_count.ensures ∙ c.if-is_bad_count.true)
 
 pub word_at-edition-requires : goal.word_at-edition-requires
 word_at-edition-requires c = omega (arith, enough c.before)
@@ -201,7 +203,8 @@ returns-then-is_bad_word-2 c = let k = known c.before.before.before.before in
 
 pub count_of-bodies-requires : goal.count_of-bodies-requires
 count_of-bodies-requires c = let t = tested c.before in let k = passed c.before in
-    rw (to_z-of_z (fit-number t), number_is t) (bodies-least (bytes k) (early k) (edition-fine k) (bodies-fine c.before))
+    rw (to_z-of_z (fit-number t), number_is t)
+    (bodies-least (bytes k) (early k) (edition-fine k) (bodies-fine c.before))
 
 pub overflow_mul-bodies : goal.overflow_mul-bodies
 overflow_mul-bodies c = omega (arith, few c.before)
@@ -210,16 +213,22 @@ pub overflow_add-bodies : goal.overflow_add-bodies
 overflow_add-bodies c = omega (arith, few c.before)
 
 pub returns-then-file-bodies : goal.returns-then-file-bodies
-returns-then-file-bodies c = let k = c in let p = passed c.before.before.before in
-    table-hit (bs c.before.before) (early p) (edition-fine p) (bodies-fine c.before.before.before)
-    (tells-true (table-tells (words_from (bs c.before.before))) (omega (arith, count-is c.before.before, words-length (bs c.before.before))))
+returns-then-file-bodies c =
+    let place = c.before.before.before in
+    let p = passed place in
+    table-hit (bs c.before.before) (early p) (edition-fine p) (bodies-fine place)
+    (tells-true (table-tells (words_from (bs c.before.before)))
+    (omega (arith, count-is c.before.before, words-length (bs c.before.before))))
 
 pub table_refusal-requires : goal.table_refusal-requires
-table_refusal-requires c = let k = c in
+table_refusal-requires c =
     (count-is c.before.before, few c.before.before, omega (arith, words-length (bs c.before.before)))
 
 pub returns : goal.returns
-returns c = let k = c in let p = passed c.before.before.before.before in
+returns c =
+    let near = c.before.before.before in
+    let far = near.before in
+    let p = passed far in
     c.table_refusal.ensures
-    ∙ all-skipped (bs c.before.before.before) (early p) (edition-fine p) (bodies-fine c.before.before.before.before)
-    (tells-false (table-tells (words_from (bs c.before.before.before))) (omega (arith, count-is c.before.before.before, words-length (bs c.before.before.before))))
+    ∙ all-skipped (bs near) (early p) (edition-fine p) (bodies-fine far)
+    (tells-false (table-tells (words_from (bs near))) (omega (arith, count-is near, words-length (bs near))))

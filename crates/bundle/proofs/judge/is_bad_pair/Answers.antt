@@ -26,8 +26,8 @@ module _ (c : Start) where
   pair-tells = tells-or (tells-lt_z c.args.size (pos 0)) (tells-not (tells-eq_z c.args.first (pos c.args.at)))
 
 pub returns-then-size-lt0 : goal.returns-then-size-lt0
-returns-then-size-lt0 c = let start = c in
-    sym (tells-true (pair-tells c.before) (inl (test-lt w32 start.ranges.size (sfits_lit tt) c.if-size-lt0.true)))
+returns-then-size-lt0 c =
+    sym (tells-true (pair-tells c.before) (inl (test-lt w32 c.ranges.size (sfits_lit tt) c.if-size-lt0.true)))
 
 pub overflow_cast-first : goal.overflow_cast-first
 overflow_cast-first c = rw (to_z-of_z c.ranges.first) (wide c.ranges.first)
@@ -37,11 +37,11 @@ overflow_cast-at c = search rules
 
 pub returns-then-first-at : goal.returns-then-first-at
 returns-then-first-at c =
-    let start = c in
-    let least = test-nlt w32 start.ranges.size (sfits_lit tt) c.if-size-lt0.false in
-    let same = sym (widened start.ranges.first) ∙ ap (to_z w64) c.if-first-at.true ∙ to_z_pos w64 start.requires in
+    let least = test-nlt w32 c.ranges.size (sfits_lit tt) c.if-size-lt0.false in
+    let same = sym (widened c.ranges.first) ∙ ap (to_z w64) c.if-first-at.true ∙ to_z_pos w64 c.requires in
     sym (tells-false (pair-tells c.before.before) (least, same))
 
 pub returns : goal.returns
-returns c = let start = c in
-    sym (tells-true (pair-tells c.before.before) (inr (λ e. c.if-first-at.false (ap (of_z w64) (to_z-of_z start.ranges.first ∙ e)))))
+returns c =
+    sym (tells-true (pair-tells c.before.before)
+    (inr (λ e. c.if-first-at.false (ap (of_z w64) (to_z-of_z c.ranges.first ∙ e)))))

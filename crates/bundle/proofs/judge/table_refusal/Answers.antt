@@ -4,7 +4,7 @@
 use borrow.Author.Rules.{rules}
 use mathlib.Core.List.{List}
 use mathlib.Core.Path.{◌≡◌, ap, subst, sym, ◌∙◌}
-use Prim.Native.Nat.{ℕ, ◌+◌, ◌*◌, ◌-◌, ◌≤◌, ◌<◌}
+use Prim.Native.Nat.{ℕ, ◌+◌, ◌*◌, ◌≤◌, ◌<◌}
 use native.Mathlib.Omega.{arith}
 use lib.IntN.{ℤ, pos, nat_abs}
 use lib.ListN.{length}
@@ -15,7 +15,7 @@ use mir.Val.{SFits}
 use Rattle.rules.specs.Program.Bytes.{word_at, words_from}
 use Rattle.rules.specs.Bundle.File.{bad_pair, head_size, pair_first, pair_length}
 use Rattle.rules.proofs.Program.Words.{word-from, words-length}
-use Rattle.bundle.proofs.Pairs.{PairsPass, behind, behind_more, behind-none, pair-tested, passed-least}
+use Rattle.bundle.proofs.Pairs.{PairsPass, behind_more, behind-none, pair-tested, passed-least}
 use Rattle.bundle.proofs.Pairs.{passed-more, size_few, table-fine, table-pair, table-total}
 use Rattle.bundle.proofs.judge.table_refusal.Goals as goal
 use Rattle.bundle.proofs.judge.table_refusal.Lts as lts
@@ -89,7 +89,8 @@ module _ (c : Else1) where
 
 -- .. and its body is behind
 module _ (c : After-count_of) where
-  counted : c.count_of-at.result ≡ nat_abs (pair_length (words c.before.before.before.before.before.before) (at c.before).loop-i.i)
+  counted : c.count_of-at.result ≡ nat_abs
+      (pair_length (words c.before.before.before.before.before.before) (at c.before).loop-i.i)
   counted = c.count_of-at.ensures ∙ ap nat_abs (to_z-of_z (fit-size c.before.before) ∙ size_is c.before.before)
 
   few : c.count_of-at.result < 2147483648
@@ -103,10 +104,10 @@ pub overflow_add-at : goal.overflow_add-at
 overflow_add-at c = omega arith
 
 pub loop-i-init : goal.loop-i-init
-loop-i-init c = let start = c in (
+loop-i-init c = (
   omega arith,
-  omega (arith, start.requires, behind-none (words_from start.args.file.now)),
-  omega (arith, start.requires),
+  omega (arith, c.requires, behind-none (words_from c.args.file.now)),
+  omega (arith, c.requires),
   λ j h. absurd (omega arith),
 )
 
@@ -129,17 +130,18 @@ pub word_at-size-requires : goal.word_at-size-requires
 word_at-size-requires c = omega (arith, long c.before.before.before)
 
 pub is_bad_pair-requires : goal.is_bad_pair-requires
-is_bad_pair-requires c = let p = c in omega (arith, p.loop-i.invariant.2, p.requires)
+is_bad_pair-requires c = omega (arith, c.loop-i.invariant.2, c.requires)
 
 pub returns-then-is_bad_pair : goal.returns-then-is_bad_pair
-returns-then-is_bad_pair c = let b = c in let p = place c.before.before in
+returns-then-is_bad_pair c = let p = place c.before.before in
     table-pair (words p) p.loop-i.i (omega (arith, p.requires)) (sym (bad-is c.before.before) ∙ c.if-is_bad_pair.true)
 
 pub count_of-at-requires : goal.count_of-at-requires
 count_of-at-requires c = rw (to_z-of_z (fit-size c.before.before), size_is c.before.before) (least c.before)
 
 pub overflow_add-at-in-loop-i : goal.overflow_add-at-in-loop-i
-overflow_add-at-in-loop-i c = omega (arith, few c.before, (at c.before.before).loop-i.invariant.2, (at c.before.before).requires)
+overflow_add-at-in-loop-i c =
+    omega (arith, few c.before, (at c.before.before).loop-i.invariant.2, (at c.before.before).requires)
 
 pub overflow_step-i : goal.overflow_step-i
 overflow_step-i c = omega arith
@@ -156,11 +158,11 @@ loop-i-preserved c = let p = at c.before.before in let i = p.loop-i.i in (
 )
 
 pub returns-then-at-file : goal.returns-then-at-file
-returns-then-at-file c = let p = c in
-    table-total (words c.before.before.before) p.loop-i.i (omega (arith, p.requires)) p.loop-i.invariant.3
-    p.loop-i.at p.loop-i.invariant.1 (λ e. c.if-at-file.true (omega (arith, words-length (file c.before.before.before))))
+returns-then-at-file c =
+    let here = c.before.before.before in
+    table-total (words here) c.loop-i.i (omega (arith, c.requires)) c.loop-i.invariant.3
+    c.loop-i.at c.loop-i.invariant.1 (λ e. c.if-at-file.true (omega (arith, words-length (file here))))
 
 pub returns : goal.returns
-returns c = let p = c in
-    table-fine (words c.before.before.before) p.loop-i.i (omega (arith, p.requires)) p.loop-i.invariant.3
-    p.loop-i.at p.loop-i.invariant.1 (omega (arith, words-length (file c.before.before.before)))
+returns c = table-fine (words c.before.before.before) c.loop-i.i (omega (arith, c.requires)) c.loop-i.invariant.3
+    c.loop-i.at c.loop-i.invariant.1 (omega (arith, words-length (file c.before.before.before)))

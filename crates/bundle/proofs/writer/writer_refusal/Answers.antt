@@ -37,9 +37,6 @@ module _ (c : Else-has_negative) where
   abbrev counted : Else-bodies_in-bodies
   counted = c.before.before
 
-  abbrev edition-known : Else-is_unknown
-  edition-known = counted.before.before
-
   abbrev start : Start
   start = begun counted
 
@@ -50,35 +47,42 @@ pub is_unknown-requires : goal.is_unknown-requires
 is_unknown-requires c = search rules
 
 pub returns-then-is_unknown : goal.returns-then-is_unknown
-returns-then-is_unknown c = let s = c in
-    unknown-hit s.args.edition (lengths s) (words s) s.args.room
+returns-then-is_unknown c =
+    unknown-hit c.args.edition c.args.lengths.now c.args.words.now c.args.room
     (sym c.is_unknown.ensures ∙ c.if-is_unknown.true)
 
 pub bodies_in-requires : goal.bodies_in-requires
 bodies_in-requires c = search rules
 
 pub returns-then-bodies_in-bodies : goal.returns-then-bodies_in-bodies
-returns-then-bodies_in-bodies c = let e = c in let s = c in
-    many-hit s.args.edition (lengths s) (words s) s.args.room (known c.before.before)
+returns-then-bodies_in-bodies c =
+    many-hit c.args.edition c.args.lengths.now c.args.words.now c.args.room (known c.before.before)
     (omega (arith, c.bodies_in.ensures, c.if-bodies_in-bodies.true))
 
 pub has_negative-requires : goal.has_negative-requires
 has_negative-requires c = search rules
 
 pub returns-then-has_negative : goal.returns-then-has_negative
-returns-then-has_negative c = let k = c in let s = begun c.before.before in
-    negative-hit s.args.edition (lengths s) (words s) s.args.room (known c.before.before.before.before) (few c.before.before)
+returns-then-has_negative c =
+    let place = c.before.before.before.before in
+    let s = begun c.before.before in
+    negative-hit s.args.edition (lengths s) (words s) s.args.room (known place) (few c.before.before)
     (sym c.has_negative.ensures ∙ c.if-has_negative.true)
 
 pub total_of-requires : goal.total_of-requires
-total_of-requires c = let s = start c in
-    counts_of s.args.edition (lengths s) (words s) s.args.room (known c.before.before.before.before) (few c.before.before)
+total_of-requires c =
+    let place = c.before.before.before.before in
+    let s = start c in
+    counts_of s.args.edition (lengths s) (words s) s.args.room (known place) (few c.before.before)
     (fine c)
 
 pub returns-then-total_of-count : goal.returns-then-total_of-count
-returns-then-total_of-count c = let t = c in let e = c in let s = start c.before.before in
-    sum-hit s.args.edition (lengths s) (words s) s.args.room (known c.before.before.before.before.before.before) (few c.before.before.before.before)
-    (fine c.before.before) t.total_of.result t.total_of.ensures c.if-total_of-count.true
+returns-then-total_of-count c =
+    let near = c.before.before.before.before in
+    let far = near.before.before in
+    let s = start c.before.before in
+    sum-hit s.args.edition (lengths s) (words s) s.args.room (known far) (few near)
+    (fine c.before.before) c.total_of.result c.total_of.ensures c.if-total_of-count.true
 
 pub overflow_mul-size : goal.overflow_mul-size
 overflow_mul-size c = search rules
@@ -90,22 +94,34 @@ pub overflow_add-size-2 : goal.overflow_add-size-2
 overflow_add-size-2 c = search rules
 
 pub returns-then-size-gt-MOST_FILE_WORDS : goal.returns-then-size-gt-MOST_FILE_WORDS
-returns-then-size-gt-MOST_FILE_WORDS c = let n = c in let t = c in let e = c in let s = start c.before.before.before in
-    long-hit s.args.edition (lengths s) (words s) s.args.room (known c.before.before.before.before.before.before.before) (few c.before.before.before.before.before)
-    (fine c.before.before.before) t.total_of.result t.total_of.ensures
-    n.if-total_of-count.false c.if-size-gt-MOST_FILE_WORDS.true
+returns-then-size-gt-MOST_FILE_WORDS c =
+    let near = c.before.before.before in
+    let mid = near.before.before in
+    let far = mid.before.before in
+    let s = start near in
+    long-hit s.args.edition (lengths s) (words s) s.args.room (known far) (few mid)
+    (fine near) c.total_of.result c.total_of.ensures
+    c.if-total_of-count.false c.if-size-gt-MOST_FILE_WORDS.true
 
 pub overflow_mul-size-2 : goal.overflow_mul-size-2
 overflow_mul-size-2 c = search rules
 
 pub returns-then-room-size : goal.returns-then-room-size
-returns-then-room-size c = let m = c in let n = c in let t = c in let e = c in let s = start c.before.before.before.before in
-    room-hit s.args.edition (lengths s) (words s) s.args.room (known c.before.before.before.before.before.before.before.before) (few c.before.before.before.before.before.before)
-    (fine c.before.before.before.before) t.total_of.result t.total_of.ensures
-    n.if-total_of-count.false m.if-size-gt-MOST_FILE_WORDS.false c.if-room-size.true
+returns-then-room-size c =
+    let near = c.before.before.before.before in
+    let mid = near.before.before in
+    let far = mid.before.before in
+    let s = start near in
+    room-hit s.args.edition (lengths s) (words s) s.args.room (known far) (few mid)
+    (fine near) c.total_of.result c.total_of.ensures
+    c.if-total_of-count.false c.if-size-gt-MOST_FILE_WORDS.false c.if-room-size.true
 
 pub returns : goal.returns
-returns c = let m = c in let n = c in let t = c in let e = c in let s = start c.before.before.before.before in
-    none-hit s.args.edition (lengths s) (words s) s.args.room (known c.before.before.before.before.before.before.before.before) (few c.before.before.before.before.before.before)
-    (fine c.before.before.before.before) t.total_of.result t.total_of.ensures
-    n.if-total_of-count.false m.if-size-gt-MOST_FILE_WORDS.false c.if-room-size.false
+returns c =
+    let near = c.before.before.before.before in
+    let mid = near.before.before in
+    let far = mid.before.before in
+    let s = start near in
+    none-hit s.args.edition (lengths s) (words s) s.args.room (known far) (few mid)
+    (fine near) c.total_of.result c.total_of.ensures
+    c.if-total_of-count.false c.if-size-gt-MOST_FILE_WORDS.false c.if-room-size.false

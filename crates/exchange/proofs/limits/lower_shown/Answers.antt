@@ -15,7 +15,6 @@ strict_lower-requires c = search rules
 
 pub returns : goal.returns
 returns c =
-    let s = c in
-    let kind = to_z-of_z s.ranges.kind in
+    let kind = to_z-of_z c.ranges.kind in
     shown-same false (c.has_lower.ensures ∙ ap has_lower kind) (c.strict_lower.ensures ∙ ap strict_lower kind)
-    (to_z-of_z s.ranges.number)
+    (to_z-of_z c.ranges.number)

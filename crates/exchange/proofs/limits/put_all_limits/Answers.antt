@@ -2,7 +2,7 @@
 -- are put. The measure is the number of variables that are left. Assumes nothing.
 use mathlib.Core.List.{List}
 use mathlib.Core.Path.{◌≡◌}
-use Prim.Native.Nat.{ℕ, ◌+◌, ◌-◌, ◌*◌, ◌≤◌, ◌<◌}
+use Prim.Native.Nat.{ℕ, ◌+◌, ◌*◌, ◌≤◌, ◌<◌}
 use native.Mathlib.Nat.{mul-le-mul}
 use native.Mathlib.Omega.{arith}
 use Rattle.rules.specs.Sizes.{most_columns, most_rows}
@@ -17,7 +17,8 @@ use Rattle.exchange.proofs.limits.put_all_limits.Tie as tie
 -- places of the code, as records of what is known there
 abbrev In-loop : Type 0
 In-loop =
-    lts.In-loop tie.the-claims reads.Pre reads.Post goal.the-invariant-loop-v goal.the-decreases-loop-v tie.handed_clauses
+    lts.In-loop tie.the-claims reads.Pre reads.Post goal.the-invariant-loop-v goal.the-decreases-loop-v
+    tie.handed_clauses
 
 abbrev Start : Type 0
 Start =
@@ -47,7 +48,7 @@ overflow_add-start c = omega (arith, few c.before.before)
 
 pub loop-v-init : goal.loop-v-init
 loop-v-init c =
-    let start = c in (omega arith, put-lines-start (entry c.before.before) start.args.out.now start.args.at)
+    (omega arith, put-lines-start (entry c.before.before) c.args.out.now c.args.at)
 
 -- a variable's limits are among the words
 module _ (c : In-loop) where
@@ -83,12 +84,13 @@ slice_bounds-put_limits-end c = limits-inside (start c.before).requires.framed _
 
 pub put_limits-next-requires : goal.put_limits-next-requires
 put_limits-next-requires c =
-    let turn = c in
-    let at = c in
     let s = start c.before.before in
-    let v = at.loop-v.v in
-    let room = put-lines-room (entry s) (variables s) v s.requires.room at.loop-v.invariant.1 (below c.before.before) in
-    record { limits_len = limits-length s.requires.framed v (below c.before.before); room = rw (limits-part s.requires.framed v) room }
+    let v = c.loop-v.v in
+    let room = put-lines-room (entry s) (variables s) v s.requires.room c.loop-v.invariant.1 (below c.before.before) in
+    record {
+      limits_len = limits-length s.requires.framed v (below c.before.before);
+      room = rw (limits-part s.requires.framed v) room;
+    }
 
 pub overflow_step-v : goal.overflow_step-v
 overflow_step-v c = omega (arith, small c.before.before.before.before.before.before)
@@ -98,17 +100,15 @@ loop-v-smaller c = omega arith
 
 pub loop-v-preserved : goal.loop-v-preserved
 loop-v-preserved c =
-    let at = c in
-    let s = c in
-    let v = at.loop-v.v in
-    let line = rw (limits-part s.requires.framed v) at c.put_limits-next.ensures in
-    (omega arith, put-lines-more (entry c.before.before.before.before.before.before.before.before.before) v at.loop-v.invariant.1 line)
+    let place = c.before.before.before.before.before.before.before.before.before in
+    let v = c.loop-v.v in
+    let line = rw (limits-part c.requires.framed v) at c.put_limits-next.ensures in
+    (omega arith, put-lines-more (entry place) v c.loop-v.invariant.1 line)
 
 pub shape_of-out : goal.shape_of-out
 shape_of-out c = put-length c.loop-v.invariant.1
 
 pub returns : goal.returns
 returns c =
-    let at = c in
-    let all : at.loop-v.v ≡ variables c.before.before.before = omega arith in
-    rw all at at.loop-v.invariant.1
+    let all : c.loop-v.v ≡ variables c.before.before.before = omega arith in
+    rw all at c.loop-v.invariant.1

@@ -1,7 +1,7 @@
 -- `exchange::limits::put_limit` meets its contract: a limit that is missing has no text, and one that is present has
 -- relation, name and number between two fixed texts. Assumes nothing.
 use borrow.Author.Rules.{rules}
-use mathlib.Core.List.{List, ◌++◌}
+use mathlib.Core.List.{[], List, ◌++◌}
 use mathlib.Core.Path.{◌≡◌}
 use Prim.Native.Nat.{ℕ}
 use mir.Facts.{to_z-of_z}
@@ -51,8 +51,8 @@ module _ (c : Then1) where
   is_none = limit-none _ _ _ _ (not-true _ c.if-not-limit.true)
 
 module _ (c : After-struct_told) where
-  is-there : let s = c in
-      whole c.before.before.before.before ≡ head c.before.before.before.before ++ space ++ number_text s.args.limit.number ++ end_assert
+  is-there : whole c.before.before.before.before ≡ head c.before.before.before.before ++ space ++ number_text
+      c.args.limit.number ++ end_assert
   is-there = limit-some _ _ _ _ (not-false _ c.if-not-limit.false)
 
   number_fits_lem : SFits w32 c.args.limit.number
@@ -120,8 +120,7 @@ module _ (c : After-put_value) where
 
 pub returns-then-not-limit : goal.returns-then-not-limit
 returns-then-not-limit c =
-    let start = c in
-    rw (is_none c.before) (put-none start.args.out.now start.args.at)
+    rw (is_none c.before) (put-none c.args.out.now c.args.at)
 
 pub put_limited-named-requires : goal.put_limited-named-requires
 put_limited-named-requires c = named-room c.before.before
@@ -129,13 +128,11 @@ put_limited-named-requires c = named-room c.before.before
 pub put_byte-spaced-requires : goal.put_byte-spaced-requires
 unfolding space ascii
 put_byte-spaced-requires c =
-    let at = c in
     let s = named_start c.before.before.before in
     room-right (named-text s) space (spaced-room s) (named c.before.before.before)
 
 pub put_value-told-requires : goal.put_value-told-requires
 put_value-told-requires c =
-    let at = c in
     let s = spaced-start c.before.before.before in
     rw (to_z-of_z (number_fits_lem s))
     (room-right (spaced-text s) (number_text (begin s).args.limit.number) (told-room s) (spaced c.before.before.before))
@@ -143,7 +140,6 @@ put_value-told-requires c =
 pub put_text-requires : goal.put_text-requires
 unfolding end_assert ascii
 put_text-requires c =
-    let at = c in
     let s = told-start c.before.before.before.before.before in
     room-right (told_text s) end_assert (closed-room s) (told c.before.before.before.before.before)
 
@@ -153,5 +149,6 @@ shape_of-out c = search rules
 pub returns : goal.returns
 unfolding end_assert ascii
 returns c =
-    let at = c in
-    rw (is-there c.before.before.before.before.before.before.before.before.before.before.before.before.before.before.before.before.before.before.before) (put_then (told c.before.before.before.before.before.before.before.before.before) c.put_text.ensures)
+    let near = c.before.before.before.before.before.before.before.before.before in
+    let earlier = near.before.before.before.before.before.before.before.before.before.before in
+    rw (is-there earlier) (put_then (told near) c.put_text.ensures)

@@ -89,7 +89,6 @@ put_text-opened-requires c = opened-room c.before.before.before.before
 
 pub put_relation-related-requires : goal.put_relation-related-requires
 put_relation-related-requires c =
-    let at = c in
     let s = opened-start c.before.before.before in
     room-right (opened-text s) (relation_for s.args.limit.upper s.args.limit.strict)
     (related-room s) (opened c.before.before.before)
@@ -97,13 +96,11 @@ put_relation-related-requires c =
 pub put_byte-spaced-requires : goal.put_byte-spaced-requires
 unfolding space ascii
 put_byte-spaced-requires c =
-    let at = c in
     let s = related-start c.before.before.before in
     room-right (related-text s) space (spaced-room s) (related c.before.before.before)
 
 pub put_variable-requires : goal.put_variable-requires
 put_variable-requires c =
-    let at = c in
     let s = spaced-start c.before.before.before in
     room-right (spaced-text s) (name_of s.args.columns s.args.variable) (named-room s) (spaced c.before.before.before)
 
@@ -112,5 +109,4 @@ shape_of-out c = search rules
 
 pub returns : goal.returns
 returns c =
-    let at = c in
     put_then (spaced c.before.before.before.before.before.before.before) c.put_variable.ensures

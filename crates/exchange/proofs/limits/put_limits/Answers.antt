@@ -1,10 +1,12 @@
 -- `exchange::limits::put_limits` meets its contract: the texts of two limits, from their words. Assumes nothing.
-use borrow.Author.Rules.{rules, sfits_of}
+use borrow.Author.Rules.{rules}
 use mathlib.Core.List.{List, ◌++◌}
 use mathlib.Core.Path.{◌≡◌, ◌∙◌, ap₂}
 use Prim.Native.Nat.{ℕ}
 use lib.IntN.{ℤ}
 use mir.Facts.{to_z-of_z}
+use mir.Syntax.{w32}
+use mir.Val.{SFits}
 use Rattle.rules.specs.Problem.{word}
 use Rattle.put.specs.Put.{Put, Room}
 use Rattle.put.proofs.Texts.{put_then, room-left, room-right}
@@ -49,14 +51,16 @@ module _ (c : After-upper_shown) where
   low = c.before.before.before
 
   lower-is : low.lower_shown-lower.result ≡ lower_shown (word (words-at start) 0) (word (words-at start) 1)
-  lower-is = low.lower_shown-lower.ensures
-      ∙ ap₂ lower_shown (to_z-of_z (sfits_of low.lower_shown-arg-1.given))
-      (to_z-of_z (sfits_of low.lower_shown-arg-2-1.given))
+  lower-is =
+      let kind : SFits w32 (word (words-at start) 0) = search rules in
+      let number : SFits w32 (word (words-at start) 1) = search rules in
+      low.lower_shown-lower.ensures ∙ ap₂ lower_shown (to_z-of_z kind) (to_z-of_z number)
 
   upper_is : c.upper_shown-upper.result ≡ upper_shown (word (words-at start) 0) (word (words-at start) 2)
-  upper_is = c.upper_shown-upper.ensures
-      ∙ ap₂ upper_shown (to_z-of_z (sfits_of c.upper_shown-arg-1.given))
-      (to_z-of_z (sfits_of c.upper_shown-arg-2-1.given))
+  upper_is =
+      let kind : SFits w32 (word (words-at start) 0) = search rules in
+      let number : SFits w32 (word (words-at start) 2) = search rules in
+      c.upper_shown-upper.ensures ∙ ap₂ upper_shown (to_z-of_z kind) (to_z-of_z number)
 
 -- the lower one is put
 module _ (c : After-put_limit) where
@@ -91,14 +95,14 @@ put_limit-next-requires c =
 
 pub put_limit-requires : goal.put_limit-requires
 put_limit-requires c =
-    let once = c in
-    let s = start c.before.before.before.before.before in
-    rw (upper_is c.before.before.before.before.before) (room-right (lower-text s) (upper-text s) (room s) (first c.before.before.before))
+    let both = c.before.before.before.before.before in
+    let s = start both in
+    rw (upper_is both) (room-right (lower-text s) (upper-text s) (room s) (first c.before.before.before))
 
 pub shape_of-out : goal.shape_of-out
 shape_of-out c = search rules
 
 pub returns : goal.returns
 returns c =
-    let once = c in
-    put_then (first c.before.before.before.before.before.before.before) (rw (upper_is c.before.before.before.before.before.before.before.before.before) at c.put_limit.ensures)
+    let once = c.before.before.before.before.before.before.before in
+    put_then (first once) (rw (upper_is once.before.before) at c.put_limit.ensures)

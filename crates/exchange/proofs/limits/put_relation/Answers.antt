@@ -23,28 +23,28 @@ abbrev Then3 : Type 0
 Then3 = lts.Then3 tie.the-claims reads.Pre reads.Post
 
 module _ (c : Then2) where
-  is-less : let s = c in relation_for s.args.upper s.args.strict ≡ less
+  is-less : relation_for c.args.upper c.args.strict ≡ less
   unfolding upper_relation less
   is-less = ap₂ relation_for c.if-upper.true c.if-strict.true
 
 module _ (c : Else2) where
-  is-no-more : let s = c in relation_for s.args.upper s.args.strict ≡ no_more
+  is-no-more : relation_for c.args.upper c.args.strict ≡ no_more
   unfolding upper_relation no_more
   is-no-more = ap₂ relation_for c.if-upper.true c.if-strict.false
 
 module _ (c : Then3) where
-  is-more : let s = c in relation_for s.args.upper s.args.strict ≡ more
+  is-more : relation_for c.args.upper c.args.strict ≡ more
   unfolding lower_relation more
   is-more = ap₂ relation_for c.if-upper.false c.if-strict-2.true
 
 module _ (c : Else3) where
-  is-no-less : let s = c in relation_for s.args.upper s.args.strict ≡ no_less
+  is-no-less : relation_for c.args.upper c.args.strict ≡ no_less
   unfolding lower_relation no_less
   is-no-less = ap₂ relation_for c.if-upper.false c.if-strict-2.false
 
 pub put_text-requires : goal.put_text-requires
 unfolding less ascii
-put_text-requires c = let at = c in rw (is-less c.before.before.before) at at.requires
+put_text-requires c = rw (is-less c.before.before.before) at c.requires
 
 pub shape_of-out-then-strict : goal.shape_of-out-then-strict
 shape_of-out-then-strict c = search rules
@@ -55,7 +55,7 @@ returns-then-strict c = rw (is-less c.before.before.before.before.before.before.
 
 pub put_text-requires-then-upper : goal.put_text-requires-then-upper
 unfolding no_more ascii
-put_text-requires-then-upper c = let at = c in rw (is-no-more c.before.before.before) at at.requires
+put_text-requires-then-upper c = rw (is-no-more c.before.before.before) at c.requires
 
 pub shape_of-out-then-upper : goal.shape_of-out-then-upper
 shape_of-out-then-upper c = search rules
@@ -66,18 +66,20 @@ returns-then-upper c = rw (is-no-more c.before.before.before.before.before.befor
 
 pub put_text-requires-then-strict-2 : goal.put_text-requires-then-strict-2
 unfolding more ascii
-put_text-requires-then-strict-2 c = let at = c in rw (is-more c.before.before.before) at at.requires
+put_text-requires-then-strict-2 c = rw (is-more c.before.before.before) at c.requires
 
 pub shape_of-out-then-strict-2 : goal.shape_of-out-then-strict-2
 shape_of-out-then-strict-2 c = search rules
 
 pub returns-then-strict-2 : goal.returns-then-strict-2
 unfolding more ascii
-returns-then-strict-2 c = rw (is-more c.before.before.before.before.before.before.before) c.put_text-then-strict-2.ensures
+returns-then-strict-2 c =
+    let place = c.before.before.before.before.before.before.before in
+    rw (is-more place) c.put_text-then-strict-2.ensures
 
 pub put_text-requires-2 : goal.put_text-requires-2
 unfolding no_less ascii
-put_text-requires-2 c = let at = c in rw (is-no-less c.before.before.before) at at.requires
+put_text-requires-2 c = rw (is-no-less c.before.before.before) at c.requires
 
 pub shape_of-out : goal.shape_of-out
 shape_of-out c = search rules

@@ -15,7 +15,6 @@ strict_upper-requires c = search rules
 
 pub returns : goal.returns
 returns c =
-    let s = c in
-    let kind = to_z-of_z s.ranges.kind in
+    let kind = to_z-of_z c.ranges.kind in
     shown-same true (c.has_upper.ensures ∙ ap has_upper kind) (c.strict_upper.ensures ∙ ap strict_upper kind)
-    (to_z-of_z s.ranges.number)
+    (to_z-of_z c.ranges.number)

@@ -104,17 +104,17 @@ module _ (c : Else1) where
 pub put_text-opened-requires : goal.put_text-opened-requires
 unfolding open_minus ascii
 put_text-opened-requires c =
-    let branch = c in room-left open_minus (size c.before.before.before) (open-room c.before.before.before)
+    room-left open_minus (size c.before.before.before) (open-room c.before.before.before)
 
 pub overflow_cast-n : goal.overflow_cast-n
 overflow_cast-n c =
-    let branch = c in
-    rw (to_z-of_z (start c.before.before.before.before.before.before.before).ranges.n) (wide c.before.before.before.before.before.before.before)
+    let place = c.before.before.before.before.before.before.before in
+    rw (to_z-of_z (start place).ranges.n) (wide place)
 
 pub size_below-requires : goal.size_below-requires
 size_below-requires c =
-    let branch = c in
-    rw (to_z-of_z (start c.before.before.before.before.before.before.before).ranges.n, to_z-of_z (wide c.before.before.before.before.before.before.before)) (is_below c.before.before.before.before.before.before.before)
+    let place = c.before.before.before.before.before.before.before in
+    rw (to_z-of_z (start place).ranges.n, to_z-of_z (wide place)) (is_below place)
 
 pub put_digits-told-requires : goal.put_digits-told-requires
 put_digits-told-requires c =
@@ -124,7 +124,6 @@ put_digits-told-requires c =
 pub put_byte-requires : goal.put_byte-requires
 unfolding close ascii
 put_byte-requires c =
-    let at = c in
     let branch = branch c.before.before.before.before.before.before.before.before in
     room-right (open_minus ++ size branch) close (low-room branch) (both c.before.before.before)
 
@@ -134,24 +133,22 @@ shape_of-out-then-n-lt0 c = search rules
 pub returns-then-n-lt0 : goal.returns-then-n-lt0
 unfolding close ascii
 returns-then-n-lt0 c =
-    let at = c in
-    rw (low-text (branch c.before.before.before.before.before.before.before.before.before.before.before.before)) (put_then (both c.before.before.before.before.before.before.before) c.put_byte.ensures)
+    let near = c.before.before.before.before.before.before.before in
+    let far = near.before.before.before.before.before in
+    rw (low-text (branch far)) (put_then (both near) c.put_byte.ensures)
 
 pub overflow_cast-n-2 : goal.overflow_cast-n-2
 overflow_cast-n-2 c =
-    let start = c in
-    rw (to_z-of_z start.ranges.n)
-    (not_neg 0 start.args.n (not-below c.before), Fits-nat_abs {w = w32} tt start.ranges.n)
+    rw (to_z-of_z c.ranges.n)
+    (not_neg 0 c.args.n (not-below c.before), Fits-nat_abs {w = w32} tt c.ranges.n)
 
 pub put_digits-requires : goal.put_digits-requires
 put_digits-requires c =
-    let start = c in
-    rw (to_z-of_z start.ranges.n) (rw (high-text c.before) at start.requires)
+    rw (to_z-of_z c.ranges.n) (rw (high-text c.before) at c.requires)
 
 pub shape_of-out : goal.shape_of-out
 shape_of-out c = search rules
 
 pub returns : goal.returns
 returns c =
-    let branch = c in
-    rw (high-text c.before.before.before.before.before) (rw (to_z-of_z branch.ranges.n) at c.put_digits.ensures)
+    rw (high-text c.before.before.before.before.before) (rw (to_z-of_z c.ranges.n) at c.put_digits.ensures)

@@ -41,7 +41,7 @@ module _ (c : Else1) where
   row = rw (le-ltb begin.args.variable begin.args.columns (omega (arith, c.if-variable-columns.false))) refl
 
 pub put_name-requires : goal.put_name-requires
-put_name-requires c = let branch = c in rw (column c.before) at (start c.before).requires
+put_name-requires c = rw (column c.before) at (start c.before).requires
 
 pub shape_of-out-then-variable-columns : goal.shape_of-out-then-variable-columns
 shape_of-out-then-variable-columns c = search rules
@@ -50,7 +50,7 @@ pub returns-then-variable-columns : goal.returns-then-variable-columns
 returns-then-variable-columns c = rw (column c.before.before.before.before.before) c.put_name.ensures
 
 pub put_name-requires-2 : goal.put_name-requires-2
-put_name-requires-2 c = let branch = c in rw (row c.before) at (begin c.before).requires
+put_name-requires-2 c = rw (row c.before) at (begin c.before).requires
 
 pub shape_of-out : goal.shape_of-out
 shape_of-out c = search rules

@@ -68,14 +68,12 @@ put_text-opened-requires c = opened-room c.before.before.before.before
 
 pub put_variable-named-requires : goal.put_variable-named-requires
 put_variable-named-requires c =
-    let at = c in
     let s = opened-start c.before.before.before in
     room-right (opened-text s) (name_of s.args.columns s.args.variable) (named-room s) (opened c.before.before.before)
 
 pub put_text-requires : goal.put_text-requires
 unfolding of_real ascii
 put_text-requires c =
-    let at = c in
     let s = named_start c.before.before.before.before.before in
     room-right (named-text s) of_real (closed-room s) (named c.before.before.before.before.before)
 
@@ -85,5 +83,4 @@ shape_of-out c = search rules
 pub returns : goal.returns
 unfolding declaration of_real ascii
 returns c =
-    let at = c in
     put_then (named c.before.before.before.before.before.before.before.before.before) c.put_text.ensures

@@ -2,7 +2,7 @@
 -- The measure is the number of variables that are left. Assumes nothing.
 use mathlib.Core.List.{List}
 use mathlib.Core.Path.{◌≡◌}
-use Prim.Native.Nat.{ℕ, ◌-◌}
+use Prim.Native.Nat.{ℕ}
 use native.Mathlib.Omega.{arith}
 use Rattle.rules.specs.Exchange.Script.{declaration}
 use Rattle.put.proofs.Texts.{put-length, put-lines-start, put-lines-room, put-lines-more}
@@ -21,13 +21,12 @@ module _ (s : Start) where
 
 pub loop-v-init : goal.loop-v-init
 loop-v-init c =
-    let start = c in (omega arith, put-lines-start (entry c.before.before) start.args.out.now start.args.at)
+    (omega arith, put-lines-start (entry c.before.before) c.args.out.now c.args.at)
 
 pub put_declaration-next-requires : goal.put_declaration-next-requires
 put_declaration-next-requires c =
-    let at = c in
-    let start = c in
-    put-lines-room (entry c.before.before.before.before) start.args.variables at.loop-v.v start.requires at.loop-v.invariant.1 (omega arith)
+    let place = c.before.before.before.before in
+    put-lines-room (entry place) c.args.variables c.loop-v.v c.requires c.loop-v.invariant.1 (omega arith)
 
 pub overflow_step-v : goal.overflow_step-v
 overflow_step-v c = omega arith
@@ -37,15 +36,14 @@ loop-v-smaller c = omega arith
 
 pub loop-v-preserved : goal.loop-v-preserved
 loop-v-preserved c =
-    let at = c in
+    let place = c.before.before.before.before.before.before.before.before in
     let line = c.put_declaration-next.ensures in
-    (omega arith, put-lines-more (entry c.before.before.before.before.before.before.before.before) at.loop-v.v at.loop-v.invariant.1 line)
+    (omega arith, put-lines-more (entry place) c.loop-v.v c.loop-v.invariant.1 line)
 
 pub shape_of-out : goal.shape_of-out
 shape_of-out c = put-length c.loop-v.invariant.1
 
 pub returns : goal.returns
 returns c =
-    let at = c in
-    let all : at.loop-v.v ≡ at.args.variables = omega arith in
-    rw all at at.loop-v.invariant.1
+    let all : c.loop-v.v ≡ c.args.variables = omega arith in
+    rw all at c.loop-v.invariant.1

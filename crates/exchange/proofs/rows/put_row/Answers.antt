@@ -90,20 +90,17 @@ put_text-opened-requires c = opened-room c.before.before.before.before
 pub put_name-named-requires : goal.put_name-named-requires
 unfolding row_name ascii
 put_name-named-requires c =
-    let at = c in
     let s = opened-start c.before.before.before in
     room-right (opened-text s) (row_name s.args.row) (named-room s) (opened c.before.before.before)
 
 pub put_sum-told-requires : goal.put_sum-told-requires
 put_sum-told-requires c =
-    let at = c in
     let s = named_start c.before.before.before in
     room-right (named-text s) (sum_piece s.args.coefficients.now) (summed-room s) (named c.before.before.before)
 
 pub put_text-requires : goal.put_text-requires
 unfolding end_assert ascii
 put_text-requires c =
-    let at = c in
     let s = summed-start c.before.before.before.before.before in
     room-right (summed-text s) end_assert (closed-room s) (summed c.before.before.before.before.before)
 
@@ -113,5 +110,4 @@ shape_of-out c = search rules
 pub returns : goal.returns
 unfolding end_assert ascii
 returns c =
-    let at = c in
     put_then (summed c.before.before.before.before.before.before.before.before.before) c.put_text.ensures

@@ -2,7 +2,7 @@
 -- the number of rows that are left. Assumes nothing.
 use mathlib.Core.List.{List}
 use mathlib.Core.Path.{◌≡◌}
-use Prim.Native.Nat.{ℕ, ◌-◌, ◌*◌, ◌≤◌, ◌<◌}
+use Prim.Native.Nat.{ℕ, ◌*◌, ◌≤◌, ◌<◌}
 use native.Mathlib.Nat.{mul-le-mul}
 use native.Mathlib.Omega.{arith}
 use Rattle.rules.specs.Sizes.{most_columns, most_rows}
@@ -17,7 +17,8 @@ use Rattle.exchange.proofs.rows.put_rows.Tie as tie
 -- places of the code, as records of what is known there
 abbrev In-loop : Type 0
 In-loop =
-    lts.In-loop tie.the-claims reads.Pre reads.Post goal.the-invariant-loop-i goal.the-decreases-loop-i tie.handed_clauses
+    lts.In-loop tie.the-claims reads.Pre reads.Post goal.the-invariant-loop-i goal.the-decreases-loop-i
+    tie.handed_clauses
 
 abbrev Start : Type 0
 Start =
@@ -29,7 +30,7 @@ module _ (s : Start) where
 
 pub loop-i-init : goal.loop-i-init
 loop-i-init c =
-    let start = c in (omega arith, put-lines-start (entry c.before.before) start.args.out.now start.args.at)
+    (omega arith, put-lines-start (entry c.before.before) c.args.out.now c.args.at)
 
 -- a row's coefficients are among the words
 module _ (c : In-loop) where
@@ -68,12 +69,10 @@ slice_bounds-put_row-end c = row_inside (start c.before).requires.framed _ (belo
 
 pub put_row-next-requires : goal.put_row-next-requires
 put_row-next-requires c =
-    let turn = c in
-    let at = c in
     let s = start c.before.before in
-    let i = at.loop-i.i in
+    let i = c.loop-i.i in
     rw (row-part s.requires.framed i (below c.before.before))
-    (put-lines-room (entry s) s.args.rows i s.requires.room at.loop-i.invariant.1 (below c.before.before))
+    (put-lines-room (entry s) s.args.rows i s.requires.room c.loop-i.invariant.1 (below c.before.before))
 
 pub overflow_step-i : goal.overflow_step-i
 overflow_step-i c = omega arith
@@ -83,18 +82,16 @@ loop-i-smaller c = omega arith
 
 pub loop-i-preserved : goal.loop-i-preserved
 loop-i-preserved c =
-    let turn = c in
-    let at = c in
-    let s = start c.before.before.before.before.before.before in
-    let i = at.loop-i.i in
-    let line = rw (row-part s.requires.framed i (below c.before.before.before.before.before.before)) at c.put_row-next.ensures in
-    (omega arith, put-lines-more (entry s) i at.loop-i.invariant.1 line)
+    let place = c.before.before.before.before.before.before in
+    let s = start place in
+    let i = c.loop-i.i in
+    let line = rw (row-part s.requires.framed i (below place)) at c.put_row-next.ensures in
+    (omega arith, put-lines-more (entry s) i c.loop-i.invariant.1 line)
 
 pub shape_of-out : goal.shape_of-out
 shape_of-out c = put-length c.loop-i.invariant.1
 
 pub returns : goal.returns
 returns c =
-    let at = c in
-    let all : at.loop-i.i ≡ at.args.rows = omega arith in
-    rw all at at.loop-i.invariant.1
+    let all : c.loop-i.i ≡ c.args.rows = omega arith in
+    rw all at c.loop-i.invariant.1

@@ -86,7 +86,7 @@ module _ (c : After-put_terms2) where
   told = put_then (opened told-from) c.put_terms-told.ensures
 
 pub put_terms-requires : goal.put_terms-requires
-put_terms-requires c = let branch = c in rw (alone c.before) at branch.requires
+put_terms-requires c = rw (alone c.before) at c.requires
 
 pub shape_of-out-then-coefficients-eq1 : goal.shape_of-out-then-coefficients-eq1
 shape_of-out-then-coefficients-eq1 c = search rules
@@ -100,14 +100,13 @@ put_text-opened-requires c = opened-room c.before.before.before
 
 pub put_terms-told-requires : goal.put_terms-told-requires
 put_terms-told-requires c =
-    let at = c in
-    let s = opened-start c.before.before.before in
-    room-right (opened-text s) (terms_piece (begin s).args.coefficients.now) (told-room s) (opened c.before.before.before)
+    let place = c.before.before.before in
+    let s = opened-start place in
+    room-right (opened-text s) (terms_piece (begin s).args.coefficients.now) (told-room s) (opened place)
 
 pub put_byte-requires : goal.put_byte-requires
 unfolding close ascii
 put_byte-requires c =
-    let at = c in
     let s = told-start c.before.before.before in
     room-right (told_text s) close (closed-room s) (told c.before.before.before)
 
@@ -117,5 +116,6 @@ shape_of-out c = search rules
 pub returns : goal.returns
 unfolding close ascii
 returns c =
-    let at = c in
-    rw (joined c.before.before.before.before.before.before.before.before.before.before.before.before.before.before.before) (put_then (told c.before.before.before.before.before.before.before) c.put_byte.ensures)
+    let near = c.before.before.before.before.before.before.before in
+    let earlier = near.before.before.before.before.before.before.before.before in
+    rw (joined earlier) (put_then (told near) c.put_byte.ensures)

@@ -112,7 +112,6 @@ put_text-opened-requires c = opened-room c.before.before.before.before
 
 pub put_value-told-requires : goal.put_value-told-requires
 put_value-told-requires c =
-    let at = c in
     let s = opened-start c.before.before.before in
     rw (to_z-of_z s.ranges.coefficient)
     (room-right (opened-text s) (number_text s.args.coefficient) (told-room s) (opened c.before.before.before))
@@ -120,21 +119,18 @@ put_value-told-requires c =
 pub put_byte-spaced-requires : goal.put_byte-spaced-requires
 unfolding space ascii
 put_byte-spaced-requires c =
-    let at = c in
     let s = told-start c.before.before.before in
     room-right (told_text s) space (spaced-room s) (told c.before.before.before)
 
 pub put_name-named-requires : goal.put_name-named-requires
 unfolding column_name ascii
 put_name-named-requires c =
-    let at = c in
     let s = spaced-start c.before.before.before in
     room-right (spaced-text s) (column_name s.args.column) (named-room s) (spaced c.before.before.before)
 
 pub put_byte-requires : goal.put_byte-requires
 unfolding close ascii
 put_byte-requires c =
-    let at = c in
     let s = named_start c.before.before.before in
     room-right (named-text s) close (closed-room s) (named c.before.before.before)
 
@@ -144,5 +140,4 @@ shape_of-out c = search rules
 pub returns : goal.returns
 unfolding term close ascii
 returns c =
-    let at = c in
     put_then (named c.before.before.before.before.before.before.before) c.put_byte.ensures

@@ -10,7 +10,8 @@ use Rattle.exchange.proofs.rows.put_terms.Given as goal
 
 abbrev pub invariant-loop-j : goal.invariant-loop-j
 invariant-loop-j l =
-    (l.j ≤ length l.coefficients) × Put l.initial.out l.at (lines_below l.j (λ k. term (word l.coefficients k) k)) l.out l.next
+    (l.j ≤ length l.coefficients) × Put l.initial.out l.at (lines_below l.j (λ k. term (word l.coefficients k) k)) l.out
+    l.next
 
 abbrev pub decreases-loop-j : goal.decreases-loop-j
 decreases-loop-j l = length l.coefficients - l.j

@@ -124,7 +124,8 @@ module _ (c : After-put_rows) where
   abbrev summed_at : After-count_at2
   summed_at = declared-at summed-from
 
-  summed : Put (begin summed_at).args.out.now 0 (summed-text summed_at) c.put_rows-summed.new.out c.put_rows-summed.result
+  summed : Put (begin summed_at).args.out.now 0 (summed-text summed_at) c.put_rows-summed.new.out
+      c.put_rows-summed.result
   summed = put_then (declared summed-from) c.put_rows-summed.ensures
 
 module _ (c : After-put_all_limits) where
@@ -154,26 +155,24 @@ overflow_add-columns c =
 
 pub put_declarations-declared-requires : goal.put_declarations-declared-requires
 put_declarations-declared-requires c =
-    let from = c in
     let at = opened-at c.before.before.before in
     room-right set_logic (declarations at) (declared-room at) (opened c.before.before.before)
 
 pub put_rows-summed-requires : goal.put_rows-summed-requires
 put_rows-summed-requires c =
-    let from = c in
-    let at = declared-at c.before.before.before in
-    record { framed = framed at; room = room-right (declared-text at) (rows at) (summed-room at) (declared c.before.before.before) }
+    let place = c.before.before.before in
+    let at = declared-at place in
+    record { framed = framed at; room = room-right (declared-text at) (rows at) (summed-room at) (declared place) }
 
 pub put_all_limits-limited-requires : goal.put_all_limits-limited-requires
 put_all_limits-limited-requires c =
-    let from = c in
-    let at = summed_at c.before.before.before in
-    record { framed = framed at; room = room-right (summed-text at) (limits at) (limited-room at) (summed c.before.before.before) }
+    let place = c.before.before.before in
+    let at = summed_at place in
+    record { framed = framed at; room = room-right (summed-text at) (limits at) (limited-room at) (summed place) }
 
 pub put_text-requires : goal.put_text-requires
 unfolding check_sat ascii
 put_text-requires c =
-    let from = c in
     let at = limited-at c.before.before.before.before.before in
     room-right (limited-text at) check_sat (room at) (limited c.before.before.before.before.before)
 
@@ -183,5 +182,7 @@ shape_of-out c = search rules
 pub returns : goal.returns
 unfolding check_sat ascii
 returns c =
-    let from = c in
-    rw (whole c.before.before.before.before.before.before.before.before.before.before.before.before.before.before.before.before.before.before.before.before.before.before.before.before.before) (put_then (limited c.before.before.before.before.before.before.before.before.before) c.put_text.ensures)
+    let near = c.before.before.before.before.before.before.before.before.before in
+    let mid = near.before.before.before.before.before.before.before.before in
+    let far = mid.before.before.before.before.before.before.before.before in
+    rw (whole far) (put_then (limited near) c.put_text.ensures)

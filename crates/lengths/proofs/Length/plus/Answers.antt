@@ -8,7 +8,6 @@ use Rattle.whole.proofs.Numbers.Sizes.{fits-by, within-+}
 use Rattle.lengths.proofs.Length.plus.Goals as goal
 use Rattle.lengths.proofs.Length.plus.Lts as lts
 use Rattle.lengths.proofs.Length.plus.Reads as reads
-use Rattle.lengths.proofs.Length.plus.Tie as tie
 
 -- places of the code, as records of what is known there
 abbrev Start : Type 0
@@ -25,7 +24,11 @@ module _ (c : Start) where
   fit = fits-by (within-+ c.requires.0 c.requires.1) tt
 
 pub overflow_add-sum : goal.overflow_add-sum
-overflow_add-sum c = let s = c in simp (to_z-of_z (own c.before.before.before.before), to_z-of_z (other c.before.before.before.before)) (fit c.before.before.before.before)
+overflow_add-sum c =
+    let here = c.before.before.before.before in
+    let s = c in simp (to_z-of_z (own here), to_z-of_z (other here)) (fit here)
 
 pub returns : goal.returns
-returns c = let s = c in simp (to_z-of_z (own c.before.before.before.before), to_z-of_z (other c.before.before.before.before), to_z-of_z (fit c.before.before.before.before))
+returns c =
+    let here = c.before.before.before.before in
+    let s = c in simp (to_z-of_z (own here), to_z-of_z (other here), to_z-of_z (fit here))

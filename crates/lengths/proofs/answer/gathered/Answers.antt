@@ -20,20 +20,8 @@ use Rattle.lengths.proofs.Laws.Words.{words_more, words-all}
 use Rattle.lengths.proofs.answer.gathered.Goals as goal
 use Rattle.lengths.proofs.answer.gathered.Goals.{After-plain-1, Start}
 
-pub overflow_sub-count : goal.overflow_sub-count
-overflow_sub-count c = omega arith
-
 pub loop-i-init : goal.loop-i-init
 loop-i-init c = (omega arith, refl)
-
-pub overflow_add-at : goal.overflow_add-at
-overflow_add-at c = omega arith
-
-pub offset_bounds-way-at : goal.offset_bounds-way-at
-offset_bounds-way-at c = omega arith
-
-pub bounds-way-at : goal.bounds-way-at
-bounds-way-at c = omega arith
 
 long : (c : Start) → length c.args.way.path ≡ most_vertices
 long c = search rules
@@ -59,18 +47,6 @@ module _ (c : After-plain-1) where
 
 pub overflow_cast-plain : goal.overflow_cast-plain
 overflow_cast-plain c = fit c
-
-pub offset_bounds-plain-i : goal.offset_bounds-plain-i
-offset_bounds-plain-i c = omega arith
-
-pub bounds-plain-i : goal.bounds-plain-i
-bounds-plain-i c = omega arith
-
-pub overflow_add-i : goal.overflow_add-i
-overflow_add-i c = omega arith
-
-pub loop-i-smaller : goal.loop-i-smaller
-loop-i-smaller c = omega arith
 
 pub loop-i-preserved : goal.loop-i-preserved
 loop-i-preserved c = (

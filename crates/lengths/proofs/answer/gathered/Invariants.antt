@@ -2,7 +2,7 @@
 -- after them. The measure is the rows left. Assumes nothing.
 use mathlib.Core.Path.{◌≡◌}
 use mathlib.Core.List.{◌++◌, map}
-use Prim.Native.Nat.{◌+◌, ◌≤◌, ◌-◌}
+use Prim.Native.Nat.{◌≤◌, ◌-◌}
 use lib.IntN.{pos}
 use lib.ListN.{take, drop}
 use Rattle.lengths.specs.Answer.{rows_of}

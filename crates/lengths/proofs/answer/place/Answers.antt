@@ -1,14 +1,16 @@
 -- `lengths::answer::place` meets its contract. The invariant of its loop: the words passed stand from the place on, and
 -- what is past them is as it was. The measure is the words left. Assumes nothing.
 use mathlib.Core.Path.{◌≡◌, ◌∙◌, ap}
-use Prim.Native.Nat.{◌+◌, ◌-◌}
+use Prim.Native.Nat.{◌+◌}
 use native.Mathlib.Numerals.{add-one}
 use native.Mathlib.Omega.{arith}
-use borrow.Author.Rules.{rules, sfits_of}
+use borrow.Author.Rules.{rules}
 use lib.IntN.{pos}
 use lib.ListN.{length, get_or, set}
 use lib.Seq.{paste, paste-zero, paste-suc, length-paste}
 use mir.Facts.{to_z-of_z}
+use mir.Syntax.{w64}
+use mir.Val.{SFits}
 use Rattle.lengths.proofs.answer.place.Goals as goal
 use Rattle.lengths.proofs.answer.place.Goals.{At-loop-i, Start}
 
@@ -24,33 +26,16 @@ out-long c =
     ap length c.loop-i.invariant.1
     ∙ length-paste s.args.out.now s.args.from s.args.half c.loop-i.i (omega arith) (omega (arith, long c.before))
 
-pub overflow_add-at : goal.overflow_add-at
-overflow_add-at c = omega arith
-
-pub offset_bounds-half-i : goal.offset_bounds-half-i
-offset_bounds-half-i c = omega arith
-
-pub bounds-half-i : goal.bounds-half-i
-bounds-half-i c = omega arith
-
-pub offset_bounds-out-at : goal.offset_bounds-out-at
-offset_bounds-out-at c = omega arith
-
 pub bounds-out-at : goal.bounds-out-at
 bounds-out-at c = omega (arith, out-long c.before.before)
-
-pub overflow_add-i : goal.overflow_add-i
-overflow_add-i c = omega arith
-
-pub loop-i-smaller : goal.loop-i-smaller
-loop-i-smaller c = omega arith
 
 pub loop-i-preserved : goal.loop-i-preserved
 loop-i-preserved c =
     let h = c in
-    let s = c in (
+    let s = c in
+    let q : SFits w64 (get_or c.args.half c.loop-i.i (pos 0)) = search rules in (
       omega arith,
-      ap (set h.loop-i.out (s.args.from + h.loop-i.i)) (to_z-of_z (sfits_of c.out-1.given))
+      ap (set h.loop-i.out (s.args.from + h.loop-i.i)) (to_z-of_z q)
           ∙ ap (λ l. set l (s.args.from + h.loop-i.i) (get_or s.args.half h.loop-i.i (pos 0))) h.loop-i.invariant.1
           ∙ rw add-one
           (paste-suc s.args.out.now s.args.from s.args.half h.loop-i.i (pos 0)

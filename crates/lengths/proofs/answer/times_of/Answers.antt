@@ -2,11 +2,11 @@
 -- front. The measure is the distances left. Assumes nothing.
 use mathlib.Core.Path.{◌≡◌, refl, sym, ◌∙◌, ap}
 use mathlib.Core.List.{List, ◌++◌, map, append-nil}
-use Prim.Native.Nat.{ℕ, ◌+◌, ◌<◌, ◌-◌}
+use Prim.Native.Nat.{ℕ, ◌+◌, ◌<◌}
 use native.Mathlib.Omega.{arith}
 use borrow.Author.Rules.{rules}
 use lib.IntN.{ℤ, pos}
-use lib.ListN.{length, get_or, set, take, drop, replicate, length-map, length-replicate, get_or-map}
+use lib.ListN.{length, get_or, set, drop, replicate, length-map, length-replicate, get_or-map}
 use mir.Facts.{to_z-of_z}
 use mir.Syntax.{w64}
 use mir.Val.{SFits}
@@ -14,45 +14,18 @@ use Rattle.whole.proofs.Lists.Prefix.{set-prefix, prefix-all}
 use Rattle.rules.specs.Sizes.{most_vertices}
 use Rattle.lengths.specs.declared.Length.{Length}
 use Rattle.lengths.specs.Lengths.{no_rows, plain_part, small_part}
+use Rattle.lengths.proofs.answer.times_of.Invariants.{Half}
 use Rattle.lengths.proofs.answer.times_of.Goals as goal
 use Rattle.lengths.proofs.answer.times_of.Goals.{Start}
-
--- the first v words of a half
-abbrev Half : (Length → ℤ) → List Length → List ℤ → List ℤ → ℕ → Type 0
-Half part best start half v = half ≡ take v (map part best) ++ drop v start
 
 pub loop-v-init : goal.loop-v-init
 loop-v-init c = (omega arith, refl, refl)
 
-pub offset_bounds-best-v : goal.offset_bounds-best-v
-offset_bounds-best-v c = omega arith
-
-pub bounds-best-v : goal.bounds-best-v
-bounds-best-v c = omega arith
-
 pub plain_time-requires : goal.plain_time-requires
 plain_time-requires c = c.requires c.loop-v.v
 
-pub offset_bounds-plain-v : goal.offset_bounds-plain-v
-offset_bounds-plain-v c = omega arith
-
-pub bounds-plain-v : goal.bounds-plain-v
-bounds-plain-v c = omega arith
-
 pub small_time-requires : goal.small_time-requires
 small_time-requires c = c.requires c.loop-v.v
-
-pub offset_bounds-small-v : goal.offset_bounds-small-v
-offset_bounds-small-v c = omega arith
-
-pub bounds-small-v : goal.bounds-small-v
-bounds-small-v c = omega arith
-
-pub overflow_add-v : goal.overflow_add-v
-overflow_add-v c = omega arith
-
-pub loop-v-smaller : goal.loop-v-smaller
-loop-v-smaller c = omega arith
 
 long : (c : Start) → length c.args.best ≡ most_vertices
 long c = search rules
@@ -69,7 +42,12 @@ module _ (part : Length → ℤ) (best : List Length) (all : length best ≡ mos
       ap (set half v) (f ∙ g ∙ sym (get_or-map part best v no_rows))
       ∙ ap (λ l. set l v (get_or (map part best) v (part no_rows))) e
       ∙ set-prefix (map part best) zeros v (part no_rows)
-      (omega (arith, length-map best part)) (omega (arith, length-map best part, length-replicate most_vertices (pos 0)))
+      (omega (arith, length-map best part)) (omega (
+        arith,
+        length-map best part,
+        length-replicate most_vertices
+            (pos 0),
+      ))
 
   half-all : (half : List ℤ) (v : ℕ) → v ≡ most_vertices → Half part best zeros half v → half ≡ map part best
   half-all half v h e =
@@ -80,14 +58,15 @@ module _ (part : Length → ℤ) (best : List Length) (all : length best ≡ mos
 
 pub loop-v-preserved : goal.loop-v-preserved
 loop-v-preserved c =
+    let here = c.before.before.before.before.before in
     let p = c in
     let h = c in
     let q : SFits w64 p.plain_time.result = search rules in
     let r : SFits w64 c.small_time.result = search rules in (
       omega arith,
-      half-more plain_part h.args.best (long c.before.before.before.before.before) h.loop-v.plain h.loop-v.v _ _ (omega arith)
+      half-more plain_part h.args.best (long here) h.loop-v.plain h.loop-v.v _ _ (omega arith)
           h.loop-v.invariant.1 (to_z-of_z q) p.plain_time.ensures,
-      half-more small_part h.args.best (long c.before.before.before.before.before) h.loop-v.small h.loop-v.v _ _ (omega arith)
+      half-more small_part h.args.best (long here) h.loop-v.small h.loop-v.v _ _ (omega arith)
           h.loop-v.invariant.2 (to_z-of_z r) c.small_time.ensures,
     )
 

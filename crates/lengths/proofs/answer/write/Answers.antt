@@ -49,9 +49,6 @@ module _ (c : Start) where
       length-paste first (2 + n) c.args.halves.small n (omega (arith, first-long)) (omega (arith, small-long))
       ∙ first-long
 
-pub bounds-out-0 : goal.bounds-out-0
-bounds-out-0 c = omega arith
-
 pub overflow_cast-out : goal.overflow_cast-out
 overflow_cast-out c = count_fits c
 
@@ -60,9 +57,6 @@ bounds-out-1 c = simp length-set (omega arith)
 
 pub place-requires : goal.place-requires
 place-requires c = let s = c in (omega arith, omega (arith, begun-long c.before.before.before))
-
-pub overflow_add-n : goal.overflow_add-n
-overflow_add-n c = omega arith
 
 pub place-requires-2 : goal.place-requires-2
 place-requires-2 c =

@@ -8,7 +8,6 @@ use Rattle.whole.proofs.Numbers.Sizes.{fits-by, within--}
 use Rattle.limbs.proofs.Wide.less.Goals as goal
 use Rattle.limbs.proofs.Wide.less.Lts as lts
 use Rattle.limbs.proofs.Wide.less.Reads as reads
-use Rattle.limbs.proofs.Wide.less.Tie as tie
 
 -- places of the code, as records of what is known there
 abbrev Start : Type 0
@@ -52,32 +51,42 @@ module _ (c : Start) where
   fit-d = fits-by (within-- c.requires.0.size-d c.requires.1.size-d) tt
 
 pub overflow_sub-a : goal.overflow_sub-a
-overflow_sub-a c = let s = c in simp (to_z-of_z (own-a c.before.before.before.before.before), to_z-of_z (other-a c.before.before.before.before.before)) (fit-a c.before.before.before.before.before)
+overflow_sub-a c =
+    let here = c.before.before.before.before.before in
+    let s = c in simp (to_z-of_z (own-a here), to_z-of_z (other-a here)) (fit-a here)
 
 pub overflow_sub-b : goal.overflow_sub-b
-overflow_sub-b c = let s = c in
-    simp (to_z-of_z (own-b c.before.before.before.before.before.before.before.before.before), to_z-of_z (other_b c.before.before.before.before.before.before.before.before.before)) (fit-b c.before.before.before.before.before.before.before.before.before)
+overflow_sub-b c =
+    let here = c.before.before.before.before.before.before.before.before.before in
+    let s = c in
+    simp (to_z-of_z (own-b here), to_z-of_z (other_b here)) (fit-b here)
 
 pub overflow_sub-c : goal.overflow_sub-c
-overflow_sub-c c = let s = c in
-    simp (to_z-of_z (own-c c.before.before.before.before.before.before.before.before.before.before.before.before.before), to_z-of_z (other-c c.before.before.before.before.before.before.before.before.before.before.before.before.before)) (fit-c c.before.before.before.before.before.before.before.before.before.before.before.before.before)
+overflow_sub-c c =
+    let here = c.before.before.before.before.before.before.before.before.before.before.before.before.before in
+    let s = c in
+    simp (to_z-of_z (own-c here), to_z-of_z (other-c here)) (fit-c here)
 
 pub overflow_sub-d : goal.overflow_sub-d
-overflow_sub-d c = let s = c in
-    simp (to_z-of_z (own-d c.before.before.before.before.before.before.before.before.before.before.before.before.before.before.before.before), to_z-of_z (other-d c.before.before.before.before.before.before.before.before.before.before.before.before.before.before.before.before)) (fit-d c.before.before.before.before.before.before.before.before.before.before.before.before.before.before.before.before)
+overflow_sub-d c =
+    let here = c.before.before.before.before.before.before.before.before.before.before.before.before.before.before.before.before in
+    let s = c in
+    simp (to_z-of_z (own-d here), to_z-of_z (other-d here)) (fit-d here)
 
 pub returns : goal.returns
-returns c = let s = c in simp (
-  to_z-of_z (own-a c.before.before.before.before.before.before.before.before.before.before.before.before.before.before.before.before),
-  to_z-of_z (other-a c.before.before.before.before.before.before.before.before.before.before.before.before.before.before.before.before),
-  to_z-of_z (fit-a c.before.before.before.before.before.before.before.before.before.before.before.before.before.before.before.before),
-  to_z-of_z (own-b c.before.before.before.before.before.before.before.before.before.before.before.before.before.before.before.before),
-  to_z-of_z (other_b c.before.before.before.before.before.before.before.before.before.before.before.before.before.before.before.before),
-  to_z-of_z (fit-b c.before.before.before.before.before.before.before.before.before.before.before.before.before.before.before.before),
-  to_z-of_z (own-c c.before.before.before.before.before.before.before.before.before.before.before.before.before.before.before.before),
-  to_z-of_z (other-c c.before.before.before.before.before.before.before.before.before.before.before.before.before.before.before.before),
-  to_z-of_z (fit-c c.before.before.before.before.before.before.before.before.before.before.before.before.before.before.before.before),
-  to_z-of_z (own-d c.before.before.before.before.before.before.before.before.before.before.before.before.before.before.before.before),
-  to_z-of_z (other-d c.before.before.before.before.before.before.before.before.before.before.before.before.before.before.before.before),
-  to_z-of_z (fit-d c.before.before.before.before.before.before.before.before.before.before.before.before.before.before.before.before),
-)
+returns c =
+    let here = c.before.before.before.before.before.before.before.before.before.before.before.before.before.before.before.before in
+    let s = c in simp (
+      to_z-of_z (own-a here),
+      to_z-of_z (other-a here),
+      to_z-of_z (fit-a here),
+      to_z-of_z (own-b here),
+      to_z-of_z (other_b here),
+      to_z-of_z (fit-b here),
+      to_z-of_z (own-c here),
+      to_z-of_z (other-c here),
+      to_z-of_z (fit-c here),
+      to_z-of_z (own-d here),
+      to_z-of_z (other-d here),
+      to_z-of_z (fit-d here),
+    )

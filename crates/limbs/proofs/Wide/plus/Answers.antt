@@ -8,7 +8,6 @@ use Rattle.whole.proofs.Numbers.Sizes.{fits-by, within-+}
 use Rattle.limbs.proofs.Wide.plus.Goals as goal
 use Rattle.limbs.proofs.Wide.plus.Lts as lts
 use Rattle.limbs.proofs.Wide.plus.Reads as reads
-use Rattle.limbs.proofs.Wide.plus.Tie as tie
 
 -- places of the code, as records of what is known there
 abbrev Start : Type 0
@@ -52,32 +51,42 @@ module _ (c : Start) where
   fit-d = fits-by (within-+ c.requires.0.size-d c.requires.1.size-d) tt
 
 pub overflow_add-a : goal.overflow_add-a
-overflow_add-a c = let s = c in simp (to_z-of_z (own-a c.before.before.before.before.before), to_z-of_z (other-a c.before.before.before.before.before)) (fit-a c.before.before.before.before.before)
+overflow_add-a c =
+    let here = c.before.before.before.before.before in
+    let s = c in simp (to_z-of_z (own-a here), to_z-of_z (other-a here)) (fit-a here)
 
 pub overflow_add-b : goal.overflow_add-b
-overflow_add-b c = let s = c in
-    simp (to_z-of_z (own-b c.before.before.before.before.before.before.before.before.before), to_z-of_z (other_b c.before.before.before.before.before.before.before.before.before)) (fit-b c.before.before.before.before.before.before.before.before.before)
+overflow_add-b c =
+    let here = c.before.before.before.before.before.before.before.before.before in
+    let s = c in
+    simp (to_z-of_z (own-b here), to_z-of_z (other_b here)) (fit-b here)
 
 pub overflow_add-c : goal.overflow_add-c
-overflow_add-c c = let s = c in
-    simp (to_z-of_z (own-c c.before.before.before.before.before.before.before.before.before.before.before.before.before), to_z-of_z (other-c c.before.before.before.before.before.before.before.before.before.before.before.before.before)) (fit-c c.before.before.before.before.before.before.before.before.before.before.before.before.before)
+overflow_add-c c =
+    let here = c.before.before.before.before.before.before.before.before.before.before.before.before.before in
+    let s = c in
+    simp (to_z-of_z (own-c here), to_z-of_z (other-c here)) (fit-c here)
 
 pub overflow_add-d : goal.overflow_add-d
-overflow_add-d c = let s = c in
-    simp (to_z-of_z (own-d c.before.before.before.before.before.before.before.before.before.before.before.before.before.before.before.before), to_z-of_z (other-d c.before.before.before.before.before.before.before.before.before.before.before.before.before.before.before.before)) (fit-d c.before.before.before.before.before.before.before.before.before.before.before.before.before.before.before.before)
+overflow_add-d c =
+    let here = c.before.before.before.before.before.before.before.before.before.before.before.before.before.before.before.before in
+    let s = c in
+    simp (to_z-of_z (own-d here), to_z-of_z (other-d here)) (fit-d here)
 
 pub returns : goal.returns
-returns c = let s = c in simp (
-  to_z-of_z (own-a c.before.before.before.before.before.before.before.before.before.before.before.before.before.before.before.before),
-  to_z-of_z (other-a c.before.before.before.before.before.before.before.before.before.before.before.before.before.before.before.before),
-  to_z-of_z (fit-a c.before.before.before.before.before.before.before.before.before.before.before.before.before.before.before.before),
-  to_z-of_z (own-b c.before.before.before.before.before.before.before.before.before.before.before.before.before.before.before.before),
-  to_z-of_z (other_b c.before.before.before.before.before.before.before.before.before.before.before.before.before.before.before.before),
-  to_z-of_z (fit-b c.before.before.before.before.before.before.before.before.before.before.before.before.before.before.before.before),
-  to_z-of_z (own-c c.before.before.before.before.before.before.before.before.before.before.before.before.before.before.before.before),
-  to_z-of_z (other-c c.before.before.before.before.before.before.before.before.before.before.before.before.before.before.before.before),
-  to_z-of_z (fit-c c.before.before.before.before.before.before.before.before.before.before.before.before.before.before.before.before),
-  to_z-of_z (own-d c.before.before.before.before.before.before.before.before.before.before.before.before.before.before.before.before),
-  to_z-of_z (other-d c.before.before.before.before.before.before.before.before.before.before.before.before.before.before.before.before),
-  to_z-of_z (fit-d c.before.before.before.before.before.before.before.before.before.before.before.before.before.before.before.before),
-)
+returns c =
+    let here = c.before.before.before.before.before.before.before.before.before.before.before.before.before.before.before.before in
+    let s = c in simp (
+      to_z-of_z (own-a here),
+      to_z-of_z (other-a here),
+      to_z-of_z (fit-a here),
+      to_z-of_z (own-b here),
+      to_z-of_z (other_b here),
+      to_z-of_z (fit-b here),
+      to_z-of_z (own-c here),
+      to_z-of_z (other-c here),
+      to_z-of_z (fit-c here),
+      to_z-of_z (own-d here),
+      to_z-of_z (other-d here),
+      to_z-of_z (fit-d here),
+    )

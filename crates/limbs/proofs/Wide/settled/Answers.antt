@@ -17,7 +17,6 @@ use Rattle.limbs.specs.declared.Wide.{Wide}
 use Rattle.limbs.proofs.Wide.settled.Goals as goal
 use Rattle.limbs.proofs.Wide.settled.Lts as lts
 use Rattle.limbs.proofs.Wide.settled.Reads as reads
-use Rattle.limbs.proofs.Wide.settled.Tie as tie
 
 -- places of the code, as records of what is known there
 abbrev Start : Type 0
@@ -84,28 +83,50 @@ returns c = let s = c in
     )
 
 pub nonzero_rem-a : goal.nonzero_rem-a
-nonzero_rem-a c = let s = c in (lit< tt, simp (to_z-of_z (fit-a c.before.before.before)) (quotient _ (fit-a c.before.before.before)))
+nonzero_rem-a c =
+    let here = c.before.before.before in
+    let s = c in (lit< tt, simp (to_z-of_z (fit-a here)) (quotient _ (fit-a here)))
 
 pub nonzero_div-second : goal.nonzero_div-second
-nonzero_div-second c = let s = c in (lit< tt, simp (to_z-of_z (fit-a c.before.before.before.before.before)) (quotient _ (fit-a c.before.before.before.before.before)))
+nonzero_div-second c =
+    let here = c.before.before.before.before.before in
+    let s = c in (lit< tt, simp (to_z-of_z (fit-a here)) (quotient _ (fit-a here)))
 
 pub overflow_add-second : goal.overflow_add-second
-overflow_add-second c = let s = c in
-    simp (to_z-of_z (fit-a c.before.before.before.before.before.before.before), to_z-of_z (fit-b c.before.before.before.before.before.before.before), to_z-of_z (quotient _ (fit-a c.before.before.before.before.before.before.before))) (fit-second c.before.before.before.before.before.before.before)
+overflow_add-second c =
+    let here = c.before.before.before.before.before.before.before in
+    let s = c in
+    simp (to_z-of_z (fit-a here), to_z-of_z (fit-b here), to_z-of_z (quotient _ (fit-a here))) (fit-second here)
 
 pub nonzero_rem-b : goal.nonzero_rem-b
-nonzero_rem-b c = let s = c in (
-  lit< tt,
-  simp (to_z-of_z (fit-a c.before.before.before.before.before.before.before), to_z-of_z (fit-b c.before.before.before.before.before.before.before), to_z-of_z (quotient _ (fit-a c.before.before.before.before.before.before.before)), to_z-of_z (fit-second c.before.before.before.before.before.before.before))
-      (quotient _ (fit-second c.before.before.before.before.before.before.before)),
-)
+nonzero_rem-b c =
+    let here = c.before.before.before.before.before.before.before in
+    let s = c in (
+      lit< tt,
+      simp (
+        to_z-of_z (fit-a here),
+        to_z-of_z (fit-b here),
+        to_z-of_z (quotient _ (fit-a here)),
+        to_z-of_z
+            (fit-second here),
+      )
+          (quotient _ (fit-second here)),
+    )
 
 pub nonzero_div-third : goal.nonzero_div-third
-nonzero_div-third c = let s = c in (
-  lit< tt,
-  simp (to_z-of_z (fit-a c.before.before.before.before.before.before.before), to_z-of_z (fit-b c.before.before.before.before.before.before.before), to_z-of_z (quotient _ (fit-a c.before.before.before.before.before.before.before)), to_z-of_z (fit-second c.before.before.before.before.before.before.before))
-      (quotient _ (fit-second c.before.before.before.before.before.before.before)),
-)
+nonzero_div-third c =
+    let here = c.before.before.before.before.before.before.before in
+    let s = c in (
+      lit< tt,
+      simp (
+        to_z-of_z (fit-a here),
+        to_z-of_z (fit-b here),
+        to_z-of_z (quotient _ (fit-a here)),
+        to_z-of_z
+            (fit-second here),
+      )
+          (quotient _ (fit-second here)),
+    )
 
 pub overflow_add-third : goal.overflow_add-third
 overflow_add-third c = let s = c in

@@ -9,7 +9,6 @@ use Rattle.whole.proofs.Numbers.Sizes.{fits-by, within-*}
 use Rattle.limbs.proofs.Wide.times.Goals as goal
 use Rattle.limbs.proofs.Wide.times.Lts as lts
 use Rattle.limbs.proofs.Wide.times.Reads as reads
-use Rattle.limbs.proofs.Wide.times.Tie as tie
 
 -- places of the code, as records of what is known there
 abbrev Start : Type 0
@@ -47,20 +46,28 @@ pub overflow_cast-by : goal.overflow_cast-by
 overflow_cast-by c = simp (to_z-of_z c.ranges.k) (by_fits c)
 
 pub overflow_mul-a : goal.overflow_mul-a
-overflow_mul-a c = let s = c in
-    simp (to_z-of_z s.ranges.k, to_z-of_z (by_fits c.before.before.before), to_z-of_z (own-a c.before.before.before)) (fit-a c.before.before.before)
+overflow_mul-a c =
+    let here = c.before.before.before in
+    let s = c in
+    simp (to_z-of_z s.ranges.k, to_z-of_z (by_fits here), to_z-of_z (own-a here)) (fit-a here)
 
 pub overflow_mul-b : goal.overflow_mul-b
-overflow_mul-b c = let s = c in
-    simp (to_z-of_z s.ranges.k, to_z-of_z (by_fits c.before.before.before.before.before), to_z-of_z (own-b c.before.before.before.before.before)) (fit-b c.before.before.before.before.before)
+overflow_mul-b c =
+    let here = c.before.before.before.before.before in
+    let s = c in
+    simp (to_z-of_z s.ranges.k, to_z-of_z (by_fits here), to_z-of_z (own-b here)) (fit-b here)
 
 pub overflow_mul-c : goal.overflow_mul-c
-overflow_mul-c c = let s = c in
-    simp (to_z-of_z s.ranges.k, to_z-of_z (by_fits c.before.before.before.before.before.before.before), to_z-of_z (own-c c.before.before.before.before.before.before.before)) (fit-c c.before.before.before.before.before.before.before)
+overflow_mul-c c =
+    let here = c.before.before.before.before.before.before.before in
+    let s = c in
+    simp (to_z-of_z s.ranges.k, to_z-of_z (by_fits here), to_z-of_z (own-c here)) (fit-c here)
 
 pub overflow_mul-d : goal.overflow_mul-d
-overflow_mul-d c = let s = c in
-    simp (to_z-of_z s.ranges.k, to_z-of_z (by_fits c.before.before.before.before.before.before.before.before), to_z-of_z (own-d c.before.before.before.before.before.before.before.before)) (fit-d c.before.before.before.before.before.before.before.before)
+overflow_mul-d c =
+    let here = c.before.before.before.before.before.before.before.before in
+    let s = c in
+    simp (to_z-of_z s.ranges.k, to_z-of_z (by_fits here), to_z-of_z (own-d here)) (fit-d here)
 
 pub returns : goal.returns
 returns c = let s = c in simp (

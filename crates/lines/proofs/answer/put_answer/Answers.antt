@@ -1,5 +1,5 @@
 -- `lines::answer::put_answer` meets its contract: the text that the verdict asks for. Assumes nothing.
-use borrow.Author.Rules.{rules, sfits_of}
+use borrow.Author.Rules.{rules}
 use mathlib.Core.Path.{◌≡◌, ap}
 use mathlib.Core.List.{List}
 use Prim.Native.Nat.{ℕ}
@@ -47,7 +47,7 @@ module _ (c : After-verdict) where
   text = answer_text answer start.args.variables
 
   fit : SFits w64 (word answer 0)
-  fit = sfits_of c.verdict-1.given
+  fit = search rules
 
 is-can : (c : Then1) → text c.before ≡ can_text (answer c.before) (start c.before).args.variables
 is-can c =
@@ -58,12 +58,11 @@ is-cannot :
     (c : Then2)
     → text c.before.before ≡ cannot_text (answer c.before.before) (start c.before.before).args.variables
 is-cannot c =
-    let at = c in
-    text-cannot (answer c.before.before) (start c.before.before).args.variables (test-eq w64 (fit c.before.before) (sfits_lit tt) c.if-verdict-eq2.true)
+    text-cannot (answer c.before.before) (start c.before.before).args.variables
+    (test-eq w64 (fit c.before.before) (sfits_lit tt) c.if-verdict-eq2.true)
 
 is-range : (c : Else2) → text c.before.before ≡ range_text (answer c.before.before)
 is-range c =
-    let at = c in
     text-range (answer c.before.before) (start c.before.before).args.variables
     (λ e. c.if-verdict-eq1.false (ap (of_z w64) e)) (λ e. c.if-verdict-eq2.false (ap (of_z w64) e))
 
@@ -97,7 +96,8 @@ shape_of-out c = put-length c.put_head.ensures.put
 pub returns : goal.returns
 unfolding range_text ascii
 returns c =
+    let near = c.before.before.before.before.before.before.before in
+    let far = near.before.before in
     let put = c.put_head.ensures in
-    let branch = c in
-    rw (is-range c.before.before.before.before.before.before.before)
-    (record { put = put.put; short = range-short (answer c.before.before.before.before.before.before.before.before.before) put.short })
+    rw (is-range near)
+    (record { put = put.put; short = range-short (answer far) put.short })

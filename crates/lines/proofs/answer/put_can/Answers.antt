@@ -1,6 +1,6 @@
 -- `lines::answer::put_can` meets its contract: the head, the line of the denominator, and the numerators.
 -- Assumes nothing.
-use borrow.Author.Rules.{rules, sfits_of}
+use borrow.Author.Rules.{rules}
 use mathlib.Core.List.{List, ◌++◌}
 use Prim.Native.Nat.{ℕ, ◌+◌, ◌≤◌}
 use native.Mathlib.Omega.{arith}
@@ -41,7 +41,7 @@ module _ (c : After-put_head) where
   over = line (ascii "over ") (word start.args.answer.now 2)
 
   fit : SFits w64 (word start.args.answer.now 2)
-  fit = sfits_of c.common-1.given
+  fit = search rules
 
   first : PutShort (4 + most_pivots_line) start.args.out.now start.args.at head
       c.put_head-next.new.out c.put_head-next.result
@@ -71,27 +71,25 @@ put_head-next-requires c = omega arith
 pub put_line-last-requires : goal.put_line-last-requires
 unfolding ascii
 put_line-last-requires c =
-    let once = c in
-    rw (to_z-of_z (fit c.before.before.before.before.before))
-    (record { room = omega (arith, over-short c.before.before.before.before.before, (first c.before.before.before.before.before).put.place, (first c.before.before.before.before.before).short) })
+    let here = c.before.before.before.before.before in
+    rw (to_z-of_z (fit here))
+    (record { room = omega (arith, over-short here, (first here).put.place, (first here).short) })
 
 pub put_values-requires : goal.put_values-requires
 put_values-requires c =
-    let twice = c in
-    let at = once c.before.before.before in
+    let here = c.before.before.before in
+    let at = once here in
     let few = (start at).requires in
     let place = length-append (head at) (over at) in
-    (few.0, omega (arith, few), omega (arith, (second c.before.before.before).place, place, (first at).short, over-short at))
+    (few.0, omega (arith, few), omega (arith, (second here).place, place, (first at).short, over-short at))
 
 pub shape_of-out : goal.shape_of-out
 shape_of-out c =
-    let twice = c in
     put-length (put_then (second c.before.before.before.before.before.before.before) c.put_values.ensures.put)
 
 pub returns : goal.returns
 unfolding can_text
 returns c =
-    let twice = c in
     let at = once c.before.before.before.before.before.before.before in
     let start = start at in
     let values = c.put_values.ensures in

@@ -54,7 +54,6 @@ put_head-next-requires c = omega arith
 
 pub put_evidence-requires : goal.put_evidence-requires
 put_evidence-requires c =
-    let once = c in
     let few = (start c.before.before.before).requires in
     (few.0, few.1, omega (arith, (first c.before.before.before).put.place, (first c.before.before.before).short))
 
@@ -64,11 +63,10 @@ shape_of-out c = put-length (both c.before.before.before)
 pub returns : goal.returns
 unfolding cannot_text
 returns c =
-    let at = c in
     let start = start c.before.before.before.before.before.before.before in
     record {
       put = both c.before.before.before;
       short =
           cannot-short start.args.answer.now start.args.variables start.requires.0
-          (first c.before.before.before.before.before.before.before).short at.put_evidence.ensures.short;
+          (first c.before.before.before.before.before.before.before).short c.put_evidence.ensures.short;
     }

@@ -2,7 +2,7 @@
 -- put. The measure is the number of variables that are left. Assumes nothing.
 use mathlib.Core.List.{List}
 use mathlib.Core.Path.{◌≡◌}
-use Prim.Native.Nat.{ℕ, ◌-◌}
+use Prim.Native.Nat.{ℕ}
 use native.Mathlib.Omega.{arith}
 use Rattle.rules.specs.Sizes.{most_multiplier_lines, most_variables}
 use Rattle.rules.specs.Program.Text.{multiplier_lines}
@@ -24,13 +24,11 @@ module _ (c : Start) where
 
 pub loop-v-init : goal.loop-v-init
 loop-v-init c =
-    let start = c in
-    (omega arith, text-lines-start (entry c.before.before) most_multiplier_lines start.args.out.now start.args.at)
+    (omega arith, text-lines-start (entry c.before.before) most_multiplier_lines c.args.out.now c.args.at)
 
 pub put_multipliers-next-requires : goal.put_multipliers-next-requires
 put_multipliers-next-requires c =
-    let at = c in
-    let room = lines-room _ most_multiplier_lines at.loop-v.v most_variables at.loop-v.invariant.1
+    let room = lines-room _ most_multiplier_lines c.loop-v.v most_variables c.loop-v.invariant.1
     (omega arith) (omega arith) in
     (omega arith, omega arith, room)
 
@@ -42,11 +40,10 @@ loop-v-smaller c = omega arith
 
 pub loop-v-preserved : goal.loop-v-preserved
 loop-v-preserved c =
-    let line = c.put_multipliers-next.ensures in
-    let at = c in (
+    let line = c.put_multipliers-next.ensures in (
       omega arith,
       text-lines-more (entry c.before.before.before.before.before.before.before.before) most_multiplier_lines
-          at.loop-v.v at.loop-v.invariant.1 line,
+          c.loop-v.v c.loop-v.invariant.1 line,
     )
 
 pub shape_of-out : goal.shape_of-out
@@ -54,6 +51,5 @@ shape_of-out c = put-length c.loop-v.invariant.1.put
 
 pub returns : goal.returns
 returns c =
-    let at = c in
-    let all : at.loop-v.v ≡ at.args.variables = omega arith in
-    rw all at at.loop-v.invariant.1
+    let all : c.loop-v.v ≡ c.args.variables = omega arith in
+    rw all at c.loop-v.invariant.1

@@ -1,5 +1,5 @@
 -- `lines::answer::put_head` meets its contract: the verdict, and the line of the pivots. Assumes nothing.
-use borrow.Author.Rules.{rules, sfits_of}
+use borrow.Author.Rules.{rules}
 use mathlib.Core.List.{List, ◌++◌}
 use Prim.Native.Nat.{ℕ, ◌+◌, ◌≤◌}
 use native.Mathlib.Omega.{arith}
@@ -40,7 +40,7 @@ module _ (c : After-put_text) where
   pivots = line (ascii "pivots ") (word start.args.answer.now 1)
 
   fit : SFits w64 (word start.args.answer.now 1)
-  fit = sfits_of c.pivots-1.given
+  fit = search rules
 
   short : length (head_lines verdict start.args.answer.now) ≤ length verdict + most_pivots_line
   short = head-short verdict start.args.answer.now fit
@@ -68,8 +68,8 @@ put_text-next-requires c = search rules
 pub put_line-requires : goal.put_line-requires
 unfolding ascii
 put_line-requires c =
-    let once = c in
-    rw (to_z-of_z (fit c.before.before.before.before.before.before)) (room-right (verdict c.before.before.before.before.before.before) (pivots c.before.before.before.before.before.before) (room c.before.before.before.before.before.before) once.put_text-next.ensures)
+    let place = c.before.before.before.before.before.before in
+    rw (to_z-of_z (fit place)) (room-right (verdict place) (pivots place) (room place) c.put_text-next.ensures)
 
 pub shape_of-out : goal.shape_of-out
 shape_of-out c = put-length (both c.before.before.before)
@@ -77,5 +77,6 @@ shape_of-out c = put-length (both c.before.before.before)
 pub returns : goal.returns
 unfolding head_lines
 returns c =
-    let at = c in
-    record { put = both c.before.before.before; short = short c.before.before.before.before.before.before.before.before.before }
+    let near = c.before.before.before in
+    let far = near.before.before.before.before.before.before in
+    record { put = both near; short = short far }

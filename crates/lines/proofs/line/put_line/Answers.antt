@@ -46,29 +46,26 @@ module _ (c : After-put_number) where
 
 pub put_text-named-requires : goal.put_text-named-requires
 put_text-named-requires c =
-    let start = c in
-    room-left (name c.before.before.before.before) (decimal start.args.n) (room-front c.before.before.before.before)
+    room-left (name c.before.before.before.before) (decimal c.args.n) (room-front c.before.before.before.before)
 
 pub put_number-told-requires : goal.put_number-told-requires
 put_number-told-requires c =
-    let named = c in
-    let start = c in
-    rw (to_z-of_z start.ranges.n)
-    (room-right (name c.before.before.before.before.before.before.before.before) (decimal start.args.n) (room-front c.before.before.before.before.before.before.before.before) named.put_text-named.ensures)
+    let place = c.before.before.before.before.before.before.before.before in
+    rw (to_z-of_z c.ranges.n)
+    (room-right (name place) (decimal c.args.n) (room-front place) c.put_text-named.ensures)
 
 pub put_byte-requires : goal.put_byte-requires
 unfolding ascii
 put_byte-requires c =
-    let at = c in
-    room-right (name c.before.before.before.before.before.before.before.before.before.before.before.before ++ decimal (start c.before.before.before.before).args.n) (ascii "\n") (room c.before.before.before.before.before.before.before.before.before.before.before.before) (told c.before.before.before.before)
+    let near = c.before.before.before.before in
+    let far = near.before.before.before.before.before.before.before.before in
+    room-right (name far ++ decimal (start near).args.n) (ascii "\n") (room far) (told near)
 
 pub shape_of-out : goal.shape_of-out
 shape_of-out c =
-    let at = c in
     put-length (put_then (told c.before.before.before.before.before.before.before) c.put_byte.ensures)
 
 pub returns : goal.returns
 unfolding line ascii
 returns c =
-    let at = c in
     put_then (told c.before.before.before.before.before.before.before) c.put_byte.ensures

@@ -31,10 +31,9 @@ module _ (c : Else1) where
 
 pub returns-then-n-eq0 : goal.returns-then-n-eq0
 returns-then-n-eq0 c =
-    let start = c in
-    rw (multiplier-none start.args.variable start.args.between.now start.args.n
-    (test-eq w64 start.ranges.n (sfits_lit tt) c.if-n-eq0.true))
-    (put-none start.args.out.now start.args.at)
+    rw (multiplier-none c.args.variable c.args.between.now c.args.n
+    (test-eq w64 c.ranges.n (sfits_lit tt) c.if-n-eq0.true))
+    (put-none c.args.out.now c.args.at)
 
 pub put_variable-requires : goal.put_variable-requires
 put_variable-requires c =
@@ -45,5 +44,5 @@ shape_of-out c = put-length c.put_variable.ensures
 
 pub returns : goal.returns
 returns c =
-    let branch = c in
-    rw (text c.before.before.before.before.before) (rw (to_z-of_z (start c.before.before.before.before.before).ranges.n) at c.put_variable.ensures)
+    let place = c.before.before.before.before.before in
+    rw (text place) (rw (to_z-of_z (start place).ranges.n) at c.put_variable.ensures)

@@ -1,5 +1,5 @@
 -- `lines::line::put_multipliers` meets its contract: two lines, of the words at their places. Assumes nothing.
-use borrow.Author.Rules.{rules, sfits_of}
+use borrow.Author.Rules.{rules}
 use mathlib.Core.List.{List, ◌++◌}
 use Prim.Native.Nat.{ℕ, ◌+◌, ◌≤◌}
 use native.Mathlib.Omega.{arith}
@@ -50,10 +50,10 @@ module _ (c : After-upper) where
   upper-text = multiplier_line start.args.variable (ascii " upper ") upper
 
   lower-fits : SFits w64 lower
-  lower-fits = sfits_of c.lower-1.given
+  lower-fits = search rules
 
   upper_fits : SFits w64 upper
-  upper_fits = sfits_of c.upper-1.given
+  upper_fits = search rules
 
   short : length (multiplier_lines start.args.answer.now start.args.variables start.args.variable)
       ≤ most_multiplier_lines
@@ -112,15 +112,15 @@ bounds-answer-variables c = search rules
 pub put_multiplier-next-requires : goal.put_multiplier-next-requires
 unfolding ascii
 put_multiplier-next-requires c =
-    let at = c in
-    rw (to_z-of_z (lower-fits c.before.before.before)) (room-left (lower-text c.before.before.before) (upper-text c.before.before.before) (room c.before.before.before))
+    let place = c.before.before.before in
+    rw (to_z-of_z (lower-fits place)) (room-left (lower-text place) (upper-text place) (room place))
 
 pub put_multiplier-requires : goal.put_multiplier-requires
 unfolding ascii
 put_multiplier-requires c =
-    let once = c in
-    let at = read c.before.before.before.before.before in
-    rw (to_z-of_z (upper_fits at)) (room-right (lower-text at) (upper-text at) (room at) (first c.before.before.before.before.before))
+    let place = c.before.before.before.before.before in
+    let at = read place in
+    rw (to_z-of_z (upper_fits at)) (room-right (lower-text at) (upper-text at) (room at) (first place))
 
 pub shape_of-out : goal.shape_of-out
 shape_of-out c = put-length (both c.before.before.before)
@@ -128,5 +128,6 @@ shape_of-out c = put-length (both c.before.before.before)
 pub returns : goal.returns
 unfolding multiplier_lines
 returns c =
-    let at = c in
-    record { put = both c.before.before.before; short = short c.before.before.before.before.before.before.before.before.before.before.before.before.before }
+    let near = c.before.before.before in
+    let far = near.before.before.before.before.before.before.before.before.before.before in
+    record { put = both near; short = short far }

@@ -57,21 +57,19 @@ module _ (c : After-put_number) where
 
 pub put_digits-named-requires : goal.put_digits-named-requires
 put_digits-named-requires c =
-    let begin = c in
     room-left (named c.before.before) (ascii " ") (room-front c.before.before)
 
 pub put_byte-next-requires : goal.put_byte-next-requires
 unfolding ascii
 put_byte-next-requires c =
-    let numbered = c in
-    let begin = c in
-    room-right (named c.before.before.before.before.before.before) (ascii " ") (room-front c.before.before.before.before.before.before) numbered.put_digits-named.ensures
+    let place = c.before.before.before.before.before.before in
+    room-right (named place) (ascii " ") (room-front place) c.put_digits-named.ensures
 
 pub put_number-requires : goal.put_number-requires
 put_number-requires c =
-    let front = c in
-    let begin = start c.before.before.before in
-    rw (to_z-of_z begin.ranges.n) (room-right (named begin ++ ascii " ") (number begin) begin.requires (spaced c.before.before.before))
+    let place = c.before.before.before in
+    let begin = start place in
+    rw (to_z-of_z begin.ranges.n) (room-right (named begin ++ ascii " ") (number begin) begin.requires (spaced place))
 
 pub shape_of-out : goal.shape_of-out
 shape_of-out c = put-length (told c.before.before.before)

@@ -39,20 +39,20 @@ module _ (c : Else1) where
 
 pub put_byte-requires : goal.put_byte-requires
 unfolding ascii
-put_byte-requires c = let branch = c in rw (none c.before) at (start c.before).requires
+put_byte-requires c = rw (none c.before) at (start c.before).requires
 
 pub shape_of-out-then-n-eq0 : goal.shape_of-out-then-n-eq0
 shape_of-out-then-n-eq0 c = search rules
 
 pub returns-then-n-eq0 : goal.returns-then-n-eq0
 unfolding ascii
-returns-then-n-eq0 c = let branch = c in rw (none c.before.before.before.before.before) c.put_byte.ensures
+returns-then-n-eq0 c = rw (none c.before.before.before.before.before) c.put_byte.ensures
 
 pub put_line-requires : goal.put_line-requires
 unfolding ascii
 put_line-requires c =
-    let branch = c in
-    rw (to_z-of_z (begin c.before.before.before).ranges.n) (rw (some c.before.before.before) at (begin c.before.before.before).requires)
+    let place = c.before.before.before in
+    rw (to_z-of_z (begin place).ranges.n) (rw (some place) at (begin place).requires)
 
 pub shape_of-out : goal.shape_of-out
 shape_of-out c = search rules
@@ -60,5 +60,5 @@ shape_of-out c = search rules
 pub returns : goal.returns
 unfolding ascii
 returns c =
-    let branch = c in
-    rw (some c.before.before.before.before.before.before.before) (rw (to_z-of_z (begin c.before.before.before.before.before.before.before).ranges.n) at c.put_line.ensures)
+    let place = c.before.before.before.before.before.before.before in
+    rw (some place) (rw (to_z-of_z (begin place).ranges.n) at c.put_line.ensures)

@@ -1,5 +1,5 @@
 -- `lines::line::put_value` meets its contract: the line, of the two words at their places. Assumes nothing.
-use borrow.Author.Rules.{rules, sfits_of}
+use borrow.Author.Rules.{rules}
 use mathlib.Core.List.{List, ◌++◌}
 use Prim.Native.Nat.{ℕ, ◌+◌, ◌≤◌}
 use native.Mathlib.Omega.{arith}
@@ -50,10 +50,10 @@ module _ (c : After-small) where
   small-text = small_end small
 
   plain_fits : SFits w64 plain
-  plain_fits = sfits_of c.plain-1.given
+  plain_fits = search rules
 
   small-fits : SFits w64 small
-  small-fits = sfits_of c.small-1.given
+  small-fits = search rules
 
   short : length (value_line start.args.answer.now start.args.variables start.args.variable)
       ≤ most_value_line
@@ -112,13 +112,11 @@ bounds-answer-variables c = search rules
 pub put_numerator-next-requires : goal.put_numerator-next-requires
 unfolding ascii
 put_numerator-next-requires c =
-    let at = c in
     rw (to_z-of_z (plain_fits c.before)) (room-left (plain-text c.before) (small-text c.before) (room c.before))
 
 pub put_small-requires : goal.put_small-requires
 unfolding ascii
 put_small-requires c =
-    let once = c in
     let at = read c.before.before.before in
     rw (to_z-of_z (small-fits at)) (room-right (plain-text at) (small-text at) (room at) (first c.before.before.before))
 
@@ -128,5 +126,6 @@ shape_of-out c = put-length (both c.before.before.before)
 pub returns : goal.returns
 unfolding value_line
 returns c =
-    let at = c in
-    record { put = both c.before.before.before; short = short c.before.before.before.before.before.before.before.before.before }
+    let near = c.before.before.before in
+    let far = near.before.before.before.before.before.before in
+    record { put = both near; short = short far }

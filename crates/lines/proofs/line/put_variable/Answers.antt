@@ -44,14 +44,13 @@ module _ (c : After-put_line) where
 
 pub put_digits-next-requires : goal.put_digits-next-requires
 put_digits-next-requires c =
-    let start = c in
-    room-left (number c.before.before.before.before) (rest c.before.before.before.before) (room c.before.before.before.before)
+    let place = c.before.before.before.before in
+    room-left (number place) (rest place) (room place)
 
 pub put_line-requires : goal.put_line-requires
 put_line-requires c =
-    let numbered = c in
-    let start = c in
-    rw (to_z-of_z start.ranges.n) (room-right (number c.before.before.before.before.before.before.before.before) (rest c.before.before.before.before.before.before.before.before) (room c.before.before.before.before.before.before.before.before) numbered.put_digits-next.ensures)
+    let place = c.before.before.before.before.before.before.before.before in
+    rw (to_z-of_z c.ranges.n) (room-right (number place) (rest place) (room place) c.put_digits-next.ensures)
 
 pub shape_of-out : goal.shape_of-out
 shape_of-out c = put-length (told c.before.before.before)

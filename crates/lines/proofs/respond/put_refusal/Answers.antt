@@ -37,7 +37,6 @@ overflow_cast-number c = search rules
 pub put_line-requires : goal.put_line-requires
 unfolding refusal_text ascii
 put_line-requires c =
-    let start = c in
     rw (wide c.before.before.before.before) (record { room = omega (arith, short c.before.before.before.before) })
 
 pub shape_of-out : goal.shape_of-out
@@ -46,5 +45,5 @@ shape_of-out c = put-length c.put_line.ensures
 pub returns : goal.returns
 unfolding refusal_text ascii
 returns c =
-    let start = c in
-    record { put = rw (wide c.before.before.before.before.before.before.before.before) at c.put_line.ensures; short = short c.before.before.before.before.before.before.before.before }
+    let place = c.before.before.before.before.before.before.before.before in
+    record { put = rw (wide place) at c.put_line.ensures; short = short place }

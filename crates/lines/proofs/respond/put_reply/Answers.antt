@@ -94,12 +94,12 @@ module _ (c : After-count_at2) where
   few : c.count_at.result + c.count_at-2.result ≤ most_variables
   few = rw many (vars-few (rows begun) (few-rows begun) (words begun) (fine passed))
 
-  answer-is : (solved passed).solve_within-number.last.1.1.0 ≡ written 0 (words begun) (room (solved passed))
+  answer-is : (solved passed).solve_within-number.new.out ≡ written 0 (words begun) (room (solved passed))
   answer-is = (solved passed).solve_within-number.ensures.output
-      ∙ ap (λ (j : ℕ). written j (words begun) (room (solved passed))) passed.if-number-ne0.left
+      ∙ ap (λ (j : ℕ). written j (words begun) (room (solved passed))) passed.if-number-ne0.false
 
   long : 3 + 2 * (c.count_at.result + c.count_at-2.result)
-      ≤ length (solved passed).solve_within-number.last.1.1.0
+      ≤ length (solved passed).solve_within-number.new.out
   long = omega (
     arith,
     many,
@@ -107,7 +107,7 @@ module _ (c : After-count_at2) where
     written-long (rows begun) (few-rows begun) (words begun) (room (solved passed)),
   )
 
-  text-is : answer_text (solved passed).solve_within-number.last.1.1.0
+  text-is : answer_text (solved passed).solve_within-number.new.out
       (c.count_at.result + c.count_at-2.result)
       ≡ reply_to (problem_refusal_within (rows begun) (words begun)) (words begun)
   text-is = ap₂ answer_text answer-is many
@@ -115,9 +115,10 @@ module _ (c : After-count_at2) where
 
 pub returns-then-number-ne0 : goal.returns-then-number-ne0
 returns-then-number-ne0 c =
-    let t = c in let s = c in
-    put_as (replied-refused (rows (start c.before.before.before.before.before.before.before)) (few-rows c.before.before.before.before.before.before.before.before.before.before) (words (start c.before.before.before.before.before.before.before)) s.solve_within-number.result
-    (number_is c.before.before.before.before.before.before.before) t.if-number-ne0.true) c.put_refusal.ensures
+    let near = c.before.before.before.before.before.before.before in
+    let far = near.before.before.before in
+    put_as (replied-refused (rows (start near)) (few-rows far) (words (start near)) c.solve_within-number.result
+    (number_is near) c.if-number-ne0.true) c.put_refusal.ensures
 
 pub count_at-requires : goal.count_at-requires
 count_at-requires c = let a = accepted c.before in (omega (arith, a.enough), ≤ℤ-trans (record { le = tt }) a.n-least)
@@ -132,11 +133,10 @@ pub slice_bounds-put_answer-end : goal.slice_bounds-put_answer-end
 slice_bounds-put_answer-end c = search rules
 
 pub put_answer-requires : goal.put_answer-requires
-put_answer-requires c = let k = c in (few c.before.before, long c.before.before, omega arith)
+put_answer-requires c = (few c.before.before, long c.before.before, omega arith)
 
 pub shape_of-out : goal.shape_of-out
 shape_of-out c = search rules
 
 pub returns : goal.returns
-returns c = let a = c in
-    put_as (text-is c.before.before.before.before.before.before) a.put_answer.ensures
+returns c = put_as (text-is c.before.before.before.before.before.before) c.put_answer.ensures

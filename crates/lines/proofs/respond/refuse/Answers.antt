@@ -24,5 +24,4 @@ pub shape_of-out : goal.shape_of-out
 shape_of-out c = search rules
 
 pub returns : goal.returns
-returns c = let a = c in
-    printed-from a.put_refusal-size.ensures (omega arith) a.write_text.ensures
+returns c = printed-from c.put_refusal-size.ensures (omega arith) c.write_text.ensures

@@ -29,5 +29,4 @@ shape_of-out c = search rules
 
 pub returns : goal.returns
 unfolding problem_refusal
-returns c = let a = c in
-    printed-from a.put_reply-size.ensures (omega arith) a.write_text.ensures
+returns c = printed-from c.put_reply-size.ensures (omega arith) c.write_text.ensures

@@ -43,10 +43,9 @@ shape_of-out-then-refused-ne0 c = search rules
 
 pub returns-then-refused-ne0 : goal.returns-then-refused-ne0
 returns-then-refused-ne0 c =
-    let t = c in let k = c in
     printed-same
-    (program-refused (bytes k.before.before.before) k.count_refusal-refused.result
-    k.count_refusal-refused.ensures t.if-refused-ne0.true)
+    (program-refused c.args.input.now c.count_refusal-refused.result
+    c.count_refusal-refused.ensures c.if-refused-ne0.true)
     c.refuse.ensures
 
 pub slice_bounds-words_of-end : goal.slice_bounds-words_of-end
@@ -56,7 +55,7 @@ fine : (c : Else1) → count_refusal (length (bytes c.before.before.before.befor
 fine c = sym c.count_refusal-refused.ensures ∙ c.if-refused-ne0.false
 
 pub words_of-count-requires : goal.words_of-count-requires
-words_of-count-requires c = let e = c in words-few (bytes e.before.before.before.before) (fine c.before.before)
+words_of-count-requires c = words-few c.args.input.now (fine c.before.before)
 
 module _ (c : After-words_of) where
   abbrev start : Start
@@ -71,8 +70,8 @@ module _ (c : After-words_of) where
   taken = c.words_of-count.ensures.count ∙ sym (ap length front ∙ words-length (bytes start))
 
 pub slice_bounds-words-end : goal.slice_bounds-words-end
-slice_bounds-words-end c = let w = c in
-    omega (arith, taken c.before.before, length-take w.words_of-count.result w.words_of-count.new.words)
+slice_bounds-words-end c =
+    omega (arith, taken c.before.before, length-take c.words_of-count.result c.words_of-count.new.words)
 
 pub slice_bounds-reply-end : goal.slice_bounds-reply-end
 slice_bounds-reply-end c = taken c.before.before.before
@@ -85,7 +84,9 @@ shape_of-out c = search rules
 
 pub returns : goal.returns
 returns c =
-    let a = c in let w = c in let e = c in
+    let near = c.before.before.before.before.before.before.before in
+    let far = near.before.before in
     printed-same
-    (ap (λ (ws : List ℤ). reply_to (problem_refusal ws) ws) (front c.before.before.before.before.before.before.before) ∙ program-replied (bytes (start c.before.before.before.before.before.before.before)) (fine c.before.before.before.before.before.before.before.before.before))
-    a.reply.ensures
+    (ap (λ (ws : List ℤ). reply_to (problem_refusal ws) ws) (front near)
+    ∙ program-replied (bytes (start near)) (fine far))
+    c.reply.ensures

@@ -1,19 +1,15 @@
 -- `pivot::border::part_of` meets its contract. The invariant: g is the divisor of the start and the numbers passed.
 -- Once g is 1, so is the divisor of all. The measure is how many are left. Assumes nothing.
 use native.Mathlib.Omega.{arith}
-use mathlib.Core.Path.{◌≡◌, ap, ap₂, sym, ◌∙◌}
-use Prim.Native.Nat.{ℕ, ◌≤◌, ◌-◌}
+use mathlib.Core.Path.{ap, ap₂, sym, ◌∙◌}
+use Prim.Native.Nat.{ℕ}
 use borrow.Author.Rules.{sfits_of}
-use lib.Dec.{lit≤}
 use lib.ListN.{get_or}
 use lib.IntN.{pos, nat_abs}
 use mir.Syntax.{w32}
 use mir.Val.{SFits}
-use mir.Facts.{to_z-of_z}
 use Rattle.whole.specs.Divisors.{gcd}
-use Rattle.whole.proofs.Numbers.Sizes.{within-le}
-use Rattle.whole.proofs.Numbers.Halves.{half-most, wide, widened}
-use Rattle.divisor.specs.Cells.{divisor_below}
+use Rattle.whole.proofs.Numbers.Halves.{widened}
 use Rattle.divisor.proofs.Laws.Cells.{divisor-none, divisor-more, divisor-one}
 use Rattle.pivot.proofs.border.part_of.Goals as goal
 use Rattle.pivot.proofs.border.part_of.Goals.{After-size-arg-1, Start}
@@ -26,12 +22,6 @@ returns-then-g-eq1 c = let s = c in
     sym (divisor-one s.args.numbers.now (pos s.args.start) c.loop-i.i s.args.count
     c.loop-i.invariant.0 (sym c.loop-i.invariant.1 ∙ c.if-g-eq1.true))
 
-pub offset_bounds-numbers-i : goal.offset_bounds-numbers-i
-offset_bounds-numbers-i c = omega arith
-
-pub bounds-numbers-i : goal.bounds-numbers-i
-bounds-numbers-i c = omega arith
-
 module _ (c : After-size-arg-1) where
   abbrev start : Start
   start = c.before.before.before.before
@@ -42,31 +32,10 @@ module _ (c : After-size-arg-1) where
   fit : SFits w32 (get_or start.args.numbers.now place (pos 0))
   fit = sfits_of c.size-arg-1.given
 
-pub overflow_cast-numbers : goal.overflow_cast-numbers
-overflow_cast-numbers c = simp (to_z-of_z (fit c)) (wide (fit c))
-
-pub size-requires : goal.size-requires
-size-requires c = rw (widened (fit c)) (within-le (half-most (fit c)) (lit≤ tt))
-
-pub common_of-g-requires : goal.common_of-g-requires
-common_of-g-requires c = tt
-
-pub overflow_step-i : goal.overflow_step-i
-overflow_step-i c = omega arith
-
-pub loop-i-smaller : goal.loop-i-smaller
-loop-i-smaller c = omega arith
-
 pub loop-i-preserved : goal.loop-i-preserved
-loop-i-preserved c = let a = c in (
+loop-i-preserved c = (
   omega arith,
   c.common_of-g.ensures
-      ∙ ap₂ gcd (c.size.ensures ∙ ap nat_abs (widened (fit c.before.before))) a.loop-i.invariant.1
-      ∙ sym (divisor-more (start c.before.before).args.numbers.now (pos (start c.before.before).args.start) (place c.before.before)),
+      ∙ ap₂ gcd (c.size.ensures ∙ ap nat_abs (widened (fit c.before.before))) c.loop-i.invariant.1
+      ∙ sym (divisor-more c.args.numbers.now (pos c.args.start) c.loop-i.i),
 )
-
-pub returns : goal.returns
-returns c =
-    let s = c in
-    let e : c.loop-i.i ≡ s.args.count = omega arith in
-    c.loop-i.invariant.1 ∙ ap (λ (k : ℕ). divisor_below k s.args.numbers.now (pos s.args.start)) e

@@ -1,10 +1,8 @@
 -- `pivot::column::column_divisor` meets its contract. The invariant: g is the divisor of the number and the cells
 -- passed; where it is 1 it is 1 for all cells (`column-one`). The measure is how many are left. Assumes nothing.
 use native.Mathlib.Omega.{arith}
-use mathlib.Core.Path.{◌≡◌, ap, ap₂, sym, ◌∙◌}
-use Prim.Native.Nat.{◌-◌}
+use mathlib.Core.Path.{ap₂, sym, ◌∙◌}
 use Rattle.whole.specs.Divisors.{gcd}
-use Rattle.pivot.specs.Trials.{column_divisor}
 use Rattle.pivot.proofs.Laws.Trial.Columns.{column-none, column-more, column-one}
 use Rattle.pivot.proofs.column.column_divisor.Goals as goal
 
@@ -19,27 +17,9 @@ returns-then-g-eq1 c =
     sym (column-one s.entries.now s.besides.now s.column s.by i s.column.rows (omega arith)
     (sym c.loop-i.invariant.1 ∙ c.if-g-eq1.true))
 
-pub size_at-requires : goal.size_at-requires
-size_at-requires c = record { columned = c.requires; i_lt_rows = omega arith }
-
-pub common_of-g-requires : goal.common_of-g-requires
-common_of-g-requires c = tt
-
-pub overflow_step-i : goal.overflow_step-i
-overflow_step-i c = omega arith
-
-pub loop-i-smaller : goal.loop-i-smaller
-loop-i-smaller c = omega arith
-
 pub loop-i-preserved : goal.loop-i-preserved
 loop-i-preserved c = let a = c in let l = c in let s = l.args in (
   omega arith,
   c.common_of-g.ensures ∙ ap₂ gcd a.size_at.ensures l.loop-i.invariant.1
       ∙ sym (column-more s.entries.now s.besides.now s.column s.by l.loop-i.i),
 )
-
-pub returns : goal.returns
-returns c =
-    let s = c.args in
-    let e : c.loop-i.i ≡ s.column.rows = omega arith in
-    c.loop-i.invariant.1 ∙ ap (λ k. column_divisor s.entries.now s.besides.now s.column k s.by) e

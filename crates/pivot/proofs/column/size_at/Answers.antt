@@ -1,7 +1,5 @@
 -- `pivot::column::size_at` meets its contract. Assumes nothing.
-use mathlib.Core.Path.{ap, ◌∙◌}
 use borrow.Author.Rules.{rules}
-use lib.IntN.{nat_abs}
 use mir.Facts.{to_z-of_z}
 use mir.Syntax.{w64}
 use mir.Val.{SFits}
@@ -9,15 +7,9 @@ use Rattle.pivot.proofs.Laws.Trial.Columns.{difference-within}
 use Rattle.pivot.proofs.column.size_at.Goals as goal
 use Rattle.pivot.proofs.column.size_at.Goals.{After-cell_at}
 
-pub cell_at-requires : goal.cell_at-requires
-cell_at-requires c = search rules
-
 fit : (c : After-cell_at) → SFits w64 c.cell_at.result
 fit c = search rules
 
 pub size-requires : goal.size-requires
 size-requires c = let s = c in
     simp (to_z-of_z (fit c)) (rw c.cell_at.ensures (difference-within s.requires.columned s.args.i))
-
-pub returns : goal.returns
-returns c = c.size.ensures ∙ ap nat_abs (to_z-of_z (fit c.before) ∙ c.cell_at.ensures)

@@ -7,15 +7,15 @@ use mathlib.Core.Path.{◌≡◌, ap, ap₂, sym, subst, ◌∙◌}
 use Prim.Native.Nat.{ℕ, ◌+◌, ◌*◌, ◌≤◌}
 use native.Mathlib.Nat.{le_of_dvd, le_trans}
 use native.Mathlib.Omega.{arith}
-use lib.Dec.{leb→le, lit≤}
+use lib.Dec.{leb→le}
 use lib.IntN.{ℤ, pos, nat_abs}
 use mir.Facts.{to_z-of_z}
 use mir.Syntax.{w32, w64}
 use mir.Val.{SFits}
 use Rattle.whole.specs.Numbers.{Within}
-use Rattle.whole.proofs.Bools.{not-false, true→T}
-use Rattle.whole.proofs.Numbers.Sizes.{fits-by, size-pos, within-le}
-use Rattle.whole.proofs.Numbers.Halves.{wide, widened}
+use Rattle.whole.proofs.Bools.{true→T}
+use Rattle.whole.proofs.Numbers.Sizes.{fits-by, size-pos}
+use Rattle.whole.proofs.Numbers.Halves.{widened}
 use Rattle.rules.specs.Sizes.{largest_number}
 use Rattle.divisor.specs.Cells.{largest_size}
 use Rattle.divisor.specs.Signs.{signed_by}
@@ -81,9 +81,6 @@ module _ (s : Start) where
   abbrev first : ℕ
   first = nat_abs common * border_divisor border common
 
-pub pivot_of-requires : goal.pivot_of-requires
-pivot_of-requires c = search rules
-
 -- the pivot is read
 module _ (c : After-pivot_of) where
   abbrev s : Start
@@ -101,13 +98,6 @@ module _ (c : After-pivot_of) where
   fit-common : SFits w32 (common s)
   fit-common = search rules
 
-pub are_near-requires : goal.are_near-requires
-are_near-requires c = let o = c in let h = able c.before.before.before in
-    simp (to_z-of_z (fit-here c.before.before), to_z-of_z (fit-common c.before.before)) (rw (here-is c.before.before) (h.all-within.each _), h.common-within)
-
-pub returns-then-not-are_near : goal.returns-then-not-are_near
-returns-then-not-are_near c = tt
-
 -- the pivot and the common number are near
 module _ (c : Else1) where
   abbrev read : After-pivot_of
@@ -117,17 +107,7 @@ module _ (c : Else1) where
   near = subst (λ (z : ℤ). nat_abs z + nat_abs (common (s read)) ≤ largest_number) (here-is read)
       (leb→le (nat_abs (here read) + nat_abs (common (s read))) largest_number (true→T
       (sym (simp (to_z-of_z (fit-here read), to_z-of_z (fit-common read)) at c.are_near.ensures)
-      ∙ not-false _ c.if-not-are_near.false)))
-
-pub border_of-border-requires : goal.border_of-border-requires
-border_of-border-requires c = record { able = able (s c.before.before.before.before); common_bound = near c.before }
-
-pub overflow_cast-asked : goal.overflow_cast-asked
-overflow_cast-asked c = let o = read c.before.before.before.before in simp (to_z-of_z (fit-common o)) (wide (fit-common o))
-
-pub size-requires : goal.size-requires
-size-requires c = let o = read c.before.before.before.before in
-    rw (widened (fit-common o)) (within-le (able (s o)).common-within (lit≤ tt))
+      ∙ c.if-not-are_near.false)))
 
 -- the border
 module _ (c : After-border_of) where
@@ -139,9 +119,6 @@ module _ (c : After-border_of) where
 
   border-fine : Bordered c.border_of-border.result
   border-fine = subst (λ (b : Border). Bordered b) (sym border-is) (bordered (able (s seen)) (near c.before))
-
-pub border_divisor-requires : goal.border_divisor-requires
-border_divisor-requires c = let h = border-fine c.before.before.before.before.before in (h.few-rows, h.few-columns)
 
 -- .. and its divisor
 module _ (c : After-border_divisor) where
@@ -164,12 +141,6 @@ module _ (c : After-border_divisor) where
 pub overflow_mul-first : goal.overflow_mul-first
 overflow_mul-first c = omega (arith, first-is c.before, first-most c.before)
 
-pub overflow_cast-t-10 : goal.overflow_cast-t-10
-overflow_cast-t-10 c = search rules
-
-pub returns-then-first : goal.returns-then-first
-returns-then-first c = tt
-
 -- the first divisor is in range
 module _ (c : Else2) where
   abbrev r : After-pivot_of
@@ -177,13 +148,6 @@ module _ (c : Else2) where
 
   first_small : first (s r) ≤ largest_number
   first_small = let h = c.if-first.false in omega (arith, first-is c.before)
-
-pub product_of-requires : goal.product_of-requires
-product_of-requires c = search rules
-
-pub signed-from-requires : goal.signed-from-requires
-signed-from-requires c = let o = c in
-    subst (λ (n : ℕ). n ≤ largest_size) (sym (first-is c.before.before)) (first-most c.before.before)
 
 -- .. and has a sign
 module _ (c : After-signed) where
@@ -219,24 +183,21 @@ pub overflow_cast-from : goal.overflow_cast-from
 overflow_cast-from c = simp (to_z-of_z (fit-signed c)) (fit-half c)
 
 pub settle-requires : goal.settle-requires
-settle-requires c = let x = c in (
-  (s c.before.before.before.before.before.before.before.before.before.before.before.before.before).requires.out_len,
-  (
-    ((able (s c.before.before.before.before.before.before.before.before.before.before.before.before.before)).all-within, border-fine (bounded (small c.before).before)),
-    simp (to_z-of_z (fit-signed c.before), to_z-of_z (fit-half c.before)) (from-nonzero c.before, from-within c.before),
-  ),
-)
+settle-requires c = let x = c.before in record {
+  out_len = c.requires.out_len;
+  all_within = (c.requires.able.all-within, border-fine (bounded (small x).before));
+  from_nonzero = simp (to_z-of_z (fit-signed x), to_z-of_z (fit-half x)) (from-nonzero x, from-within x);
+}
 
 pub returns : goal.returns
 returns c =
-    let x = c in
-    let v = s c.before.before.before.before.before.before.before.before.before.before.before.before.before.before in
-    let h = able v in
-    let out = c.settle.new.out in
-    settled-ends h (first v) (first_above h) (first_small c.before.before.before.before) (first-divides h) (first-multiple h)
-    c.settle.result v.args.out.now out v.requires.out_len
-    (right (old v) v.args.out.now c.settle.result out (border-is (bounded (small c.before.before).before)) (signed_is c.before.before)
-    (simp (to_z-of_z (fit-signed c.before.before), to_z-of_z (fit-half c.before.before)) at c.settle.ensures))
+    let x = c.before.before in
+    let h = c.requires.able in
+    settled-ends h (first (s (o x))) (first_above h) (first_small (small x)) (first-divides h) (first-multiple h)
+    c.settle.result c.args.out.now c.settle.new.out c.requires.out_len
+    (right c.args.entries.now c.args.out.now c.settle.result c.settle.new.out
+    (border-is (bounded (small x).before)) (signed_is x)
+    (simp (to_z-of_z (fit-signed x), to_z-of_z (fit-half x)) at c.settle.ensures))
   where
     right : (l k : List ℤ) (w : Settled) (out : List ℤ) {b b' : Border} {y y' : ℤ} →
         b ≡ b' → y ≡ y' → SettledAs l b y k w out → SettledAs l b' y' k w out

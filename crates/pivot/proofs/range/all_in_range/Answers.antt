@@ -2,8 +2,7 @@
 -- range. The measure is how many are left. Assumes nothing.
 use native.Mathlib.Omega.{arith}
 use mathlib.Core.Path.{◌≡◌, refl, sym, ◌∙◌}
-use mathlib.Core.Bool.{true}
-use Prim.Native.Nat.{ℕ, ◌-◌}
+use Prim.Native.Nat.{ℕ}
 use borrow.Author.Rules.{sfits_of}
 use lib.ListN.{get_or}
 use lib.IntN.{ℤ, pos}
@@ -12,33 +11,20 @@ use mir.Syntax.{w64}
 use mir.Val.{SFits}
 use Rattle.whole.specs.Below.{all_below}
 use Rattle.whole.proofs.Lists.Below.{all_more}
-use Rattle.whole.proofs.Bools.{not-true, not-false}
 use Rattle.pivot.specs.Pivot.{in_range}
 use Rattle.pivot.proofs.Laws.Ranges.{small-common, small-cell, small_all}
 use Rattle.pivot.proofs.range.all_in_range.Goals as goal
 use Rattle.pivot.proofs.range.all_in_range.Goals.{After-e-1, After-in_range-in-loop-k, After-loop-k, Start}
 
-pub in_range-requires : goal.in_range-requires
-in_range-requires c = tt
-
 pub returns-then-not-in_range : goal.returns-then-not-in_range
 returns-then-not-in_range c =
     let s = c in
     sym (small-common s.args.live _ _
-    (sym (simp (to_z-of_z s.ranges.common) at c.in_range.ensures) ∙ not-true _ c.if-not-in_range.true))
+    (sym (simp (to_z-of_z s.ranges.common) at c.in_range.ensures) ∙ c.if-not-in_range.true))
 
 pub loop-k-init : goal.loop-k-init
 unfolding all_below
-loop-k-init c = (omega arith, sym c.in_range.ensures ∙ not-false _ c.if-not-in_range.false, refl)
-
-pub offset_bounds-entries-k : goal.offset_bounds-entries-k
-offset_bounds-entries-k c = omega arith
-
-pub bounds-entries-k : goal.bounds-entries-k
-bounds-entries-k c = omega arith
-
-pub in_range-requires-in-loop-k : goal.in_range-requires-in-loop-k
-in_range-requires-in-loop-k c = tt
+loop-k-init c = (omega arith, sym c.in_range.ensures ∙ c.if-not-in_range.false, refl)
 
 -- the cell, and what the call says of it
 module _ (c : After-e-1) where
@@ -62,19 +48,13 @@ returns-then-not-in_range-2 c =
     let a = c in
     let s = (start c.before.before).args in
     sym (small-cell s.live s.entries.now s.common (place c.before.before) (omega arith)
-    (right c.before ∙ not-true _ c.if-not-in_range-2.true))
-
-pub overflow_step-k : goal.overflow_step-k
-overflow_step-k c = omega arith
-
-pub loop-k-smaller : goal.loop-k-smaller
-loop-k-smaller c = omega arith
+    (right c.before ∙ c.if-not-in_range-2.true))
 
 pub loop-k-preserved : goal.loop-k-preserved
 loop-k-preserved c = let a = c in (
   omega arith,
   a.loop-k.invariant.1,
-  all_more (place c.before.before) _ a.loop-k.invariant.2 (right c.before ∙ not-false _ c.if-not-in_range-2.false),
+  all_more (place c.before.before) _ a.loop-k.invariant.2 (right c.before ∙ c.if-not-in_range-2.false),
 )
 
 all : (c : After-loop-k) → c.loop-k.k ≡ c.args.live

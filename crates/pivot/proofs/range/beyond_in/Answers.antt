@@ -2,8 +2,8 @@
 -- how many are left. Assumes nothing.
 use native.Mathlib.Omega.{arith}
 use mathlib.Core.List.{List}
-use mathlib.Core.Path.{◌≡◌, ap, ap₂, sym, subst, ◌∙◌}
-use Prim.Native.Nat.{ℕ, ◌+◌, ◌≤◌, ◌-◌}
+use mathlib.Core.Path.{◌≡◌, ap₂, sym, subst, ◌∙◌}
+use Prim.Native.Nat.{ℕ, ◌+◌, ◌≤◌}
 use borrow.Author.Rules.{sfits_of}
 use lib.ListN.{get_or}
 use lib.IntN.{ℤ, pos}
@@ -17,15 +17,6 @@ use Rattle.pivot.proofs.range.beyond_in.Goals.{After-beyond_of-many, In-loop-k}
 
 pub loop-k-init : goal.loop-k-init
 loop-k-init c = (omega arith, sym (beyond-start c.args.cells.now))
-
-pub offset_bounds-cells-k : goal.offset_bounds-cells-k
-offset_bounds-cells-k c = omega arith
-
-pub bounds-cells-k : goal.bounds-cells-k
-bounds-cells-k c = omega arith
-
-pub beyond_of-many-requires : goal.beyond_of-many-requires
-beyond_of-many-requires c = tt
 
 -- the cell counted
 module _ (c : After-beyond_of-many) where
@@ -59,17 +50,5 @@ module _ (c : After-beyond_of-many) where
 pub overflow_add-many : goal.overflow_add-many
 overflow_add-many c = let f = few c in let h = one c in omega arith
 
-pub overflow_step-k : goal.overflow_step-k
-overflow_step-k c = omega arith
-
-pub loop-k-smaller : goal.loop-k-smaller
-loop-k-smaller c = omega arith
-
 pub loop-k-preserved : goal.loop-k-preserved
 loop-k-preserved c = (omega arith, ap₂ (λ (a b : ℕ). a + b) (so_far c) (here c) ∙ sym (beyond-more (cells c) (place c)))
-
-pub returns : goal.returns
-returns c =
-    let s = c.args in
-    let e : c.loop-k.k ≡ s.live = omega arith in
-    c.loop-k.invariant.1 ∙ ap (λ k. beyond_below k s.cells.now) e

@@ -1,15 +1,11 @@
 -- `pivot::range::in_range` meets its contract. Assumes nothing.
 use mathlib.Core.Path.{sym}
-use borrow.Author.Rules.{rules}
 use lib.IntN.{pos, neg_ℤ}
 use mir.Facts.{to_z-of_z}
 use Rattle.whole.proofs.Numbers.Order.{true→lt, false→le}
 use Rattle.whole.proofs.Tells.{within-over, within-under}
 use Rattle.rules.specs.Sizes.{largest_number}
 use Rattle.pivot.proofs.range.in_range.Goals as goal
-
-pub overflow_sub-t-2 : goal.overflow_sub-t-2
-overflow_sub-t-2 c = search rules
 
 pub returns-then-a : goal.returns-then-a
 returns-then-a c =

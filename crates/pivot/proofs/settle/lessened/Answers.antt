@@ -9,8 +9,8 @@ use lib.IntN.{nat_abs}
 use mir.Facts.{to_z-of_z}
 use mir.Syntax.{w32, w64}
 use mir.Val.{SFits}
-use Rattle.whole.proofs.Numbers.Sizes.{size-pos, within-le, fits-by}
-use Rattle.whole.proofs.Numbers.Halves.{wide, widened}
+use Rattle.whole.proofs.Numbers.Sizes.{size-pos, fits-by}
+use Rattle.whole.proofs.Numbers.Halves.{widened}
 use Rattle.divisor.specs.Cells.{largest_size}
 use Rattle.divisor.specs.Signs.{signed_by}
 use Rattle.divisor.proofs.Laws.Signs.{size-signed}
@@ -21,19 +21,10 @@ use Rattle.pivot.proofs.Laws.Trial.Columns.{columned, column-divides}
 use Rattle.pivot.proofs.settle.lessened.Goals as goal
 use Rattle.pivot.proofs.settle.lessened.Goals.{After-column_divisor-less, After-signed, Start}
 
-pub column_at-column-requires : goal.column_at-column-requires
-column_at-column-requires c = search rules
-
-pub overflow_cast-by : goal.overflow_cast-by
-overflow_cast-by c = simp (to_z-of_z c.ranges.by) (wide c.ranges.by)
-
-pub size-size-requires : goal.size-size-requires
-size-size-requires c = let s = c in rw (widened s.ranges.by) (within-le s.requires.j_lt_columns.2 (lit≤ tt))
-
 pub column_divisor-less-requires : goal.column_divisor-less-requires
-column_divisor-less-requires c = let a = c in let s = c in
-    subst (λ (k : Column). Columned s.args.entries.now s.args.border.besides k) (sym a.column_at-column.ensures)
-    (columned s.args.entries.now s.args.border s.args.j s.requires.j_lt_columns.0 s.requires.all_within.0 s.requires.all_within.1)
+column_divisor-less-requires c = let h = c.requires in
+    subst (λ (k : Column). Columned c.args.entries.now c.args.border.besides k) (sym c.column_at-column.ensures)
+    (columned c.args.entries.now c.args.border c.args.j h.j_lt_columns.0 h.all_within.0 h.all_within.1)
 
 module _ (c : After-column_divisor-less) where
   abbrev start : Start
@@ -55,9 +46,6 @@ module _ (c : After-column_divisor-less) where
       (column-divides start.args.entries.now start.args.border.besides
       (border_column start.args.border start.args.j) start.args.border.rows (nat_abs start.args.by)).0)
       start.requires.j_lt_columns.2.within
-
-pub overflow_cast-by-2 : goal.overflow_cast-by-2
-overflow_cast-by-2 c = simp (to_z-of_z (start c).ranges.by) (wide (start c).ranges.by)
 
 pub signed-requires : goal.signed-requires
 signed-requires c = subst (λ (n : ℕ). n ≤ largest_size) (sym (left_is c)) (le_trans (left-most c) (lit≤ tt))

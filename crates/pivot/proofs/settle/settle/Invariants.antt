@@ -2,8 +2,6 @@
 -- cells that are not live are as they were. The measure is its size: what a column leaves of it is smaller, or the loop
 -- ends. Assumes nothing.
 use lib.IntN.{nat_abs}
-use mir.Syntax.{w32}
-use mir.Val.{Fits}
 use Rattle.pivot.specs.Border.{in_border}
 use Rattle.pivot.specs.Trials.{Spared}
 use Rattle.pivot.proofs.Laws.Trial.Trying.{Trying}
@@ -11,7 +9,7 @@ use Rattle.pivot.proofs.settle.settle.Given as goal
 
 abbrev pub invariant-loop-j : goal.invariant-loop-j
 invariant-loop-j l =
-    Trying l.entries l.border l.from l.by × Spared 0 (in_border l.border) l.initial.out l.out × Fits w32 l.by
+    Trying l.entries l.border l.from l.by × Spared 0 (in_border l.border) l.initial.out l.out
 
 abbrev pub decreases-loop-j : goal.decreases-loop-j
 decreases-loop-j l = nat_abs l.by

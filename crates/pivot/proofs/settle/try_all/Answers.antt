@@ -3,20 +3,19 @@
 use native.Mathlib.Omega.{arith}
 use mathlib.Core.Path.{◌≡◌, sym, subst, ◌∙◌}
 use mathlib.Core.List.{List}
-use Prim.Native.Nat.{ℕ, ◌+◌, ◌<◌, ◌-◌}
+use Prim.Native.Nat.{ℕ, ◌+◌, ◌<◌}
 use borrow.Author.Rules.{rules}
 use lib.IntN.{ℤ, pos}
 use lib.ListN.{length, get_or}
 use mir.Facts.{to_z-of_z}
 use mir.Syntax.{w32}
 use mir.Val.{SFits, to_z, of_z}
-use Rattle.rules.specs.Sizes.{most_rows}
 use Rattle.pivot.specs.declared.border.Border.{Border}
 use Rattle.pivot.specs.declared.column.Column.{Column}
 use Rattle.layout.specs.Layout.{most_entries, line_at, live}
 use Rattle.pivot.specs.Border.{Bordered, difference_at}
 use Rattle.pivot.specs.Trials.{Spared, Quotient, Columned, border_column, difference_in}
-use Rattle.pivot.proofs.Laws.Trial.Columns.{spared-start, spared-then, spared-wider, column-alike, column-end}
+use Rattle.pivot.proofs.Laws.Trial.Columns.{spared-then, spared-wider, column-alike, column-end}
 use Rattle.pivot.proofs.Laws.Trial.Columns.{column-most, columned, columns-all, quotients-then}
 use Rattle.layout.proofs.Laws.Layout.{lines_are}
 use Rattle.pivot.proofs.settle.try_all.Goals as goal
@@ -27,37 +26,28 @@ use Rattle.pivot.proofs.settle.try_all.Tie as tie
 -- places of the code, as records of what is known there
 abbrev After-column_over : Type 0
 After-column_over =
-    lts.After-column_over tie.the-claims reads.Pre reads.Post goal.the-invariant-loop-j goal.the-decreases-loop-j tie.handed_clauses
+    lts.After-column_over tie.the-claims reads.Pre reads.Post goal.the-invariant-loop-j goal.the-decreases-loop-j
+    tie.handed_clauses
 
 abbrev After-column_over-arg2 : Type 0
 After-column_over-arg2 =
-    lts.After-column_over-arg2 tie.the-claims reads.Pre reads.Post goal.the-invariant-loop-j goal.the-decreases-loop-j tie.handed_clauses
+    lts.After-column_over-arg2 tie.the-claims reads.Pre reads.Post goal.the-invariant-loop-j goal.the-decreases-loop-j
+    tie.handed_clauses
 
 abbrev After-line_at : Type 0
 After-line_at =
-    lts.After-line_at tie.the-claims reads.Pre reads.Post goal.the-invariant-loop-j goal.the-decreases-loop-j tie.handed_clauses
+    lts.After-line_at tie.the-claims reads.Pre reads.Post goal.the-invariant-loop-j goal.the-decreases-loop-j
+    tie.handed_clauses
 
 abbrev In-loop : Type 0
 In-loop =
-    lts.In-loop tie.the-claims reads.Pre reads.Post goal.the-invariant-loop-j goal.the-decreases-loop-j tie.handed_clauses
+    lts.In-loop tie.the-claims reads.Pre reads.Post goal.the-invariant-loop-j goal.the-decreases-loop-j
+    tie.handed_clauses
 
 abbrev Start : Type 0
 Start =
-    lts.Start tie.the-claims reads.Pre reads.Post goal.the-invariant-loop-j goal.the-decreases-loop-j tie.handed_clauses
-
-pub divider_of-divider-requires : goal.divider_of-divider-requires
-divider_of-divider-requires c = tt
-
-none : (m n : ℕ) → 0 ≡ line_at m n 0
-none m n = omega arith
-
-pub loop-j-init : goal.loop-j-init
-loop-j-init c = let b = c.args.border in (
-  omega arith,
-  subst (λ (k : ℕ). Spared 0 k c.args.out.now c.args.out.now) (none b.rows b.columns)
-      (spared-start 0 c.args.out.now),
-  λ k h. let z : ⊥ = omega (arith, none b.rows b.columns) in absurd z,
-)
+    lts.Start tie.the-claims reads.Pre reads.Post goal.the-invariant-loop-j goal.the-decreases-loop-j
+    tie.handed_clauses
 
 -- a column
 module _ (c : In-loop) where
@@ -82,17 +72,8 @@ module _ (c : In-loop) where
   in-columns : j < n
   in-columns = omega arith
 
-  in-above : j < most_rows
-  in-above = let h = able.few-columns in omega arith
-
 pub line_at-requires : goal.line_at-requires
 line_at-requires c = ((able c).few-rows, (able c).few-columns, rw (lines_are (m c) (n c)) (in-columns c))
-
-pub offset_bounds-border-j : goal.offset_bounds-border-j
-offset_bounds-border-j c = omega (arith, in-above c.before.before.before)
-
-pub bounds-border-j : goal.bounds-border-j
-bounds-border-j c = in-above c.before.before.before
 
 module _ (c : After-column_over-arg2) where
   abbrev turn : In-loop
@@ -122,8 +103,11 @@ module _ (c : After-column_over-arg2) where
   long = turn.loop-j.invariant.1.long ∙ (start turn).requires.out_len
 
 pub column_over-requires : goal.column_over-requires
-column_over-requires c = let t = turn c in let s = start t in record { columned = subst (λ (k : Column). Columned s.args.entries.now (border t).besides k) (sym (column-is c))
-      (columned s.args.entries.now (border t) (j t) (in-columns t) s.requires.all_within.0 (able t)); twos_bound = (t.divider_of-divider.ensures.1, long c) }
+column_over-requires c = let t = turn c in let s = start t in record {
+  columned = subst (λ (k : Column). Columned s.args.entries.now (border t).besides k) (sym (column-is c))
+      (columned s.args.entries.now (border t) (j t) (in-columns t) s.requires.all_within.0 (able t));
+  twos_bound = (t.divider_of-divider.ensures.1, long c);
+}
 
 -- what the call wrote
 module _ (c : After-column_over) where
@@ -166,14 +150,11 @@ module _ (c : After-column_over) where
       (get_or new ((given c.before).start + i) (pos 0))) by-is (c.column_over.ensures.right e i h))
 
 pub returns-then-column_over-ne0 : goal.returns-then-column_over-ne0
-returns-then-column_over-ne0 c = let o = c in let x = t c.before in let l = (s c.before).args.entries.now in record { apart = spared-wider (from c.before + m x) (live (m x) (n x)) (s c.before).args.out.now (new c.before)
-      (column-most l (border x) (j x) (in-columns x)) (so_far c.before); tells = in-columns x }
-
-pub overflow_step-j : goal.overflow_step-j
-overflow_step-j c = omega arith
-
-pub loop-j-smaller : goal.loop-j-smaller
-loop-j-smaller c = omega arith
+returns-then-column_over-ne0 c = let o = c in let x = t c.before in let l = (s c.before).args.entries.now in record {
+  apart = spared-wider (from c.before + m x) (live (m x) (n x)) (s c.before).args.out.now (new c.before)
+      (column-most l (border x) (j x) (in-columns x)) (so_far c.before);
+  tells = in-columns x;
+}
 
 pub loop-j-preserved : goal.loop-j-preserved
 loop-j-preserved c =
@@ -184,7 +165,8 @@ loop-j-preserved c =
       omega arith,
       subst (λ (k : ℕ). Spared 0 k (s c.before).args.out.now (new c.before)) e (so_far c.before),
       simp (to_z-of_z (fit-by c.before))
-          (λ k h. quotients-then l (border x) (j x) (in-columns x) (s c.before).args.by (old c.before) (new c.before) (written c.before)
+          (λ k h. quotients-then l (border x) (j x) (in-columns x) c.args.by (old c.before) (new c.before)
+          (written c.before)
           (simp (to_z-of_z (fit-by c.before)) at x.loop-j.invariant.2) (in-column c.before c.if-column_over-ne0.false) k
           (subst (λ (n : ℕ). k < n) (sym e) h)),
     )
@@ -195,6 +177,9 @@ returns c =
     let s = c in
     let b = s.args.border in
     let e : l.j ≡ b.columns = omega arith in
-    let f = columns-all b e in record { apart = subst (λ (k : ℕ). Spared 0 k s.args.out.now l.out) f l.invariant.1; tells = subst (λ (n : ℕ). (k : ℕ) → k < n →
+    let f = columns-all b e in record {
+      apart = subst (λ (k : ℕ). Spared 0 k s.args.out.now l.out) f l.invariant.1;
+      tells = subst (λ (n : ℕ). (k : ℕ) → k < n →
           Quotient s.args.by (difference_at s.args.entries.now b k) (get_or l.out k (pos 0))) f
-          (simp (to_z-of_z s.ranges.by) at l.invariant.2) }
+          (simp (to_z-of_z s.ranges.by) at l.invariant.2);
+    }

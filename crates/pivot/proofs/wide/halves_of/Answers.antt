@@ -3,7 +3,7 @@
 use native.Mathlib.Omega.{arith}
 use mathlib.Core.Path.{◌≡◌, refl, ap, sym, ◌∙◌}
 use mathlib.Core.List.{List}
-use Prim.Native.Nat.{ℕ, ◌<◌, ◌-◌}
+use Prim.Native.Nat.{ℕ}
 use borrow.Author.Rules.{sfits_of}
 use lib.ListN.{get_or}
 use lib.IntN.{ℤ, pos}
@@ -24,12 +24,6 @@ at l i = get_or l i (pos 0)
 pub loop-k-init : goal.loop-k-init
 loop-k-init c = (omega arith, filled-start most_entries (pos 0) _)
 
-pub offset_bounds-cells-k : goal.offset_bounds-cells-k
-offset_bounds-cells-k c = omega arith
-
-pub bounds-cells-k : goal.bounds-cells-k
-bounds-cells-k c = let h : c.loop-k.k < most_entries = omega arith in h
-
 module _ (c : After-halves-1) where
   abbrev start : Start
   start = c.before.before.before
@@ -42,21 +36,6 @@ module _ (c : After-halves-1) where
 
   fit-half : SFits w32 (at start.args.cells.now place)
   fit-half = fits-by (start.requires.all_within.each place) tt
-
-pub overflow_cast-halves : goal.overflow_cast-halves
-overflow_cast-halves c = simp (to_z-of_z (fit c)) (fit-half c)
-
-pub offset_bounds-halves-k : goal.offset_bounds-halves-k
-offset_bounds-halves-k c = omega arith
-
-pub bounds-halves-k : goal.bounds-halves-k
-bounds-halves-k c = let h : place c < most_entries = omega arith in h
-
-pub overflow_step-k : goal.overflow_step-k
-overflow_step-k c = omega arith
-
-pub loop-k-smaller : goal.loop-k-smaller
-loop-k-smaller c = omega arith
 
 pub loop-k-preserved : goal.loop-k-preserved
 loop-k-preserved c = (

@@ -2,7 +2,7 @@
 -- cells 0. The measure is the lines left. Assumes nothing.
 use mathlib.Core.Path.{◌≡◌}
 use Prim.Native.Nat.{◌-◌, ◌≤◌}
-use Rattle.layout.specs.Layout.{lines, line_at}
+use Rattle.layout.specs.Layout.{line_at}
 use Rattle.pivot.specs.Asked.{cells_for}
 use Rattle.pivot.proofs.wide.mixed_entries.Given as goal
 

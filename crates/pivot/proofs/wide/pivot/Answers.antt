@@ -59,15 +59,6 @@ After-signed = lts.After-signed tie.the-claims reads.Pre reads.Post tie.handed_c
 abbrev Start : Type 0
 Start = lts.Start tie.the-claims reads.Pre reads.Post tie.handed_clauses
 
-pub live-end-requires : goal.live-end-requires
-live-end-requires c = search rules
-
-pub product_of-product-requires : goal.product_of-product-requires
-product_of-product-requires c = search rules
-
-pub mixed_entries-cells-requires : goal.mixed_entries-cells-requires
-mixed_entries-cells-requires c = search rules
-
 -- the definition's parts
 module _ (s : Start) where
   abbrev asked : Asked
@@ -137,13 +128,11 @@ module _ (c : After-mixed_entries) where
   mixed-right = c.mixed_entries-cells.ensures
 
 pub divisor_of-requires : goal.divisor_of-requires
-divisor_of-requires c = let o = asks c.before in let h = able (start o) in (
-  end-small o,
-  (
-    simp (to_z-of_z (fit-product o)) (rw (product_is o) (within-size h)),
-    rw (mixed-right c.before) (mix-within h),
-  ),
-)
+divisor_of-requires c = let o = asks c.before in let h = able (start o) in record {
+  live_le_most_cells = end-small o;
+  within = simp (to_z-of_z (fit-product o)) (rw (product_is o) (within-size h));
+  all_within = rw (mixed-right c.before) (mix-within h);
+}
 
 -- .. and their divisor
 module _ (c : After-divisor_of) where
@@ -179,15 +168,14 @@ module _ (c : After-signed) where
 
 pub divide-requires : goal.divide-requires
 divide-requires c =
-    let o = c in
-    let h = able c.before.before.before.before.before.before.before in
-    let e = mixed-right c.before.before.before.before in (
-      (end-small c.before.before.before.before.before, rw e (filled-length most_entries (pos 0) _ _ (end-in h))),
-      (
-        simp (to_z-of_z (fit-signed c.before)) (record { nonzero = rw (signed-right c.before) (nonzero-by h) }),
-        rw e (mix-within h),
-      ),
-    )
+    let h = c.requires in
+    let e = mixed-right c.before.before.before.before in record {
+      live_le_most_cells =
+          (end-small c.before.before.before.before.before, rw e (filled-length most_entries (pos 0) _ _ (end-in h)));
+      divides =
+          simp (to_z-of_z (fit-signed c.before)) (record { nonzero = rw (signed-right c.before) (nonzero-by h) });
+      all_within = rw e (mix-within h);
+    }
 
 -- the entries divided in place are the definition's
 module _ (c : After-divide) where
@@ -207,10 +195,10 @@ module _ (c : After-divide) where
   common-right = ap (λ (z : ℤ). to_z w64 (of_z w64 z)) (quotient-right sign) ∙ to_z-of_z (quotient_fits (able had))
 
 pub nonzero_div-after : goal.nonzero_div-after
-nonzero_div-after c = let s = sign c.before in let o = read s in (
-  bits-nonzero w64 s.signed-by.result (fit-signed s) (rw (signed-right s) (nonzero-by (able c.before.before.before.before.before.before.before.before.before))),
-  simp (to_z-of_z (fit-product o), to_z-of_z (fit-signed s))
-      (rw (quotient-right s) (quotient_fits (able c.before.before.before.before.before.before.before.before.before))),
+nonzero_div-after c = let s = sign c.before in (
+  bits-nonzero w64 s.signed-by.result (fit-signed s) (rw (signed-right s) (nonzero-by c.requires)),
+  simp (to_z-of_z (fit-product (read s)), to_z-of_z (fit-signed s))
+      (rw (quotient-right s) (quotient_fits c.requires)),
 )
 
 pub all_in_range-requires : goal.all_in_range-requires
@@ -239,9 +227,11 @@ module _ (c : After-cells4) where
   fits = sym (test-right tested) ∙ c.if-all_in_range.true
 
 pub halves_of-requires : goal.halves_of-requires
-halves_of-requires c =
-    let e = divided-right (made c.before.before) in
-    let h = able (begun c.before.before) in record { cells_len = ap length e ∙ filled-length most_entries (pos 0) _ _ (end-in h); all_within = subst (λ (l : List ℤ). AllWithin l largest_number) (sym e) (fits-entries h (fits c)) }
+halves_of-requires c = let e = divided-right (made c.before.before) in record {
+  cells_len = ap length e ∙ filled-length most_entries (pos 0) _ _ (end-in c.requires);
+  all_within =
+      subst (λ (l : List ℤ). AllWithin l largest_number) (sym e) (fits-entries c.requires (fits c));
+}
 
 module _ (c : After-halves_of) where
   abbrev o : After-all_in_range
@@ -268,14 +258,17 @@ module _ (c : After-halves_of) where
   }
 
 pub overflow_cast-result : goal.overflow_cast-result
-overflow_cast-result c =
-    simp (to_z-of_z (fit-product c.before.before.before.before.before.before.before.before.before.before.before), to_z-of_z (fit-signed (sign (made c.before.before.before))))
-    (subst (λ (z : ℤ). SFits w32 z) (sym (common-right (made c.before.before.before))) (fit-after c))
+overflow_cast-result c = let d = made (o c) in
+    simp (to_z-of_z (fit-product (r c)), to_z-of_z (fit-signed (sign d)))
+    (subst (λ (z : ℤ). SFits w32 z) (sym (common-right d)) (fit-after c))
 
 pub returns-then-all_in_range : goal.returns-then-all_in_range
-returns-then-all_in_range c = let e = sym (fits c.before) in record { answer = simp (to_z-of_z (fit-product c.before.before.before.before.before.before.before.before.before.before.before), to_z-of_z (fit-signed (sign (made c.before.before.before))))
-      (ap pivots.Common (after-right c) ∙ ap (answer (begun c.before.before.before)) e); numbers = subst (Left (begun c.before.before.before) _) e (put c) }
+returns-then-all_in_range c = let d = made (o c) in let e = sym (fits c.before) in record {
+  answer = simp (to_z-of_z (fit-product (r c)), to_z-of_z (fit-signed (sign d)))
+      (ap pivots.Common (after-right c) ∙ ap (answer (had d)) e);
+  numbers = subst (Left (had d) _) e (put c);
+}
 
 pub returns : goal.returns
-returns c = let o = c in let e = sym c.if-all_in_range.false ∙ test-right c.before in
-    record { answer = ap (answer c.before.before.before.before.before.before.before.before.before.before.before) e; numbers = subst (Left c.before.before.before.before.before.before.before.before.before.before.before _) e tt }
+returns c = let s = begun c.before in let e = sym c.if-all_in_range.false ∙ test-right c.before in
+    record { answer = ap (answer s) e; numbers = subst (Left s _) e tt }

@@ -1,6 +1,5 @@
 -- `reader::flow::is_named` meets its contract: the first byte is the letter, and the others are the digits. Assumes
 -- nothing.
-use borrow.Author.Rules.{rules}
 use mathlib.Core.Path.{ap, sym, ◌∙◌}
 use Prim.Native.Nat.{◌+◌}
 use Rattle.rules.specs.Program.Text.{digits}
@@ -19,30 +18,19 @@ returns-then-text-at c =
     let a = c.args in
     sym (ap (token_is (a.letter ∷ digits a.number)) (token-out a.text.now a.at (omega arith)))
 
-pub stop-end-requires : goal.stop-end-requires
-stop-end-requires c = search rules
-
-pub bounds-text-at : goal.bounds-text-at
-bounds-text-at c = search rules
-
 pub returns-then-text-at-2 : goal.returns-then-text-at-2
 returns-then-text-at-2 c =
     let a = c.args in
     sym (name-not a.text.now a.at (omega arith) a.letter (digits a.number) c.if-text-at-2.true)
 
-pub overflow_add-at : goal.overflow_add-at
-overflow_add-at c = search rules
-
 pub is_decimal-requires : goal.is_decimal-requires
 is_decimal-requires c =
-    let o = c in
-    let a = o.args in
-    omega (arith, o.stop-end.ensures, stop-ends a.text.now a.at (omega arith))
+    let a = c.args in
+    omega (arith, c.stop-end.ensures, stop-ends a.text.now a.at (omega arith))
 
 pub returns : goal.returns
 returns c =
-    let o = c in
-    let a = o.args in
+    let a = c.args in
     c.is_decimal.ensures
-    ∙ ap (λ k. same_bytes (digits a.number) (part a.text.now (a.at + 1) k)) o.stop-end.ensures
+    ∙ ap (λ k. same_bytes (digits a.number) (part a.text.now (a.at + 1) k)) c.stop-end.ensures
     ∙ sym (name-is a.text.now a.at (omega arith) a.letter (digits a.number) c.if-text-at-2.false)

@@ -1,31 +1,19 @@
 -- `reader::flow::is_next_name` meets its contract. Assumes nothing.
-use borrow.Author.Rules.{rules}
 use mathlib.Core.Path.{ap, sym, ◌∙◌}
 use mathlib.Core.List.{◌∷◌}
 use Rattle.rules.specs.Program.Text.{digits}
 use Rattle.reader.specs.Flow.{next_is, next_token, token_is}
 use Rattle.reader.proofs.flow.is_next_name.Goals as goal
 
-pub enum_known-so : goal.enum_known-so
-enum_known-so c = search rules
-
-pub is_named-requires : goal.is_named-requires
-is_named-requires c = search rules
-
-pub enum_known-so-in-Halted-1 : goal.enum_known-so-in-Halted-1
-enum_known-so-in-Halted-1 c = search rules
-
 pub returns-in-Reached : goal.returns-in-Reached
 unfolding next_is next_token
 returns-in-Reached c =
-    let o = c in
-    let a = o.args in
+    let a = c.args in
     c.is_named.ensures
-    ∙ sym (ap (λ f. next_is a.text.now f (a.letter ∷ digits a.number)) o.so-1.given.1)
+    ∙ sym (ap (λ f. next_is a.text.now f (a.letter ∷ digits a.number)) c.in-Reached.is)
 
 pub returns-in-Halted : goal.returns-in-Halted
 unfolding next_is next_token token_is
 returns-in-Halted c =
-    let o = c in
-    let a = o.args in
-    sym (ap (λ f. next_is a.text.now f (a.letter ∷ digits a.number)) o.so-in-Halted-1.given.1)
+    let a = c.args in
+    sym (ap (λ f. next_is a.text.now f (a.letter ∷ digits a.number)) c.in-Halted.is)

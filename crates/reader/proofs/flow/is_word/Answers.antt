@@ -1,5 +1,4 @@
 -- `reader::flow::is_word` meets its contract: there is no token at the end. Assumes nothing.
-use borrow.Author.Rules.{rules}
 use mathlib.Core.Path.{ap, sym, ◌∙◌}
 use Rattle.rules.specs.Exchange.Reader.{same_bytes}
 use Rattle.tokens.specs.Gaps.{part}
@@ -16,9 +15,6 @@ returns-then-text-at c =
     let a = c.args in
     sym (ap (token_is a.word.now) (token-out a.text.now a.at (omega arith)))
 
-pub stop-end-requires : goal.stop-end-requires
-stop-end-requires c = search rules
-
 pub is-requires : goal.is-requires
 is-requires c =
     let a = c.args in
@@ -27,9 +23,8 @@ is-requires c =
 pub returns : goal.returns
 unfolding token_is
 returns c =
-    let o = c in
-    let a = o.args in
+    let a = c.args in
     c.is.ensures
-    ∙ ap (λ k. same_bytes a.word.now (part a.text.now a.at k)) o.stop-end.ensures
+    ∙ ap (λ k. same_bytes a.word.now (part a.text.now a.at k)) c.stop-end.ensures
     ∙ ap (same_bytes a.word.now) (sym (part-token a.text.now a.at))
     ∙ sym (ap (token_is a.word.now) (token-in a.text.now a.at (omega arith)))

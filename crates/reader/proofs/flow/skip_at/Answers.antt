@@ -1,7 +1,5 @@
 -- `reader::flow::skip_at` meets its contract. Assumes nothing.
-use borrow.Author.Rules.{rules}
 use mathlib.Core.Path.{ap, sym, ◌∙◌}
-use Rattle.whole.proofs.Bools.{not-false, not-true}
 use Rattle.tokens.specs.declared.Followed.TheVariants.{Reached}
 use Rattle.tokens.specs.Gaps.{start_at}
 use Rattle.tokens.proofs.Laws.Places.{stop-ends}
@@ -18,10 +16,7 @@ returns-then-text-at c =
 pub returns-then-not-may : goal.returns-then-not-may
 returns-then-not-may c =
     let a = c.args in
-    sym (ap (skip_at a.text.now a.at) (not-true a.may c.if-not-may.true) ∙ skip-not a.text.now a.at)
-
-pub stop-end-requires : goal.stop-end-requires
-stop-end-requires c = search rules
+    sym (ap (skip_at a.text.now a.at) c.if-not-may.true ∙ skip-not a.text.now a.at)
 
 pub start-requires : goal.start-requires
 start-requires c =
@@ -30,9 +25,8 @@ start-requires c =
 
 pub returns : goal.returns
 returns c =
-    let o = c in
-    let a = o.args in
+    let a = c.args in
     ap Reached (c.start.ensures ∙ ap (start_at a.text.now) c.stop-end.ensures)
     ∙ sym
-    (ap (skip_at a.text.now a.at) (not-false a.may o.if-not-may.false)
+    (ap (skip_at a.text.now a.at) c.if-not-may.false
     ∙ skip-in a.text.now a.at (omega arith))

@@ -9,7 +9,7 @@ use Rattle.reader.proofs.limits.all_limits.Given as goal
 abbrev pub invariant-loop-counts : goal.invariant-loop-counts
 invariant-loop-counts l =
     (l.most ≡ 2 * (l.counts.columns + l.counts.rows))
-    × LimitsAt l.text l.counts.columns l.counts.rows count l.next l.count
+    × LimitsAt l.text l.counts.columns l.counts.rows l.count l.words l.next
 
 abbrev pub decreases-loop-counts : goal.decreases-loop-counts
-decreases-loop-counts l = left_of l.count count (2 * (l.counts.columns + l.counts.rows))
+decreases-loop-counts l = left_of l.next l.count (2 * (l.counts.columns + l.counts.rows))

@@ -1,14 +1,10 @@
 -- `reader::limits::is_limit` meets its contract. Assumes nothing.
-use borrow.Author.Rules.{rules}
 use mathlib.Core.Bool.{◌&&◌}
 use mathlib.Core.Path.{ap}
 use lib.Dec.{ltb}
 use Rattle.rules.specs.Program.Text.{ascii}
 use Rattle.reader.specs.Flow.{assert_token}
 use Rattle.reader.proofs.limits.is_limit.Goals as goal
-
-pub is_next-requires : goal.is_next-requires
-is_next-requires c = search rules
 
 pub returns : goal.returns
 unfolding assert_token ascii

@@ -1,5 +1,4 @@
 -- `reader::limits::relate` meets its contract. Assumes nothing.
-use borrow.Author.Rules.{rules}
 use mathlib.Core.Bool.{Bool}
 use mathlib.Core.Path.{ap}
 use Rattle.tokens.specs.declared.Followed.{Followed}
@@ -9,9 +8,6 @@ use Rattle.reader.proofs.limits.relate.Goals as goal
 
 abbrev related_to : Followed → Bool → Bool → Related
 related_to so upper strict = record { to = so; upper = upper; strict = strict }
-
-pub skip_if-requires : goal.skip_if-requires
-skip_if-requires c = search rules
 
 pub returns : goal.returns
 unfolding related_by

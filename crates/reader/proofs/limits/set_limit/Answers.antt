@@ -4,7 +4,7 @@ use mathlib.Core.List.{List}
 use mathlib.Core.Path.{sym, ◌∙◌, ap, subst}
 use Prim.Native.Nat.{ℕ, ◌+◌, ◌<◌}
 use native.Mathlib.Omega.{arith}
-use borrow.Author.Rules.{rules, sfits_of}
+use borrow.Author.Rules.{rules}
 use lib.IntN.{ℤ, pos, ◌+ℤ◌, ◌*ℤ◌}
 use lib.ListN.{get_or, length, set}
 use lib.Seq.{lt-length-set}
@@ -42,7 +42,7 @@ module _ (c : After-mark) where
   fit-twice = rw c.mark.ensures (fits-by (twice-small c.args.strict) tt)
 
   fit-kind : SFits w32 (get_or words at (pos 0))
-  fit-kind = sfits_of c.kind-1.given
+  fit-kind = search rules
 
   fit-sum : SFits w32 (get_or words at (pos 0) +ℤ (pos 2 *ℤ c.mark.result))
   fit-sum =
@@ -53,73 +53,33 @@ module _ (c : After-mark) where
   fit-value : SFits w32 c.args.value
   fit-value = search rules
 
-pub offset_bounds-words-at : goal.offset_bounds-words-at
-offset_bounds-words-at c = search rules
-
-pub slice_copy_out-kind : goal.slice_copy_out-kind
-slice_copy_out-kind c = search rules
-
-pub mark-requires : goal.mark-requires
-mark-requires c = search rules
-
 pub overflow_mul-words : goal.overflow_mul-words
 overflow_mul-words c = simp (to_z-of_z (fit-mark c)) (fit-twice c)
 
 pub overflow_add-words : goal.overflow_add-words
 overflow_add-words c = simp (to_z-of_z (fit-kind c), to_z-of_z (fit-mark c), to_z-of_z (fit-twice c)) (fit-sum c)
 
-pub offset_bounds-words-at-then-upper : goal.offset_bounds-words-at-then-upper
-offset_bounds-words-at-then-upper c = search rules
-
-pub bounds-words-at : goal.bounds-words-at
-bounds-words-at c = search rules
-
-pub overflow_add-value : goal.overflow_add-value
-overflow_add-value c = search rules
-
-pub offset_bounds-words-at-then-upper-2 : goal.offset_bounds-words-at-then-upper-2
-offset_bounds-words-at-then-upper-2 c = search rules
-
-pub bounds-words-at-then-upper : goal.bounds-words-at-then-upper
-bounds-words-at-then-upper c = search rules
-
-pub shape_of-words-then-upper : goal.shape_of-words-then-upper
-shape_of-words-then-upper c = search rules
-
 pub returns-then-upper : goal.returns-then-upper
 unfolding limit_set
 returns-then-upper c =
     let a = c.args in
-    simp
-    (to_z-of_z (fit-kind c), to_z-of_z (fit-mark c), to_z-of_z (fit-twice c), to_z-of_z (fit-sum c), to_z-of_z (fit-value c))
+    simp (
+      to_z-of_z (fit-kind c),
+      to_z-of_z (fit-mark c),
+      to_z-of_z (fit-twice c),
+      to_z-of_z (fit-sum c),
+      to_z-of_z (fit-value c),
+    )
     (ap
     (λ k. set (set (words c) (at c) (get_or (words c) (at c) (pos 0) +ℤ (pos 2 *ℤ k))) (at c + 2) a.value)
     c.mark.ensures
     ∙ sym (ap (λ u. limit_set (words c) (at c) u a.strict a.value) c.if-upper.true))
-
-pub mark-requires-2 : goal.mark-requires-2
-mark-requires-2 c = search rules
-
-pub offset_bounds-words-at-2 : goal.offset_bounds-words-at-2
-offset_bounds-words-at-2 c = search rules
-
-pub bounds-words-at-2 : goal.bounds-words-at-2
-bounds-words-at-2 c = search rules
-
-pub overflow_add-value-2 : goal.overflow_add-value-2
-overflow_add-value-2 c = search rules
-
-pub offset_bounds-words-at-3 : goal.offset_bounds-words-at-3
-offset_bounds-words-at-3 c = search rules
 
 pub bounds-words-at-3 : goal.bounds-words-at-3
 bounds-words-at-3 c =
     let a = c.args in
     let h : a.at + 1 < length a.words.now = omega (arith, c.requires.0) in
     lt-length-set a.words.now a.at _ h
-
-pub shape_of-words : goal.shape_of-words
-shape_of-words c = search rules
 
 module _ (c : After-mark-2) where
   fit-mark-2 : SFits w32 c.mark-2.result

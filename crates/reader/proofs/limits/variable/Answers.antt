@@ -1,10 +1,9 @@
 -- `reader::limits::variable` meets its contract. The loop's invariant: no variable passed has the name that stands
 -- there. The measure is the variables that are left. Assumes nothing.
-use borrow.Author.Rules.{rules}
 use mathlib.Core.Bool.{Bool, true, false, ◌&&◌}
 use mathlib.Core.List.{List}
 use mathlib.Core.Path.{◌≡◌, sym, ◌∙◌, ap}
-use Prim.Native.Nat.{ℕ, ◌+◌, ◌-◌, ◌≤◌, ◌<◌}
+use Prim.Native.Nat.{ℕ, ◌+◌, ◌≤◌, ◌<◌}
 use native.Mathlib.Decide.{dec_lt}
 use native.Mathlib.Omega.{arith}
 use borrow.Author.Tests.{le-leb, lt-leb}
@@ -34,37 +33,25 @@ loop-v-init c =
       λ u l. ap (λ d. d && next_is a.text.now a.so (name_of a.columns u)) (lt-leb a.from u l),
     )
 
-pub is_variable-requires : goal.is_variable-requires
-is_variable-requires c = search rules
-
 pub returns-then-is_variable : goal.returns-then-is_variable
 returns-then-is_variable c =
-    let l = c in
-    let a = l.args in
-    variable-found a.text.now a.so a.columns a.from a.most l.loop-v.v (omega arith)
-    (named-as a.text.now a.so a.columns a.from a.most l.loop-v.v true l.loop-v.invariant.0
+    let a = c.args in
+    variable-found a.text.now a.so a.columns a.from a.most c.loop-v.v (omega arith)
+    (named-as a.text.now a.so a.columns a.from a.most c.loop-v.v true c.loop-v.invariant.0
     (sym c.is_variable.ensures ∙ c.if-is_variable.true))
-    l.loop-v.invariant.1
-
-pub overflow_step-v : goal.overflow_step-v
-overflow_step-v c = omega arith
-
-pub loop-v-smaller : goal.loop-v-smaller
-loop-v-smaller c = omega arith
+    c.loop-v.invariant.1
 
 pub loop-v-preserved : goal.loop-v-preserved
 loop-v-preserved c =
-    let l = c in
-    let a = l.args in (
+    let a = c.args in (
       omega arith,
-      more-passed (name_stands a.text.now a.so a.columns a.from a.most) l.loop-v.v l.loop-v.invariant.1
-          (named-as a.text.now a.so a.columns a.from a.most l.loop-v.v false l.loop-v.invariant.0
+      more-passed (name_stands a.text.now a.so a.columns a.from a.most) c.loop-v.v c.loop-v.invariant.1
+          (named-as a.text.now a.so a.columns a.from a.most c.loop-v.v false c.loop-v.invariant.0
           (sym c.is_variable.ensures ∙ c.if-is_variable.false)),
     )
 
 pub returns : goal.returns
 returns c =
-    let l = c in
-    let a = l.args in
+    let a = c.args in
     variable-none a.text.now a.so a.columns a.from a.most
-    (λ u h. l.loop-v.invariant.1 u (omega arith))
+    (λ u h. c.loop-v.invariant.1 u (omega arith))

@@ -1,5 +1,4 @@
 -- `reader::numbers::signed` meets its contract: numbers of limits fit. Assumes nothing.
-use borrow.Author.Rules.{rules}
 use mathlib.Core.Path.{◌≡◌, ap, refl, subst, sym, ◌∙◌}
 use Prim.Native.Nat.{ℕ, zero, suc, ◌-◌, ◌≤◌}
 use mathlib.Core.Bool.{true, cond}
@@ -31,19 +30,10 @@ minus-fits k h = subst (SFits w32) (sym (minus_is k)) (go k h)
 value-is : (s : Start) → to_z w32 s.args.value ≡ pos s.args.value
 value-is s = to_z_pos w32 (omega (arith, s.requires))
 
-pub overflow_cast-result : goal.overflow_cast-result
-overflow_cast-result c = search rules
-
-pub overflow_sub-result : goal.overflow_sub-result
-overflow_sub-result c = rw (value-is c.before) (minus-fits c.args.value c.requires)
-
 pub returns-then-below : goal.returns-then-below
 unfolding value_by
 returns-then-below c = rw (value-is c.before, to_z-of_z (minus-fits c.args.value c.requires), c.if-below.true)
     (minus_is c.args.value)
-
-pub overflow_cast-result-2 : goal.overflow_cast-result-2
-overflow_cast-result-2 c = search rules
 
 pub returns : goal.returns
 unfolding value_by

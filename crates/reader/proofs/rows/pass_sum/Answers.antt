@@ -9,9 +9,6 @@ returns-then-columns-eq1 c =
     let a = c.args in
     sym (sum-single a.text.now a.so a.columns (token_bytes a.script.now) c.if-columns-eq1.true)
 
-pub pass-requires : goal.pass-requires
-pass-requires c = c.requires
-
 pub returns : goal.returns
 returns c =
     let a = c.args in

@@ -9,7 +9,8 @@ use Rattle.reader.proofs.rows.terms.Given as goal
 abbrev pub invariant-loop-j : goal.invariant-loop-j
 invariant-loop-j l =
     (l.j ≤ l.columns) × (l.from ≡ 2 + l.i * l.columns)
-    × ((m : ℕ) → TermsAt l.text l.columns m l.i 0 l.initial.words true l.initial.next → l.i < m → TermsAt l.text l.columns m l.i l.j l.words l.blank l.next)
+    × ((m : ℕ) → TermsAt l.text l.columns m l.i 0 l.initial.words true l.initial.next → l.i < m →
+    TermsAt l.text l.columns m l.i l.j l.words l.blank l.next)
 
 abbrev pub decreases-loop-j : goal.decreases-loop-j
 decreases-loop-j l = l.columns - l.j

@@ -1,5 +1,4 @@
 -- `reader::sizes::is_column` meets its contract. Assumes nothing.
-use borrow.Author.Rules.{rules}
 use mathlib.Core.Bool.{◌&&◌}
 use mathlib.Core.Path.{ap}
 use lib.Dec.{eqb, ltb}
@@ -7,9 +6,6 @@ use Rattle.rules.specs.Program.Text.{ascii}
 use Rattle.rules.specs.Sizes.{most_columns}
 use Rattle.rules.specs.Exchange.Script.{column_name}
 use Rattle.reader.proofs.sizes.is_column.Goals as goal
-
-pub is_next_name-requires : goal.is_next_name-requires
-is_next_name-requires c = search rules
 
 pub returns : goal.returns
 unfolding column_name ascii

@@ -1,5 +1,4 @@
 -- `reader::sizes::is_declaration` meets its contract. Assumes nothing.
-use borrow.Author.Rules.{rules}
 use mathlib.Core.Bool.{◌&&◌}
 use mathlib.Core.Path.{ap}
 use lib.Dec.{ltb}
@@ -7,9 +6,6 @@ use Rattle.rules.specs.Program.Text.{ascii}
 use Rattle.rules.specs.Sizes.{most_rows}
 use Rattle.reader.specs.Flow.{declare_token}
 use Rattle.reader.proofs.sizes.is_declaration.Goals as goal
-
-pub is_next-requires : goal.is_next-requires
-is_next-requires c = search rules
 
 pub returns : goal.returns
 unfolding declare_token ascii

@@ -11,7 +11,6 @@ use mathlib.Core.Option.{Option, none, some}
 use mathlib.Core.Path.{refl, subst, sym, ◌∙◌, ◌≡◌}
 use Prim.Native.Nat.{ℕ, ◌*◌, ◌+◌, ◌<◌, ◌≤◌}
 use native.Mathlib.Omega.{arith}
-use lib.Dec.{T}
 use lib.IntN.{pos, ℤ}
 use lib.ListN.{get_or-append, drop, length}
 use Rattle.whole.proofs.Values.Beside.{pairs-laws}
@@ -143,7 +142,8 @@ module _ (ws rest : List ℤ) (A : Accepted most_rows ws) where
       go (shape-range v d z) = absurd (n v)
 
 -- what the solver leaves in an output with room enough: any verdict but out of range gets 8
-pub written-accepted : (ws before : List ℤ) → refusal ws (length before) ≡ 0 → verdict_of (written 0 ws before) ≢ pos 3 →
+pub written-accepted : (ws before : List ℤ) → refusal ws (length before) ≡ 0 → verdict_of (written 0 ws before) ≢ pos
+    3 →
     checked ws (written 0 ws before) ≡ 8
 unfolding written
 written-accepted ws before e n = answer-not-range ws (drop (answer_length ws) before)

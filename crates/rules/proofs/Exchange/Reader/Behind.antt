@@ -12,7 +12,7 @@ use lib.Dec.{eqb, ltb}
 use lib.IntN.{ℤ, pos}
 use lib.ListN.{length, length-append, length-replicate, replicate}
 use Rattle.whole.specs.Numbers.{eq_z, within}
-use Rattle.whole.proofs.Bools.{T→true, and-true, not-true, true→T}
+use Rattle.whole.proofs.Bools.{and-true, not-true}
 use Rattle.whole.proofs.Tells.{tells-eq, tells-lt, tells-true}
 use Rattle.rules.specs.Limit.{Limit}
 use Rattle.rules.specs.Sizes.{largest_coefficient}

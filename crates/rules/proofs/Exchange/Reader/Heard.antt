@@ -10,7 +10,6 @@ use Prim.Native.Nat.{ℕ, ◌+◌, ◌-◌, ◌*◌, ◌/◌, ◌%◌, ◌≤◌
 use lib.Dec.{ltb}
 use lib.IntN.{ℤ}
 use lib.ListN.{length}
-use Rattle.whole.proofs.Bools.{T→true, true→T}
 use Rattle.whole.proofs.Tells.{tells-lt}
 use Rattle.rules.specs.Sizes.{most_columns, most_rows}
 use Rattle.rules.specs.Exchange.Tokens.{token_bytes}
@@ -125,5 +124,6 @@ limit-goes P w T p f q e = go (is (token_bytes assert_limit) w) (ltb (length P.l
     go true true l e =
         matched-goes (token_bytes assert_limit) (relating P) w T p e (ap (λ r. r ++ token_bytes assert_limit) q)
         (f, (tells-lt (length P.limits) (2 * (P.n + P.m))).if-true l)
-    go true false l e = matched-goes (token_bytes check_sat) (ended P) w T p e (ap (λ r. r ++ token_bytes check_sat) q) f
+    go true false l e = matched-goes (token_bytes check_sat) (ended P) w T p e
+        (ap (λ r. r ++ token_bytes check_sat) q) f
     go false b l e = matched-goes (token_bytes check_sat) (ended P) w T p e (ap (λ r. r ++ token_bytes check_sat) q) f

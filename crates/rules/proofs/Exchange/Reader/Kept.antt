@@ -9,7 +9,7 @@ use native.Mathlib.Omega.{arith}
 use lib.Dec.{eqb, leb, leb→le, ltb}
 use lib.IntN.{ℤ, pos, negsuc}
 use lib.ListN.{length}
-use Rattle.whole.proofs.Bools.{T→true, and-true, true→T}
+use Rattle.whole.proofs.Bools.{and-true, true→T}
 use Rattle.whole.proofs.Lists.Below.{lowest-passes}
 use Rattle.whole.proofs.Tells.{tells-eq, tells-lt}
 use Rattle.rules.specs.Sizes.{most_columns, most_rows}
@@ -87,7 +87,8 @@ size-goes c w T g e =
     ∙ ap (λ x. before c ++ x) (below-said w (numeral w) z refl q)) e
 
 -- declarations
-columns-heard : (n : ℕ) → heads n 0 ++ token_bytes declare_const ++ column_name n ∷ token_bytes of_real ≡ heads (suc n) 0
+columns-heard : (n : ℕ) → heads n 0 ++ token_bytes declare_const ++ column_name n ∷ token_bytes of_real ≡ heads
+    (suc n) 0
 unfolding heads words_below said_declaration
 columns-heard n = simp (append_assoc, append-nil)
 
@@ -110,7 +111,8 @@ declaring-goes n m w T g e = go (is (token_bytes declare_const) w) (ltb m most_r
         cond (a && b) (matched (token_bytes declare_const) (naming n m) w) (command (pieces n m [] []) w) ≡ some T →
         Onward (heads n m) w T
     go true true l q =
-        matched-goes (token_bytes declare_const) (naming n m) w T (heads n m) q refl (g, (tells-lt m most_rows).if-true l)
+        matched-goes (token_bytes declare_const) (naming n m) w T (heads n m) q refl
+        (g, (tells-lt m most_rows).if-true l)
     go true false l q = other q
     go false b l q = other q
 
@@ -131,7 +133,8 @@ naming-goes n m w T g few e = go (eqb m 0) (ltb n most_columns) (same_bytes (col
         (matched (row_name m ∷ token_bytes of_real) (declaring n (suc m)) w) ≡ some T → Onward h w T
     go true true true z l q =
         matched-goes (column_name n ∷ token_bytes of_real) (declaring (suc n) 0) w T h q
-        (ap (λ k. heads n k ++ token_bytes declare_const ++ column_name n ∷ token_bytes of_real) ((tells-eq m 0).if-true z)
+        (ap (λ k. heads n k ++ token_bytes declare_const ++ column_name n ∷ token_bytes of_real)
+        ((tells-eq m 0).if-true z)
         ∙ columns-heard n)
         (record { n-least = omega arith; n-most = (tells-lt n most_columns).if-true l; m-most = omega arith })
     go true true false z l q = row q
@@ -140,7 +143,8 @@ naming-goes n m w T g few e = go (eqb m 0) (ltb n most_columns) (same_bytes (col
 
 -- relations and names of limits
 relation-goes : (P : Pieces) (side : ℕ) (strict : Bool) (w : Bytes) (T : ReaderState) → FinePieces P → side < 2 →
-    relation_at side strict ≡ w → relation_taken P side strict ≡ some T → Onward (body P ++ token_bytes assert_limit) w T
+    relation_at side strict ≡ w → relation_taken P side strict ≡ some T → Onward (body P ++ token_bytes assert_limit)
+    w T
 unfolding relation_taken heard
 relation-goes P side strict w T f s q e = go (ltb (length P.limits) (2 * (P.n + P.m) + side - 1)) refl e
   where
@@ -159,7 +163,8 @@ unfolding decided relation_read relation_at lower_relation upper_relation
 relating-goes P w T f e = go (same_bytes no_less w) (same_bytes more w) (same_bytes no_more w)
     (same_bytes less w) refl refl refl refl e
   where
-    go : (a b c d : Bool) → same_bytes no_less w ≡ a → same_bytes more w ≡ b → same_bytes no_more w ≡ c → same_bytes less w
+    go : (a b c d : Bool) → same_bytes no_less w ≡ a → same_bytes more w ≡ b → same_bytes no_more w ≡ c → same_bytes
+        less w
         ≡ d →
         cond a (relation_taken P 0 false) (cond b (relation_taken P 0 true)
         (cond c (relation_taken P 1 false) (cond d (relation_taken P 1 true) none))) ≡ some T →

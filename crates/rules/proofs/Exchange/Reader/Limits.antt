@@ -45,7 +45,8 @@ module _ (P : Pieces) where
 
   pub relation-read : (side : ℕ) (strict : Bool) → side < 2 → relation_read P (relation_at side strict)
       ≡ relation_taken P side strict
-  unfolding relation_read relation_at Script.lower_relation Script.upper_relation Script.no_less Script.more Script.no_more
+  unfolding relation_read relation_at Script.lower_relation Script.upper_relation Script.no_less Script.more
+      Script.no_more
       Script.less Reader.same_bytes ascii
   relation-read zero false h = refl
   relation-read zero true h = refl

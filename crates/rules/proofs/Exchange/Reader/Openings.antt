@@ -3,7 +3,7 @@
 --   digits-only, name-only       numbers and names with the same bytes are the same
 --   digits-open                  a number does not begin like one below 0
 --   numeral-digits, numeral-some the digits of a number are that number's, and of no other
-use mathlib.Core.Bool.{Bool, true, false, ◌&&◌}
+use mathlib.Core.Bool.{Bool, true, false}
 use mathlib.Core.List.{List, [], ◌∷◌, ◌++◌, head-eq_of_cons-eq, tail-eq_of_cons-eq}
 use mathlib.Core.Option.{Option, some, none-ne-some}
 use mathlib.Core.Path.{◌≡◌, refl, sym, ◌∙◌, ap}
@@ -48,8 +48,10 @@ pub record Openings : Type 0 where
 
 pub openings : Openings
 unfolding Tokens.is_blank Tokens.is_parenthesis Tokens.ends_line Tokens.is_comment Tokens.is_plain
-    Tokens.begins Tokens.single Tokens.mode_after Tokens.tokens_at Tokens.last Tokens.scan Tokens.tokens Tokens.token_bytes
-    Text.ascii Script.declare_const Script.assert_row Script.open_minus Script.assert_limit Script.check_sat Reader.same_bytes
+    Tokens.begins Tokens.single Tokens.mode_after Tokens.tokens_at Tokens.last Tokens.scan Tokens.tokens
+    Tokens.token_bytes
+    Text.ascii Script.declare_const Script.assert_row Script.open_minus Script.assert_limit Script.check_sat
+    Reader.same_bytes
 openings = record {
   limit_is = refl;
   row_is = refl;

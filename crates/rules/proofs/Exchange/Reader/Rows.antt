@@ -14,7 +14,6 @@ use lib.Dec.{eqb}
 use lib.IntN.{ℤ, pos, negsuc}
 use lib.ListN.{length, length-append}
 use Rattle.whole.specs.Numbers.{eq_z, within}
-use Rattle.whole.proofs.Bools.{T→true}
 use Rattle.rules.specs.Limit.{Limit}
 use Rattle.rules.specs.Sizes.{largest_coefficient, largest_limit, most_columns, most_rows}
 use Rattle.rules.specs.Program.Text.{ascii, digits}
@@ -157,7 +156,8 @@ module _ (P : Pieces) where
   unfolding listed said_term ahead all_zero
   terms-lead done z [] j d e w f =
       leads-as
-      (ap (λ k. said_number z ++ ((column_name k ∷ token_bytes close) ++ (closes P.n ++ token_bytes end_assert))) (sym d))
+      (ap (λ k. said_number z ++ ((column_name k ∷ token_bytes close) ++ (closes P.n ++ token_bytes end_assert)))
+      (sym d))
       (term-leads done z
       (fits-here done z w.0 (λ q. zero-last (sym (zero-then done (z ∷ [])) ∙ f)))
       (leads-from (last-term (done ++ (z ∷ [])) (omega (arith, length-append done (z ∷ []))))

@@ -8,7 +8,6 @@ use native.Mathlib.Omega.{arith}
 use borrow.Author.Tests.{lt-ltb}
 use lib.Dec.{eqb, ltb}
 use lib.ListN.{length}
-use Rattle.whole.proofs.Bools.{T→true}
 use Rattle.rules.specs.Sizes.{most_columns, most_rows}
 use Rattle.rules.specs.Program.Text.{ascii}
 use Rattle.rules.specs.Exchange.Tokens.{token_bytes}
@@ -100,7 +99,8 @@ column-leads n h =
     (chosen-leads (column_name n) (token_bytes of_real) (naming n 0) (declaring (suc n) 0)
     (rw (lt-ltb n most_columns h, same_refl (column_name n)) refl))
 
-pub row_named_lem : (n m : ℕ) → LeadsTo (on [] (naming n m)) (row_name m ∷ token_bytes of_real) (on [] (declaring n (suc m)))
+pub row_named_lem : (n m : ℕ) → LeadsTo (on [] (naming n m)) (row_name m ∷ token_bytes of_real)
+    (on [] (declaring n (suc m)))
 unfolding decided
 row_named_lem n m =
     chosen-leads (row_name m) (token_bytes of_real) (naming n m) (declaring n (suc m))

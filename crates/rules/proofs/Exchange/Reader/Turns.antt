@@ -3,7 +3,7 @@
 --   LeadsTo S p T, leads-then, leads-reads  the tokens p take the reader from S to T; two parts; what is read then
 --   todo-leads, chosen-leads              tokens that must follow; and where the first of them decides
 --   reads-got, reads-stuck, Halted        what the two ends of a reading say
-use mathlib.Core.Bool.{Bool, true, false, ◌&&◌}
+use mathlib.Core.Bool.{Bool, true, false}
 use mathlib.Core.List.{List, [], ◌∷◌, ◌++◌, append-nil}
 use mathlib.Core.Option.{Option, none, some, none-ne-some}
 use mathlib.Core.Path.{◌≡◌, refl, sym, ◌∙◌, ap, ap₂, subst}

@@ -16,7 +16,8 @@ use Rattle.rules.specs.Limit.{Limit}
 use Rattle.rules.specs.Problem.{Problem, problem, n_of, m_of, vars_of, coefficient_word}
 use Rattle.rules.specs.Program.Text.{digits}
 use Rattle.rules.specs.Exchange.Tokens.{token_bytes}
-use Rattle.rules.specs.Exchange.Script.{set_logic, declare_const, of_real, assert_row, end_assert, open_term, open_minus}
+use Rattle.rules.specs.Exchange.Script.{set_logic, declare_const, of_real, assert_row, end_assert, open_term}
+use Rattle.rules.specs.Exchange.Script.{open_minus}
 use Rattle.rules.specs.Exchange.Script.{close, assert_limit, check_sat, lower_relation, upper_relation, column_name}
 use Rattle.rules.specs.Exchange.Script.{row_name, name_of}
 use Rattle.rules.specs.Exchange.Reader.{Bytes, Pieces, pieces, opens, closes}

@@ -2,7 +2,7 @@
 --   fixed           the fixed texts, with their tokens
 --   digits-run, column-run, row-run, name-run, relation-run   numbers, names and relations are one token each
 --   tokens-written  so a text's tokens are those of the problem's parts
-use mathlib.Core.Bool.{Bool, true, false, cond, ◌||◌}
+use mathlib.Core.Bool.{Bool, true, false, cond}
 use mathlib.Core.List.{List, [], ◌∷◌, ◌++◌, append_assoc}
 use mathlib.Core.Path.{◌≡◌, refl, sym, ◌∙◌, ap, ap₂}
 use Prim.Native.Nat.{ℕ, zero, suc, ◌+◌, ◌-◌, ◌*◌, ◌/◌, ◌%◌, ◌≤◌, ◌<◌}
@@ -58,7 +58,8 @@ record Fixed : Type 0 where
 
 fixed : Fixed
 unfolding Spelled.spelled Tokens.is_blank Tokens.is_parenthesis Tokens.ends_line Tokens.is_comment Tokens.is_plain
-    Tokens.begins Tokens.single Tokens.mode_after Tokens.tokens_at Tokens.last Tokens.scan Tokens.tokens Tokens.token_bytes
+    Tokens.begins Tokens.single Tokens.mode_after Tokens.tokens_at Tokens.last Tokens.scan Tokens.tokens
+    Tokens.token_bytes
     Text.ascii Script.set_logic Script.declare_const Script.of_real Script.assert_row Script.end_assert Script.open_sum
     Script.open_term Script.open_minus Script.close Script.space Script.assert_limit Script.check_sat
 fixed = record {
@@ -137,7 +138,8 @@ name-run n v = go (ltb v n)
     go false = row-run (v - n)
 
 relation-run : (side : ℕ) (strict : Bool) → Run (relation_at side strict)
-unfolding relation_at lower_relation upper_relation no_less more no_more less ascii is_plain is_blank is_parenthesis is_comment
+unfolding relation_at lower_relation upper_relation no_less more no_more less ascii is_plain is_blank is_parenthesis
+    is_comment
 relation-run zero true = record { first = 62; others = []; is = refl; plain = (refl, tt) }
 relation-run zero false = record { first = 62; others = 61 ∷ []; is = refl; plain = (refl, (refl, tt)) }
 relation-run (suc s) true = record { first = 60; others = []; is = refl; plain = (refl, tt) }

@@ -1,7 +1,6 @@
 -- Fine parts are the parts of their words.
 --   accepted-words   those words are accepted
 --   said-back        and their text has the tokens of the parts
-use mathlib.Core.Bool.{◌&&◌}
 use mathlib.Core.List.{List, [], ◌∷◌, ◌++◌, append-nil, flatten}
 use mathlib.Core.Logic.{◌≢◌}
 use mathlib.Core.Option.{none}

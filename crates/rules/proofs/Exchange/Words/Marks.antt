@@ -1,7 +1,7 @@
 -- Rows one behind the other, and the bits of a kind that is made of the marks of two limits.
 --   flatten-length, flatten-each, flatten-at   rows one behind the other
 --   kind-bits, limit-back, word-fine          a kind, and the limits that it tells of
-use mathlib.Core.Bool.{Bool, true, false, cond, ◌&&◌}
+use mathlib.Core.Bool.{Bool, true, false, cond}
 use mathlib.Core.List.{List, [], ◌∷◌, ◌++◌, flatten}
 use mathlib.Core.Logic.{◌≢◌}
 use mathlib.Core.Option.{Option, none, some}
@@ -55,7 +55,8 @@ unfolding all_zero
 zero-some [] e = true-false refl e
 zero-some (z ∷ l) e = go (eq_z z (pos 0)) refl (zero-some l)
   where
-    go : (b : Bool) → eq_z z (pos 0) ≡ b → (all_zero l ≡ false → (j : ℕ) × (j < length l) × (get_or l j (pos 0) ≢ pos 0)) →
+    go : (b : Bool) → eq_z z (pos 0) ≡ b → (all_zero l ≡ false → (j : ℕ) × (j < length l) ×
+        (get_or l j (pos 0) ≢ pos 0)) →
         (j : ℕ) × (j < suc (length l)) × (get_or (z ∷ l) j (pos 0) ≢ pos 0)
     go true q rest = let w = rest (rw q at e) in (suc w.0, omega (arith, w.1), w.2)
     go false q rest = (0, omega arith, (tells-eq_z z (pos 0)).if-false q)

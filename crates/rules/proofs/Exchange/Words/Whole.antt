@@ -113,7 +113,8 @@ unfolding kind_test made
 kind-again k h f g =
     let t = all-each 16 kind_test kind-tests k h in
     (tells-eq (made (pos k)) k).if-true
-    (or-last (marked (strict_lower (pos k)) (has_lower (pos k)) f) (marked (strict_upper (pos k)) (has_upper (pos k)) g) t)
+    (or-last (marked (strict_lower (pos k)) (has_lower (pos k)) f)
+    (marked (strict_upper (pos k)) (has_upper (pos k)) g) t)
   where
     or-last : {a b c : Bool} → a ≡ false → b ≡ false → (a || b || c) ≡ true → c ≡ true
     or-last {a} {b} {c} p q t = rw (p, q) at t

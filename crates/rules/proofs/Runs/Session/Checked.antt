@@ -7,7 +7,8 @@
 --                                  are those of the end of the run
 --   rested-checked                 the state that is kept is the one at the run's end
 --   count-checked                  word 1 is below the bound, conflict or not
---   check-exactly                  7 exactly where the output is too short, else 0 (`check_table` of Facts/Runs/Session)
+--   check-exactly                  7 exactly where the output is too short, else 0 (`check_table` of
+--   Facts/Runs/Session)
 --   output-length, output-past     an output keeps its length and the words past the answer
 --   check-fine                     .. and 0 exactly where it is not
 --   check-kept                     a check that is refused changes neither session nor output

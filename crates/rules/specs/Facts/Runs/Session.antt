@@ -6,7 +6,8 @@
 --   check_table               when a check is refused
 --   Fair, Sworn              what every session handed back has: a check may start from it, and its flags are right
 --   live_problem              the problem that a check is about
-use Rattle.std.specs.Prelude.{Bool, false, true, List, [], ◌∷◌, ◌↔◌, ◌≢◌, ◌⊎◌, ◌≡◌, ℕ, ◌*◌, ◌+◌, ◌<◌, ◌≤◌, pos, ℤ, length}
+use Rattle.std.specs.Prelude.{Bool, false, true, List, [], ◌∷◌, ◌↔◌, ◌≢◌, ◌⊎◌, ◌≡◌, ℕ, ◌*◌, ◌+◌, ◌<◌, ◌≤◌, pos, ℤ}
+use Rattle.std.specs.Prelude.{length}
 use Rattle.std.proofs.Math.Option.{Option, none, some}
 use Rattle.whole.specs.Values.{Le, Lt, Values}
 use Rattle.rules.specs.Facts.Refusal.{Line, line_of}

@@ -19,7 +19,7 @@ use Rattle.rules.proofs.Runs.Session.Sliced.{check-sliced}
 use Rattle.rules.proofs.Runs.Slices.{on-way-start}
 use Rattle.rules.specs.Problem.{Problem, vars}
 use Rattle.rules.specs.Refusal.{first}
-use Rattle.rules.specs.Run.{after, bound}
+use Rattle.rules.specs.Run.{bound}
 use Rattle.rules.specs.Runs.Session.{check_answer, check_length, check_refusal, live_of, rested}
 use Rattle.rules.specs.Runs.Slices.{continued, slice_length, slice_output}
 use Rattle.rules.specs.Runs.Session as rules

@@ -38,7 +38,6 @@ use Rattle.solver.proofs.Laws.Refusals.{accepted-of}
 use Rattle.slices.specs.Slices.{started_problem, started_words}
 use Rattle.slices.proofs.Laws.Stands.Start.{started-fine}
 use Rattle.session.specs.declared.Opened.{Opened}
-use Rattle.session.specs.declared.Session.{Session}
 use Rattle.session.specs.Sessions.{Flags, SessionHolds, Offers, OpensAs, opened_at}
 use Rattle.session.specs.Switching.{all_off, handed_in, zero_values, off_limits, quiet_at, switched_to}
 use Rattle.session.proofs.Laws.Stands.Furnished.{stands-furnished}

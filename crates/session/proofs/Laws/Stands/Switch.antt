@@ -112,7 +112,8 @@ module _ (s : Session) (v : ℕ) (upper on : Bool) where
   by_number k q = ap (λ j. switched_by j s v upper on) (sym q)
 
   pub refused-unknown : many_of t ≤ v → record { refused = 41; session = s } ≡ switched_at s v upper on
-  refused-unknown h = by_number 41 (unfold refusal_at in first-hit 41 (limit_tests g on) (ap not (le-ltb v (many_of t) h)))
+  refused-unknown h =
+      by_number 41 (unfold refusal_at in first-hit 41 (limit_tests g on) (ap not (le-ltb v (many_of t) h)))
 
   past_first : v < many_of t → refusal_at t v upper on ≡ limit_refusal g on
   unfolding refusal_at

@@ -1,16 +1,9 @@
 -- `session::switching::quiet` meets its contract. Assumes nothing.
 use mathlib.Core.List.{List}
 use mathlib.Core.Path.{ap₂}
-use borrow.Author.Rules.{rules}
 use Rattle.amounts.specs.declared.Given.{Given}
 use Rattle.session.specs.Switching.{furnished, zero_values, quiet_at}
 use Rattle.session.proofs.switching.quiet.Goals as goal
-
-pub all_off-lower-requires : goal.all_off-lower-requires
-all_off-lower-requires c = search rules
-
-pub all_off-upper-requires : goal.all_off-upper-requires
-all_off-upper-requires c = search rules
 
 pub returns : goal.returns
 unfolding quiet_at

@@ -1,14 +1,7 @@
 -- `session::switching::turned` meets its contract. Assumes nothing.
 use mathlib.Core.Path.{ap, ◌∙◌}
-use borrow.Author.Rules.{rules}
 use Rattle.session.specs.Switching.{furnished, settled_at, turned_at}
 use Rattle.session.proofs.switching.turned.Goals as goal
-
-pub flagged-limits-requires : goal.flagged-limits-requires
-flagged-limits-requires c = search rules
-
-pub settled-requires : goal.settled-requires
-settled-requires c = search rules
 
 pub returns : goal.returns
 unfolding turned_at

@@ -97,9 +97,9 @@ module _ (c : After-count_at-2) where
   few : many ≤ most_variables
   few = rw many_is (vars-few (rows (solved judged)) (few-rows (solved judged)) ws (fine judged))
 
-  output-is : (solved judged).solve_within-number.last.1.1.0 ≡ written 0 ws (replicate most_answer (pos 0))
+  output-is : (solved judged).solve_within-number.new.out ≡ written 0 ws (replicate most_answer (pos 0))
   output-is = (solved judged).solve_within-number.ensures.output
-      ∙ ap (λ (j : ℕ). written j ws (replicate most_answer (pos 0))) judged.if-number-ne0.left
+      ∙ ap (λ (j : ℕ). written j ws (replicate most_answer (pos 0))) judged.if-number-ne0.false
 
 pub overflow_add-variables : goal.overflow_add-variables
 overflow_add-variables c = let h = few c in omega arith

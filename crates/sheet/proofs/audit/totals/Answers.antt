@@ -9,10 +9,9 @@ use native.Mathlib.Numerals.{add-one}
 use native.Mathlib.Omega.{arith}
 use lib.IntN.{ℤ}
 use lib.ListN.{drop, length, take}
-use Rattle.rules.specs.Bundle.File.{bodies_in, count_in, edition_in, rows_in}
+use Rattle.rules.specs.Bundle.File.{count_in, edition_in}
 use Rattle.rules.specs.Bundle.Facts.{FileAccepted}
 use Rattle.rules.specs.Refusal.{rows_within}
-use Rattle.rules.specs.Sheet.Totals.{body_at}
 use Rattle.rules.proofs.Bundle.Bodies.{body-at}
 use Rattle.rules.proofs.Bundle.Places.{bodies-counted, edition-rows}
 use Rattle.bundle.specs.declared.body.Part.{Part}
@@ -21,14 +20,9 @@ use Rattle.tally.specs.Counting.{audited_at}
 use Rattle.tally.specs.Sums.{totals_of}
 use Rattle.tally.proofs.Laws.More.{audited-more}
 use Rattle.tally.proofs.Laws.Ready.{nothing_yet, totals-countable}
+use Rattle.sheet.proofs.audit.totals.Invariants.{bodies, rows_for}
 use Rattle.sheet.proofs.audit.totals.Goals as goal
 use Rattle.sheet.proofs.audit.totals.Goals.{After-part_of-part, In-loop-i, Start}
-
-abbrev rows_for : List ℤ → ℕ
-rows_for words = rows_in (edition_in words)
-
-abbrev bodies : List ℤ → ℕ → List ℤ
-bodies words = body_at (bodies_in words)
 
 pub rows_of-rows-requires : goal.rows_of-rows-requires
 rows_of-rows-requires c = c.requires
@@ -60,8 +54,8 @@ module _ (c : In-loop-i) where
   in_count : i < count_in words
   in_count = omega (arith, c.count_at-bodies.ensures)
 
-  rows_are : c.rows_of_lem.result ≡ rows_for words
-  rows_are = c.rows_of_lem.ensures
+  rows_are : c.rows_of-rows.result ≡ rows_for words
+  rows_are = c.rows_of-rows.ensures
 
 pub part_of-part-requires : goal.part_of-part-requires
 part_of-part-requires c = ((begin c).requires, in_count c)
@@ -111,7 +105,7 @@ within-is words rows e = ap rows_within e ∙ min-eq_left (edition-rows (edition
 
 pub loop-i-preserved : goal.loop-i-preserved
 loop-i-preserved c = let k = c in let t = turn c.before.before in
-    let r = t.rows_of_lem.result in (
+    let r = t.rows_of-rows.result in (
       omega (arith, in_count t),
       c.audited-sums.ensures
           ∙ ap₂ (λ s w. audited_at (rows_within r) s w (i t)) t.loop-i.invariant.1 (part-is c.before.before)

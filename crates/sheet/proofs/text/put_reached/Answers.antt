@@ -18,33 +18,25 @@ body-named : {r : Reached} (i : ℕ) → r ≡ Body i → body_name (reached_nam
 unfolding body_name reached_name
 body-named i e = rw e refl
 
-pub enum_told-1 : goal.enum_told-1
-enum_told-1 c = search rules
-
 pub put_text-requires : goal.put_text-requires
 unfolding ascii
-put_text-requires c = let o = c in let s = c in
-    subst (Room s.args.at) (none_named o.enum_told-1.given.1) s.requires
+put_text-requires c = subst (Room c.args.at) (none_named c.in-Nobody.is) c.requires
 
 pub enum_known-reached : goal.enum_known-reached
 enum_known-reached c = search rules
 
 pub put_digits-requires : goal.put_digits-requires
-put_digits-requires c =
-    let o = c in let s = c in
-    subst (Room s.args.at) (body-named _ o.reached-1.given.1) s.requires
+put_digits-requires c = subst (Room c.args.at) (body-named _ c.in-Body.is) c.requires
 
 pub shape_of-out-in-Nobody : goal.shape_of-out-in-Nobody
 shape_of-out-in-Nobody c = search rules
 
 pub returns-in-Nobody : goal.returns-in-Nobody
 unfolding ascii
-returns-in-Nobody c = let o = c in
-    rw (none_named o.enum_told-1.given.1) c.put_text.ensures
+returns-in-Nobody c = rw (none_named c.in-Nobody.is) c.put_text.ensures
 
 pub shape_of-out-in-Body : goal.shape_of-out-in-Body
 shape_of-out-in-Body c = search rules
 
 pub returns-in-Body : goal.returns-in-Body
-returns-in-Body c = let o = c in
-    rw (body-named _ o.reached-1.given.1) c.put_digits.ensures
+returns-in-Body c = rw (body-named _ c.in-Body.is) c.put_digits.ensures

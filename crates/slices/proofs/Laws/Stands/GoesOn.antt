@@ -25,7 +25,8 @@ module _ (s : Slice) (b : ℕ) (before : List ℤ) where
   short = is_short (length before) (many_of s.tableau)
 
   by-room : (x : Bool) → short ≡ x →
-      (went_on_where x s b ≡ went_on_at s b (length before)) × (slice_output_where x s b before ≡ slice_output_at s b before)
+      (went_on_where x s b ≡ went_on_at s b (length before)) ×
+      (slice_output_where x s b before ≡ slice_output_at s b before)
   unfolding went_on_at slice_output_at
   by-room x q = (ap (λ y. went_on_where y s b) (sym q), ap (λ y. slice_output_where y s b before) (sym q))
 

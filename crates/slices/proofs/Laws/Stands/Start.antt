@@ -13,7 +13,8 @@ use Rattle.whole.specs.Numbers.{outside, within}
 use Rattle.whole.specs.Values.{pairs}
 use Rattle.rules.specs.Limit.{bad_kind_word, bad_limit_word, bit}
 use Rattle.rules.specs.Problem.{inner, problem}
-use Rattle.rules.specs.Refusal.{bad_coefficient, bad_kind, bad_length, bad_limit, bad_size, blank_row, first, problem_refusal}
+use Rattle.rules.specs.Refusal.{bad_coefficient, bad_kind, bad_length, bad_limit, bad_size, blank_row, first}
+use Rattle.rules.specs.Refusal.{problem_refusal}
 use Rattle.rules.specs.Refusal.{problem_tests, some_blank, too_few}
 use Rattle.rules.specs.Runs.Slices.{begun}
 use Rattle.tableau.specs.declared.Tableau.{Tableau}
@@ -23,7 +24,8 @@ use Rattle.slices.specs.declared.Begun.{Begun}
 use Rattle.slices.specs.Slices.{SliceHolds, StartsAs, begun_at, idle, started_problem, started_words}
 
 pub idle-fine : problem_refusal idle ≡ 0
-unfolding problem_refusal problem_tests first too_few bad_size bad_length bad_coefficient bad_kind bad_limit some_blank blank_row
+unfolding problem_refusal problem_tests first too_few bad_size bad_length bad_coefficient bad_kind bad_limit
+    some_blank blank_row
     bad_kind_word bad_limit_word bit some_below all_below outside within
 idle-fine = refl
 
@@ -37,7 +39,8 @@ module _ (ws : List ℤ) where
 
   begun-holds : SliceHolds (begun pairs (inner (started_problem ws))) (begun_at ws).slice
   unfolding begun_at
-  begun-holds = holds-start (started_words (problem_refusal ws) ws) (start_tableau (started_problem ws)) refl started-fine
+  begun-holds = holds-start (started_words (problem_refusal ws) ws) (start_tableau (started_problem ws)) refl
+      started-fine
 
   begun-as : StartsAs ws (begun_at ws)
   unfolding begun_at

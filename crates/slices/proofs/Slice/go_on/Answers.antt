@@ -1,45 +1,26 @@
 -- `slices::Slice::go_on` meets its contract: 7 where there is no room for an answer, else what spending the pivots
 -- comes to. Assumes nothing.
-use mathlib.Core.Bool.{false}
-use mathlib.Core.Path.{◌≡◌, ap, sym, ◌∙◌}
-use borrow.Author.Rules.{rules}
+use mathlib.Core.Path.{ap, sym, ◌∙◌}
 use borrow.Author.Tests.{ltb-false}
-use lib.ListN.{length}
-use Rattle.answers.specs.Answer.{is_short}
-use Rattle.solver.specs.Spend.{many_of}
 use Rattle.slices.specs.Slices.{went_on_by}
 use Rattle.slices.proofs.Laws.Stands.GoesOn.{goes-on-as, slice-long, slice-short}
 use Rattle.slices.proofs.Slice.go_on.Goals as goal
-use Rattle.slices.proofs.Slice.go_on.Goals.{Else-is_short, Start}
-
-pub overflow_add-variables : goal.overflow_add-variables
-overflow_add-variables c = search rules
-
-pub is_short-requires : goal.is_short-requires
-is_short-requires c = search rules
 
 pub returns-then-is_short : goal.returns-then-is_short
-returns-then-is_short c = let o = c in let s = c in let a = s.args in
-    let e = slice-short a.self a.pivots a.out.now (sym o.is_short.ensures ∙ c.if-is_short.true) in
-    (e.0, (e.1, goes-on-as a.self a.pivots a.out.now s.requires e.0 e.1))
+returns-then-is_short c = let a = c.args in
+    let e = slice-short a.self a.pivots a.out.now (sym c.is_short.ensures ∙ c.if-is_short.true) in
+    record { exact = e.0; output = e.1; meaning = goes-on-as a.self a.pivots a.out.now c.requires e.0 e.1 }
 
 -- there is room
-module _ (c : Else-is_short) where
-  abbrev start : Start
-  start = c.before.before.before.before
-
-  room : is_short (length start.args.out.now) (many_of start.args.self.tableau) ≡ false
-  room = sym c.is_short.ensures ∙ c.if-is_short.false
-
 pub spend-spent-requires : goal.spend-spent-requires
-spend-spent-requires c = let o = c in record { standing = (start c.before).requires; columns_in_bounds = ltb-false _ _ (room c.before) }
-
-pub shape_of-out : goal.shape_of-out
-shape_of-out c = search rules
+spend-spent-requires c = record {
+  standing = c.requires;
+  columns_in_bounds = ltb-false _ _ (sym c.is_short.ensures ∙ c.if-is_short.false);
+}
 
 pub returns : goal.returns
-returns c = let o = c in let s = start c.before.before.before.before in let a = s.args in
-    let e = slice-long a.self a.pivots a.out.now (room c.before.before.before.before) in
+returns c = let a = c.args in
+    let e = slice-long a.self a.pivots a.out.now (sym c.is_short.ensures ∙ c.if-is_short.false) in
     let r = ap went_on_by c.spend-spent.ensures.state ∙ e.0 in
     let l = c.spend-spent.ensures.output ∙ e.1 in
-    (r, (l, goes-on-as a.self a.pivots a.out.now s.requires r l))
+    record { exact = r; output = l; meaning = goes-on-as a.self a.pivots a.out.now c.requires r l }

@@ -160,7 +160,8 @@ module _ {P : Problem (ℤ × ℤ)} {t : Tableau} {s : State (ℤ × ℤ)} {r : 
   cell-next i j h k =
       same_place i j ∙ cell-live (flat m n i j) (live-place M.stands.sized i j h k)
       ∙ ap (λ z. quot_z z (divisor N T1)) (mixed-flat i j h k)
-      ∙ sym (entry_next (basic_at (after_turn M) i) (nonbasic_at (after_turn M) j) ((placed-next M).in_row i h).variable-in
+      ∙ sym (entry_next (basic_at (after_turn M) i) (nonbasic_at (after_turn M) j)
+      ((placed-next M).in_row i h).variable-in
       ((placed-next M).in-column j k).variable-in)
 
   unused-next : (k : ℕ) → live P.m P.n ≤ k → cell (after_turn M) k ≡ pos 0

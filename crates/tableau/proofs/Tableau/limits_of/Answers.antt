@@ -3,17 +3,15 @@
 use mathlib.Core.Path.{◌≡◌, sym, ◌∙◌, ap, ap₂}
 use mathlib.Core.Bool.{Bool, ◌||◌}
 use mathlib.Core.List.{List}
-use Prim.Native.Nat.{ℕ, ◌+◌, ◌*◌, ◌-◌, ◌≤◌, ◌<◌}
+use Prim.Native.Nat.{ℕ, ◌+◌, ◌*◌, ◌≤◌, ◌<◌}
 use native.Mathlib.Omega.{arith}
 use native.Mathlib.Numerals.{add-one}
-use borrow.Author.Rules.{sfits_of}
+use borrow.Author.Rules.{rules}
 use lib.IntN.{ℤ}
 use lib.ListN.{replicate}
 use mir.Facts.{to_z-of_z}
 use mir.Syntax.{w32}
 use mir.Val.{SFits}
-use Rattle.whole.specs.Below.{some_below}
-use Rattle.whole.specs.Tables.{filled}
 use Rattle.whole.proofs.Lists.Below.{some_more, some-start}
 use Rattle.whole.proofs.Lists.Prefix.{filled-start, filled_more}
 use Rattle.rules.specs.Sizes.{most_variables, most_words}
@@ -26,14 +24,10 @@ use Rattle.amounts.specs.Amounts.{absent}
 use Rattle.tableau.specs.declared.Limits.{Limits}
 use Rattle.tableau.specs.Start.{given_of, limits_for, strict_at}
 use Rattle.tableau.proofs.Laws.Read.{lower-read, marks-read, upper-read}
+use Rattle.tableau.proofs.Tableau.limits_of.Invariants.{Passed}
 use Rattle.tableau.proofs.Tableau.limits_of.Goals as goal
-use Rattle.tableau.proofs.Tableau.limits_of.Goals.{After-lower_given-missing, After-some_strict-strict, In-loop-v, Start}
-
--- the limits of the variables below v are read
-record Passed (P : Problem Limit) (v : ℕ) (lower upper : List Given) (strict : Bool) : Type 0 where
-  lower-are : lower ≡ filled most_variables absent v (λ u. given_of (P.lower u))
-  upper-are : upper ≡ filled most_variables absent v (λ u. given_of (P.upper u))
-  strict-is : strict ≡ some_below v (strict_at P)
+use Rattle.tableau.proofs.Tableau.limits_of.Goals.{After-lower_given-missing, After-some_strict-strict, In-loop-v}
+use Rattle.tableau.proofs.Tableau.limits_of.Goals.{Start}
 
 all-passed : (P : Problem Limit) (v : ℕ) (lower upper : List Given) (strict : Bool) →
     Passed P v lower upper strict → v ≡ vars P →
@@ -148,13 +142,13 @@ module _ (c : After-some_strict-strict) where
   turn = c.before.before.before.before.before.before
 
   read-kind : SFits w32 (word (ws turn) (place turn))
-  read-kind = sfits_of c.kind-1.given
+  read-kind = search rules
 
   read_lower : SFits w32 (word (ws turn) (place turn + 1))
-  read_lower = sfits_of c.lower_given-arg-1.given
+  read_lower = search rules
 
   read_upper : SFits w32 (word (ws turn) (place turn + 2))
-  read_upper = sfits_of c.upper_given-arg-1.given
+  read_upper = search rules
 
   lower-told : c.lower_given.result ≡ given_of ((problem (ws turn)).lower (v turn))
   lower-told = (simp (to_z-of_z read-kind, to_z-of_z read_lower) at c.lower_given.ensures)

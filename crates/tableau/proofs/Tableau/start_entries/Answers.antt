@@ -1,7 +1,7 @@
 -- `tableau::Tableau::start_entries` meets its contract. The invariant: the lines passed are the definition's, the other
 -- cells 0. The measure is the lines left. Assumes nothing.
 use mathlib.Core.Path.{◌≡◌, ◌∙◌, ap₂}
-use Prim.Native.Nat.{ℕ, ◌-◌, ◌<◌}
+use Prim.Native.Nat.{ℕ, ◌<◌}
 use native.Mathlib.Omega.{arith}
 use borrow.Author.Rules.{rules}
 use lib.IntN.{ℤ}
@@ -17,11 +17,13 @@ use Rattle.tableau.proofs.Tableau.start_entries.Tie as tie
 -- places of the code, as records of what is known there
 abbrev In-loop : Type 0
 In-loop =
-    lts.In-loop tie.the-claims reads.Pre reads.Post goal.the-invariant-loop-line goal.the-decreases-loop-line tie.handed_clauses
+    lts.In-loop tie.the-claims reads.Pre reads.Post goal.the-invariant-loop-line goal.the-decreases-loop-line
+    tie.handed_clauses
 
 abbrev Start : Type 0
 Start =
-    lts.Start tie.the-claims reads.Pre reads.Post goal.the-invariant-loop-line goal.the-decreases-loop-line tie.handed_clauses
+    lts.Start tie.the-claims reads.Pre reads.Post goal.the-invariant-loop-line goal.the-decreases-loop-line
+    tie.handed_clauses
 
 abbrev cell : Start → ℕ → ℤ
 cell s k = (problem s.args.words.now).coefficient (row_at s.args.rows s.args.columns k)
@@ -31,14 +33,18 @@ pub lines-lines-requires : goal.lines-lines-requires
 lines-lines-requires c = search rules
 
 pub loop-line-init : goal.loop-line-init
-loop-line-init c = let s = c in (omega arith, lines_start s.args.rows s.args.columns (cell s))
+loop-line-init c = let s : Start = c.before in (omega arith, lines_start s.args.rows s.args.columns (cell s))
 
 in_lines : (c : In-loop) → let s = c in
     c.loop-line.line < lines s.args.rows s.args.columns
 in_lines c = rw (← c.lines-lines.ensures) (omega arith)
 
 pub start_line-requires : goal.start_line-requires
-start_line-requires c = let i = c in (i.requires, (in_lines c.before, i.loop-line.invariant.1))
+start_line-requires c = record {
+  framed = c.requires;
+  line_bound = in_lines c.before;
+  entries_value = c.loop-line.invariant.1;
+}
 
 pub overflow_step-line : goal.overflow_step-line
 overflow_step-line c = omega arith
@@ -52,7 +58,7 @@ loop-line-preserved c = (omega arith, c.start_line.ensures)
 pub returns : goal.returns
 unfolding problem
 returns c =
-    let s = c in
+    let s : Start = c.before.before.before in
     let e : c.loop-line.line ≡ c.lines-lines.result = omega arith in
     lines-all s.args.rows s.args.columns (cell s) (e ∙ c.lines-lines.ensures)
     c.loop-line.invariant.1

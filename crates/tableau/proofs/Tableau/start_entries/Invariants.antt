@@ -3,7 +3,7 @@
 use mathlib.Core.Path.{◌≡◌}
 use Prim.Native.Nat.{◌-◌, ◌≤◌}
 use Rattle.rules.specs.Problem.{problem}
-use Rattle.layout.specs.Layout.{lines, line_at}
+use Rattle.layout.specs.Layout.{line_at}
 use Rattle.tableau.specs.Start.{start_up_to}
 use Rattle.tableau.proofs.Tableau.start_entries.Given as goal
 

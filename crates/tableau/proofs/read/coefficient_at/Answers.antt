@@ -24,7 +24,8 @@ module _ (s : Start) where
   place = s.args.row.0 * s.args.columns + s.args.column.0
 
   in_words : 2 + place < length ws
-  in_words = coefficient-in s.requires.framed s.args.row.0 s.args.column.0 s.requires.row_lt_rows.0 s.requires.row_lt_rows.1
+  in_words = coefficient-in s.requires.framed s.args.row.0 s.args.column.0 s.requires.row_lt_rows.0
+      s.requires.row_lt_rows.1
 
   few : length ws ≤ most_words
   few = omega (arith, few_words s.requires.framed, s.requires.framed.exact)
@@ -50,7 +51,8 @@ offset_bounds-words-at c = omega (arith, in_words c.before.before, few c.before.
 pub bounds-words-at : goal.bounds-words-at
 bounds-words-at c = in_words c.before.before
 
-read : (c : After-result-1) → let s = c in SFits w32 (word (ws c.before.before.before) (2 + place c.before.before.before))
+read : (c : After-result-1) → let s = c in SFits w32 (word (ws c.before.before.before)
+    (2 + place c.before.before.before))
 read c = sfits_of c.result-1.given
 
 pub returns : goal.returns

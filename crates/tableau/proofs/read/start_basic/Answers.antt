@@ -1,17 +1,13 @@
 -- `tableau::read::start_basic` meets its contract. The invariant: the places passed hold the definition's variables.
 -- The measure is the places left. Assumes nothing.
 use mathlib.Core.Path.{◌≡◌, refl, ◌∙◌, ap}
-use Prim.Native.Nat.{ℕ, ◌+◌, ◌-◌}
 use native.Mathlib.Omega.{arith}
 use Rattle.whole.specs.Tables.{filled}
 use Rattle.whole.proofs.Lists.Prefix.{filled-start, filled_more, filled-all}
 use Rattle.rules.specs.Sizes.{most_rows}
-use Rattle.tableau.specs.declared.Variable.{Variable}
 use Rattle.tableau.specs.Parts.{variable}
+use Rattle.tableau.proofs.read.start_basic.Invariants.{row-variable}
 use Rattle.tableau.proofs.read.start_basic.Goals as goal
-
-abbrev row-variable : ℕ → ℕ → Variable
-row-variable n i = variable (n + i)
 
 pub loop-i-init : goal.loop-i-init
 loop-i-init c = (omega arith, filled-start most_rows (variable 0) (row-variable c.args.columns))

@@ -1,11 +1,15 @@
 -- `tableau::read::start_basic` meets its contract. The invariant: the places passed hold the definition's variables.
 -- The measure is the places left. Assumes nothing.
 use mathlib.Core.Path.{◌≡◌}
-use Prim.Native.Nat.{◌-◌, ◌≤◌}
+use Prim.Native.Nat.{◌-◌, ◌≤◌, ℕ, ◌+◌}
 use Rattle.whole.specs.Tables.{filled}
 use Rattle.rules.specs.Sizes.{most_rows}
 use Rattle.tableau.specs.Parts.{variable}
+use Rattle.tableau.specs.declared.Variable.{Variable}
 use Rattle.tableau.proofs.read.start_basic.Given as goal
+
+abbrev pub row-variable : ℕ → ℕ → Variable
+row-variable n i = variable (n + i)
 
 abbrev pub invariant-loop-i : goal.invariant-loop-i
 invariant-loop-i l =

@@ -1,7 +1,7 @@
 -- `tableau::read::start_line` meets its contract. The invariant: the cells before this step of the line are the
 -- definition's, the others 0. The measure is the steps left. Assumes nothing.
 use mathlib.Core.Path.{◌≡◌, ◌∙◌, ap}
-use Prim.Native.Nat.{ℕ, ◌+◌, ◌-◌, ◌<◌}
+use Prim.Native.Nat.{ℕ, ◌+◌, ◌<◌}
 use native.Mathlib.Omega.{arith}
 use borrow.Author.Rules.{rules}
 use lib.IntN.{ℤ}
@@ -19,7 +19,7 @@ pub steps-steps-requires : goal.steps-steps-requires
 steps-steps-requires c = search rules
 
 pub line_at-start-requires : goal.line_at-start-requires
-line_at-start-requires c = let h = c.requires in (h.0.few-rows, h.0.few-columns, h.1.0)
+line_at-start-requires c = let h = c.requires in (h.framed.few-rows, h.framed.few-columns, h.line_bound)
 
 module _ (s : Start) where
   abbrev m : ℕ
@@ -35,8 +35,8 @@ module _ (s : Start) where
   cell k = (problem s.args.words.now).coefficient (row_at m n k) (column_at m n k)
 
 pub loop-step-init : goal.loop-step-init
-loop-step-init c = let s = c in
-    (omega arith, line-start (m c.before.before) (n c.before.before) (cell c.before.before) (line c.before.before) s.requires.entries_value)
+loop-step-init c = let s : Start = c.before.before in
+    (omega arith, line-start (m s) (n s) (cell s) (line s) c.requires.entries_value)
 
 -- a step
 module _ (c : In-loop-step) where
@@ -67,7 +67,10 @@ pub overflow_add-at : goal.overflow_add-at
 overflow_add-at c = omega (arith, in_cells c.before)
 
 pub coefficient_at-requires : goal.coefficient_at-requires
-coefficient_at-requires c = let i = c in record { framed = (start c.before.before.before).requires.framed; row_lt_rows = spot_in (on_line c.before.before.before) c.spot_at-spot.ensures }
+coefficient_at-requires c = record {
+  framed = c.requires.framed;
+  row_lt_rows = spot_in (on_line c.before.before.before) c.spot_at-spot.ensures;
+}
 
 -- what the call gives is the definition's number at this place
 module _ (c : After-coefficient_at) where
@@ -103,7 +106,6 @@ loop-step-preserved c = let i = here c in let s = start i in (
 
 pub returns : goal.returns
 returns c =
-    let h = c in
-    let s = c in
-    let e : h.loop-step.step ≡ h.steps-steps.result = omega arith in
-    line-all (m c.before.before.before.before) (n c.before.before.before.before) (cell c.before.before.before.before) (line c.before.before.before.before) (e ∙ h.steps-steps.ensures) h.loop-step.invariant.1
+    let s : Start = c.before.before.before.before in
+    let e : c.loop-step.step ≡ c.steps-steps.result = omega arith in
+    line-all (m s) (n s) (cell s) (line s) (e ∙ c.steps-steps.ensures) c.loop-step.invariant.1

@@ -9,7 +9,8 @@ use Rattle.tableau.proofs.read.start_line.Given as goal
 
 abbrev pub invariant-loop-step : goal.invariant-loop-step
 invariant-loop-step l =
-    (l.step ≤ l.steps) × (l.entries ≡ start_up_to (problem l.words) l.rows l.columns (line_at l.rows l.columns l.line + l.step))
+    (l.step ≤ l.steps) × (l.entries ≡ start_up_to (problem l.words) l.rows l.columns
+    (line_at l.rows l.columns l.line + l.step))
 
 abbrev pub decreases-loop-step : goal.decreases-loop-step
 decreases-loop-step l = l.steps - l.step

@@ -1,7 +1,6 @@
 -- `tableau::read::start_nonbasic` meets its contract. The invariant: the places passed hold the definition's variables.
 -- The measure is the places left. Assumes nothing.
 use mathlib.Core.Path.{◌≡◌, refl, ◌∙◌, ap}
-use Prim.Native.Nat.{◌-◌}
 use native.Mathlib.Omega.{arith}
 use Rattle.whole.specs.Tables.{filled}
 use Rattle.whole.proofs.Lists.Prefix.{filled-start, filled_more, filled-all}

@@ -1,7 +1,6 @@
 -- `tableau::read::start_seats` meets its contract. The invariant: the variables passed have the definition's seats. The
 -- measure is the variables left. Assumes nothing.
 use mathlib.Core.Path.{◌≡◌, ◌∙◌, ap}
-use Prim.Native.Nat.{◌-◌}
 use native.Mathlib.Omega.{arith}
 use borrow.Author.Rules.{rules}
 use Rattle.whole.proofs.Lists.Prefix.{filled-start, filled_more}

@@ -2,7 +2,7 @@
 -- others 0. The measure is the columns left. Assumes nothing.
 use mathlib.Core.Path.{◌≡◌, ◌∙◌, ap, ap₂}
 use mathlib.Core.List.{List}
-use Prim.Native.Nat.{ℕ, ◌-◌}
+use Prim.Native.Nat.{ℕ}
 use native.Mathlib.Omega.{arith}
 use borrow.Author.Rules.{rules}
 use lib.IntN.{ℤ, pos}
@@ -95,13 +95,14 @@ module _ (c : After-start_value) where
 
 pub loop-j-preserved : goal.loop-j-preserved
 loop-j-preserved c =
+    let here = c.before.before in
     let d = c in
-    simp (to_z-of_z (fit-plain c.before.before), to_z-of_z (fit_small c.before.before)) (
+    simp (to_z-of_z (fit-plain here), to_z-of_z (fit_small here)) (
       omega arith,
-      filled_more most_columns (pos 0) (plain_of (limits c.before.before)) (j c.before.before) (omega arith) (at c.before.before).loop-j.invariant.1
-          (ap (λ x. x.plain) (right c.before.before)),
-      filled_more most_columns (pos 0) (small_of (limits c.before.before)) (j c.before.before) (omega arith) (at c.before.before).loop-j.invariant.2
-          (ap (λ x. x.small) (right c.before.before)),
+      filled_more most_columns (pos 0) (plain_of (limits here)) (j here) (omega arith) (at here).loop-j.invariant.1
+          (ap (λ x. x.plain) (right here)),
+      filled_more most_columns (pos 0) (small_of (limits here)) (j here) (omega arith) (at here).loop-j.invariant.2
+          (ap (λ x. x.small) (right here)),
     )
 
 abbrev starts : List ℤ → List ℤ → Starts

@@ -1,7 +1,7 @@
 -- `timecheck::cycle::all_linked` meets its contract. The invariant: whether the rows passed lead to the next. The
 -- measure is how many are left. Assumes nothing.
 use mathlib.Core.Path.{◌≡◌, ap, sym, ◌∙◌}
-use Prim.Native.Nat.{ℕ, suc, ◌-◌}
+use Prim.Native.Nat.{ℕ, suc}
 use native.Mathlib.Numerals.{add-one}
 use native.Mathlib.Omega.{arith}
 use Rattle.whole.proofs.Lists.Below.{all_start}

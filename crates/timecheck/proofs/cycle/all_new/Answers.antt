@@ -1,7 +1,6 @@
 -- `timecheck::cycle::all_new` meets its contract. The invariant: whether the rows passed start at vertices of their
 -- own. The measure is how many are left. Assumes nothing.
 use mathlib.Core.Path.{◌≡◌, sym}
-use Prim.Native.Nat.{◌-◌}
 use native.Mathlib.Omega.{arith}
 use Rattle.whole.proofs.Lists.Below.{all_start}
 use Rattle.rules.proofs.Evidence.Joined.{tests-more}

@@ -1,7 +1,7 @@
 -- `timecheck::cycle::rows_named` meets its contract. The invariant: whether the words passed are from 0 to below
 -- `most`. The measure is how many are left. Assumes nothing.
 use mathlib.Core.Path.{◌≡◌, ap, refl, sym, ◌∙◌}
-use Prim.Native.Nat.{ℕ, ◌+◌, ◌-◌}
+use Prim.Native.Nat.{ℕ, ◌+◌}
 use native.Mathlib.Omega.{arith}
 use borrow.Author.Rules.{sfits_of}
 use mir.Facts.{to_z-of_z}

@@ -11,7 +11,6 @@ use lib.Signed.{◌≤ℤ◌}
 use mir.Facts.{Fits-nat_abs, to_z-of_z}
 use mir.Syntax.{w64}
 use mir.Val.{SFits, of_z, to_z}
-use Rattle.whole.proofs.Bools.{not-false, not-true}
 use Rattle.whole.proofs.Numbers.Sizes.{fits-abs}
 use Rattle.whole.proofs.Numbers.Tests.{above, not_neg, under-size}
 use Rattle.whole.proofs.Tells.{tells-outside}
@@ -115,7 +114,7 @@ module _ (c : After-rows_named) where
 
 pub returns-then-not-rows_named : goal.returns-then-not-rows_named
 returns-then-not-rows_named c = let b = c in
-    sym (by_rows_lem (ws c.before.before.before.before.before) (a c.before.before.before.before.before) (inside c.before.before) (sym (rows_are c.before) ∙ not-true _ c.if-not-rows_named.true))
+    sym (by_rows_lem (ws c.before.before.before.before.before) (a c.before.before.before.before.before) (inside c.before.before) (sym (rows_are c.before) ∙ c.if-not-rows_named.true))
 
 -- ---- they are rows
 
@@ -127,7 +126,7 @@ module _ (c : Else-not-rows_named) where
   second = s c.before
 
   rows : all_below (K second) (is_row (ws second) (a second)) ≡ true
-  rows = sym (rows_are c.before) ∙ not-false _ c.if-not-rows_named.false
+  rows = sym (rows_are c.before) ∙ c.if-not-rows_named.false
 
   named : Named (ws second) (a second) (K second)
   named = named_by (ws second) (a second) second.requires.fine.0 (short counted) (long counted) rows
@@ -144,7 +143,8 @@ pub overflow_sub-count : goal.overflow_sub-count
 overflow_sub-count c = omega (arith, here c)
 
 pub all_linked-requires : goal.all_linked-requires
-all_linked-requires c = simp (to_z-of_z (read c.before.before)) (named c, let h = some c.before.before in omega (arith, h))
+all_linked-requires c = let h = some c.before.before in
+    simp (to_z-of_z (read c.before.before)) (record { named = named c; last_bound = omega (arith, h) })
 
 module _ (c : After-all_linked) where
   links-are : c.all_linked.result ≡ links_on (ws c.before.before.before.before.before.before) (a c.before.before.before.before.before.before)
@@ -152,21 +152,22 @@ module _ (c : After-all_linked) where
 
 pub returns-then-not-all_linked : goal.returns-then-not-all_linked
 returns-then-not-all_linked c = let b = c in
-    sym (tests c.before.before ∙ rw (sym (links-are c.before) ∙ not-true _ c.if-not-all_linked.true) refl)
+    sym (tests c.before.before ∙ rw (sym (links-are c.before) ∙ c.if-not-all_linked.true) refl)
 
 module _ (c : Else-not-all_linked) where
   abbrev known : Else-not-rows_named
   known = c.before.before
 
   all-link : links_on (ws (second known)) (a (second known)) ≡ true
-  all-link = sym (links-are c.before) ∙ not-false _ c.if-not-all_linked.false
+  all-link = sym (links-are c.before) ∙ c.if-not-all_linked.false
 
 pub overflow_sub-count-2 : goal.overflow_sub-count-2
 overflow_sub-count-2 c = omega (arith, here c.before.before)
 
 pub is_linked-requires : goal.is_linked-requires
 is_linked-requires c = let h = some (counted c.before.before) in
-    simp (to_z-of_z (read (counted c.before.before))) (named c.before.before, (omega (arith, h), omega (arith, h)))
+    simp (to_z-of_z (read (counted c.before.before)))
+    (record { named = named c.before.before; j_lt_count = (omega (arith, h), omega (arith, h)) })
 
 module _ (c : After-is_linked) where
   closes-is : c.is_linked.result ≡ links_back (ws (second c.before.before.before)) (a (second c.before.before.before))
@@ -174,14 +175,14 @@ module _ (c : After-is_linked) where
 
 pub returns-then-not-is_linked : goal.returns-then-not-is_linked
 returns-then-not-is_linked c = let b = c in
-    sym (tests c.before.before.before.before ∙ rw (all-link c.before.before, sym (closes-is c.before) ∙ not-true _ c.if-not-is_linked.true) refl)
+    sym (tests c.before.before.before.before ∙ rw (all-link c.before.before, sym (closes-is c.before) ∙ c.if-not-is_linked.true) refl)
 
 module _ (c : Else-not-is_linked) where
   abbrev linked : Else-not-all_linked
   linked = c.before.before
 
   closed : links_back (ws (second (known linked))) (a (second (known linked))) ≡ true
-  closed = sym (closes-is c.before) ∙ not-false _ c.if-not-is_linked.false
+  closed = sym (closes-is c.before) ∙ c.if-not-is_linked.false
 
 pub all_new-requires : goal.all_new-requires
 all_new-requires c = let k = known c.before.before in simp (to_z-of_z (read (counted k))) (named k)
@@ -193,7 +194,7 @@ module _ (c : After-all_new) where
 pub returns-then-not-all_new : goal.returns-then-not-all_new
 returns-then-not-all_new c = let b = c in let e = c in
     sym (tests (known c.before.before.before.before)
-    ∙ rw (all-link c.before.before.before.before, closed c.before.before, sym (news-are c.before) ∙ not-true _ c.if-not-all_new.true) refl)
+    ∙ rw (all-link c.before.before.before.before, closed c.before.before, sym (news-are c.before) ∙ c.if-not-all_new.true) refl)
 
 module _ (c : Else-not-all_new) where
   abbrev round : Else-not-is_linked
@@ -203,17 +204,17 @@ module _ (c : Else-not-all_new) where
   base = known (linked round)
 
   all-news : all_new (ws (second base)) (a (second base)) ≡ true
-  all-news = sym (news-are c.before) ∙ not-false _ c.if-not-all_new.false
+  all-news = sym (news-are c.before) ∙ c.if-not-all_new.false
 
 pub word_sum-plain-requires : goal.word_sum-plain-requires
-word_sum-plain-requires c =
-    simp (to_z-of_z (read (counted c.before.before.before.before.before.before)))
-    (named c.before.before.before.before.before.before, lengths-summed (ws (second c.before.before.before.before.before.before)) (second c.before.before.before.before.before.before).requires.fine.0)
+word_sum-plain-requires c = let k : Else-not-rows_named = base c in
+    simp (to_z-of_z (read (counted k)))
+    (record { named = named k; summable = lengths-summed (ws (second k)) (second k).requires.fine.0 })
 
 pub word_sum-strict-requires : goal.word_sum-strict-requires
-word_sum-strict-requires c = let e = c in
-    simp (to_z-of_z (read (counted c.before.before.before.before.before.before.before)))
-    (named c.before.before.before.before.before.before.before, stricts-summed (ws (second c.before.before.before.before.before.before.before)) (second c.before.before.before.before.before.before.before).requires.fine.0)
+word_sum-strict-requires c = let k : Else-not-rows_named = base c.before in
+    simp (to_z-of_z (read (counted k)))
+    (record { named = named k; summable = stricts-summed (ws (second k)) (second k).requires.fine.0 })
 
 module _ (c : After-is_bad) where
   abbrev summed : After-word_sum-strict
@@ -239,7 +240,7 @@ returns-then-not-is_bad c = let b = c in let e = passed c.before in
       all-link (linked (round e)),
       closed (round e),
       all-news e,
-      sym (bad-is c.before) ∙ not-true _ c.if-not-is_bad.true,
+      sym (bad-is c.before) ∙ c.if-not-is_bad.true,
     ) refl)
 
 module _ (c : Else-not-is_bad) where
@@ -250,7 +251,7 @@ module _ (c : Else-not-is_bad) where
   last = second (base apart)
 
   is-bad : bad_around (ws last) (a last) ≡ true
-  is-bad = sym (bad-is c.before) ∙ not-false _ c.if-not-is_bad.false
+  is-bad = sym (bad-is c.before) ∙ c.if-not-is_bad.false
 
 pub overflow_mul-n : goal.overflow_mul-n
 overflow_mul-n c = omega (arith, few c.before.before.before.before.before.before.before.before.before.before.before.before.before.before.before)

@@ -2,7 +2,7 @@
 -- the largest length. The measure is how many are left. Assumes nothing.
 use mathlib.Core.List.{List}
 use mathlib.Core.Path.{◌≡◌, ap, refl, subst, sym, ◌∙◌}
-use Prim.Native.Nat.{ℕ, ◌+◌, ◌*◌, ◌-◌, ◌<◌, ◌≤◌}
+use Prim.Native.Nat.{ℕ, ◌+◌, ◌*◌, ◌<◌, ◌≤◌}
 use native.Mathlib.Omega.{arith}
 use borrow.Author.Rules.{sfits_of}
 use lib.IntN.{ℤ, ◌+ℤ◌}
@@ -95,7 +95,7 @@ module _ (c : After-sum-1) where
   more = ap (λ (z : ℤ). up_to (j row) +ℤ z) term_is ∙ sym (sum_step (j row) term)
 
   there : j row < o.args.count
-  there = row.loop-j-test.taken
+  there = row.loop-j-test.true
 
   fit-sum : SFits w64 (up_to (j row) +ℤ read)
   unfolding word_sum

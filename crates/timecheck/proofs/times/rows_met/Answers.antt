@@ -1,7 +1,7 @@
 -- `timecheck::times::rows_met` meets its contract. The invariant: whether the rows passed are met. The measure is how
 -- many are left. Assumes nothing.
 use mathlib.Core.Path.{◌≡◌, sym}
-use Prim.Native.Nat.{◌-◌, ◌≤◌}
+use Prim.Native.Nat.{◌≤◌}
 use native.Mathlib.Omega.{arith}
 use Rattle.whole.proofs.Lists.Below.{all_start}
 use Rattle.rules.proofs.Times.Refused.{time-rows-few}

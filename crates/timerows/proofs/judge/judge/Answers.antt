@@ -2,7 +2,7 @@
 -- Assumes nothing.
 use mathlib.Core.Path.{◌≡◌, sym, ◌∙◌, ap}
 use mathlib.Core.Bool.{Bool, not}
-use mathlib.Core.List.{List, ◌∷◌}
+use mathlib.Core.List.{[], List, ◌∷◌}
 use Prim.Native.Nat.{ℕ, ◌+◌, ◌*◌, ◌≤◌}
 use native.Mathlib.Omega.{arith}
 use borrow.Author.Rules.{rules}
@@ -14,14 +14,17 @@ use Rattle.whole.proofs.Numbers.Tests.{under-size}
 use Rattle.rules.specs.Sizes.{most_vertices, most_time_rows}
 use Rattle.rules.specs.Problem.{word, n_of, m_of}
 use Rattle.rules.specs.Refusal.{first, too_few}
-use Rattle.rules.specs.Times.Words.{times_length, bad_time_size, bad_word_count, no_room, row_tests, time_tests, time_refusal}
+use Rattle.rules.specs.Times.Words.{times_length, bad_time_size, bad_word_count, no_room, row_tests, time_tests}
+use Rattle.rules.specs.Times.Words.{time_refusal}
 use Rattle.rules.proofs.Refusal.First.{first-hit, first-skip}
 use Rattle.rules.specs.Facts.Refusal.{InRange}
 use Rattle.rules.proofs.Times.Refused.{times-size-tells}
 use Rattle.timerows.specs.Judged.{TimeFramed, rows_number}
 use Rattle.timerows.proofs.Laws.Numbers.{rows-refuse, rows_pass}
 use Rattle.timerows.proofs.judge.judge.Goals as goal
-use Rattle.timerows.proofs.judge.judge.Goals.{After-count_at, After-count_at-m, After-is_bad_size, After-rows_number-number, Else-is_bad_size, Else-number-ne-NO_ROOM, Else-words-m, Start}
+use Rattle.timerows.proofs.judge.judge.Goals.{After-count_at, After-count_at-m, After-is_bad_size}
+use Rattle.timerows.proofs.judge.judge.Goals.{After-rows_number-number, Else-is_bad_size, Else-number-ne-NO_ROOM}
+use Rattle.timerows.proofs.judge.judge.Goals.{Else-words-m, Start}
 
 -- the words, the room, and the tests of the rows and of the room
 module _ (c : Start) where
@@ -125,13 +128,17 @@ rows_number-number-requires c = (framed c, m-is c.before)
 
 -- the number of the rows
 number_is : (c : After-rows_number-number) → c.rows_number-number.result
-    ≡ rows_number (ws c.before.before.before.before.before.before) (m_of (ws c.before.before.before.before.before.before))
-number_is c = c.rows_number-number.ensures ∙ ap (rows_number (ws c.before.before.before.before.before.before)) (m-is c.before.before)
+    ≡ rows_number (ws c.before.before.before.before.before.before)
+    (m_of (ws c.before.before.before.before.before.before))
+number_is c = c.rows_number-number.ensures ∙ ap (rows_number (ws c.before.before.before.before.before.before))
+    (m-is c.before.before)
 
 pub returns-then-number-ne-NO_ROOM : goal.returns-then-number-ne-NO_ROOM
 returns-then-number-ne-NO_ROOM c =
+    let here = c.before.before in
     let t = c in
-    sym (counted c.before.before (rows-refuse _ _ _ (λ e. c.if-number-ne-NO_ROOM.true (number_is c.before ∙ e)) ∙ sym (number_is c.before)))
+    sym (counted here (rows-refuse _ _ _ (λ e. c.if-number-ne-NO_ROOM.true (number_is c.before ∙ e)) ∙ sym
+    (number_is c.before)))
 
 -- no row is refused
 module _ (c : Else-number-ne-NO_ROOM) where

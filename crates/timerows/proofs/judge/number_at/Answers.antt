@@ -71,6 +71,13 @@ returns c =
     let t = c in
     let w = ws c.before in
     let j = i c.before in
-    (simp (x-is c.before, y-is c.before, strict-is c.before, length-is c.before, to_z-of_z (start c.before).ranges.most) at c.row_number.ensures)
+    (simp (
+      x-is c.before,
+      y-is c.before,
+      strict-is c.before,
+      length-is c.before,
+      to_z-of_z
+          (start c.before).ranges.most,
+    ) at c.row_number.ensures)
     ∙ ap (λ z. test_number (outside 0 (nat_abs z) (from_word w j) || outside 0 (nat_abs z) (to_word w j))
     (outside 0 1 (strict_word w j)) (not (within largest_length (length_word w j)))) (start c.before).requires.2

@@ -2,7 +2,7 @@
 -- Assumes nothing.
 use mathlib.Core.Path.{◌≡◌, refl, sym, ◌∙◌, ap}
 use mathlib.Core.Bool.{Bool, true, ◌||◌, not}
-use mathlib.Core.List.{◌∷◌}
+use mathlib.Core.List.{[], ◌∷◌}
 use Prim.Native.Nat.{ℕ}
 use borrow.Author.Rules.{rules}
 use lib.IntN.{ℤ, nat_abs, pos}
@@ -16,7 +16,8 @@ use Rattle.rules.specs.Refusal.{first}
 use Rattle.rules.proofs.Refusal.First.{first-hit, first-skip}
 use Rattle.timerows.specs.Judged.{test_number}
 use Rattle.timerows.proofs.judge.row_number.Goals as goal
-use Rattle.timerows.proofs.judge.row_number.Goals.{After-is_outside, After-is_outside-2, After-is_outside-3, After-is_too_long, Start}
+use Rattle.timerows.proofs.judge.row_number.Goals.{After-is_outside, After-is_outside-2, After-is_outside-3}
+use Rattle.timerows.proofs.judge.row_number.Goals.{After-is_too_long, Start}
 
 -- the three tests of the row
 module _ (s : Start) where
@@ -54,7 +55,9 @@ told-x c =
 
 pub returns-then-is_outside : goal.returns-then-is_outside
 unfolding test_number
-returns-then-is_outside c = sym (first-hit 14 _ (ap (λ t. t || bad-y c.before.before) (sym (told-x c.before) ∙ c.if-is_outside.true)))
+returns-then-is_outside c =
+    let here = c.before.before in
+    sym (first-hit 14 _ (ap (λ t. t || bad-y here) (sym (told-x c.before) ∙ c.if-is_outside.true)))
 
 pub overflow_cast-y : goal.overflow_cast-y
 overflow_cast-y c = let s = c in simp (to_z-of_z s.ranges.y) (wide s.ranges.y)
@@ -112,7 +115,8 @@ module _ (c : After-is_too_long) where
   strict-passes e = ends-pass third (first-skip 15 _ (sym (told-strict third) ∙ c.if-is_outside-3.false) ∙ e)
 
 pub returns-then-is_too_long : goal.returns-then-is_too_long
-returns-then-is_too_long c = strict-passes c.before (first-hit 16 _ (sym (told-length c.before) ∙ c.if-is_too_long.true))
+returns-then-is_too_long c = strict-passes c.before (first-hit 16 _
+    (sym (told-length c.before) ∙ c.if-is_too_long.true))
 
 pub returns : goal.returns
 returns c =

@@ -1,7 +1,7 @@
 -- `timerows::judge::rows_number` meets its contract. The invariant of its loop: the least number so far is that of the
 -- rows below i. The measure is the rows left. Assumes nothing.
 use mathlib.Core.Path.{◌≡◌, sym, ◌∙◌, ap, ap₂}
-use Prim.Native.Nat.{zero, suc, ◌≤◌, ◌-◌, min}
+use Prim.Native.Nat.{zero, suc, ◌-◌, min}
 use native.Mathlib.Numerals.{add-one}
 use native.Mathlib.Omega.{arith}
 use borrow.Author.Rules.{sfits_of}
@@ -57,10 +57,11 @@ loop-i-init c = (omega arith, sym (rows_start _))
 
 pub number_at-requires : goal.number_at-requires
 number_at-requires c =
+    let here = c.before.before in
     let t = c in
     let s = c in
-    simp (to_z-of_z (read c.before.before), to_z-of_z (wide c.before.before), to_z-of_z (fit c.before.before))
-    (s.requires.0, omega (arith, s.requires.1, c.loop-i-test.true), one_less (n-word c.before.before) s.requires.0.n-least)
+    simp (to_z-of_z (read here), to_z-of_z (wide here), to_z-of_z (fit here))
+    (s.requires.0, omega (arith, s.requires.1, c.loop-i-test.true), one_less (n-word here) s.requires.0.n-least)
 
 pub lesser-least-requires : goal.lesser-least-requires
 lesser-least-requires c = tt

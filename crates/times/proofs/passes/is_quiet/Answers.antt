@@ -3,7 +3,7 @@
 use mathlib.Core.Path.{◌≡◌, ◌∙◌, ap}
 use mathlib.Core.Bool.{false}
 use mathlib.Core.List.{List}
-use Prim.Native.Nat.{ℕ, ◌+◌, ◌<◌, ◌-◌}
+use Prim.Native.Nat.{ℕ, ◌+◌, ◌<◌}
 use native.Mathlib.Omega.{arith}
 use native.Mathlib.Decide.{ℕ_discrete}
 use lib.IntN.{ℤ}
@@ -48,10 +48,10 @@ module _ (c : After-head-y) where
   abbrev turn : In-loop-i
   turn = c.before.before
 
-  x-is : c.tail-x.result ≡ (time_edges (ws turn)).tail-x (i turn)
+  x-is : c.tail-x.result ≡ (time_edges (ws turn)).tail (i turn)
   x-is = c.tail-x.ensures
 
-  y-is : c.head-y.result ≡ (time_edges (ws turn)).head-y (i turn)
+  y-is : c.head-y.result ≡ (time_edges (ws turn)).head (i turn)
   y-is = c.head-y.ensures
 
   x-low : c.tail-x.result < most_vertices

@@ -4,7 +4,7 @@
 -- than are left of n passes: so it is due again, and not past them. Assumes nothing.
 use mathlib.Core.Path.{◌≡◌}
 use mathlib.Core.List.{List}
-use Prim.Native.Nat.{ℕ, ◌+◌, ◌<◌, ◌-◌}
+use Prim.Native.Nat.{ℕ, ◌+◌, ◌<◌}
 use native.Mathlib.Omega.{arith}
 use lib.IntN.{ℤ}
 use Rattle.rules.specs.Sizes.{most_vertices}
@@ -62,10 +62,10 @@ module _ (c : After-head-y) where
   abbrev turn : In-loop-i
   turn = c.before.before
 
-  x-is : c.tail-x.result ≡ (time_edges (ws turn)).tail-x (i turn)
+  x-is : c.tail-x.result ≡ (time_edges (ws turn)).tail (i turn)
   x-is = c.tail-x.ensures
 
-  y-is : c.head-y.result ≡ (time_edges (ws turn)).head-y (i turn)
+  y-is : c.head-y.result ≡ (time_edges (ws turn)).head (i turn)
   y-is = c.head-y.ensures
 
   x-low : c.tail-x.result < most_vertices

@@ -1,7 +1,7 @@
 -- `wide::can::at_least` meets its contract: the signs of the difference to the limit and of the small part. Assumes
 -- nothing. What was told comes before what calls ask for, as an edit is to fail there.
 use mathlib.Core.Path.{◌≡◌, ap, ap₂, refl, ◌∙◌}
-use mathlib.Core.List.{◌∷◌}
+use mathlib.Core.List.{[], ◌∷◌}
 use Prim.Native.Nat.{◌+◌}
 use borrow.Author.Rules.{rules}
 use lib.Dec.{lit≤}
@@ -52,8 +52,8 @@ plain_fits : (c : After-struct_told) → SFits w32 c.args.limit.plain
 plain_fits c = search rules
 
 pub times-least-requires : goal.times-least-requires
-times-least-requires c = let s = c in
-    simp (to_z-of_z (plain_fits c.before)) (sized-le s.requires.limbs_within.0 (lit≤ tt), s.requires.within)
+times-least-requires c =
+    simp (to_z-of_z (plain_fits c.before)) (sized-le c.requires.limbs_within.0 (lit≤ tt), c.requires.within)
 
 module _ (c : After-times) where
   abbrev start : Start
@@ -64,7 +64,10 @@ module _ (c : After-times) where
       (stands-times start.requires.within (record { number = refl; size = start.requires.limbs_within.0 }))
 
 pub less-gap-requires : goal.less-gap-requires
-less-gap-requires c = (sized-le (start c.before).requires.limbs_within.1 (lit≤ tt), sized-le (scaled c.before).size (lit≤ tt))
+less-gap-requires c = (
+  sized-le (start c.before).requires.limbs_within.1 (lit≤ tt),
+  sized-le (scaled c.before).size (lit≤ tt),
+)
 
 module _ (c : After-less) where
   abbrev begun : Start
@@ -119,6 +122,3 @@ sign-requires c = sized-le (gap c.before.before).size (lit≤ tt)
 
 pub sign-requires-2 : goal.sign-requires-2
 sign-requires-2 c = sized-le (begun c.before.before.before).requires.limbs_within.2 (lit≤ tt)
-
-pub passes-requires : goal.passes-requires
-passes-requires c = tt

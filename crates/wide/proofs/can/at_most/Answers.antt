@@ -52,8 +52,8 @@ plain_fits : (c : After-struct_told) → SFits w32 c.args.limit.plain
 plain_fits c = search rules
 
 pub times-most-requires : goal.times-most-requires
-times-most-requires c = let s = c in
-    simp (to_z-of_z (plain_fits c.before)) (sized-le s.requires.limbs_within.0 (lit≤ tt), s.requires.within)
+times-most-requires c =
+    simp (to_z-of_z (plain_fits c.before)) (sized-le c.requires.limbs_within.0 (lit≤ tt), c.requires.within)
 
 module _ (c : After-times) where
   abbrev start : Start
@@ -64,7 +64,10 @@ module _ (c : After-times) where
       (stands-times start.requires.within (record { number = refl; size = start.requires.limbs_within.0 }))
 
 pub less-gap-requires : goal.less-gap-requires
-less-gap-requires c = (sized-le (scaled c.before).size (lit≤ tt), sized-le (start c.before).requires.limbs_within.1 (lit≤ tt))
+less-gap-requires c = (
+  sized-le (scaled c.before).size (lit≤ tt),
+  sized-le (start c.before).requires.limbs_within.1 (lit≤ tt),
+)
 
 module _ (c : After-less) where
   abbrev begun : Start
@@ -74,9 +77,6 @@ module _ (c : After-less) where
       (begun.args.limit.plain *ℤ value begun.args.common -ℤ value begun.args.x) (weight_most + limb_turn)
   gap = stands-is c.less-gap.ensures
       (stands-less (scaled c.before) (record { number = refl; size = begun.requires.limbs_within.1 }))
-
-pub zero-requires : goal.zero-requires
-zero-requires c = tt
 
 pub less-beside-requires : goal.less-beside-requires
 less-beside-requires c = (
@@ -97,9 +97,6 @@ sign-requires c = sized-le (gap c.before.before.before.before).size (lit≤ tt)
 
 pub sign-requires-2 : goal.sign-requires-2
 sign-requires-2 c = sized-le (beside c.before.before.before).size (lit≤ tt)
-
-pub passes-requires : goal.passes-requires
-passes-requires c = tt
 
 module _ (c : After-passes) where
   abbrev second : After-sign2

@@ -2,7 +2,7 @@
 -- measure is how many are left. Assumes nothing.
 use mathlib.Core.Path.{◌≡◌, ap, ap₂, sym, ◌∙◌}
 use mathlib.Core.Bool.{Bool, ◌&&◌}
-use Prim.Native.Nat.{ℕ, ◌+◌, ◌-◌}
+use Prim.Native.Nat.{ℕ, ◌+◌}
 use native.Mathlib.Omega.{arith}
 use lib.IntN.{ℤ}
 use Rattle.whole.proofs.Lists.Below.{all_start}
@@ -25,27 +25,6 @@ pub loop-v-init : goal.loop-v-init
 unfolding limits_met
 loop-v-init c = (omega arith, sym (all_start _))
 
-pub overflow_add-v : goal.overflow_add-v
-overflow_add-v c = omega arith
-
-pub number_at-x-requires : goal.number_at-x-requires
-number_at-x-requires c = (omega arith, omega arith)
-
-pub overflow_add-variables : goal.overflow_add-variables
-overflow_add-variables c = omega arith
-
-pub overflow_add-variables-in-loop-v : goal.overflow_add-variables-in-loop-v
-overflow_add-variables-in-loop-v c = omega arith
-
-pub number_at-small-requires : goal.number_at-small-requires
-number_at-small-requires c = (omega arith, omega arith)
-
-pub offset_bounds-limits-v : goal.offset_bounds-limits-v
-offset_bounds-limits-v c = omega arith
-
-pub bounds-limits-v : goal.bounds-limits-v
-bounds-limits-v c = omega arith
-
 -- the variable, its numerator and its small part
 module _ (c : After-number_at-small) where
   abbrev start : Start
@@ -65,18 +44,19 @@ module _ (c : After-number_at-small) where
       (stands-in start.requires.all_formed (1 + start.args.variables + v) (omega arith))
 
 pub at_least-over-requires : goal.at_least-over-requires
-at_least-over-requires c = let r = c in let s = start c.before in
-    record { limbs_within = (s.requires.limbs_within, (numerator c.before).size, (small c.before).size); within = s.requires.limited.lowers-within (v c.before) }
-
-pub offset_bounds-limits-v-in-loop-v : goal.offset_bounds-limits-v-in-loop-v
-offset_bounds-limits-v-in-loop-v c = omega arith
-
-pub bounds-limits-v-in-loop-v : goal.bounds-limits-v-in-loop-v
-bounds-limits-v-in-loop-v c = omega arith
+at_least-over-requires c = let s = start c.before in
+    record {
+      limbs_within = (s.requires.limbs_within, (numerator c.before).size, (small c.before).size);
+      within = s.requires.limited.lowers-within (v c.before);
+    }
 
 pub at_most-under-requires : goal.at_most-under-requires
-at_most-under-requires c = let r = c in let s = start c.before.before.before in
-    record { limbs_within = (s.requires.limbs_within, (numerator c.before.before.before).size, (small c.before.before.before).size); within = s.requires.limited.uppers-within (v c.before.before.before) }
+at_most-under-requires c = let s = start c.before.before.before in
+    record {
+      limbs_within =
+          (s.requires.limbs_within, (numerator c.before.before.before).size, (small c.before.before.before).size);
+      within = s.requires.limited.uppers-within (v c.before.before.before);
+    }
 
 -- what the two calls say
 module _ (c : After-at_most-under) where
@@ -98,8 +78,8 @@ module _ (c : After-at_most-under) where
   abbrev test : ℕ → Bool
   test u = meets_both (lower_of (limits read) u) (upper_of (limits read) u) d (x u, y u)
 
-  over : c.at_least_lem.result ≡ at_least (lower_of (limits read) (v read)) d (x (v read), y (v read))
-  over = c.at_least_lem.ensures
+  over : c.at_least-over.result ≡ at_least (lower_of (limits read) (v read)) d (x (v read), y (v read))
+  over = c.at_least-over.ensures
       ∙ ap₂ (λ (p q : ℤ). at_least (lower_of (limits read) (v read)) d (p, q))
       (numerator read).number (small read).number
 
@@ -107,12 +87,6 @@ module _ (c : After-at_most-under) where
   under = c.at_most-under.ensures
       ∙ ap₂ (λ (p q : ℤ). at_most (upper_of (limits read) (v read)) d (p, q))
       (numerator read).number (small read).number
-
-pub overflow_step-v : goal.overflow_step-v
-overflow_step-v c = omega arith
-
-pub loop-v-smaller : goal.loop-v-smaller
-loop-v-smaller c = omega arith
 
 pub loop-v-preserved : goal.loop-v-preserved
 unfolding limits_met
@@ -128,4 +102,4 @@ all c = omega arith
 pub returns : goal.returns
 returns c = let o = c.args in
     c.loop-v.invariant.1
-    ∙ ap (λ (k : ℕ). limits_met o.t1 o.answer.now o.variables (value o.common) k) (all c)
+    ∙ ap (λ (k : ℕ). limits_met o.limits o.answer.now o.variables (value o.common) k) (all c)

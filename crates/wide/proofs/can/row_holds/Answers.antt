@@ -16,18 +16,6 @@ use Rattle.limbs.proofs.Laws.Gaps.{gap-zero}
 use Rattle.wide.proofs.can.row_holds.Goals as goal
 use Rattle.wide.proofs.can.row_holds.Goals.{After-less-gap, After-number_at-x, Start}
 
-pub overflow_cast-row : goal.overflow_cast-row
-overflow_cast-row c = omega arith
-
-pub overflow_add-columns : goal.overflow_add-columns
-overflow_add-columns c = omega arith
-
-pub overflow_add-first : goal.overflow_add-first
-overflow_add-first c = omega arith
-
-pub number_at-x-requires : goal.number_at-x-requires
-number_at-x-requires c = (omega arith, omega arith)
-
 module _ (c : After-number_at-x) where
   abbrev start : Start
   start = c.before.before
@@ -39,13 +27,12 @@ module _ (c : After-number_at-x) where
   number = stands-is c.number_at-x.ensures (stands-in start.requires.all_formed slot (omega arith))
 
 pub row_sum-sum-requires : goal.row_sum-sum-requires
-row_sum-sum-requires c = let s = start c in (
-  (s.requires.row_lt_rows.0, s.requires.row_lt_rows.1, s.requires.row_lt_rows.2),
-  (
-    (omega arith, omega arith),
-    (s.requires.all_within, formed-less s.requires.all_formed (s.args.first + s.args.columns) (omega arith)),
-  ),
-)
+row_sum-sum-requires c = let s = start c in record {
+  row_lt_rows = s.requires.row_lt_rows;
+  columns_bound = (omega arith, omega arith);
+  all_within = s.requires.all_within;
+  all_formed = formed-less s.requires.all_formed (s.args.first + s.args.columns) (omega arith);
+}
 
 pub less-gap-requires : goal.less-gap-requires
 less-gap-requires c = (sized-le (number c.before).size (lit≤ tt), sized-le c.row_sum-sum.ensures.size (lit≤ tt))
@@ -68,5 +55,5 @@ pub is_zero-requires : goal.is_zero-requires
 is_zero-requires c = sized-le (gap c).size (lit≤ tt)
 
 pub returns : goal.returns
-returns c = let l = c in
+returns c =
     c.is_zero.ensures ∙ ap (λ (z : ℤ). eq_z z (pos 0)) (gap c.before).number ∙ gap-zero (x c.before) (row c.before)

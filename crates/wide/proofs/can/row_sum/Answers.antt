@@ -1,7 +1,7 @@
 -- `wide::can::row_sum` meets its contract. The invariant: the sum stands for that of the columns passed, and its limbs
 -- are within so many times the largest coefficient times 2^32. The measure is the columns left. Assumes nothing.
 use mathlib.Core.Path.{◌≡◌, ap, sym, ◌∙◌}
-use Prim.Native.Nat.{ℕ, ◌+◌, ◌*◌, ◌-◌, ◌≤◌, ◌<◌}
+use Prim.Native.Nat.{ℕ, ◌+◌, ◌*◌, ◌≤◌, ◌<◌}
 use native.Mathlib.Omega.{arith}
 use borrow.Author.Rules.{sfits_of}
 use lib.Dec.{lit≤}
@@ -25,20 +25,12 @@ use Rattle.wide.proofs.Laws.Reads.{stands-in}
 use Rattle.limbs.proofs.Laws.Stands.{stands-for, stands-is, stands-le, stands-plus, stands-times}
 use Rattle.limbs.proofs.Laws.Stands.{stands-zero}
 use Rattle.wide.proofs.can.row_sum.Goals as goal
-use Rattle.wide.proofs.can.row_sum.Goals.{After-loop-j, After-number_at-x, After-place-k, After-plus-sum, After-times, At-loop-j, Start}
-
-pub zero-sum-requires : goal.zero-sum-requires
-zero-sum-requires c = tt
+use Rattle.wide.proofs.can.row_sum.Goals.{After-loop-j, After-number_at-x, After-place-k, After-plus-sum, After-times}
+use Rattle.wide.proofs.can.row_sum.Goals.{At-loop-j, Start}
 
 pub loop-j-init : goal.loop-j-init
 unfolding row_in sum_by
 loop-j-init c = (omega arith, stands-is c.zero-sum.ensures (stands-zero (0 * term_most)))
-
-pub overflow_cast-j : goal.overflow_cast-j
-overflow_cast-j c = omega arith
-
-pub place-k-requires : goal.place-k-requires
-place-k-requires c = (omega arith, omega arith, omega arith, omega arith)
 
 -- the flat place
 module _ (c : After-place-k) where
@@ -53,12 +45,6 @@ offset_bounds-entries-k c = let h = in-entries c in omega arith
 
 pub bounds-entries-k : goal.bounds-entries-k
 bounds-entries-k c = let h = in-entries c in omega arith
-
-pub overflow_add-first : goal.overflow_add-first
-overflow_add-first c = omega arith
-
-pub number_at-x-requires : goal.number_at-x-requires
-number_at-x-requires c = (omega arith, omega arith)
 
 -- the entry and the number
 module _ (c : After-number_at-x) where
@@ -102,12 +88,6 @@ plus-sum-requires c = (
   sized-le (sized-le (before c).loop-j.invariant.1.size (so_far c)) (lit≤ tt),
   sized-le (product c).size (lit≤ tt),
 )
-
-pub overflow_step-j : goal.overflow_step-j
-overflow_step-j c = omega arith
-
-pub loop-j-smaller : goal.loop-j-smaller
-loop-j-smaller c = omega arith
 
 module _ (c : After-plus-sum) where
   abbrev s : Start

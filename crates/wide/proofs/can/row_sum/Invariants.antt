@@ -7,7 +7,8 @@ use Rattle.wide.proofs.can.row_sum.Given as goal
 
 abbrev pub invariant-loop-j : goal.invariant-loop-j
 invariant-loop-j l =
-    (l.j ≤ l.columns) × StandsFor l.sum (row_in l.entries l.answer l.first l.rows l.columns l.row.0 l.j) (l.j * term_most)
+    (l.j ≤ l.columns) × StandsFor l.sum (row_in l.entries l.answer l.first l.rows l.columns l.row.0 l.j)
+    (l.j * term_most)
 
 abbrev pub decreases-loop-j : goal.decreases-loop-j
 decreases-loop-j l = l.columns - l.j

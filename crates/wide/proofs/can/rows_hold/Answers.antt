@@ -1,7 +1,7 @@
 -- `wide::can::rows_hold` meets its contract. The invariant: whether the rows passed hold. The measure is how many are
 -- left. Assumes nothing.
 use mathlib.Core.Path.{◌≡◌, ap, sym, ◌∙◌}
-use Prim.Native.Nat.{ℕ, ◌-◌}
+use Prim.Native.Nat.{ℕ}
 use native.Mathlib.Omega.{arith}
 use Rattle.whole.proofs.Lists.Below.{all_start}
 use Rattle.rules.proofs.Evidence.Joined.{tests-more}
@@ -13,18 +13,13 @@ pub loop-i-init : goal.loop-i-init
 unfolding rows_solved
 loop-i-init c = (omega arith, sym (all_start _))
 
-pub overflow_cast-i : goal.overflow_cast-i
-overflow_cast-i c = omega arith
-
 pub row_holds-fine-requires : goal.row_holds-fine-requires
-row_holds-fine-requires c = let s = c in
-    ((omega arith, s.requires.rows_le_most_rows.0, s.requires.rows_le_most_rows.1), (s.requires.rows_bound, (s.requires.all_within, s.requires.all_formed)))
-
-pub overflow_step-i : goal.overflow_step-i
-overflow_step-i c = omega arith
-
-pub loop-i-smaller : goal.loop-i-smaller
-loop-i-smaller c = omega arith
+row_holds-fine-requires c = record {
+  row_lt_rows = (omega arith, c.requires.rows_le_most_rows.0, c.requires.rows_le_most_rows.1);
+  rows_bound = c.requires.rows_bound;
+  all_within = c.requires.all_within;
+  all_formed = c.requires.all_formed;
+}
 
 pub loop-i-preserved : goal.loop-i-preserved
 unfolding rows_solved

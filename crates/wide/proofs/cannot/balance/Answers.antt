@@ -11,21 +11,6 @@ use Rattle.limbs.proofs.Laws.Stands.{stands-is, stands-less}
 use Rattle.wide.proofs.cannot.balance.Goals as goal
 use Rattle.wide.proofs.cannot.balance.Goals.{After-number_at-high, Start}
 
-pub overflow_add-v : goal.overflow_add-v
-overflow_add-v c = omega arith
-
-pub number_at-low-requires : goal.number_at-low-requires
-number_at-low-requires c = (omega arith, omega arith)
-
-pub overflow_add-variables : goal.overflow_add-variables
-overflow_add-variables c = omega arith
-
-pub overflow_add-variables-2 : goal.overflow_add-variables-2
-overflow_add-variables-2 c = omega arith
-
-pub number_at-high-requires : goal.number_at-high-requires
-number_at-high-requires c = (omega arith, omega arith)
-
 module _ (c : After-number_at-high) where
   abbrev start : Start
   start = c.before.before

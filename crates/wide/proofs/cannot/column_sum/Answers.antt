@@ -2,7 +2,7 @@
 -- the rows passed, and its limbs are within 2^33 and so many times the largest coefficient times 2^33. The measure is
 -- the rows left. Assumes nothing.
 use mathlib.Core.Path.{◌≡◌, ap, sym, ◌∙◌}
-use Prim.Native.Nat.{ℕ, ◌+◌, ◌*◌, ◌-◌, ◌≤◌, ◌<◌}
+use Prim.Native.Nat.{ℕ, ◌+◌, ◌*◌, ◌≤◌, ◌<◌}
 use native.Mathlib.Omega.{arith}
 use borrow.Author.Rules.{sfits_of}
 use lib.Dec.{lit≤}
@@ -23,26 +23,18 @@ use Rattle.wide.specs.Reads.{balance_in, column_most, column_in, share_most}
 use Rattle.limbs.specs.Limbs.{StandsFor}
 use Rattle.limbs.proofs.Laws.Stands.{stands-for, stands-is, stands-le, stands-plus, stands-times}
 use Rattle.wide.proofs.cannot.column_sum.Goals as goal
-use Rattle.wide.proofs.cannot.column_sum.Goals.{After-balance-more, After-loop-i, After-place-k, After-plus-sum, After-times, At-loop-i, Start}
-
-pub overflow_add-variables : goal.overflow_add-variables
-overflow_add-variables c = omega arith
-
-pub overflow_cast-column : goal.overflow_cast-column
-overflow_cast-column c = omega arith
+use Rattle.wide.proofs.cannot.column_sum.Goals.{After-balance-more, After-loop-i, After-place-k, After-plus-sum}
+use Rattle.wide.proofs.cannot.column_sum.Goals.{After-times, At-loop-i, Start}
 
 pub balance-sum-requires : goal.balance-sum-requires
-balance-sum-requires c = record { v_lt_variables = (omega arith, omega arith, omega arith); all_formed = c.requires.all_formed }
+balance-sum-requires c = record {
+  v_lt_variables = (omega arith, omega arith, omega arith);
+  all_formed = c.requires.all_formed;
+}
 
 pub loop-i-init : goal.loop-i-init
 unfolding column_in sum_by
 loop-i-init c = (omega arith, stands-for (sym (+ℤ_idr _)) (stands-le c.balance-sum.ensures (lit≤ tt)))
-
-pub overflow_cast-i : goal.overflow_cast-i
-overflow_cast-i c = omega arith
-
-pub place-k-requires : goal.place-k-requires
-place-k-requires c = (omega arith, omega arith, omega arith, omega arith)
 
 -- the flat place
 module _ (c : After-place-k) where
@@ -58,11 +50,11 @@ offset_bounds-entries-k c = let h = in-entries c in omega arith
 pub bounds-entries-k : goal.bounds-entries-k
 bounds-entries-k c = let h = in-entries c in omega arith
 
-pub overflow_add-columns : goal.overflow_add-columns
-overflow_add-columns c = omega arith
-
 pub balance-more-requires : goal.balance-more-requires
-balance-more-requires c = record { v_lt_variables = (omega arith, omega arith, omega arith); all_formed = c.requires.all_formed }
+balance-more-requires c = record {
+  v_lt_variables = (omega arith, omega arith, omega arith);
+  all_formed = c.requires.all_formed;
+}
 
 -- the entry and the balance
 module _ (c : After-balance-more) where
@@ -110,12 +102,6 @@ plus-sum-requires c = (
   sized-le (sized-le (before c).loop-i.invariant.1.size (so_far c)) (lit≤ tt),
   sized-le (product c).size (lit≤ tt),
 )
-
-pub overflow_step-i : goal.overflow_step-i
-overflow_step-i c = omega arith
-
-pub loop-i-smaller : goal.loop-i-smaller
-loop-i-smaller c = omega arith
 
 module _ (c : After-plus-sum) where
   abbrev s : Start

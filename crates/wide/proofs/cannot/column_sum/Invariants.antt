@@ -10,7 +10,8 @@ use Rattle.wide.proofs.cannot.column_sum.Given as goal
 abbrev pub invariant-loop-i : goal.invariant-loop-i
 invariant-loop-i l =
     (l.i ≤ l.rows)
-    × StandsFor l.sum (column_in l.entries l.answer l.rows l.columns l.i l.column.0) ((limb_turn + limb_turn) + l.i * share_most)
+    × StandsFor l.sum (column_in l.entries l.answer l.rows l.columns l.i l.column.0)
+    ((limb_turn + limb_turn) + l.i * share_most)
 
 abbrev pub decreases-loop-i : goal.decreases-loop-i
 decreases-loop-i l = l.rows - l.i

@@ -1,7 +1,7 @@
 -- `wide::cannot::columns_cancel` meets its contract. The invariant: whether the columns passed cancel. The measure is
 -- how many are left. Assumes nothing.
 use mathlib.Core.Path.{◌≡◌, ap, sym, ◌∙◌}
-use Prim.Native.Nat.{ℕ, ◌-◌, ◌≤◌}
+use Prim.Native.Nat.{ℕ}
 use native.Mathlib.Omega.{arith}
 use lib.Dec.{lit≤}
 use lib.IntN.{ℤ, pos}
@@ -17,27 +17,21 @@ pub loop-j-init : goal.loop-j-init
 unfolding columns_vanish
 loop-j-init c = (omega arith, sym (all_start _))
 
-pub overflow_cast-j : goal.overflow_cast-j
-overflow_cast-j c = omega arith
-
 pub column_sum-sum-requires : goal.column_sum-sum-requires
-column_sum-sum-requires c = let s = c in
-    ((s.requires.rows_le_most_rows.0, s.requires.rows_le_most_rows.1, omega arith, s.requires.rows_le_most_rows.2), (s.requires.all_within, s.requires.all_formed))
+column_sum-sum-requires c = let p = c.requires in record {
+  rows_le_most_rows = (p.rows_le_most_rows.0, p.rows_le_most_rows.1, omega arith, p.rows_le_most_rows.2);
+  all_within = p.all_within;
+  all_formed = p.all_formed;
+}
 
 pub is_zero-fine-requires : goal.is_zero-fine-requires
 is_zero-fine-requires c = sized-le c.column_sum-sum.ensures.size (lit≤ tt)
 
-pub overflow_step-j : goal.overflow_step-j
-overflow_step-j c = omega arith
-
-pub loop-j-smaller : goal.loop-j-smaller
-loop-j-smaller c = omega arith
-
 pub loop-j-preserved : goal.loop-j-preserved
 unfolding columns_vanish
-loop-j-preserved c = let b = c in (
+loop-j-preserved c = (
   omega arith,
-  tests-more b.loop-j.j _ b.loop-j.invariant.1
+  tests-more c.loop-j.j _ c.loop-j.invariant.1
       (c.is_zero-fine.ensures ∙ ap (λ (z : ℤ). eq_z z (pos 0)) c.column_sum-sum.ensures.number),
 )
 

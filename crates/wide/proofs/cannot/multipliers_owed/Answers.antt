@@ -2,7 +2,7 @@
 -- are owed. The measure is how many are left. Assumes nothing.
 use mathlib.Core.Path.{◌≡◌, ap, ap₂, sym, ◌∙◌}
 use mathlib.Core.Bool.{Bool, ◌&&◌}
-use Prim.Native.Nat.{ℕ, ◌+◌, ◌-◌}
+use Prim.Native.Nat.{ℕ, ◌+◌}
 use native.Mathlib.Omega.{arith}
 use lib.IntN.{ℤ}
 use Rattle.whole.proofs.Lists.Below.{all_start}
@@ -23,27 +23,6 @@ pub loop-v-init : goal.loop-v-init
 unfolding all_owed
 loop-v-init c = (omega arith, sym (all_start _))
 
-pub overflow_add-v : goal.overflow_add-v
-overflow_add-v c = omega arith
-
-pub number_at-low-requires : goal.number_at-low-requires
-number_at-low-requires c = (omega arith, omega arith)
-
-pub overflow_add-variables : goal.overflow_add-variables
-overflow_add-variables c = omega arith
-
-pub overflow_add-variables-in-loop-v : goal.overflow_add-variables-in-loop-v
-overflow_add-variables-in-loop-v c = omega arith
-
-pub number_at-high-requires : goal.number_at-high-requires
-number_at-high-requires c = (omega arith, omega arith)
-
-pub offset_bounds-limits-v : goal.offset_bounds-limits-v
-offset_bounds-limits-v c = omega arith
-
-pub bounds-limits-v : goal.bounds-limits-v
-bounds-limits-v c = omega arith
-
 -- the variable and its two multipliers
 module _ (c : After-number_at-high) where
   abbrev start : Start
@@ -59,16 +38,11 @@ module _ (c : After-number_at-high) where
   low = stands-is c.number_at-low.ensures (stands-in start.requires.all_formed (1 + v) (omega arith))
 
   high : StandsFor c.number_at-high.result (wide_upper start.args.variables start.args.answer.now v) limb_turn
-  high = stands-is c.number_at-high.ensures (stands-in start.requires.all_formed (1 + start.args.variables + v) (omega arith))
+  high = stands-is c.number_at-high.ensures (stands-in start.requires.all_formed (1 + start.args.variables + v)
+      (omega arith))
 
 pub owed-first-requires : goal.owed-first-requires
 owed-first-requires c = (low c.before).size
-
-pub offset_bounds-limits-v-in-loop-v : goal.offset_bounds-limits-v-in-loop-v
-offset_bounds-limits-v-in-loop-v c = omega arith
-
-pub bounds-limits-v-in-loop-v : goal.bounds-limits-v-in-loop-v
-bounds-limits-v-in-loop-v c = omega arith
 
 pub owed-second-requires : goal.owed-second-requires
 owed-second-requires c = (high c.before.before.before).size
@@ -91,12 +65,6 @@ module _ (c : After-owed-second) where
   second = c.owed-second.ensures
       ∙ ap (λ (z : ℤ). owed (upper_of (limits read) (v read)) z) (high read).number
 
-pub overflow_step-v : goal.overflow_step-v
-overflow_step-v c = omega arith
-
-pub loop-v-smaller : goal.loop-v-smaller
-loop-v-smaller c = omega arith
-
 pub loop-v-preserved : goal.loop-v-preserved
 unfolding all_owed
 loop-v-preserved c = (
@@ -110,4 +78,4 @@ all c = omega arith
 
 pub returns : goal.returns
 returns c = let o = c.args in
-    c.loop-v.invariant.1 ∙ ap (λ (k : ℕ). all_owed o.t1 o.answer.now o.variables k) (all c)
+    c.loop-v.invariant.1 ∙ ap (λ (k : ℕ). all_owed o.limits o.answer.now o.variables k) (all c)

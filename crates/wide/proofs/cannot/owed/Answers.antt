@@ -25,8 +25,8 @@ fit : (c : After-sign-sign) → SFits w64 c.sign-sign.result
 fit c = search rules
 
 pub returns : goal.returns
-returns c = let p = c in let l = p.args.limit in
+returns c = let l = c.args.limit in
     simp (to_z-of_z (fit c.before))
-    (ap₂ (λ (z : ℤ) (b : Bool). (l.on && not (is_neg z)) || b) p.sign-sign.ensures
-    (bits-eq w64 (fit c.before) zero-fits ∙ ap (λ (z : ℤ). eq_z z (pos 0)) p.sign-sign.ensures)
-    ∙ owed-joined l.on _ (value p.args.k))
+    (ap₂ (λ (z : ℤ) (b : Bool). (l.on && not (is_neg z)) || b) c.sign-sign.ensures
+    (bits-eq w64 (fit c.before) zero-fits ∙ ap (λ (z : ℤ). eq_z z (pos 0)) c.sign-sign.ensures)
+    ∙ owed-joined l.on _ (value c.args.k))

@@ -6,7 +6,6 @@ use native.Mathlib.Omega.{arith}
 use lib.Dec.{lit≤}
 use lib.IntN.{ℤ, pos}
 use Rattle.whole.specs.Numbers.{eq_z, is_pos}
-use Rattle.whole.proofs.Bools.{not-false, not-true}
 use Rattle.rules.specs.Evidence.{contradicts}
 use Rattle.rules.specs.Sizes.{limb_turn}
 use Rattle.rules.specs.Wide.{wide_denominator}
@@ -17,13 +16,12 @@ use Rattle.wide.proofs.Laws.Reads.{stands-in}
 use Rattle.limbs.proofs.Laws.Stands.{stands-is}
 use Rattle.wide.proofs.Laws.Shown.{cannot-tests, contradicts-above, contradicts-not, contradicts-zero}
 use Rattle.wide.proofs.cannot.shows_cannot.Goals as goal
-use Rattle.wide.proofs.cannot.shows_cannot.Goals.{After-is_above, After-is_zero, After-is_zero-2, After-number_at-common, Else-is_above, Else-not-columns_cancel, Else-not-is_zero, Else-not-multipliers_owed, Start}
+use Rattle.wide.proofs.cannot.shows_cannot.Goals.{After-is_above, After-is_zero, After-is_zero-2}
+use Rattle.wide.proofs.cannot.shows_cannot.Goals.{After-number_at-common, Else-is_above, Else-not-columns_cancel}
+use Rattle.wide.proofs.cannot.shows_cannot.Goals.{Else-not-is_zero, Else-not-multipliers_owed, Start}
 
 pub overflow_add-variables : goal.overflow_add-variables
 overflow_add-variables c = omega (arith, c.requires.in_ranges.few-rows, c.requires.in_ranges.few-columns)
-
-pub number_at-common-requires : goal.number_at-common-requires
-number_at-common-requires c = (omega arith, omega arith)
 
 module _ (c : After-number_at-common) where
   abbrev start : Start
@@ -65,46 +63,56 @@ module _ (c : After-is_zero) where
 pub returns-then-not-is_zero : goal.returns-then-not-is_zero
 returns-then-not-is_zero c = let a = (start c.before.before).args in
     sym (cannot-tests a.entries.now a.limits a.rows a.columns a.answer.now
-    ∙ rw (sym (zero_is c.before) ∙ not-true _ c.if-not-is_zero.true) refl)
+    ∙ rw (sym (zero_is c.before) ∙ c.if-not-is_zero.true) refl)
 
 module _ (c : Else-not-is_zero) where
   abbrev first : Start
   first = start c.before.before
 
   none : no_common first ≡ true
-  none = sym (zero_is c.before) ∙ not-false _ c.if-not-is_zero.false
+  none = sym (zero_is c.before) ∙ c.if-not-is_zero.false
 
 pub multipliers_owed-requires : goal.multipliers_owed-requires
-multipliers_owed-requires c = let s = first c in let H = s.requires.in_ranges in
-    record { variables_le_most_variables = (omega (arith, H.few-rows, H.few-columns), s.requires.rows_in_bounds); all_formed = s.requires.all_formed }
+multipliers_owed-requires c = let s = first c in let H = s.requires.in_ranges in record {
+  variables_le_most_variables = (omega (arith, H.few-rows, H.few-columns), s.requires.rows_in_bounds);
+  all_formed = s.requires.all_formed;
+}
 
 pub returns-then-not-multipliers_owed : goal.returns-then-not-multipliers_owed
-returns-then-not-multipliers_owed c = let b = c in let a = (first c.before.before).args in
+returns-then-not-multipliers_owed c = let a = (first c.before.before).args in
     sym (cannot-tests a.entries.now a.limits a.rows a.columns a.answer.now
-    ∙ rw (none c.before.before, sym b.multipliers_owed.ensures ∙ not-true _ c.if-not-multipliers_owed.true) refl)
+    ∙ rw (none c.before.before, sym c.multipliers_owed.ensures ∙ c.if-not-multipliers_owed.true) refl)
 
 module _ (c : Else-not-multipliers_owed) where
   abbrev second : Start
   second = first c.before.before
 
   all-owed : owes second ≡ true
-  all-owed = sym c.multipliers_owed.ensures ∙ not-false _ c.if-not-multipliers_owed.false
+  all-owed = sym c.multipliers_owed.ensures ∙ c.if-not-multipliers_owed.false
 
 pub columns_cancel-requires : goal.columns_cancel-requires
-columns_cancel-requires c = let s = second c in let H = s.requires.in_ranges in
-    ((H.few-rows, H.few-columns, s.requires.rows_in_bounds), (H.entries-within, s.requires.all_formed))
+columns_cancel-requires c = let s = second c in let H = s.requires.in_ranges in record {
+  rows_le_most_rows = (H.few-rows, H.few-columns, s.requires.rows_in_bounds);
+  all_within = H.entries-within;
+  all_formed = s.requires.all_formed;
+}
 
 pub returns-then-not-columns_cancel : goal.returns-then-not-columns_cancel
-returns-then-not-columns_cancel c = let b = c in let d = c in let a = (second c.before.before).args in
+returns-then-not-columns_cancel c = let a = (second c.before.before).args in
     sym (cannot-tests a.entries.now a.limits a.rows a.columns a.answer.now
-    ∙ rw (none c.before.before.before.before, all-owed c.before.before, sym b.columns_cancel.ensures ∙ not-true _ c.if-not-columns_cancel.true) refl)
+    ∙ rw (
+      none c.before.before.before.before,
+      all-owed c.before.before,
+      sym c.columns_cancel.ensures
+          ∙ c.if-not-columns_cancel.true,
+    ) refl)
 
 module _ (c : Else-not-columns_cancel) where
   abbrev third : Start
   third = second c.before.before
 
   all-cancel : cancels third ≡ true
-  all-cancel = sym c.columns_cancel.ensures ∙ not-false _ c.if-not-columns_cancel.false
+  all-cancel = sym c.columns_cancel.ensures ∙ c.if-not-columns_cancel.false
 
   -- the last test decides
   last-test : (b : Bool) → contradicts (total third) (marked third) ≡ b →
@@ -112,8 +120,11 @@ module _ (c : Else-not-columns_cancel) where
   last-test b e = rw (none c.before.before.before.before, all-owed c.before.before, all-cancel) e
 
 pub surplus-total-requires : goal.surplus-total-requires
-surplus-total-requires c = let s = third c in let H = s.requires.in_ranges in
-    ((omega (arith, H.few-rows, H.few-columns), s.requires.rows_in_bounds), (s.requires.all_formed, H.limited))
+surplus-total-requires c = let s = third c in let H = s.requires.in_ranges in record {
+  variables_le_most_variables = (omega (arith, H.few-rows, H.few-columns), s.requires.rows_in_bounds);
+  all_formed = s.requires.all_formed;
+  limited = H.limited;
+}
 
 pub is_above-requires : goal.is_above-requires
 is_above-requires c = sized-le c.surplus-total.ensures.size (lit≤ tt)
@@ -126,15 +137,16 @@ module _ (c : After-is_above) where
   above-is = c.is_above.ensures ∙ ap is_pos c.surplus-total.ensures.number
 
 pub returns-then-is_above : goal.returns-then-is_above
-returns-then-is_above c = let p = c in let e = c in let a = (fourth c.before).args in
+returns-then-is_above c = let s = fourth c.before in let a = s.args in
     sym (cannot-tests a.entries.now a.limits a.rows a.columns a.answer.now
-    ∙ last-test c.before.before.before true (contradicts-above (total c.before.before.before.before.before.before.before.before.before.before) (marked c.before.before.before.before.before.before.before.before.before.before) (sym (above-is c.before) ∙ c.if-is_above.true)))
+    ∙ last-test c.before.before.before true (contradicts-above (total s) (marked s)
+    (sym (above-is c.before) ∙ c.if-is_above.true)))
 
 pub is_zero-requires-2 : goal.is_zero-requires-2
 is_zero-requires-2 c = sized-le c.surplus-total.ensures.size (lit≤ tt)
 
 module _ (c : Else-is_above) where
-  not-above : is_pos (total c.before.before.before.before.before.before.before.before.before.before) ≡ false
+  not-above : is_pos (total (fourth c.before)) ≡ false
   not-above = sym (above-is c.before) ∙ c.if-is_above.false
 
 module _ (c : After-is_zero-2) where
@@ -145,19 +157,23 @@ module _ (c : After-is_zero-2) where
   level-is = c.is_zero-2.ensures ∙ ap (λ (z : ℤ). eq_z z (pos 0)) c.surplus-total.ensures.number
 
 pub returns-then-not-is_zero-2 : goal.returns-then-not-is_zero-2
-returns-then-not-is_zero-2 c = let p = c in let e = c in let a = (fifth c.before).args in
+returns-then-not-is_zero-2 c = let s = fifth c.before in let a = s.args in
     sym (cannot-tests a.entries.now a.limits a.rows a.columns a.answer.now
-    ∙ last-test c.before.before.before.before.before false (contradicts-not (total c.before.before.before.before.before.before.before.before.before.before.before.before) (marked c.before.before.before.before.before.before.before.before.before.before.before.before) (not-above c.before.before)
-    (sym (level-is c.before) ∙ not-true _ c.if-not-is_zero-2.true)))
+    ∙ last-test c.before.before.before.before.before false
+    (contradicts-not (total s) (marked s) (not-above c.before.before)
+    (sym (level-is c.before) ∙ c.if-not-is_zero-2.true)))
 
 pub some_named-requires : goal.some_named-requires
-some_named-requires c = let s = fifth c.before in let H = s.requires.in_ranges in
-    record { variables_le_most_variables = (omega (arith, H.few-rows, H.few-columns), s.requires.rows_in_bounds); all_formed = s.requires.all_formed }
+some_named-requires c = let s = fifth c.before in let H = s.requires.in_ranges in record {
+  variables_le_most_variables = (omega (arith, H.few-rows, H.few-columns), s.requires.rows_in_bounds);
+  all_formed = s.requires.all_formed;
+}
 
 pub returns : goal.returns
-returns c = let l = c in let p = c in let e = c in
-    let a = (fifth c.before.before).args in
+returns c =
+    let s = fifth c.before.before in let a = s.args in
     c.some_named.ensures
     ∙ sym (cannot-tests a.entries.now a.limits a.rows a.columns a.answer.now
-    ∙ last-test c.before.before.before.before.before.before (marked c.before.before.before.before.before.before.before.before.before.before.before.before.before) (contradicts-zero (total c.before.before.before.before.before.before.before.before.before.before.before.before.before) (marked c.before.before.before.before.before.before.before.before.before.before.before.before.before) (not-above c.before.before.before)
-    (sym (level-is c.before.before) ∙ not-false _ l.if-not-is_zero-2.false)))
+    ∙ last-test c.before.before.before.before.before.before (marked s)
+    (contradicts-zero (total s) (marked s) (not-above c.before.before.before)
+    (sym (level-is c.before.before) ∙ c.if-not-is_zero-2.false)))

@@ -11,6 +11,6 @@ pub is_zero-requires : goal.is_zero-requires
 is_zero-requires c = sized-le c.requires (lit≤ tt)
 
 pub returns : goal.returns
-returns c = let p = c in let l = p.args.limit in
-    ap (λ (b : Bool). l.on && (l.strict && not b)) p.is_zero.ensures
-    ∙ named-joined l.on _ (value p.args.k)
+returns c = let l = c.args.limit in
+    ap (λ (b : Bool). l.on && (l.strict && not b)) c.is_zero.ensures
+    ∙ named-joined l.on _ (value c.args.k)

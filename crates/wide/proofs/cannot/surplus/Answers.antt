@@ -1,7 +1,7 @@
 -- `wide::cannot::surplus` meets its contract. The invariant: the sum stands for that of the variables passed, and its
 -- limbs are within so many times twice the largest limit times 2^32. The measure is how many are left. Assumes nothing.
 use mathlib.Core.Path.{◌≡◌, ap, sym}
-use Prim.Native.Nat.{ℕ, ◌+◌, ◌*◌, ◌-◌, ◌≤◌, ◌<◌}
+use Prim.Native.Nat.{ℕ, ◌+◌, ◌*◌, ◌≤◌, ◌<◌}
 use native.Mathlib.Omega.{arith}
 use lib.Dec.{lit≤}
 use lib.IntN.{ℤ, ◌+ℤ◌, ◌-ℤ◌, ◌*ℤ◌}
@@ -19,35 +19,12 @@ use Rattle.wide.proofs.Laws.Reads.{stands-in}
 use Rattle.limbs.proofs.Laws.Stands.{stands-for, stands-is, stands-le, stands-less, stands-plus}
 use Rattle.limbs.proofs.Laws.Stands.{stands-zero}
 use Rattle.wide.proofs.cannot.surplus.Goals as goal
-use Rattle.wide.proofs.cannot.surplus.Goals.{After-less, After-loop-v, After-number_at-high, After-plus-sum, After-weighed-loss, At-loop-v, Start}
-
-pub zero-sum-requires : goal.zero-sum-requires
-zero-sum-requires c = tt
+use Rattle.wide.proofs.cannot.surplus.Goals.{After-less, After-loop-v, After-number_at-high, After-plus-sum}
+use Rattle.wide.proofs.cannot.surplus.Goals.{After-weighed-loss, At-loop-v, Start}
 
 pub loop-v-init : goal.loop-v-init
 unfolding surplus_in sum_by
 loop-v-init c = (omega arith, stands-is c.zero-sum.ensures (stands-zero (0 * (weight_most + weight_most))))
-
-pub overflow_add-v : goal.overflow_add-v
-overflow_add-v c = omega arith
-
-pub number_at-low-requires : goal.number_at-low-requires
-number_at-low-requires c = (omega arith, omega arith)
-
-pub overflow_add-variables : goal.overflow_add-variables
-overflow_add-variables c = omega arith
-
-pub overflow_add-variables-in-loop-v : goal.overflow_add-variables-in-loop-v
-overflow_add-variables-in-loop-v c = omega arith
-
-pub number_at-high-requires : goal.number_at-high-requires
-number_at-high-requires c = (omega arith, omega arith)
-
-pub offset_bounds-limits-v : goal.offset_bounds-limits-v
-offset_bounds-limits-v c = omega arith
-
-pub bounds-limits-v : goal.bounds-limits-v
-bounds-limits-v c = omega arith
 
 -- the variable and its two multipliers
 module _ (c : After-number_at-high) where
@@ -68,17 +45,13 @@ module _ (c : After-number_at-high) where
       (stands-in start.requires.all_formed (1 + start.args.variables + v) (omega arith))
 
 pub weighed-gain-requires : goal.weighed-gain-requires
-weighed-gain-requires c = let r = c in ((low c.before).size, (start c.before).requires.limited.lowers-within (v c.before))
-
-pub offset_bounds-limits-v-in-loop-v : goal.offset_bounds-limits-v-in-loop-v
-offset_bounds-limits-v-in-loop-v c = omega arith
-
-pub bounds-limits-v-in-loop-v : goal.bounds-limits-v-in-loop-v
-bounds-limits-v-in-loop-v c = omega arith
+weighed-gain-requires c = ((low c.before).size, (start c.before).requires.limited.lowers-within (v c.before))
 
 pub weighed-loss-requires : goal.weighed-loss-requires
-weighed-loss-requires c = let r = c in
-    ((high c.before.before.before).size, (start c.before.before.before).requires.limited.uppers-within (v c.before.before.before))
+weighed-loss-requires c = (
+  (high c.before.before.before).size,
+  (start c.before.before.before).requires.limited.uppers-within (v c.before.before.before),
+)
 
 -- what the two calls give
 module _ (c : After-weighed-loss) where
@@ -115,7 +88,8 @@ pub less-requires : goal.less-requires
 less-requires c = (sized-le (gained c).size (lit≤ tt), sized-le (lost c).size (lit≤ tt))
 
 net : (c : After-less) →
-    StandsFor c.less.result (gain c.before (v c.before.before.before.before.before) -ℤ loss c.before (v c.before.before.before.before.before))
+    StandsFor c.less.result (gain c.before (v c.before.before.before.before.before) -ℤ loss c.before
+    (v c.before.before.before.before.before))
     (weight_most + weight_most)
 net c = stands-is c.less.ensures (stands-less (gained c.before) (lost c.before))
 
@@ -130,8 +104,9 @@ module _ (c : After-plus-sum) where
   few : (start c.before.before.before.before.before.before).args.variables ≤ most_variables
   few = (start c.before.before.before.before.before.before).requires.variables_le_most_variables.0
 
-  there : v c.before.before.before.before.before.before < (start c.before.before.before.before.before.before).args.variables
-  there = (read c.before.before).loop-v-test.taken
+  there : v c.before.before.before.before.before.before
+      < (start c.before.before.before.before.before.before).args.variables
+  there = (read c.before.before).loop-v-test.true
 
 pub overflow_step-v : goal.overflow_step-v
 overflow_step-v c = omega (arith, few c, there c)
@@ -157,7 +132,8 @@ pub loop-v-preserved : goal.loop-v-preserved
 loop-v-preserved c = (
   omega (arith, few c, there c),
   stands-is c.plus-sum.ensures
-      (stands-for (more c) (stands-le (stands-plus (before c.before.before).loop-v.invariant.1 (net c.before)) (wider c))),
+      (stands-for (more c) (stands-le (stands-plus (before c.before.before).loop-v.invariant.1 (net c.before))
+      (wider c))),
 )
 
 module _ (c : After-loop-v) where
@@ -169,5 +145,5 @@ module _ (c : After-loop-v) where
 
 pub returns : goal.returns
 returns c = let o = c.args in
-    stands-for (ap (λ (k : ℕ). surplus_in o.t1 o.answer.now o.variables k) (all c))
+    stands-for (ap (λ (k : ℕ). surplus_in o.limits o.answer.now o.variables k) (all c))
     (stands-le c.loop-v.invariant.1 (most c))

@@ -7,7 +7,8 @@ use Rattle.wide.proofs.cannot.surplus.Given as goal
 
 abbrev pub invariant-loop-v : goal.invariant-loop-v
 invariant-loop-v l =
-    (l.v ≤ l.variables) × StandsFor l.sum (surplus_in l.limits l.answer l.variables l.v) (l.v * (weight_most + weight_most))
+    (l.v ≤ l.variables) × StandsFor l.sum (surplus_in l.limits l.answer l.variables l.v)
+    (l.v * (weight_most + weight_most))
 
 abbrev pub decreases-loop-v : goal.decreases-loop-v
 decreases-loop-v l = l.variables - l.v

@@ -31,23 +31,20 @@ fit : (c : After-struct_told) → SFits w32 c.args.limit.plain
 fit c = search rules
 
 pub times-requires : goal.times-requires
-times-requires c = let s = c in
-    simp (to_z-of_z (fit c.before)) (sized-le s.requires.0 (lit≤ tt), s.requires.1)
+times-requires c =
+    simp (to_z-of_z (fit c.before)) (sized-le c.requires.0 (lit≤ tt), c.requires.1)
 
 pub returns-then-limit : goal.returns-then-limit
 unfolding plain_of present
-returns-then-limit c = let t = c in let s = c in
+returns-then-limit c =
     stands-is (simp (to_z-of_z (fit c.before)) at c.times.ensures)
-    (stands-for (ap (λ (b : Bool). weight b s.args.limit (value s.args.k)) (sym t.if-limit.true))
-    (stands-times s.requires.1 (record { number = refl; size = s.requires.0 })))
-
-pub zero-requires : goal.zero-requires
-zero-requires c = tt
+    (stands-for (ap (λ (b : Bool). weight b c.args.limit (value c.args.k)) (sym c.if-limit.true))
+    (stands-times c.requires.1 (record { number = refl; size = c.requires.0 })))
 
 pub returns : goal.returns
 unfolding plain_of present
-returns c = let e = c in let s = c in
+returns c =
     stands-is c.zero.ensures
-    (stands-for (sym (zero-*ℤ (value s.args.k))
-    ∙ ap (λ (b : Bool). weight b s.args.limit (value s.args.k)) (sym e.if-limit.false))
+    (stands-for (sym (zero-*ℤ (value c.args.k))
+    ∙ ap (λ (b : Bool). weight b c.args.limit (value c.args.k)) (sym c.if-limit.false))
     (stands-zero weight_most))

@@ -6,9 +6,6 @@ use Rattle.whole.specs.Numbers.{outside}
 use Rattle.rules.specs.Wide.{limb_fits}
 use Rattle.wide.proofs.numbers.limb_fits.Goals as goal
 
-pub is_outside-requires : goal.is_outside-requires
-is_outside-requires c = tt
-
 pub returns : goal.returns
 unfolding limb_fits outside
 returns c = ap (λ (b : Bool). not b) (simp (to_z-of_z c.ranges.z) at c.is_outside.ensures)

@@ -13,45 +13,6 @@ use Rattle.limbs.specs.declared.Wide.{Wide}
 use Rattle.wide.proofs.numbers.number_at.Goals as goal
 use Rattle.wide.proofs.numbers.number_at.Goals.{After-result-4-1, Start}
 
-pub overflow_mul-at : goal.overflow_mul-at
-overflow_mul-at c = omega arith
-
-pub overflow_add-at : goal.overflow_add-at
-overflow_add-at c = omega arith
-
-pub overflow_add-second : goal.overflow_add-second
-overflow_add-second c = omega arith
-
-pub overflow_add-third : goal.overflow_add-third
-overflow_add-third c = omega arith
-
-pub overflow_add-last : goal.overflow_add-last
-overflow_add-last c = omega arith
-
-pub offset_bounds-answer-at : goal.offset_bounds-answer-at
-offset_bounds-answer-at c = omega arith
-
-pub bounds-answer-at : goal.bounds-answer-at
-bounds-answer-at c = omega arith
-
-pub offset_bounds-answer-second : goal.offset_bounds-answer-second
-offset_bounds-answer-second c = omega arith
-
-pub bounds-answer-second : goal.bounds-answer-second
-bounds-answer-second c = omega arith
-
-pub offset_bounds-answer-third : goal.offset_bounds-answer-third
-offset_bounds-answer-third c = omega arith
-
-pub bounds-answer-third : goal.bounds-answer-third
-bounds-answer-third c = omega arith
-
-pub offset_bounds-answer-last : goal.offset_bounds-answer-last
-offset_bounds-answer-last c = omega arith
-
-pub bounds-answer-last : goal.bounds-answer-last
-bounds-answer-last c = omega arith
-
 lowest : (s : ℕ) → 2 + 4 * s ≡ 2 + 4 * s + 0
 lowest s = omega arith
 

@@ -28,21 +28,6 @@ After-limb_fits3 = lts.After-limb_fits3 tie.the-claims reads.Pre reads.Post
 abbrev After-number_at : Type 0
 After-number_at = lts.After-number_at tie.the-claims reads.Pre reads.Post
 
-pub number_at-number-requires : goal.number_at-number-requires
-number_at-number-requires c = c.requires
-
-pub limb_fits-requires : goal.limb_fits-requires
-limb_fits-requires c = tt
-
-pub limb_fits-requires-2 : goal.limb_fits-requires-2
-limb_fits-requires-2 c = tt
-
-pub limb_fits-requires-3 : goal.limb_fits-requires-3
-limb_fits-requires-3 c = tt
-
-pub head_fits-requires : goal.head_fits-requires
-head_fits-requires c = tt
-
 module _ (c : After-head_fits) where
   abbrev third : After-limb_fits3
   third = c.before.before

@@ -1,7 +1,6 @@
 -- `wide::numbers::numbers_fit` meets its contract. The invariant: whether the words of the numbers passed are in their
 -- ranges. The measure is how many are left. Assumes nothing.
 use mathlib.Core.Path.{◌≡◌, sym}
-use Prim.Native.Nat.{◌-◌}
 use native.Mathlib.Omega.{arith}
 use Rattle.whole.proofs.Lists.Below.{all_start}
 use Rattle.rules.proofs.Evidence.Joined.{tests-more}
@@ -10,15 +9,6 @@ use Rattle.wide.proofs.numbers.numbers_fit.Goals.{After-loop-slot}
 
 pub loop-slot-init : goal.loop-slot-init
 loop-slot-init c = (omega arith, sym (all_start _))
-
-pub number_fits-fine-requires : goal.number_fits-fine-requires
-number_fits-fine-requires c = (omega arith, omega arith)
-
-pub overflow_step-slot : goal.overflow_step-slot
-overflow_step-slot c = omega arith
-
-pub loop-slot-smaller : goal.loop-slot-smaller
-loop-slot-smaller c = omega arith
 
 pub loop-slot-preserved : goal.loop-slot-preserved
 loop-slot-preserved c = (
