@@ -40,7 +40,8 @@ fn row_sum(
     rows: usize,
     columns: usize,
 ) -> i64
-    requires row_lt_rows { (row.0 < rows) × (rows ≤ most_rows) × (columns ≤ most_columns) × (3 + columns ≤ length half.now) }
+    requires row_lt_rows { (row.0 < rows) × (rows ≤ most_rows) × (columns ≤ most_columns)
+        × (3 + columns ≤ length half.now) }
     requires all_within { AllWithin entries.now largest_coefficient }
     requires by_index { (v : ℕ) → v < columns → Within (lower_part half.now v) largest_numerator }
     ensures { result ≡ row_sum_at entries.now half.now rows columns row.0 }
@@ -63,7 +64,8 @@ fn rows_hold(
     rows: usize,
     columns: usize,
 ) -> bool
-    requires rows_le_most_rows { (rows ≤ most_rows) × (columns ≤ most_columns) × (3 + (columns + rows) ≤ length half.now) }
+    requires rows_le_most_rows { (rows ≤ most_rows) × (columns ≤ most_columns)
+        × (3 + (columns + rows) ≤ length half.now) }
     requires all_within { AllWithin entries.now largest_coefficient }
     requires by_index { (v : ℕ) → v < columns → Within (lower_part half.now v) largest_numerator }
     ensures { result ≡ rows_hold entries.now half.now rows columns }
@@ -85,7 +87,8 @@ fn half_holds(
     columns: usize,
     largest: i64,
 ) -> bool
-    requires rows_le_most_rows { (rows ≤ most_rows) × (columns ≤ most_columns) × (3 + (columns + rows) ≤ length half.now) }
+    requires rows_le_most_rows { (rows ≤ most_rows) × (columns ≤ most_columns)
+        × (3 + (columns + rows) ≤ length half.now) }
     requires all_within { AllWithin entries.now largest_coefficient }
     requires pos_bound { (pos 0 ≤ℤ largest) × (Within largest largest_numerator) }
     ensures { result ≡ half_holds (nat_abs largest) entries.now half.now rows columns }
@@ -116,7 +119,8 @@ fn smalls_hold(
     rows: usize,
     columns: usize,
 ) -> bool
-    requires rows_le_most_rows { (rows ≤ most_rows) × (columns ≤ most_columns) × (3 + (columns + rows) ≤ length half.now) }
+    requires rows_le_most_rows { (rows ≤ most_rows) × (columns ≤ most_columns)
+        × (3 + (columns + rows) ≤ length half.now) }
     requires all_within { AllWithin entries.now largest_coefficient }
     ensures { result ≡ half_holds largest_small entries.now half.now rows columns }
 {

@@ -39,7 +39,8 @@ fn multipliers_fair(limits: Limits, answer: &[i64], variables: usize) -> bool
 
 // The lower less the upper multiplier of a variable.
 fn balance(answer: &[i64], variables: usize, variable: Variable) -> i64
-    requires variable_lt_variables { (variable.0 < variables) × (variables ≤ most_variables) × (3 + 2 * variables ≤ length answer.now) }
+    requires variable_lt_variables { (variable.0 < variables) × (variables ≤ most_variables)
+        × (3 + 2 * variables ≤ length answer.now) }
     requires multiplied { Multiplied answer.now variables }
     ensures { result ≡ balance_at answer.now variables variable.0 }
 {
@@ -51,7 +52,8 @@ fn balance(answer: &[i64], variables: usize, variable: Variable) -> i64
 
 // .. of a column's own variable. Variable j of a problem starts in column j: this is where the one becomes the other.
 fn own_balance(answer: &[i64], variables: usize, column: ColumnPlace) -> i64
-    requires column_lt_variables { (column.0 < variables) × (variables ≤ most_variables) × (3 + 2 * variables ≤ length answer.now) }
+    requires column_lt_variables { (column.0 < variables) × (variables ≤ most_variables)
+        × (3 + 2 * variables ≤ length answer.now) }
     requires multiplied { Multiplied answer.now variables }
     ensures { result ≡ balance_at answer.now variables column.0 }
 {
@@ -89,7 +91,8 @@ fn columns_cancel(
     rows: usize,
     columns: usize,
 ) -> bool
-    requires rows_le_most_rows { (rows ≤ most_rows) × (columns ≤ most_columns) × (3 + 2 * (columns + rows) ≤ length answer.now) }
+    requires rows_le_most_rows { (rows ≤ most_rows) × (columns ≤ most_columns)
+        × (3 + 2 * (columns + rows) ≤ length answer.now) }
     requires all_within { AllWithin entries.now largest_coefficient }
     requires multiplied { Multiplied answer.now (columns + rows) }
     ensures { result ≡ columns_cancel entries.now answer.now rows columns }

@@ -4,7 +4,8 @@
 ghost use Rattle.std.specs.Prelude.{◌≡◌, ◌||◌, [], ◌∷◌, ◌/◌, ◌%◌, ◌<◌, ◌≤◌, eqb, pos, nat_abs, ◌<ℤ◌};
 ghost use Rattle.whole.specs.Numbers.{within};
 ghost use Rattle.rules.specs.Limit.{has_lower, has_upper, strict_lower, strict_upper, bad_kind_word, bad_limit_word};
-ghost use Rattle.rules.specs.Refusal.{bad_coefficient, blank_row, first, problem_refusal, problem_refusal_within, some_blank};
+ghost use Rattle.rules.specs.Refusal.{bad_coefficient, blank_row, first, problem_refusal, problem_refusal_within};
+ghost use Rattle.rules.specs.Refusal.{some_blank};
 ghost use Rattle.rules.specs.Sizes.{most_rows};
 ghost use Rattle.judge.specs.Words.{Framed, bad_by, bad_variable};
 

@@ -43,7 +43,8 @@ pub fn times_of(best: [Length; MOST_VERTICES]) -> Halves
 // The rows that go round, and zeros.
 pub fn gathered(way: Way) -> Halves
     requires { Gathering way }
-    ensures { (result.plain ≡ cycle_words most_vertices (rows_of way)) × (result.small ≡ replicate most_vertices (pos 0)) }
+    ensures { (result.plain ≡ cycle_words most_vertices (rows_of way))
+        × (result.small ≡ replicate most_vertices (pos 0)) }
 {
     let from = way.from;
     let count = way.to - from;

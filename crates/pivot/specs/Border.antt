@@ -1,6 +1,7 @@
 -- What a pivot reads beside the entries. With D added to the entering column where it crosses the leaving row, and
 -- taken off the leaving row there, every cell is p a - b c, whatever its kind: four kinds become one.
-use Rattle.std.specs.Prelude.{ℕ, ◌≤◌, ◌<◌, Bool, true, false, List, eqb, ℤ, pos, neg_ℤ, nat_abs, ◌+ℤ◌, ◌-ℤ◌, ◌*ℤ◌, get_or}
+use Rattle.std.specs.Prelude.{ℕ, ◌≤◌, ◌<◌, Bool, true, false, List, eqb, ℤ, pos, neg_ℤ, nat_abs, ◌+ℤ◌, ◌-ℤ◌, ◌*ℤ◌}
+use Rattle.std.specs.Prelude.{get_or}
 use Rattle.whole.specs.Divisors.{gcd}
 use Rattle.whole.specs.Numbers.{Within, AllWithin}
 use Rattle.whole.specs.Tables.{filled}

@@ -1,5 +1,6 @@
 -- A pivot by place: the entries before reduction, their divisor, and the entries in lowest common form.
-use Rattle.std.specs.Prelude.{ℕ, ◌+◌, ◌≤◌, ◌<◌, Bool, true, false, cond, ◌&&◌, List, ◌++◌, ◌≡◌, ◌≢◌, T, eqb, drop, get_or, length, ℤ, pos, neg_ℤ, ◌*ℤ◌, ◌-ℤ◌}
+use Rattle.std.specs.Prelude.{ℕ, ◌+◌, ◌≤◌, ◌<◌, Bool, true, false, cond, ◌&&◌, List, ◌++◌, ◌≡◌, ◌≢◌, T, eqb, drop}
+use Rattle.std.specs.Prelude.{get_or, length, ℤ, pos, neg_ℤ, ◌*ℤ◌, ◌-ℤ◌}
 use Rattle.std.specs.Int.Signed.{quot_z}
 use Rattle.whole.specs.Below.{all_below, fold_below}
 use Rattle.whole.specs.Numbers.{Within, AllWithin, within}

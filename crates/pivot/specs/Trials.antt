@@ -1,5 +1,6 @@
 -- A divisor that is tried: quotients that are multiplied back, one column, all columns.
-use Rattle.std.specs.Prelude.{ℕ, ◌+◌, ◌*◌, ◌≤◌, ◌<◌, ◌≡◌, Bool, true, false, List, ◌⊎◌, T, ltb, ℤ, pos, nat_abs, ◌*ℤ◌, length, get_or}
+use Rattle.std.specs.Prelude.{ℕ, ◌+◌, ◌*◌, ◌≤◌, ◌<◌, ◌≡◌, Bool, true, false, List, ◌⊎◌, T, ltb, ℤ, pos, nat_abs, ◌*ℤ◌}
+use Rattle.std.specs.Prelude.{length, get_or}
 use Rattle.std.specs.Int.{◌∣◌}
 use Rattle.whole.specs.Below.{fold_below, some_below}
 use Rattle.whole.specs.Divisors.{gcd}
@@ -66,7 +67,8 @@ TriedAs l b by (tries.Wrong j) out = j < b.columns
 pub record DivisorFound (l : List ℤ) (b : Border) (from : ℤ) (old : List ℤ) (z : ℤ) (out : List ℤ) : Type 0 where
   pub sign-is : z ≡ signed_by from (nat_abs z)
   pub divides : nat_abs z ∣ nat_abs from
-  pub greatest : (d : ℕ) → d ∣ nat_abs from → ((k : ℕ) → k < in_border b → d ∣ nat_abs (difference_at l b k)) → d ∣ nat_abs z
+  pub greatest : (d : ℕ) → d ∣ nat_abs from → ((k : ℕ) → k < in_border b → d ∣ nat_abs (difference_at l b k)) → d ∣
+      nat_abs z
   pub right : (k : ℕ) → k < in_border b → Quotient z (difference_at l b k) (get_or out k (pos 0))
   pub apart : Spared 0 (in_border b) old out
 

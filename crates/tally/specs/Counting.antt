@@ -2,7 +2,8 @@
 --   Countable, Auditable    what the totals and an answer must hold, so that every sum fits
 --   refused_at, counted_at   a body that is refused, or has an answer
 --   audited_at              .. whichever it is
-use Rattle.std.specs.Prelude.{cond, not, List, ◌++◌, ◌≡◌, ℕ, max, suc, zero, ◌*◌, ◌+◌, ◌<◌, ◌≤◌, ltb, nat_abs, pos, ℤ, drop, get_or, length, replicate, set, ◌≤ℤ◌}
+use Rattle.std.specs.Prelude.{cond, not, List, ◌++◌, ◌≡◌, ℕ, max, suc, zero, ◌*◌, ◌+◌, ◌<◌, ◌≤◌, ltb, nat_abs, pos, ℤ}
+use Rattle.std.specs.Prelude.{drop, get_or, length, replicate, set, ◌≤ℤ◌}
 use Rattle.whole.specs.Numbers.{eq_z}
 use Rattle.whole.specs.Tables.{table}
 use Rattle.rules.specs.Answer.{answer}

@@ -85,4 +85,5 @@ surplus_in l a variables k =
 
 unfoldable pub some_marked : Limits → List ℤ → ℕ → ℕ → Bool
 some_marked l a variables k =
-    some_below k (λ v. strict_named (lower_of l v) (wide_lower a v) || strict_named (upper_of l v) (wide_upper variables a v))
+    some_below k (λ v. strict_named (lower_of l v) (wide_lower a v) || strict_named (upper_of l v)
+    (wide_upper variables a v))

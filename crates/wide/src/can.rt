@@ -2,7 +2,8 @@
 // has its numbers from a slot on: from the second, and past one number for each variable.
 ghost use Rattle.std.specs.Prelude.{◌≡◌, ◌+◌, ◌*◌, ◌≤◌, ◌<◌, pos, length};
 ghost use Rattle.whole.specs.Numbers.{Within, AllWithin, eq_z};
-ghost use Rattle.rules.specs.Sizes.{most_rows, most_columns, most_variables, largest_coefficient, largest_limit, limb_turn};
+ghost use Rattle.rules.specs.Sizes.{most_rows, most_columns, most_variables, largest_coefficient, largest_limit};
+ghost use Rattle.rules.specs.Sizes.{limb_turn};
 ghost use Rattle.rules.specs.Evidence as evidence;
 ghost use Rattle.rules.specs.Evidence.{at_least, at_most, right_can};
 ghost use Rattle.rules.specs.Wide.{numbers_of, wide_at, wide_denominator, wide_lower, wide_upper};

@@ -1,7 +1,8 @@
 // Verdict 2: multipliers of the limits whose sum is a contradiction.
 ghost use Rattle.std.specs.Prelude.{◌≡◌, ◌+◌, ◌*◌, ◌≤◌, ◌<◌, ◌*ℤ◌, length};
 ghost use Rattle.whole.specs.Numbers.{Within, AllWithin};
-ghost use Rattle.rules.specs.Sizes.{most_rows, most_columns, most_variables, largest_coefficient, largest_limit, limb_turn};
+ghost use Rattle.rules.specs.Sizes.{most_rows, most_columns, most_variables, largest_coefficient, largest_limit};
+ghost use Rattle.rules.specs.Sizes.{limb_turn};
 ghost use Rattle.rules.specs.Evidence as evidence;
 ghost use Rattle.rules.specs.Evidence.{plain_of, right_cannot, strict_named};
 ghost use Rattle.rules.specs.Wide.{numbers_of, wide_denominator, wide_lower, wide_upper};
@@ -87,7 +88,8 @@ fn columns_cancel(
     rows: usize,
     columns: usize,
 ) -> bool
-    requires rows_le_most_rows { (rows ≤ most_rows) × (columns ≤ most_columns) × (6 + 8 * (columns + rows) ≤ length answer.now) }
+    requires rows_le_most_rows { (rows ≤ most_rows) × (columns ≤ most_columns)
+        × (6 + 8 * (columns + rows) ≤ length answer.now) }
     requires all_within { AllWithin entries.now largest_coefficient }
     requires all_formed { AllFormed answer.now (numbers_of (columns + rows)) }
     ensures { result ≡ columns_vanish entries.now answer.now rows columns columns }

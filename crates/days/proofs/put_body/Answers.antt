@@ -63,9 +63,11 @@ pub shape_of-out : goal.shape_of-out
 shape_of-out c = search rules
 
 pub returns : goal.returns
-returns c = let k = c in let s = start c.before.before.before.before.before.before in
+returns c =
+    let place = c.before.before.before.before.before.before in
+    let s = start place in
     put_as
     (ap (λ b. reply_to (problem_refusal_within (rows_within s.args.rows) b) b)
-    (part_body s.requires.0.accepted (i c.before.before.before.before.before.before) s.requires.1 (part c.before.before.before.before.before.before) k.part_of-part.ensures)
-    ∙ body-reply (edition_in (words c.before.before.before.before.before.before)) s.args.rows s.requires.3 (body_in (words c.before.before.before.before.before.before) (i c.before.before.before.before.before.before)))
+    (part_body s.requires.0.accepted (i place) s.requires.1 (part place) c.part_of-part.ensures)
+    ∙ body-reply (edition_in (words place)) s.args.rows s.requires.3 (body_in (words place) (i place)))
     c.put_reply.ensures

@@ -85,8 +85,9 @@ pub words_of-count-requires : goal.words_of-count-requires
 words_of-count-requires c = omega (arith, (accepted c.before.before).few)
 
 pub slice_bounds-words-end : goal.slice_bounds-words-end
-slice_bounds-words-end c = let w = c in
-    omega (arith, taken c.before.before.before, length-take w.words_of-count.result w.words_of-count.new.words)
+slice_bounds-words-end c =
+    let place = c.before.before.before in
+    omega (arith, taken place, length-take c.words_of-count.result c.words_of-count.new.words)
 
 pub slice_bounds-put_bodies-end : goal.slice_bounds-put_bodies-end
 slice_bounds-put_bodies-end c = taken c.before.before.before.before

@@ -27,7 +27,8 @@ use Rattle.layout.proofs.Laws.Layout.{column-laid-live}
 
 -- an array filled by the places of its cells
 pub cell-filled : (o : Order) (m n : ℕ) (f : ℕ → ℕ → ℤ) (i j : ℕ) → i < m → j < n →
-    entry_laid o m n (filled most_entries (pos 0) (live m n) (λ k. f (row_laid o m n k) (column_laid o m n k))) i j ≡ f i j
+    entry_laid o m n (filled most_entries (pos 0) (live m n) (λ k. f (row_laid o m n k) (column_laid o m n k))) i j ≡
+    f i j
 cell-filled o m n f i j h k =
     filled_in most_entries (pos 0) (live m n) (λ k. f (row_laid o m n k) (column_laid o m n k)) (flat_laid o m n i j)
     (flat-laid-live o m n i j h k)

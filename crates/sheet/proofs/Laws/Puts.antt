@@ -35,7 +35,8 @@ module _ (f : ℕ → List ℕ) where
   unfolding lines_below
   lines_next v p q = rw add-one (put_then p q)
 
-  pub line-room : {l m : List ℕ} {i j : ℕ} (v k : ℕ) → v < k → Room i (lines_below k f) → Put l i (lines_below v f) m j →
+  pub line-room : {l m : List ℕ} {i j : ℕ} (v k : ℕ) → v < k → Room i (lines_below k f) → Put l i (lines_below v f) m
+      j →
       Room j (f v)
   line-room v k h r p =
       let u = lines-up (v + 1) k (omega arith) in let l = lines-longer v f in let e = p.place in let s = r.room in

@@ -84,8 +84,8 @@ pub words_of-count-requires : goal.words_of-count-requires
 words_of-count-requires c = omega (arith, (accepted c.before.before).few)
 
 pub slice_bounds-words-end : goal.slice_bounds-words-end
-slice_bounds-words-end c = let w = c in
-    omega (arith, taken c.before.before, length-take w.words_of-count.result w.words_of-count.new.words)
+slice_bounds-words-end c =
+    omega (arith, taken c.before.before, length-take c.words_of-count.result c.words_of-count.new.words)
 
 pub slice_bounds-totals-end : goal.slice_bounds-totals-end
 slice_bounds-totals-end c = taken c.before.before.before
@@ -102,12 +102,12 @@ module _ (c : After-totals) where
   sums-are = c.totals-sums.ensures ∙ ap totals_in (front read)
 
 pub put_sheet-requires : goal.put_sheet-requires
-put_sheet-requires c = let t = c in let e = passed c.before.before.before.before.before in
+put_sheet-requires c = let e = passed c.before.before.before.before.before in
     sheet-room (bytes (start e)) (fine e) (sums-are c.before.before)
 
 pub shape_of-out : goal.shape_of-out
 shape_of-out c = search rules
 
 pub returns : goal.returns
-returns c = let a = c in let t = c in let e = passed c.before.before.before.before.before.before.before.before in
-    sheet-put (bytes (start e)) (fine e) (sums-are c.before.before.before.before.before) a.put_sheet.ensures
+returns c = let e = passed c.before.before.before.before.before.before.before.before in
+    sheet-put (bytes (start e)) (fine e) (sums-are c.before.before.before.before.before) c.put_sheet.ensures

@@ -23,9 +23,6 @@ use Rattle.times.proofs.solve.Goals.{After-best-1, After-settle-s, After-struct_
 pub count_at-n-requires : goal.count_at-n-requires
 count_at-n-requires c = (omega (arith, c.requires.enough), ≤ℤ-trans (record { le = tt }) c.requires.n-least)
 
-pub count_at-m-requires : goal.count_at-m-requires
-count_at-m-requires c = search rules
-
 pub settle-s-requires : goal.settle-s-requires
 settle-s-requires c =
     record {
@@ -81,9 +78,6 @@ times_of-requires c = (settled c).passed
 pub write-requires : goal.write-requires
 write-requires c = let s = still c.before.before in (n-low s, n-low s, roomy s)
 
-pub shape_of-out-then-s : goal.shape_of-out-then-s
-shape_of-out-then-s c = search rules
-
 pub returns-then-s : goal.returns-then-s
 returns-then-s c =
     let t = c in
@@ -119,9 +113,6 @@ gathered-requires c = closed-gathering (ws c.before.before.before) (before c.bef
 
 pub write-requires-2 : goal.write-requires-2
 write-requires-2 c = let k = c in (n-low c.before.before.before.before.before, omega (arith, (closed c.before.before).in_path), roomy c.before.before.before.before.before)
-
-pub shape_of-out : goal.shape_of-out
-shape_of-out c = search rules
 
 pub returns : goal.returns
 returns c =

@@ -69,13 +69,15 @@ overflow_add-c c =
 
 pub overflow_add-d : goal.overflow_add-d
 overflow_add-d c =
-    let here = c.before.before.before.before.before.before.before.before.before.before.before.before.before.before.before.before in
+    let up = c.before.before.before.before.before.before.before.before in
+    let here = up.before.before.before.before.before.before.before.before in
     let s = c in
     simp (to_z-of_z (own-d here), to_z-of_z (other-d here)) (fit-d here)
 
 pub returns : goal.returns
 returns c =
-    let here = c.before.before.before.before.before.before.before.before.before.before.before.before.before.before.before.before in
+    let up = c.before.before.before.before.before.before.before.before in
+    let here = up.before.before.before.before.before.before.before.before in
     let s = c in simp (
       to_z-of_z (own-a here),
       to_z-of_z (other-a here),

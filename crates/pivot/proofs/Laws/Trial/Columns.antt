@@ -97,7 +97,8 @@ module _ (l besides : List ℤ) (c : Column) (by : ℕ) where
   column-none = refl
 
   pub column-more : (k : ℕ) →
-      column_divisor l besides c (k + 1) by ≡ gcd (nat_abs (difference_in l besides c k)) (column_divisor l besides c k by)
+      column_divisor l besides c (k + 1) by ≡ gcd (nat_abs (difference_in l besides c k))
+      (column_divisor l besides c k by)
   unfolding column_divisor fold_below
   column-more k = rw add-one refl
 
@@ -174,7 +175,8 @@ module _ (l : List ℤ) (b : Border) (j : ℕ) (in-columns : j < b.columns) wher
   -- right quotients before the column, and in it
   pub quotients-then : (by : ℤ) (old new : List ℤ) → Spared from m old new →
       ((k : ℕ) → k < from → Quotient by (difference_at l b k) (get_or old k (pos 0))) →
-      ((i : ℕ) → i < m → Quotient by (difference_in l b.besides (border_column b j) i) (get_or new (from + i) (pos 0))) →
+      ((i : ℕ) → i < m → Quotient by (difference_in l b.besides (border_column b j) i)
+      (get_or new (from + i) (pos 0))) →
       (k : ℕ) → k < from + m → Quotient by (difference_at l b k) (get_or new k (pos 0))
   quotients-then by old new A before here k h = go (dec_lt k from)
     where

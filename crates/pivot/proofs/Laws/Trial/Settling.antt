@@ -152,7 +152,8 @@ module _ {m n : ℕ} {l : List ℤ} {c : ℤ} {p q : ℕ} (h : Pivotable m n l c
   pub first-multiple : T ∣ first
   first-multiple = divisor-times m made.besides (pos upper) T (nat_abs c)
       (divisor-times n made.aboves (pos both) T (nat_abs c)
-      (gcd-times (nat_abs (A p q)) (nat_abs c) T (nat_abs c) (over-sizes T c (A p q) T-pivot) (over-sizes T c c T-common))
+      (gcd-times (nat_abs (A p q)) (nat_abs c) T (nat_abs c) (over-sizes T c (A p q) T-pivot)
+      (over-sizes T c c T-common))
       (λ j b. over-sizes T c _ (subst (λ z. T ∣ nat_abs (c *ℤ z)) (sym (above-is m n l c p q j b)) (T-above j b))))
       (λ i b. over-sizes T c _ (subst (λ z. T ∣ nat_abs (c *ℤ z)) (sym (beside-is m n l c p q i b)) (T-beside i b)))
 

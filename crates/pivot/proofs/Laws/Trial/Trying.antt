@@ -28,7 +28,8 @@ pub record Trying (l : List ℤ) (b : Border) (from z : ℤ) : Type 0 where
   pub in-range : Within z largest_number
   pub sign-is : z ≡ signed_by from (nat_abs z)
   pub divides : nat_abs z ∣ nat_abs from
-  pub greatest : (d : ℕ) → d ∣ nat_abs from → ((k : ℕ) → k < in_border b → d ∣ nat_abs (difference_at l b k)) → d ∣ nat_abs z
+  pub greatest : (d : ℕ) → d ∣ nat_abs from → ((k : ℕ) → k < in_border b → d ∣ nat_abs (difference_at l b k)) → d ∣
+      nat_abs z
 
 module _ (l : List ℤ) (b : Border) (from : ℤ) where
   pub trying_start : from ≢ pos 0 → Within from largest_number → Trying l b from from

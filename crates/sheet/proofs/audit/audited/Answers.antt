@@ -18,7 +18,8 @@ use Rattle.tally.specs.Counting.{Auditable, counted_at}
 use Rattle.sheet.proofs.Laws.Told.{answer-auditable, audited-answered, audited-refused, refusal-most}
 use Rattle.sheet.proofs.Laws.Told.{refused-is}
 use Rattle.sheet.proofs.audit.audited.Goals as goal
-use Rattle.sheet.proofs.audit.audited.Goals.{After-count_at-2, After-solve_within-number, Else-number-ne0, Start, Then-number-ne0}
+use Rattle.sheet.proofs.audit.audited.Goals.{After-count_at-2, After-solve_within-number, Else-number-ne0, Start}
+use Rattle.sheet.proofs.audit.audited.Goals.{Then-number-ne0}
 
 pub slice_bounds-solve_within-end : goal.slice_bounds-solve_within-end
 slice_bounds-solve_within-end c = search rules
@@ -57,10 +58,10 @@ refused-requires c = let o = turned c in
     ((start o).requires, omega (arith, refusal_is c, refusal-most (rows o) (few-rows o) (words o)))
 
 pub returns-then-number-ne0 : goal.returns-then-number-ne0
-returns-then-number-ne0 c = let b = c in let o = turned c.before in
+returns-then-number-ne0 c = let o = turned c.before in
     c.refused.ensures
     ∙ audited-refused (rows o) (few-rows o) (words o) (start o).args.totals (start o).args.body
-    o.solve_within-number.result (refusal_is c.before) b.if-number-ne0.true
+    o.solve_within-number.result (refusal_is c.before) c.if-number-ne0.true
 
 -- the words are a problem
 module _ (c : Else-number-ne0) where
@@ -108,14 +109,16 @@ pub slice_bounds-counted-end : goal.slice_bounds-counted-end
 slice_bounds-counted-end c = search rules
 
 pub counted-requires : goal.counted-requires
-counted-requires c = let k = c in let o = solved c.before.before.before in (
-  (start o).requires,
-  subst₂ Auditable (sym (output-is c.before)) (sym (many_is c.before))
-      (answer-auditable (rows o) (few-rows o) (ws c.before) (fine c.before.before.before) (replicate most_answer (pos 0))),
-)
+counted-requires c =
+    let place = c.before.before.before in
+    let o = solved place in (
+      (start o).requires,
+      subst₂ Auditable (sym (output-is c.before)) (sym (many_is c.before))
+          (answer-auditable (rows o) (few-rows o) (ws c.before) (fine place) (replicate most_answer (pos 0))),
+    )
 
 pub returns : goal.returns
-returns c = let k = c in let o = solved c.before.before.before.before in let a = (start o).args in
+returns c = let o = solved c.before.before.before.before in let a = (start o).args in
     c.counted.ensures
     ∙ ap₂ (λ (l : List ℤ) (n : ℕ). counted_at a.totals l n a.body) (output-is c.before.before) (many_is c.before.before)
     ∙ audited-answered (rows o) (few-rows o) (ws c.before.before) a.totals a.body (replicate most_answer (pos 0))

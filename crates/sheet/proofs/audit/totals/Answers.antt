@@ -104,12 +104,13 @@ within-is : (words : List ℤ) (rows : ℕ) → rows ≡ rows_for words → rows
 within-is words rows e = ap rows_within e ∙ min-eq_left (edition-rows (edition_in words))
 
 pub loop-i-preserved : goal.loop-i-preserved
-loop-i-preserved c = let k = c in let t = turn c.before.before in
+loop-i-preserved c = let t = turn c.before.before in
     let r = t.rows_of-rows.result in (
       omega (arith, in_count t),
       c.audited-sums.ensures
           ∙ ap₂ (λ s w. audited_at (rows_within r) s w (i t)) t.loop-i.invariant.1 (part-is c.before.before)
-          ∙ ap (λ n. audited_at n (totals_of (rows_for (words t)) (i t) (bodies (words t))) (bodies (words t) (i t)) (i t))
+          ∙ ap (λ n. audited_at n (totals_of (rows_for (words t)) (i t) (bodies (words t))) (bodies (words t) (i t))
+          (i t))
           (within-is (words t) r (rows_are t))
           ∙ audited-more (rows_for (words t)) (edition-rows (edition_in (words t))) (bodies (words t)) (i t)
           ∙ ap (λ n. totals_of (rows_for (words t)) n (bodies (words t))) (sym (add-one (i t))),

@@ -46,27 +46,26 @@ module _ (c : After-put_digits) where
   told = put_then named.put_text-named.ensures c.put_digits-told.ensures
 
 pub put_text-named-requires : goal.put_text-named-requires
-put_text-named-requires c = let s = c in room-left (name c.before.before.before.before) (number c.before.before.before.before) (room-front c.before.before.before.before)
+put_text-named-requires c =
+    let place = c.before.before.before.before in
+    room-left (name place) (number place) (room-front place)
 
 pub put_digits-told-requires : goal.put_digits-told-requires
 put_digits-told-requires c =
-    let named = c in
-    let s = c in
-    room-right (name c.before.before.before.before.before.before.before.before) (number c.before.before.before.before.before.before.before.before) (room-front c.before.before.before.before.before.before.before.before) named.put_text-named.ensures
+    let place = c.before.before.before.before.before.before.before.before in
+    room-right (name place) (number place) (room-front place) c.put_text-named.ensures
 
 pub put_byte-requires : goal.put_byte-requires
 unfolding ascii
 put_byte-requires c =
-    let at = c in let s = start c.before.before.before.before in
+    let s = start c.before.before.before.before in
     room-right (name s ++ number s) (ascii "\n") (room s) (told c.before.before.before.before)
 
 pub shape_of-out : goal.shape_of-out
 shape_of-out c =
-    let at = c in
     put-length (put_then (told c.before.before.before.before.before.before.before) c.put_byte.ensures)
 
 pub returns : goal.returns
 unfolding line decimal ascii
 returns c =
-    let at = c in
     put_then (told c.before.before.before.before.before.before.before) c.put_byte.ensures

@@ -80,21 +80,26 @@ module _ (c : After-put_count3) where
 
 pub put_count-bodies-requires : goal.put_count-bodies-requires
 unfolding ascii
-put_count-bodies-requires c = let s = c in room-left (bodies c.before.before.before.before) (can c.before.before.before.before) (room-2 c.before.before.before.before)
+put_count-bodies-requires c =
+    let place = c.before.before.before.before in
+    room-left (bodies place) (can place) (room-2 place)
 
 pub put_count-can-requires : goal.put_count-can-requires
 unfolding ascii
-put_count-can-requires c = let o = c in let s = start c.before.before.before.before.before in
+put_count-can-requires c = let s = start c.before.before.before.before.before in
     room-right (bodies s) (can s) (room-2 s) (told-1 c.before.before.before.before.before)
 
 pub put_count-cannot-requires : goal.put_count-cannot-requires
 unfolding ascii
-put_count-cannot-requires c = let o = c in let s = start c.before.before.before.before.before.before.before.before.before.before.before in
-    room-right (bodies s ++ can s) (cannot s) (room-3 s) (told-2 c.before.before.before.before.before)
+put_count-cannot-requires c =
+    let near = c.before.before.before.before.before in
+    let far = near.before.before.before.before.before.before in
+    let s = start far in
+    room-right (bodies s ++ can s) (cannot s) (room-3 s) (told-2 near)
 
 pub put_count-requires : goal.put_count-requires
 unfolding ascii
-put_count-requires c = let o = c in let s = begin c.before.before.before.before.before in
+put_count-requires c = let s = begin c.before.before.before.before.before in
     room-right (bodies s ++ can s ++ cannot s) (range s) (room-4 s) (told-3 c.before.before.before.before.before)
 
 pub shape_of-out : goal.shape_of-out
@@ -102,5 +107,4 @@ shape_of-out c = search rules
 
 pub returns : goal.returns
 unfolding count_lines ascii
-returns c = let o = c in
-    put_then (told-3 c.before.before.before.before.before.before.before.before.before) c.put_count.ensures
+returns c = put_then (told-3 c.before.before.before.before.before.before.before.before.before) c.put_count.ensures

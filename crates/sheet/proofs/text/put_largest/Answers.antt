@@ -86,26 +86,31 @@ module _ (c : After-put_reached) where
 
 pub put_text-named-requires : goal.put_text-named-requires
 unfolding ascii
-put_text-named-requires c = let s = c in room-left (ascii "largest ") (number c.before.before.before.before) (room-2 c.before.before.before.before)
+put_text-named-requires c =
+    let place = c.before.before.before.before in
+    room-left (ascii "largest ") (number place) (room-2 place)
 
 pub put_digits-told-requires : goal.put_digits-told-requires
 unfolding ascii
-put_digits-told-requires c = let o = c in let s = c in
-    room-right (ascii "largest ") (number c.before.before.before.before.before.before.before.before) (room-2 c.before.before.before.before.before.before.before.before) o.put_text-named.ensures
+put_digits-told-requires c =
+    let place = c.before.before.before.before.before.before.before.before in
+    room-right (ascii "largest ") (number place) (room-2 place) c.put_text-named.ensures
 
 pub put_text-by-requires : goal.put_text-by-requires
 unfolding ascii
-put_text-by-requires c = let o = c in let s = start c.before.before.before.before.before in
+put_text-by-requires c = let s = start c.before.before.before.before.before in
     room-right (ascii "largest " ++ number s) (ascii " body ") (room-3 s) (told-2 c.before.before.before.before.before)
 
 pub put_reached-end-requires : goal.put_reached-end-requires
-put_reached-end-requires c = let o = c in let s = from c.before.before.before in
+put_reached-end-requires c = let s = from c.before.before.before in
     room-right (ascii "largest " ++ number s ++ ascii " body ") (who s) (room-4 s) (told-3 c.before.before.before)
 
 pub put_byte-requires : goal.put_byte-requires
 unfolding ascii
-put_byte-requires c = let o = c in let s = begin c.before.before.before in
-    room-right (ascii "largest " ++ number s ++ ascii " body " ++ who s) (ascii "\n") (room-5 s) (told-4 c.before.before.before)
+put_byte-requires c =
+    let place = c.before.before.before in
+    let s = begin place in
+    room-right (ascii "largest " ++ number s ++ ascii " body " ++ who s) (ascii "\n") (room-5 s) (told-4 place)
 
 pub shape_of-out : goal.shape_of-out
 shape_of-out c = search rules

@@ -69,20 +69,21 @@ module _ (c : After-put_digits2) where
   told-3 = put_then (told-2 twice) c.put_digits-told.ensures
 
 pub put_digits-named-requires : goal.put_digits-named-requires
-put_digits-named-requires c = let s = c in room-left (number c.before.before) (ascii " lower ") (room-2 c.before.before)
+put_digits-named-requires c = room-left (number c.before.before) (ascii " lower ") (room-2 c.before.before)
 
 pub put_text-next-requires : goal.put_text-next-requires
 unfolding ascii
-put_text-next-requires c = let o = c in let s = c in
-    room-right (number c.before.before.before.before.before.before.before.before) (ascii " lower ") (room-2 c.before.before.before.before.before.before.before.before) o.put_digits-named.ensures
+put_text-next-requires c =
+    let place = c.before.before.before.before.before.before.before.before in
+    room-right (number place) (ascii " lower ") (room-2 place) c.put_digits-named.ensures
 
 pub put_digits-told-requires : goal.put_digits-told-requires
-put_digits-told-requires c = let o = c in let s = start c.before.before.before in
+put_digits-told-requires c = let s = start c.before.before.before in
     room-right (number s ++ ascii " lower ") (low s) (room-3 s) (told-2 c.before.before.before)
 
 pub put_count-requires : goal.put_count-requires
 unfolding ascii
-put_count-requires c = let o = c in let s = begin c.before.before.before.before.before in
+put_count-requires c = let s = begin c.before.before.before.before.before in
     room-right (number s ++ ascii " lower " ++ low s) (rest s) (room-4 s) (told-3 c.before.before.before.before.before)
 
 pub shape_of-out : goal.shape_of-out
@@ -90,5 +91,4 @@ shape_of-out c = search rules
 
 pub returns : goal.returns
 unfolding named_line ascii
-returns c = let o = c in
-    put_then (told-3 c.before.before.before.before.before.before.before.before.before) c.put_count.ensures
+returns c = put_then (told-3 c.before.before.before.before.before.before.before.before.before) c.put_count.ensures

@@ -51,19 +51,20 @@ module _ (c : After-put_digits) where
 
 pub put_text-named-requires : goal.put_text-named-requires
 unfolding ascii
-put_text-named-requires c = let s = c in room-left (ascii "refused ") (number c.before.before.before.before) (room-front c.before.before.before.before)
+put_text-named-requires c =
+    let place = c.before.before.before.before in
+    room-left (ascii "refused ") (number place) (room-front place)
 
 pub put_digits-told-requires : goal.put_digits-told-requires
 unfolding ascii
 put_digits-told-requires c =
-    let named = c in
-    let s = c in
-    room-right (ascii "refused ") (number c.before.before.before.before.before.before.before.before) (room-front c.before.before.before.before.before.before.before.before) named.put_text-named.ensures
+    let place = c.before.before.before.before.before.before.before.before in
+    room-right (ascii "refused ") (number place) (room-front place) c.put_text-named.ensures
 
 pub put_count-requires : goal.put_count-requires
 unfolding ascii
 put_count-requires c =
-    let at = c in let s = start c.before.before.before.before.before in
+    let s = start c.before.before.before.before.before in
     room-right (ascii "refused " ++ number s) (rest s) (room s) (told c.before.before.before.before.before)
 
 pub shape_of-out : goal.shape_of-out
@@ -72,5 +73,4 @@ shape_of-out c = search rules
 pub returns : goal.returns
 unfolding refused_line ascii
 returns c =
-    let at = c in
     put_then (told c.before.before.before.before.before.before.before.before.before) c.put_count.ensures

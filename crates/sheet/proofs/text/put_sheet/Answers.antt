@@ -99,24 +99,26 @@ module _ (c : After-put_largest) where
   told-4 = put_then (told-3 thrice) c.put_largest-largest.ensures
 
 pub put_counts-counts-requires : goal.put_counts-counts-requires
-put_counts-counts-requires c = let s = c in room-left (counts c.before.before.before.before.before) (away c.before.before.before.before.before) (room-2 c.before.before.before.before.before)
+put_counts-counts-requires c =
+    let place = c.before.before.before.before.before in
+    room-left (counts place) (away place) (room-2 place)
 
 pub put_refusals-refusals-requires : goal.put_refusals-refusals-requires
 put_refusals-refusals-requires c =
-    let o = c in let s = c in
-    room-right (counts c.before.before.before.before.before.before.before.before.before) (away c.before.before.before.before.before.before.before.before.before) (room-2 c.before.before.before.before.before.before.before.before.before) o.put_counts-counts.ensures
+    let place = c.before.before.before.before.before.before.before.before.before in
+    room-right (counts place) (away place) (room-2 place) c.put_counts-counts.ensures
 
 pub put_count-pivots-requires : goal.put_count-pivots-requires
 unfolding ascii
-put_count-pivots-requires c = let o = c in let s = start c.before.before.before.before.before in
+put_count-pivots-requires c = let s = start c.before.before.before.before.before in
     room-right (counts s ++ away s) (pivots s) (room-3 s) (told-2 c.before.before.before.before.before)
 
 pub put_largest-largest-requires : goal.put_largest-largest-requires
-put_largest-largest-requires c = let o = c in let s = from c.before.before.before in
+put_largest-largest-requires c = let s = from c.before.before.before in
     room-right (counts s ++ away s ++ pivots s) (largest s) (room-4 s) (told-3 c.before.before.before)
 
 pub put_names-requires : goal.put_names-requires
-put_names-requires c = let o = c in let s = begin c.before.before.before in
+put_names-requires c = let s = begin c.before.before.before in
     room-right (counts s ++ away s ++ pivots s ++ largest s) (named s) (room-5 s) (told-4 c.before.before.before)
 
 pub shape_of-out : goal.shape_of-out
@@ -124,5 +126,4 @@ shape_of-out c = search rules
 
 pub returns : goal.returns
 unfolding sheet_of
-returns c = let o = c in
-    put_then (told-4 c.before.before.before.before.before.before.before) c.put_names.ensures
+returns c = put_then (told-4 c.before.before.before.before.before.before.before) c.put_names.ensures

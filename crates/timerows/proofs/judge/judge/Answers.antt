@@ -5,7 +5,6 @@ use mathlib.Core.Bool.{Bool, not}
 use mathlib.Core.List.{[], List, ◌∷◌}
 use Prim.Native.Nat.{ℕ, ◌+◌, ◌*◌, ◌≤◌}
 use native.Mathlib.Omega.{arith}
-use borrow.Author.Rules.{rules}
 use borrow.Author.Tests.{eq-eqb, ne_eqb, le-ltb, lt-ltb}
 use lib.IntN.{ℤ}
 use lib.ListN.{length}
@@ -43,12 +42,6 @@ module _ (c : Start) where
 pub returns-then-words-lt2 : goal.returns-then-words-lt2
 unfolding time_refusal time_tests too_few
 returns-then-words-lt2 c = sym (first-hit 11 _ (lt-ltb _ _ c.if-words-lt2.true))
-
-pub overflow_cast-is_bad_size : goal.overflow_cast-is_bad_size
-overflow_cast-is_bad_size c = search rules
-
-pub is_bad_size-requires : goal.is_bad_size-requires
-is_bad_size-requires c = search rules
 
 -- at least two words
 module _ (c : After-is_bad_size) where

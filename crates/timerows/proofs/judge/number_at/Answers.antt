@@ -19,18 +19,6 @@ use Rattle.timerows.specs.Judged.{test_number, row_number}
 use Rattle.timerows.proofs.judge.number_at.Goals as goal
 use Rattle.timerows.proofs.judge.number_at.Goals.{After-word_of-4, Start}
 
-pub word_of-requires : goal.word_of-requires
-word_of-requires c = search rules
-
-pub word_of-requires-2 : goal.word_of-requires-2
-word_of-requires-2 c = search rules
-
-pub word_of-requires-3 : goal.word_of-requires-3
-word_of-requires-3 c = search rules
-
-pub word_of-requires-4 : goal.word_of-requires-4
-word_of-requires-4 c = search rules
-
 -- a word that was read is handed on as it is
 handed : {z w : ℤ} → SFits w32 z → z ≡ w → to_z w32 (of_z w32 z) ≡ w
 handed f e = to_z-of_z f ∙ e

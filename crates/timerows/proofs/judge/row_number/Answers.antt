@@ -4,7 +4,6 @@ use mathlib.Core.Path.{◌≡◌, refl, sym, ◌∙◌, ap}
 use mathlib.Core.Bool.{Bool, true, ◌||◌, not}
 use mathlib.Core.List.{[], ◌∷◌}
 use Prim.Native.Nat.{ℕ}
-use borrow.Author.Rules.{rules}
 use lib.IntN.{ℤ, nat_abs, pos}
 use lib.Signed.{◌≤ℤ◌, lt_z}
 use mir.Facts.{to_z-of_z}
@@ -44,9 +43,6 @@ outside-most most z h = ap (λ k. lt_z z (pos 0) || lt_z k z) (own-size 0 most h
 pub overflow_cast-x : goal.overflow_cast-x
 overflow_cast-x c = simp (to_z-of_z c.ranges.x) (wide c.ranges.x)
 
-pub is_outside-requires : goal.is_outside-requires
-is_outside-requires c = tt
-
 told-x : (c : After-is_outside) → c.is_outside.result ≡ bad-x c.before
 told-x c =
     let s = c in
@@ -61,9 +57,6 @@ returns-then-is_outside c =
 
 pub overflow_cast-y : goal.overflow_cast-y
 overflow_cast-y c = let s = c in simp (to_z-of_z s.ranges.y) (wide s.ranges.y)
-
-pub is_outside-requires-2 : goal.is_outside-requires-2
-is_outside-requires-2 c = tt
 
 module _ (c : After-is_outside-2) where
   abbrev start : Start
@@ -83,9 +76,6 @@ returns-then-is_outside-2 c = sym (first-hit 14 _ (sym (told-y c.before) ∙ c.i
 pub overflow_cast-strict : goal.overflow_cast-strict
 overflow_cast-strict c = let s = start c.before in simp (to_z-of_z s.ranges.strict) (wide s.ranges.strict)
 
-pub is_outside-requires-3 : goal.is_outside-requires-3
-is_outside-requires-3 c = tt
-
 module _ (c : After-is_outside-3) where
   abbrev s : Start
   s = start c.before.before
@@ -100,9 +90,6 @@ module _ (c : After-is_outside-3) where
 
 pub returns-then-is_outside-3 : goal.returns-then-is_outside-3
 returns-then-is_outside-3 c = ends-pass c.before (first-hit 15 _ (sym (told-strict c.before) ∙ c.if-is_outside-3.true))
-
-pub is_too_long-requires : goal.is_too_long-requires
-is_too_long-requires c = search rules
 
 module _ (c : After-is_too_long) where
   abbrev third : After-is_outside-3

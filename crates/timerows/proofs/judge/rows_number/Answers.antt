@@ -63,14 +63,8 @@ number_at-requires c =
     simp (to_z-of_z (read here), to_z-of_z (wide here), to_z-of_z (fit here))
     (s.requires.0, omega (arith, s.requires.1, c.loop-i-test.true), one_less (n-word here) s.requires.0.n-least)
 
-pub lesser-least-requires : goal.lesser-least-requires
-lesser-least-requires c = tt
-
 pub overflow_add-i : goal.overflow_add-i
 overflow_add-i c = omega (arith, c.requires.0.m-few)
-
-pub loop-i-smaller : goal.loop-i-smaller
-loop-i-smaller c = omega arith
 
 pub loop-i-preserved : goal.loop-i-preserved
 loop-i-preserved c =

@@ -12,12 +12,6 @@ use Rattle.rules.proofs.Times.Refused.{strict-within}
 use Rattle.timerows.proofs.rows.size.Goals as goal
 use Rattle.timerows.proofs.rows.size.Goals.{After-word_of-2, Start}
 
-pub word_of-requires : goal.word_of-requires
-word_of-requires c = search rules
-
-pub word_of-requires-2 : goal.word_of-requires-2
-word_of-requires-2 c = search rules
-
 -- the two words, as they are handed on
 module _ (c : After-word_of-2) where
   abbrev start : Start

@@ -75,9 +75,6 @@ offset_bounds-best-y c = omega (arith, y-low c.before.before)
 pub bounds-best-y : goal.bounds-best-y
 bounds-best-y c = y-low c.before.before
 
-pub less-requires : goal.less-requires
-less-requires c = tt
-
 -- after the test
 module _ (c : After-less) where
   abbrev ends : After-head-y
@@ -97,9 +94,6 @@ returns-then-less c = let k = t c.before in (i k, listed k, same_test c.before �
 
 pub overflow_add-i : goal.overflow_add-i
 overflow_add-i c = let k = t c.before in omega (arith, listed k, time-rows-few (looking k).fine)
-
-pub loop-i-smaller : goal.loop-i-smaller
-loop-i-smaller c = omega arith
 
 pub loop-i-preserved : goal.loop-i-preserved
 loop-i-preserved c = (omega arith, λ j h. go j h (ℕ_discrete j (i c.before.before.before.before.before.before.before)))

@@ -3,7 +3,6 @@
 use mathlib.Core.Path.{sym, ◌∙◌, ap, subst}
 use Prim.Native.Nat.{◌+◌, ◌*◌}
 use native.Mathlib.Omega.{arith}
-use borrow.Author.Rules.{rules}
 use lib.IntN.{◌+ℤ◌}
 use Rattle.whole.specs.Numbers.{Within}
 use Rattle.whole.proofs.Numbers.Sizes.{within-le}
@@ -11,9 +10,6 @@ use Rattle.rules.specs.Sizes.{most_vertices, largest_length}
 use Rattle.lengths.specs.Lengths.{unit, length_of, looks_made}
 use Rattle.lengths.proofs.Laws.Keys.{near_within, size-near}
 use Rattle.times.proofs.passes.offer.Goals as goal
-
-pub size-requires : goal.size-requires
-size-requires c = search rules
 
 pub plus-requires : goal.plus-requires
 plus-requires c =

@@ -99,9 +99,6 @@ bounds-last-y c = y-low c.before.before.before
 pub overflow_cast-this : goal.overflow_cast-this
 overflow_cast-this c = let t = turn c.before.before.before in omega (arith, listed t, time-rows-few (fine t))
 
-pub less-is-requires : goal.less-is-requires
-less-is-requires c = tt
-
 -- after the test
 module _ (c : After-less-is) where
   abbrev ends : After-head-y
@@ -114,26 +111,17 @@ module _ (c : After-less-is) where
   same_test = test-is (ws t) (best t) (i t) (x-is ends) c.offer-offered.ensures (y-is ends)
       c.less-is.ensures
 
-pub length_if-requires : goal.length_if-requires
-length_if-requires c = tt
-
 pub offset_bounds-best-y-in-loop-i : goal.offset_bounds-best-y-in-loop-i
 offset_bounds-best-y-in-loop-i c = omega (arith, y-low c.before.before.before.before.before)
 
 pub bounds-best-y-in-loop-i : goal.bounds-best-y-in-loop-i
 bounds-best-y-in-loop-i c = y-low c.before.before.before.before.before
 
-pub row_if-requires : goal.row_if-requires
-row_if-requires c = tt
-
 pub offset_bounds-last-y-in-loop-i : goal.offset_bounds-last-y-in-loop-i
 offset_bounds-last-y-in-loop-i c = omega (arith, y-low c.before.before.before.before.before.before)
 
 pub bounds-last-y-in-loop-i : goal.bounds-last-y-in-loop-i
 bounds-last-y-in-loop-i c = y-low c.before.before.before.before.before.before
-
-pub row_if-row-requires : goal.row_if-row-requires
-row_if-row-requires c = tt
 
 pub overflow_add-i : goal.overflow_add-i
 overflow_add-i c = let q = t c.before.before.before in omega (arith, listed q, time-rows-few (fine q))
@@ -222,9 +210,6 @@ went c = c.way_back-way.ensures _ (tried c.before)
 
 pub returns-then-way : goal.returns-then-way
 returns-then-way c = (went c.before.before).round c.if-way.true
-
-pub lesser-requires : goal.lesser-requires
-lesser-requires c = tt
 
 -- it closed nothing: the places left are passes that may still be made
 module _ (c : After-lesser) where
