@@ -21,7 +21,8 @@ unfoldable pub row_number : List ℤ → ℕ → ℕ
 row_number ws i = test_number (bad_end ws i) (bad_strict ws i) (bad_row_length ws i)
 
 unfoldable pub rows_number : List ℤ → ℕ → ℕ
-rows_number ws k = test_number (some_below k (bad_end ws)) (some_below k (bad_strict ws)) (some_below k (bad_row_length ws))
+rows_number ws k = test_number (some_below k (bad_end ws)) (some_below k (bad_strict ws))
+    (some_below k (bad_row_length ws))
 
 -- what refusals 11 to 16 leave
 abbrev pub Fine : List ℤ → Type 0

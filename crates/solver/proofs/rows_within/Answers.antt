@@ -3,12 +3,8 @@ use mathlib.Core.Path.{sym}
 use Prim.Native.Nat.{◌≤◌}
 use native.Mathlib.Nat.{min-eq_left, min-eq_right}
 use native.Mathlib.Omega.{arith}
-use borrow.Author.Rules.{rules}
 use Rattle.rules.specs.Sizes.{most_rows}
 use Rattle.solver.proofs.rows_within.Goals as goal
-
-pub overflow_cast-rows : goal.overflow_cast-rows
-overflow_cast-rows c = search rules
 
 pub returns-then-most-rows : goal.returns-then-most-rows
 returns-then-most-rows c = sym (min-eq_left (let z : c.args.most ≤ most_rows = omega arith in z))
