@@ -2,7 +2,6 @@
 #![tactic(auto)]
 
 ghost use Rattle.std.specs.Prelude.{◌≡◌, ◌||◌, [], ◌∷◌, ◌/◌, ◌%◌, ◌<◌, ◌≤◌, eqb, pos, nat_abs, ◌<ℤ◌};
-ghost use Rattle.whole.specs.Numbers.{within};
 ghost use Rattle.rules.specs.Limit.{has_lower, has_upper, strict_lower, strict_upper, bad_kind_word, bad_limit_word};
 ghost use Rattle.rules.specs.Refusal.{bad_coefficient, blank_row, first, problem_refusal, problem_refusal_within};
 ghost use Rattle.rules.specs.Refusal.{some_blank};

@@ -1,7 +1,7 @@
 -- `masks::mask_of` meets its contract. The invariant: the mask is that of the variables passed. The measure is the
 -- variables left. Assumes nothing.
 use mathlib.Core.Path.{◌≡◌, ap, ◌∙◌, refl}
-use Prim.Native.Nat.{◌+◌, ◌-◌}
+use Prim.Native.Nat.{◌+◌}
 use native.Mathlib.Omega.{arith}
 use native.Mathlib.Numerals.{add-one}
 use lib.ListN.{get_or}

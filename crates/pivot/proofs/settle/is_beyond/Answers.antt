@@ -4,7 +4,6 @@ use Rattle.pivot.specs.declared.column.Column.{Column}
 use Rattle.pivot.specs.Trials.{Columned}
 use Rattle.pivot.proofs.Laws.Trial.Columns.{columned}
 use Rattle.pivot.proofs.settle.is_beyond.Goals as goal
-use Rattle.pivot.proofs.settle.is_beyond.Goals.{After-size, Start}
 
 pub is_above-requires : goal.is_above-requires
 is_above-requires c = let h = c.requires in

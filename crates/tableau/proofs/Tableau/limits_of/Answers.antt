@@ -41,12 +41,6 @@ overflow_mul-from c = omega (arith, few_words c.requires.framed)
 pub overflow_add-from : goal.overflow_add-from
 overflow_add-from c = omega (arith, few_words c.requires.framed)
 
-pub overflow_add-end : goal.overflow_add-end
-overflow_add-end c = omega arith
-
-pub lower_given-missing-requires : goal.lower_given-missing-requires
-lower_given-missing-requires c = tt
-
 -- kind 0 has no limit
 is-absent : (c : After-lower_given-missing) → c.lower_given-missing.result ≡ absent
 unfolding bit
@@ -100,17 +94,8 @@ overflow_add-high c = omega (arith, few c)
 pub offset_bounds-words-at : goal.offset_bounds-words-at
 offset_bounds-words-at c = omega (arith, few c)
 
-pub bounds-words-at : goal.bounds-words-at
-bounds-words-at c = omega arith
-
 pub offset_bounds-words-low : goal.offset_bounds-words-low
 offset_bounds-words-low c = omega (arith, few c.before)
-
-pub bounds-words-low : goal.bounds-words-low
-bounds-words-low c = omega arith
-
-pub lower_given-requires : goal.lower_given-requires
-lower_given-requires c = tt
 
 pub offset_bounds-lower-v : goal.offset_bounds-lower-v
 offset_bounds-lower-v c = omega (arith, v-few c.before.before.before)
@@ -121,20 +106,11 @@ bounds-lower-v c = v-few c.before.before.before
 pub offset_bounds-words-high : goal.offset_bounds-words-high
 offset_bounds-words-high c = omega (arith, few c.before.before.before)
 
-pub bounds-words-high : goal.bounds-words-high
-bounds-words-high c = omega arith
-
-pub upper_given-requires : goal.upper_given-requires
-upper_given-requires c = tt
-
 pub offset_bounds-upper-v : goal.offset_bounds-upper-v
 offset_bounds-upper-v c = omega (arith, v-few c.before.before.before.before.before)
 
 pub bounds-upper-v : goal.bounds-upper-v
 bounds-upper-v c = v-few c.before.before.before.before.before
-
-pub some_strict-strict-requires : goal.some_strict-strict-requires
-some_strict-strict-requires c = tt
 
 -- what the calls give
 module _ (c : After-some_strict-strict) where

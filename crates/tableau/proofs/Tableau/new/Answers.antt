@@ -3,7 +3,6 @@ use mathlib.Core.Path.{◌≡◌, sym, ◌∙◌, ap, ap₂}
 use mathlib.Core.List.{List}
 use Prim.Native.Nat.{ℕ, ◌+◌}
 use native.Mathlib.Omega.{arith}
-use borrow.Author.Rules.{rules}
 use lib.IntN.{ℤ, pos}
 use lib.Signed.{le_z_yes}
 use Rattle.whole.proofs.Numbers.Order.{≤ℤ-trans}
@@ -65,9 +64,6 @@ start_entries-requires c = framed c.before.before.before.before
 
 pub start_basic-requires : goal.start_basic-requires
 start_basic-requires c = (framed c.before.before.before.before.before).few-columns
-
-pub start_nonbasic-requires : goal.start_nonbasic-requires
-start_nonbasic-requires c = search rules
 
 pub overflow_add-columns : goal.overflow_add-columns
 overflow_add-columns c =

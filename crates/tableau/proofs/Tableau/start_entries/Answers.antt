@@ -3,7 +3,6 @@
 use mathlib.Core.Path.{◌≡◌, ◌∙◌, ap₂}
 use Prim.Native.Nat.{ℕ, ◌<◌}
 use native.Mathlib.Omega.{arith}
-use borrow.Author.Rules.{rules}
 use lib.IntN.{ℤ}
 use Rattle.rules.specs.Problem.{problem}
 use Rattle.layout.specs.Layout.{row_at, column_at, lines, live}
@@ -29,9 +28,6 @@ abbrev cell : Start → ℕ → ℤ
 cell s k = (problem s.args.words.now).coefficient (row_at s.args.rows s.args.columns k)
     (column_at s.args.rows s.args.columns k)
 
-pub lines-lines-requires : goal.lines-lines-requires
-lines-lines-requires c = search rules
-
 pub loop-line-init : goal.loop-line-init
 loop-line-init c = let s : Start = c.before in (omega arith, lines_start s.args.rows s.args.columns (cell s))
 
@@ -45,12 +41,6 @@ start_line-requires c = record {
   line_bound = in_lines c.before;
   entries_value = c.loop-line.invariant.1;
 }
-
-pub overflow_step-line : goal.overflow_step-line
-overflow_step-line c = omega arith
-
-pub loop-line-smaller : goal.loop-line-smaller
-loop-line-smaller c = omega arith
 
 pub loop-line-preserved : goal.loop-line-preserved
 loop-line-preserved c = (omega arith, c.start_line.ensures)

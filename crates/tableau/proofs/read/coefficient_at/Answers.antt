@@ -2,7 +2,7 @@
 use Prim.Native.Nat.{ℕ, ◌+◌, ◌*◌, ◌≤◌, ◌<◌}
 use native.Mathlib.Omega.{arith}
 use mathlib.Core.List.{List}
-use borrow.Author.Rules.{rules, sfits_of}
+use borrow.Author.Rules.{sfits_of}
 use lib.IntN.{ℤ}
 use lib.ListN.{length}
 use mir.Facts.{to_z-of_z}
@@ -30,14 +30,8 @@ module _ (s : Start) where
   few : length ws ≤ most_words
   few = omega (arith, few_words s.requires.framed, s.requires.framed.exact)
 
-pub overflow_cast-at : goal.overflow_cast-at
-overflow_cast-at c = search rules
-
 pub overflow_mul-at : goal.overflow_mul-at
 overflow_mul-at c = omega (arith, in_words c.before, few c.before)
-
-pub overflow_cast-at-2 : goal.overflow_cast-at-2
-overflow_cast-at-2 c = search rules
 
 pub overflow_add-at : goal.overflow_add-at
 overflow_add-at c = omega (arith, in_words c.before.before, few c.before.before)

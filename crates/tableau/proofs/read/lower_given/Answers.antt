@@ -1,16 +1,9 @@
 -- `tableau::read::lower_given` meets its contract. Assumes nothing.
 use mathlib.Core.Path.{ap₂}
 use mathlib.Core.Bool.{Bool}
-use borrow.Author.Rules.{rules}
 use mir.Facts.{to_z-of_z}
 use Rattle.tableau.proofs.Laws.Read.{given}
 use Rattle.tableau.proofs.read.lower_given.Goals as goal
-
-pub has_lower-given-requires : goal.has_lower-given-requires
-has_lower-given-requires c = search rules
-
-pub strict_lower-requires : goal.strict_lower-requires
-strict_lower-requires c = search rules
 
 pub returns : goal.returns
 returns c =

@@ -3,7 +3,6 @@ use mathlib.Core.Path.{◌≡◌, sym, ap, ap₂}
 use mathlib.Core.Bool.{Bool, not}
 use Prim.Native.Nat.{ℕ, ◌-◌}
 use native.Mathlib.Omega.{arith}
-use borrow.Author.Rules.{rules}
 use borrow.Author.Tests.{lt-ltb, le-ltb}
 use Rattle.layout.specs.Layout.{row_place, column_place}
 use Rattle.tableau.specs.declared.Seat.{Seat}
@@ -13,18 +12,12 @@ use Rattle.tableau.proofs.read.seat_for.Goals as goal
 abbrev seat : ℕ → Bool → ℕ → Seat
 seat v b i = record { basic = not b; row = row_place i; column = column_place v }
 
-pub overflow_cast-v : goal.overflow_cast-v
-overflow_cast-v c = search rules
-
 pub returns-then-v-columns : goal.returns-then-v-columns
 returns-then-v-columns c =
     let v = c.args.variable.0 in
     let n = c.args.columns in
     let z : v - n ≡ 0 = omega arith in
     sym (ap₂ (seat v) (lt-ltb v n c.if-v-columns.true) z)
-
-pub overflow_cast-result : goal.overflow_cast-result
-overflow_cast-result c = search rules
 
 pub returns : goal.returns
 returns c =

@@ -1,15 +1,8 @@
 -- `tableau::read::some_strict` meets its contract. Assumes nothing.
 use mathlib.Core.Bool.{◌||◌}
 use mathlib.Core.Path.{ap₂}
-use borrow.Author.Rules.{rules}
 use mir.Facts.{to_z-of_z}
 use Rattle.tableau.proofs.read.some_strict.Goals as goal
-
-pub strict_lower-requires : goal.strict_lower-requires
-strict_lower-requires c = search rules
-
-pub strict_upper-requires : goal.strict_upper-requires
-strict_upper-requires c = search rules
 
 pub returns : goal.returns
 returns c = let l = c in let fit = l.ranges.kind in

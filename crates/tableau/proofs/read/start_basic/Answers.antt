@@ -12,21 +12,6 @@ use Rattle.tableau.proofs.read.start_basic.Goals as goal
 pub loop-i-init : goal.loop-i-init
 loop-i-init c = (omega arith, filled-start most_rows (variable 0) (row-variable c.args.columns))
 
-pub overflow_add-basic : goal.overflow_add-basic
-overflow_add-basic c = omega arith
-
-pub overflow_cast-basic : goal.overflow_cast-basic
-overflow_cast-basic c = omega arith
-
-pub bounds-basic-i : goal.bounds-basic-i
-bounds-basic-i c = omega arith
-
-pub overflow_step-i : goal.overflow_step-i
-overflow_step-i c = omega arith
-
-pub loop-i-smaller : goal.loop-i-smaller
-loop-i-smaller c = omega arith
-
 pub loop-i-preserved : goal.loop-i-preserved
 loop-i-preserved c =
     let at = c in

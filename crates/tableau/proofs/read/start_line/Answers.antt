@@ -15,9 +15,6 @@ use Rattle.layout.proofs.Laws.Lines.{line-all, line-more, line-start, spot_in, s
 use Rattle.tableau.proofs.read.start_line.Goals as goal
 use Rattle.tableau.proofs.read.start_line.Goals.{After-coefficient_at, In-loop-step, Start}
 
-pub steps-steps-requires : goal.steps-steps-requires
-steps-steps-requires c = search rules
-
 pub line_at-start-requires : goal.line_at-start-requires
 line_at-start-requires c = let h = c.requires in (h.framed.few-rows, h.framed.few-columns, h.line_bound)
 
@@ -90,12 +87,6 @@ offset_bounds-entries-at c = omega (arith, in_cells c.before.before.before.befor
 
 pub bounds-entries-at : goal.bounds-entries-at
 bounds-entries-at c = in_cells c.before.before.before.before
-
-pub overflow_step-step : goal.overflow_step-step
-overflow_step-step c = omega arith
-
-pub loop-step-smaller : goal.loop-step-smaller
-loop-step-smaller c = omega arith
 
 pub loop-step-preserved : goal.loop-step-preserved
 loop-step-preserved c = let i = here c in let s = start i in (

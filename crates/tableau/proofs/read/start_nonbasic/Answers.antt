@@ -11,18 +11,6 @@ use Rattle.tableau.proofs.read.start_nonbasic.Goals as goal
 pub loop-j-init : goal.loop-j-init
 loop-j-init c = (omega arith, filled-start most_columns (variable 0) variable)
 
-pub overflow_cast-nonbasic : goal.overflow_cast-nonbasic
-overflow_cast-nonbasic c = omega arith
-
-pub bounds-nonbasic-j : goal.bounds-nonbasic-j
-bounds-nonbasic-j c = omega arith
-
-pub overflow_step-j : goal.overflow_step-j
-overflow_step-j c = omega arith
-
-pub loop-j-smaller : goal.loop-j-smaller
-loop-j-smaller c = omega arith
-
 pub loop-j-preserved : goal.loop-j-preserved
 loop-j-preserved c =
     let at = c in

@@ -2,7 +2,6 @@
 -- measure is the variables left. Assumes nothing.
 use mathlib.Core.Path.{◌≡◌, ◌∙◌, ap}
 use native.Mathlib.Omega.{arith}
-use borrow.Author.Rules.{rules}
 use Rattle.whole.proofs.Lists.Prefix.{filled-start, filled_more}
 use Rattle.rules.specs.Sizes.{most_variables}
 use Rattle.tableau.specs.Parts.{nowhere}
@@ -11,24 +10,6 @@ use Rattle.tableau.proofs.read.start_seats.Goals as goal
 
 pub loop-v-init : goal.loop-v-init
 loop-v-init c = (omega arith, filled-start most_variables nowhere (seat_for c.args.columns))
-
-pub overflow_cast-v : goal.overflow_cast-v
-overflow_cast-v c = omega arith
-
-pub seat_for-requires : goal.seat_for-requires
-seat_for-requires c = search rules
-
-pub offset_bounds-seats-v : goal.offset_bounds-seats-v
-offset_bounds-seats-v c = omega arith
-
-pub bounds-seats-v : goal.bounds-seats-v
-bounds-seats-v c = omega arith
-
-pub overflow_step-v : goal.overflow_step-v
-overflow_step-v c = omega arith
-
-pub loop-v-smaller : goal.loop-v-smaller
-loop-v-smaller c = omega arith
 
 pub loop-v-preserved : goal.loop-v-preserved
 loop-v-preserved c =

@@ -41,39 +41,6 @@ loop-j-init c = (
   filled-start most_columns (pos 0) (small_of c.args.limits),
 )
 
-pub offset_bounds-limits-j : goal.offset_bounds-limits-j
-offset_bounds-limits-j c = omega arith
-
-pub bounds-limits-j : goal.bounds-limits-j
-bounds-limits-j c = omega arith
-
-pub offset_bounds-limits-j-in-loop-j : goal.offset_bounds-limits-j-in-loop-j
-offset_bounds-limits-j-in-loop-j c = omega arith
-
-pub bounds-limits-j-in-loop-j : goal.bounds-limits-j-in-loop-j
-bounds-limits-j-in-loop-j c = omega arith
-
-pub start_value-value-requires : goal.start_value-value-requires
-start_value-value-requires c = tt
-
-pub offset_bounds-values-j : goal.offset_bounds-values-j
-offset_bounds-values-j c = omega arith
-
-pub bounds-values-j : goal.bounds-values-j
-bounds-values-j c = omega arith
-
-pub offset_bounds-smalls-j : goal.offset_bounds-smalls-j
-offset_bounds-smalls-j c = omega arith
-
-pub bounds-smalls-j : goal.bounds-smalls-j
-bounds-smalls-j c = omega arith
-
-pub overflow_step-j : goal.overflow_step-j
-overflow_step-j c = omega arith
-
-pub loop-j-smaller : goal.loop-j-smaller
-loop-j-smaller c = omega arith
-
 module _ (c : After-start_value) where
   abbrev at : At-loop
   at = c.before.before.before.before

@@ -1,16 +1,9 @@
 -- `tableau::read::upper_given` meets its contract. Assumes nothing.
 use mathlib.Core.Path.{ap₂}
 use mathlib.Core.Bool.{Bool}
-use borrow.Author.Rules.{rules}
 use mir.Facts.{to_z-of_z}
 use Rattle.tableau.proofs.Laws.Read.{given}
 use Rattle.tableau.proofs.read.upper_given.Goals as goal
-
-pub has_upper-given-requires : goal.has_upper-given-requires
-has_upper-given-requires c = search rules
-
-pub strict_upper-requires : goal.strict_upper-requires
-strict_upper-requires c = search rules
 
 pub returns : goal.returns
 returns c =
