@@ -34,7 +34,8 @@ pub record Looking (ws : List ℤ) (best : List Length) : Type 0 where
 -- whether row i betters its head, in the code's numbers
 abbrev pub is_less : List ℤ → List Length → ℕ → Bool
 is_less ws best i =
-    lt_z (key_at best ((time_edges ws).tail i) +ℤ key_of ((time_edges ws).size i)) (key_at best ((time_edges ws).head i))
+    lt_z (key_at best ((time_edges ws).tail i) +ℤ key_of ((time_edges ws).size i))
+    (key_at best ((time_edges ws).head i))
 
 -- no row betters its head, or some row does
 abbrev pub Quiet : List ℤ → List Length → Bool → Type 0

@@ -54,7 +54,8 @@ module _ (t : Tableau) where
   -- ---- the one that leaves: none is found before v
 
   module _ (v : ℕ) (n : lowest v (broken_at t) ≡ none) where
-    broken-by : {b : Bool} → (seat_at t v).basic ≡ b → broken_at t v ≡ cond b (tagged v (side_at t v) (short_at t v)) none
+    broken-by : {b : Bool} → (seat_at t v).basic ≡ b →
+        broken_at t v ≡ cond b (tagged v (side_at t v) (short_at t v)) none
     unfolding broken_laid
     broken-by e = ap (λ b. cond b (tagged v (side_at t v) (short_at t v)) none) e
 

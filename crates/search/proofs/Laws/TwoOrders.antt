@@ -35,7 +35,8 @@ module _ (o : Order) {t : Tableau} (S : Searchable t) where
   unfolding broken_laid
   broken-row v r h = go (seat_at t v).basic (side_laid o t v) refl
     where
-      go : (b : Bool) (x : Option Side) → (seat_at t v).basic ≡ b → cond b (tagged v x (short_laid o t v)) none ≡ some r →
+      go : (b : Bool) (x : Option Side) → (seat_at t v).basic ≡ b →
+          cond b (tagged v x (short_laid o t v)) none ≡ some r →
           row_of t r.variable < t.rows
       go true (some σ) e f = let z : v ≡ r.variable = cc in rw (← z) (S.row-seats v h e)
       go true none e f = absurd (none-ne-some r f)

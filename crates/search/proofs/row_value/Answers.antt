@@ -25,7 +25,8 @@ loop-j-init c = (omega arith, refl)
 
 -- a term, and the sum with it
 module _ (rows columns : ℕ) (l x : List ℤ) (i j : ℕ)
-    (hl : (k : ℕ) → Within (get_or l k (pos 0)) largest_number) (hx : (k : ℕ) → Within (get_or x k (pos 0)) largest_limit) where
+    (hl : (k : ℕ) → Within (get_or l k (pos 0)) largest_number)
+    (hx : (k : ℕ) → Within (get_or x k (pos 0)) largest_limit) where
   abbrev old : ℤ
   old = part_sum rows columns l x i j
 

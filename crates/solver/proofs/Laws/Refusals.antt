@@ -49,7 +49,8 @@ module _ (rows : ℕ) (ws : List ℤ) (room : ℕ) where
   after-problem : problem_refusal_within rows ws ≡ 0 → refusal_within rows ws room ≡ first ((too_short ws room, 7) ∷ [])
   after-problem e = first-passed 10 (problem_tests rows ws) ((too_short ws room, 7) ∷ []) (numbered rows ws) e
 
-  pub within-short : problem_refusal_within rows ws ≡ 0 → is_short room (vars_of ws) ≡ true → 7 ≡ refusal_within rows ws room
+  pub within-short : problem_refusal_within rows ws ≡ 0 → is_short room (vars_of ws) ≡ true →
+      7 ≡ refusal_within rows ws room
   unfolding too_short
   within-short e h = sym (after-problem e ∙ first-hit 7 [] h)
 
@@ -58,7 +59,8 @@ module _ (rows : ℕ) (ws : List ℤ) (room : ℕ) where
   within_none e h = sym (after-problem e ∙ first-skip 7 [] (le-ltb room (answer_length ws) h))
 
 -- what is fine within fewer rows is fine
-pub fine-within : (rows : ℕ) (ws : List ℤ) → rows ≤ most_rows → problem_refusal_within rows ws ≡ 0 → problem_refusal ws ≡ 0
+pub fine-within : (rows : ℕ) (ws : List ℤ) → rows ≤ most_rows → problem_refusal_within rows ws ≡ 0 →
+    problem_refusal ws ≡ 0
 unfolding problem_refusal
 fine-within rows ws h e = fine_more ws h e
 

@@ -92,7 +92,8 @@ module _ {o u : Order} {t : Tableau} {l : List ℤ} (C : SameCells o u t.rows t.
       go (nexts.Stuck b) e = record { same-course = refl; same-tableau = as_it_was }
       go (nexts.Pivot c) e = let q = pivot-places o S c e in
           subst
-          (λ b. SameStep o u (admit_at (fits_by_laid o t c) t (moved_laid o t c)) (admit_at b other (moved_laid u other c)))
+          (λ b. SameStep o u (admit_at (fits_by_laid o t c) t (moved_laid o t c))
+          (admit_at b other (moved_laid u other c)))
           (same-pivot C t.common c.row.0 c.column.0 q.0 q.1).same-range
           (by c q.0 q.1 (fits_by_laid o t c))
 

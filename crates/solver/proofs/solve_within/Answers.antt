@@ -53,16 +53,19 @@ count_at-requires-2 c = let ws = c.args.words.now in let fine = accepted-of ws
 -- n and m
 few-together : {n m : ℕ} (ws : List ℤ) → n ≡ n_of ws → m ≡ m_of ws → problem_refusal ws ≡ 0 →
     n + m ≤ most_columns + most_rows
-few-together ws d e f = let a = n-few (accepted-of ws f) in let b = m-few (accepted-of ws f) in omega (arith, d, e, a, b)
+few-together ws d e f = let a = n-few (accepted-of ws f) in let b = m-few (accepted-of ws f) in
+    omega (arith, d, e, a, b)
 
 pub overflow_add-variables : goal.overflow_add-variables
 overflow_add-variables c = let ws = c.args.words.now in
-    let f = not-refused c.args.most ws c.rows_within-rows.ensures c.judge_within-refused.ensures c.if-refused-ne0.false in
+    let f = not-refused c.args.most ws c.rows_within-rows.ensures c.judge_within-refused.ensures
+    c.if-refused-ne0.false in
     let z = few-together ws c.count_at.ensures c.count_at-2.ensures f in omega arith
 
 pub is_short-requires : goal.is_short-requires
 is_short-requires c = let ws = c.args.words.now in
-    let f = not-refused c.args.most ws c.rows_within-rows.ensures c.judge_within-refused.ensures c.if-refused-ne0.false in
+    let f = not-refused c.args.most ws c.rows_within-rows.ensures c.judge_within-refused.ensures
+    c.if-refused-ne0.false in
     let z = few-together ws c.count_at.ensures c.count_at-2.ensures f in omega arith
 
 -- whether the output is too short
@@ -81,26 +84,31 @@ returns-then-is_short c = let a = c.args in let ws = a.words.now in let rows = c
 
 pub new-t-requires : goal.new-t-requires
 new-t-requires c =
-    not-refused c.args.most c.args.words.now c.rows_within-rows.ensures c.judge_within-refused.ensures c.if-refused-ne0.false
+    not-refused c.args.most c.args.words.now c.rows_within-rows.ensures c.judge_within-refused.ensures
+    c.if-refused-ne0.false
 
 -- the answer fits
-room : {n m : ℕ} {b : Bool} (here : ℕ) (ws : List ℤ) → n ≡ n_of ws → m ≡ m_of ws → b ≡ is_short here (n + m) → b ≡ false →
-    answer_length ws ≤ here
+room : {n m : ℕ} {b : Bool} (here : ℕ) (ws : List ℤ) → n ≡ n_of ws → m ≡ m_of ws → b ≡ is_short here (n + m) →
+    b ≡ false → answer_length ws ≤ here
 room here ws d e f g = ltb-false here (answer_length ws) (sym (short-is here ws d e f) ∙ g)
 
 pub spend-spent-requires : goal.spend-spent-requires
 spend-spent-requires c = let ws = c.args.words.now in let t = c.new-t.result in
-    let f = not-refused c.args.most ws c.rows_within-rows.ensures c.judge_within-refused.ensures c.if-refused-ne0.false in record {
+    let f = not-refused c.args.most ws c.rows_within-rows.ensures c.judge_within-refused.ensures
+    c.if-refused-ne0.false in record {
       standing = record { slice = _; holds = holds-start ws t c.new-t.ensures f };
       columns_in_bounds =
-          let a = room (length c.args.out.now) ws c.count_at.ensures c.count_at-2.ensures c.is_short.ensures c.if-is_short.false in
+          let a = room (length c.args.out.now) ws c.count_at.ensures c.count_at-2.ensures c.is_short.ensures
+          c.if-is_short.false in
           let b = start-many ws t c.new-t.ensures f in omega arith;
     }
 
 pub returns : goal.returns
 returns c = let a = c.args in let ws = a.words.now in let rows = c.rows_within-rows.result in
-    let f = not-refused c.args.most ws c.rows_within-rows.ensures c.judge_within-refused.ensures c.if-refused-ne0.false in
-    let r = room (length c.args.out.now) ws c.count_at.ensures c.count_at-2.ensures c.is_short.ensures c.if-is_short.false in record {
+    let f = not-refused c.args.most ws c.rows_within-rows.ensures c.judge_within-refused.ensures
+    c.if-refused-ne0.false in
+    let r = room (length c.args.out.now) ws c.count_at.ensures c.count_at-2.ensures c.is_short.ensures
+    c.if-is_short.false in record {
       number = within_none rows ws (length a.out.now) (sym c.judge_within-refused.ensures ∙ c.if-refused-ne0.false) r
           ∙ ap (λ n. refusal_within n ws (length a.out.now)) c.rows_within-rows.ensures;
       output = c.spend-spent.ensures.output

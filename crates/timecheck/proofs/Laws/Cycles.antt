@@ -45,7 +45,8 @@ row_in (negsuc n) m l h = absurd l.le
 
 -- by the order of pairs
 bad-round-is : (c s : ℤ) → pairs.less (c, neg_ℤ s) (pos 0, pos 0) ≡ bad_round c s
-bad-round-is c s = ap (lexicographic (lt_z c (pos 0)) (lt_z (pos 0) c)) turned ∙ joined (lt_z c (pos 0)) (lt_z (pos 0) c) _
+bad-round-is c s = ap (lexicographic (lt_z c (pos 0)) (lt_z (pos 0) c)) turned ∙ joined (lt_z c (pos 0))
+    (lt_z (pos 0) c) _
   where
     down : (s : ℤ) → neg_ℤ s <ℤ pos 0 → pos 0 <ℤ s
     down s h = lt_at (s ∷ []) (of_lt h) (search reify depth 30) slk

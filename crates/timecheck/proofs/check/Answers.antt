@@ -23,16 +23,14 @@ use Rattle.timerows.specs.Judged.{Fine}
 use Rattle.rules.specs.Times.Check.{accepted_answer, checked_times, cycle_shown, times_shown}
 use Rattle.rules.proofs.Times.Checked.{times-by-refusal, times-judged}
 use Rattle.timecheck.proofs.check.Goals as goal
-use Rattle.timecheck.proofs.check.Goals.{After-shows_cycle, After-shows_times, After-verdict-1, Else-refusal-ne0, Else-verdict-eq1, Start, Then-verdict-eq1, Then-verdict-eq2}
+use Rattle.timecheck.proofs.check.Goals.{After-shows_cycle, After-shows_times, After-verdict-1, Else-refusal-ne0}
+use Rattle.timecheck.proofs.check.Goals.{Else-verdict-eq1, Start, Then-verdict-eq1, Then-verdict-eq2}
 
 abbrev words : Start → List ℤ
 words s = s.args.rows.now
 
 abbrev answer : Start → List ℤ
 answer s = s.args.answer.now
-
-pub judge-refusal-requires : goal.judge-refusal-requires
-judge-refusal-requires c = tt
 
 pub returns-then-refusal-ne0 : goal.returns-then-refusal-ne0
 returns-then-refusal-ne0 c = let s : Start = c.before.before in let j = c.judge-refusal in
@@ -146,6 +144,8 @@ pub returns-else-shows_cycle : goal.returns-else-shows_cycle
 returns-else-shows_cycle c = sym (cycle-answer c.before ∙ ap (λ (b : Bool). cond b 8 9) c.if-shows_cycle.false)
 
 pub returns-else-verdict-eq2 : goal.returns-else-verdict-eq2
-returns-else-verdict-eq2 c = let v = c in
-    sym (by-verdict c.before.before false false (not-one c.before)
-    (tells-false (tells-eq_z (verdict_of (answer (s c.before.before))) (pos 2)) (λ e. c.if-verdict-eq2.false (ap (of_z w64) e))))
+returns-else-verdict-eq2 c =
+    let here = c.before.before in
+    let v = c in
+    sym (by-verdict here false false (not-one c.before)
+    (tells-false (tells-eq_z (verdict_of (answer (s here))) (pos 2)) (λ e. c.if-verdict-eq2.false (ap (of_z w64) e))))

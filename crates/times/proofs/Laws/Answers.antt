@@ -112,7 +112,8 @@ module _ (ws before : List ℤ) (A : AcceptedTimes ws (length before)) where
         short : length (rows_of w) ≤ n_of ws
         short = cycle-short (time_edges ws) (rows_of w) (accepted-ends A) c.bad.cycle
 
-        words : take (n_of ws) (cycle_words most_vertices (rows_of w)) ++ take (n_of ws) (replicate most_vertices (pos 0))
+        words : take (n_of ws) (cycle_words most_vertices (rows_of w)) ++ take (n_of ws)
+            (replicate most_vertices (pos 0))
             ≡ cycle_words (2 * n_of ws) (rows_of w)
         words =
             ap₂ (λ p q. p ++ q) (words_take (rows_of w) (n_of ws) short (vertices-few A))

@@ -43,7 +43,8 @@ module _ (ws : List ℤ) (best : List Length) (i : ℕ) {x : ℕ} (p : x ≡ (ti
   test-is q e = sym (ap₂ (λ z u. lt_z z (key_at best u)) its-offer q) ∙ sym e
 
 module _ {ws : List ℤ} {k : ℕ} {best : List Length} {last : List ℕ} {i row : ℕ} (P : Pass ws k i best last row)
-    (h : i < m_of ws) {x : ℕ} (p : x ≡ (time_edges ws).tail i) {offered : Length} (o : Offers ws best i x offered) {y : ℕ}
+    (h : i < m_of ws) {x : ℕ} (p : x ≡ (time_edges ws).tail i) {offered : Length} (o : Offers ws best i x offered)
+    {y : ℕ}
     (q : y ≡ (time_edges ws).head i) where
   pub pass-more : (b : Bool) → is_less ws best i ≡ b → Pass ws k (i + 1)
       (set best y (cond b offered (length_at best y))) (set last y (cond b i (last_row last y))) (cond b i row)
@@ -53,4 +54,5 @@ module _ {ws : List ℤ} {k : ℕ} {best : List Length} {last : List ℕ} {i row
       (pass-taken P h offered (its-offer ws best i p o) e))
   pass-more false e =
       rw add-one
-      (subst₂ (λ a b. Pass ws k (suc i) a b row) (sym (set-get_or best y _)) (sym (set-get_or last y _)) (pass_kept P h e))
+      (subst₂ (λ a b. Pass ws k (suc i) a b row) (sym (set-get_or best y _)) (sym (set-get_or last y _))
+      (pass_kept P h e))

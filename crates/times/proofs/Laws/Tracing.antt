@@ -113,7 +113,8 @@ module _ {ws : List ℤ} {last : List ℕ} {passes v : ℕ} (c : Closing ws last
 
   module _ (seen path : List ℕ) (here q : ℕ) (t : Tracing seen path here (suc q)) (z : row_told seen here ≡ 0)
       (n : last_row last here ≢ no_row) where
-    more : Tracing (set seen here (suc q)) (set path q (last_row last here)) ((time_edges ws).tail (last_row last here)) q
+    more : Tracing (set seen here (suc q)) (set path q (last_row last here))
+        ((time_edges ws).tail (last_row last here)) q
     more = record {
       trail = trail_more (time_edges ws) ends _ _ l.time l.far (last_row last) l.traced (n_of ws) spare
           path seen here q t.trail z

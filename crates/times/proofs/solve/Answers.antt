@@ -112,14 +112,18 @@ gathered-requires c = closed-gathering (ws c.before.before.before) (before c.bef
     (accepted c.before.before.before) (way c) (path-long c) (closed c)
 
 pub write-requires-2 : goal.write-requires-2
-write-requires-2 c = let k = c in (n-low c.before.before.before.before.before, omega (arith, (closed c.before.before).in_path), roomy c.before.before.before.before.before)
+write-requires-2 c =
+    let here = c.before.before in
+    let above = c.before.before.before.before.before in
+    let k = c in (n-low above, omega (arith, (closed here).in_path), roomy above)
 
 pub returns : goal.returns
 returns c =
+    let here = c.before.before.before.before in
     let g = c in
     let k = c in
-    let s = from c.before.before.before.before in
-    timed-unmet (ws s) (before s) (accepted s) (way c.before.before.before.before) (path-long c.before.before.before.before) (closed c.before.before.before.before) _ (n s) (n-is s)
+    let s = from here in
+    timed-unmet (ws s) (before s) (accepted s) (way here) (path-long here) (closed here) _ (n s) (n-is s)
     (c.write-2.ensures
-    ∙ ap₂ (λ p q. output (pos 2) ((way c.before.before.before.before).to - (way c.before.before.before.before).from) (record { plain = p; small = q }) (n s) (before s))
+    ∙ ap₂ (λ p q. output (pos 2) ((way here).to - (way here).from) (record { plain = p; small = q }) (n s) (before s))
     g.gathered.ensures.0 g.gathered.ensures.1)

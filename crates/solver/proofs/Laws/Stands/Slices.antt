@@ -48,7 +48,8 @@ use Rattle.solver.proofs.Laws.Stands.Told.{came-many, tellable-came, told-came}
 -- ---- by what the search for crossed limits says
 
 module _ (look : Bool) (t : Tableau) (k b : ℕ) where
-  pub spent-where : (c : Crossed) → conflict_at t.limits (many_of t) ≡ c → spent_as look t k b ≡ spent_where c look t k b
+  pub spent-where : (c : Crossed) → conflict_at t.limits (many_of t) ≡ c →
+      spent_as look t k b ≡ spent_where c look t k b
   unfolding spent_as
   spent-where c q = ap (λ x. spent_where x look t k b) q
 

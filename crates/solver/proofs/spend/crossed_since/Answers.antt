@@ -1,5 +1,4 @@
 -- `solver::spend::crossed_since` meets its contract. Assumes nothing.
-use borrow.Author.Rules.{rules}
 use mathlib.Core.Logic.{◌≢◌}
 use mathlib.Core.Path.{◌≡◌, ap, refl, sym, ◌∙◌}
 use Prim.Native.Nat.{ℕ, suc, zero}
@@ -8,12 +7,9 @@ use Rattle.answers.specs.declared.conflict.Crossed.TheVariants as crossings
 use Rattle.solver.specs.Spend.{crossed_since}
 use Rattle.solver.proofs.spend.crossed_since.Goals as goal
 
-pub conflict_of-requires : goal.conflict_of-requires
-conflict_of-requires c = search rules
-
 pub returns-then-before-eq0 : goal.returns-then-before-eq0
-returns-then-before-eq0 c = let o = c in let a = o.args in
-    c.conflict_of.ensures ∙ ap (λ k. crossed_since k a.limits a.variables) (sym o.if-before-eq0.true)
+returns-then-before-eq0 c = let a = c.args in
+    c.conflict_of.ensures ∙ ap (λ k. crossed_since k a.limits a.variables) (sym c.if-before-eq0.true)
 
 -- some pivots on
 later : (k : ℕ) (l : Limits) (N : ℕ) → k ≢ 0 → crossings.Nowhere ≡ crossed_since k l N

@@ -116,7 +116,8 @@ step-outcome-requires-clause-steppable c = let h = held_at c.requires.standing c
     simp (to_z-of_z (fit-common h)) (steppable-held h)
 
 pub live-live-requires : goal.live-live-requires
-live-live-requires c = let S = search-held (held_at c.requires.standing c.run.invariant.0) in (S.few-rows, S.few-columns)
+live-live-requires c = let S = search-held (held_at c.requires.standing c.run.invariant.0) in
+    (S.few-rows, S.few-columns)
 
 pub keep-requires : goal.keep-requires
 keep-requires c = let h = held_at c.requires.standing c.run.invariant.0 in
@@ -162,7 +163,8 @@ run-preserved c = let t = c.run.t in let g = c.in-Goes in let next = c.step-outc
     let starts = put-chosen t g.row g.column g.value g.common k next put in
     let kept : c.keep.new.entries ≡ entries_moved t k.choice = c.keep.ensures
     ∙ ap (λ n. kept_cells n next t.entries) c.live-live.ensures ∙ kept-held h k next starts in
-    let less : c.run.count < c.args.most = let i = c.run.invariant.0.counted in omega (arith, c.if-count-most.false, i) in (
+    let i = c.run.invariant.0.counted in
+    let less : c.run.count < c.args.most = omega (arith, c.if-count-most.false, i) in (
       simp (to_z-of_z (common-held h k), to_z-of_z (value-held h k), to_z-of_z (small-held h k))
           (running_more c.run.invariant.0 less (course-on t g.row g.column g.value g.common k)
           (exchanged t g.row g.column g.value g.common k kept c.seated-entered.ensures c.seated-left.ensures)),

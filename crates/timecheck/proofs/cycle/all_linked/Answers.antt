@@ -18,14 +18,18 @@ overflow_add-k c = omega (arith, c.requires.named.few, c.requires.last_bound, c.
 
 pub is_linked-fine-requires : goal.is_linked-fine-requires
 is_linked-fine-requires c = let s = c in
-    record { named = s.requires.named; j_lt_count = (omega (arith, s.requires.last_bound, c.loop-k-test.true), omega (arith, s.requires.last_bound, c.loop-k-test.true)) }
+    record {
+      named = s.requires.named;
+      j_lt_count = (
+        omega (arith, s.requires.last_bound, c.loop-k-test.true),
+        omega
+            (arith, s.requires.last_bound, c.loop-k-test.true),
+      );
+    }
 
 pub overflow_step-k : goal.overflow_step-k
 overflow_step-k c = let s = c in
     omega (arith, s.requires.named.few, s.requires.last_bound, c.loop-k-test.true)
-
-pub loop-k-smaller : goal.loop-k-smaller
-loop-k-smaller c = omega arith
 
 pub loop-k-preserved : goal.loop-k-preserved
 loop-k-preserved c = let s = c in let k = c.loop-k.k in (

@@ -16,9 +16,6 @@ is_new-fine-requires c = record { named = c.requires; k_lt_count = c.loop-k-test
 pub overflow_step-k : goal.overflow_step-k
 overflow_step-k c = omega (arith, c.requires.few, c.loop-k-test.true)
 
-pub loop-k-smaller : goal.loop-k-smaller
-loop-k-smaller c = omega arith
-
 pub loop-k-preserved : goal.loop-k-preserved
 loop-k-preserved c = (
   omega arith,

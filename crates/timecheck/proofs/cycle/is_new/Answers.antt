@@ -29,9 +29,6 @@ few s = omega (arith, s.requires.named.few, s.requires.k_lt_count)
 pub overflow_step-j : goal.overflow_step-j
 overflow_step-j c = omega (arith, few c.before.before.before.before, c.loop-j-test.true)
 
-pub loop-j-smaller : goal.loop-j-smaller
-loop-j-smaller c = omega arith
-
 pub loop-j-preserved : goal.loop-j-preserved
 unfolding new_up_to
 loop-j-preserved c = let l = c in (

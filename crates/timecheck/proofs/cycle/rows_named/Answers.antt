@@ -18,24 +18,9 @@ use Rattle.timecheck.proofs.cycle.rows_named.Goals.{After-loop-k, After-row-1}
 pub loop-k-init : goal.loop-k-init
 loop-k-init c = (omega arith, sym (all_start _))
 
-pub overflow_add-at : goal.overflow_add-at
-overflow_add-at c = omega arith
-
-pub offset_bounds-answer-at : goal.offset_bounds-answer-at
-offset_bounds-answer-at c = omega arith
-
-pub bounds-answer-at : goal.bounds-answer-at
-bounds-answer-at c = omega arith
-
 fit : (c : After-row-1) →
     SFits w64 (word c.args.answer.now (2 + c.loop-k.k))
 fit c = sfits_of c.row-1.given
-
-pub overflow_step-k : goal.overflow_step-k
-overflow_step-k c = omega arith
-
-pub loop-k-smaller : goal.loop-k-smaller
-loop-k-smaller c = omega arith
 
 pub loop-k-preserved : goal.loop-k-preserved
 loop-k-preserved c = let s = c in (

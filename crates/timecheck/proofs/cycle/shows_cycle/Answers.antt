@@ -21,9 +21,14 @@ use Rattle.rules.specs.Problem.{n_of, word}
 use Rattle.rules.specs.Sizes.{most_time_rows, most_vertices}
 use Rattle.rules.specs.Times.Check.{cycle_length, cycle_shown, is_past, is_row}
 use Rattle.timecheck.specs.Walk.{Named, all_new, bad_around, bad_round, is_between, links_back, links_on}
-use Rattle.timecheck.proofs.Laws.Cycles.{by-outside, by_rows_lem, by_tests_lem, lengths-summed, named_by, stricts-summed}
+use Rattle.timecheck.proofs.Laws.Cycles.{by-outside, by_rows_lem, by_tests_lem, lengths-summed, named_by}
+use Rattle.timecheck.proofs.Laws.Cycles.{stricts-summed}
 use Rattle.timecheck.proofs.cycle.shows_cycle.Goals as goal
-use Rattle.timecheck.proofs.cycle.shows_cycle.Goals.{After-all_linked, After-all_new, After-is_bad, After-is_linked, After-is_outside, After-named-1, After-rows_named, After-word_sum-strict, Else-is_outside, Else-not-all_linked, Else-not-all_new, Else-not-is_bad, Else-not-is_linked, Else-not-rows_named, Start}
+use Rattle.timecheck.proofs.cycle.shows_cycle.Goals.{After-all_linked, After-all_new, After-is_bad, After-is_linked}
+use Rattle.timecheck.proofs.cycle.shows_cycle.Goals.{After-is_outside, After-named-1, After-rows_named}
+use Rattle.timecheck.proofs.cycle.shows_cycle.Goals.{After-word_sum-strict, Else-is_outside, Else-not-all_linked}
+use Rattle.timecheck.proofs.cycle.shows_cycle.Goals.{Else-not-all_new, Else-not-is_bad, Else-not-is_linked}
+use Rattle.timecheck.proofs.cycle.shows_cycle.Goals.{Else-not-rows_named, Start}
 
 -- ---- what is known at the start
 
@@ -113,8 +118,11 @@ module _ (c : After-rows_named) where
       ∙ ap (λ (m : ℕ). all_below (K s) (is_between (a s) (pos m))) s.requires.fine.1
 
 pub returns-then-not-rows_named : goal.returns-then-not-rows_named
-returns-then-not-rows_named c = let b = c in
-    sym (by_rows_lem (ws c.before.before.before.before.before) (a c.before.before.before.before.before) (inside c.before.before) (sym (rows_are c.before) ∙ c.if-not-rows_named.true))
+returns-then-not-rows_named c =
+    let here = c.before.before in
+    let above = c.before.before.before.before.before in
+    let b = c in
+    sym (by_rows_lem (ws above) (a above) (inside here) (sym (rows_are c.before) ∙ c.if-not-rows_named.true))
 
 -- ---- they are rows
 
@@ -147,7 +155,8 @@ all_linked-requires c = let h = some c.before.before in
     simp (to_z-of_z (read c.before.before)) (record { named = named c; last_bound = omega (arith, h) })
 
 module _ (c : After-all_linked) where
-  links-are : c.all_linked.result ≡ links_on (ws c.before.before.before.before.before.before) (a c.before.before.before.before.before.before)
+  links-are : c.all_linked.result ≡ links_on (ws c.before.before.before.before.before.before)
+      (a c.before.before.before.before.before.before)
   links-are = simp (to_z-of_z (read c.before.before.before)) at c.all_linked.ensures
 
 pub returns-then-not-all_linked : goal.returns-then-not-all_linked
@@ -174,8 +183,11 @@ module _ (c : After-is_linked) where
   closes-is = simp (to_z-of_z (read (counted c.before.before.before))) at c.is_linked.ensures
 
 pub returns-then-not-is_linked : goal.returns-then-not-is_linked
-returns-then-not-is_linked c = let b = c in
-    sym (tests c.before.before.before.before ∙ rw (all-link c.before.before, sym (closes-is c.before) ∙ c.if-not-is_linked.true) refl)
+returns-then-not-is_linked c =
+    let here = c.before.before in
+    let above = c.before.before.before.before in
+    let b = c in
+    sym (tests above ∙ rw (all-link here, sym (closes-is c.before) ∙ c.if-not-is_linked.true) refl)
 
 module _ (c : Else-not-is_linked) where
   abbrev linked : Else-not-all_linked
@@ -192,9 +204,12 @@ module _ (c : After-all_new) where
   news-are = simp (to_z-of_z (read (counted (known c.before.before.before)))) at c.all_new.ensures
 
 pub returns-then-not-all_new : goal.returns-then-not-all_new
-returns-then-not-all_new c = let b = c in let e = c in
-    sym (tests (known c.before.before.before.before)
-    ∙ rw (all-link c.before.before.before.before, closed c.before.before, sym (news-are c.before) ∙ c.if-not-all_new.true) refl)
+returns-then-not-all_new c =
+    let here = c.before.before in
+    let above = c.before.before.before.before in
+    let b = c in let e = c in
+    sym (tests (known above)
+    ∙ rw (all-link above, closed here, sym (news-are c.before) ∙ c.if-not-all_new.true) refl)
 
 module _ (c : Else-not-all_new) where
   abbrev round : Else-not-is_linked
@@ -254,7 +269,9 @@ module _ (c : Else-not-is_bad) where
   is-bad = sym (bad-is c.before) ∙ c.if-not-is_bad.false
 
 pub overflow_mul-n : goal.overflow_mul-n
-overflow_mul-n c = omega (arith, few c.before.before.before.before.before.before.before.before.before.before.before.before.before.before.before)
+overflow_mul-n c =
+    let here = c.before.before.before.before.before.before.before.before.before.before.before.before.before.before.before in
+    omega (arith, few here)
 
 pub zeros_after-requires : goal.zeros_after-requires
 zeros_after-requires c = let s = last c in

@@ -19,27 +19,12 @@ use Rattle.timecheck.proofs.cycle.zeros_after.Goals.{After-fine-1, After-loop-k}
 pub loop-k-init : goal.loop-k-init
 loop-k-init c = (omega arith, sym (all_start _))
 
-pub overflow_add-at : goal.overflow_add-at
-overflow_add-at c = omega arith
-
-pub offset_bounds-answer-at : goal.offset_bounds-answer-at
-offset_bounds-answer-at c = omega arith
-
-pub bounds-answer-at : goal.bounds-answer-at
-bounds-answer-at c = omega arith
-
 zero-fits : SFits w64 (pos 0)
 zero-fits = record { sfits = lit< tt }
 
 fit : (c : After-fine-1) →
     SFits w64 (word c.args.answer.now (2 + c.loop-k.k))
 fit c = sfits_of c.fine-1.given
-
-pub overflow_step-k : goal.overflow_step-k
-overflow_step-k c = omega arith
-
-pub loop-k-smaller : goal.loop-k-smaller
-loop-k-smaller c = omega arith
 
 pub loop-k-preserved : goal.loop-k-preserved
 loop-k-preserved c = let l = c in (

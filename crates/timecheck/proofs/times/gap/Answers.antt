@@ -16,12 +16,6 @@ use Rattle.limbs.proofs.Laws.Stands.{stands_of}
 use Rattle.timecheck.proofs.times.gap.Goals as goal
 use Rattle.timecheck.proofs.times.gap.Goals.{After-less-left, After-of-2, After-of-3, After-sign, Start}
 
-pub of-requires : goal.of-requires
-of-requires c = tt
-
-pub of-requires-2 : goal.of-requires-2
-of-requires-2 c = tt
-
 module _ (c : After-of-2) where
   abbrev start : Start
   start = c.before.before
@@ -34,9 +28,6 @@ module _ (c : After-of-2) where
 
 pub less-apart-requires : goal.less-apart-requires
 less-apart-requires c = (sized-le (first c).size (lit≤ tt), sized-le (second c).size (lit≤ tt))
-
-pub of-requires-3 : goal.of-requires-3
-of-requires-3 c = tt
 
 module _ (c : After-of-3) where
   abbrev begun : Start

@@ -26,7 +26,8 @@ use Rattle.limbs.specs.Limbs.{sign_of}
 use Rattle.limbs.proofs.Laws.Gaps.{clears-signs}
 use Rattle.rules.specs.Times.Check.{row_met}
 use Rattle.timecheck.proofs.times.row_met.Goals as goal
-use Rattle.timecheck.proofs.times.row_met.Goals.{After-at_most, After-gap-arg-2-1, After-gap-arg-4-1, After-gap-plain, After-gap-small, After-head-y, After-long-1, After-strict-1, Start}
+use Rattle.timecheck.proofs.times.row_met.Goals.{After-at_most, After-gap-arg-2-1, After-gap-arg-4-1, After-gap-plain}
+use Rattle.timecheck.proofs.times.row_met.Goals.{After-gap-small, After-head-y, After-long-1, After-strict-1, Start}
 
 -- ---- what is known of the row
 
@@ -105,11 +106,17 @@ pub overflow_cast-long : goal.overflow_cast-long
 overflow_cast-long c = simp (to_z-of_z (long-fits c)) (wide (long-fits c))
 
 pub bounds-answer-x : goal.bounds-answer-x
-bounds-answer-x c = let h = c in omega (arith, x-in c.before.before, few c.before.before.before.before, long c.before.before.before.before)
+bounds-answer-x c =
+    let here = c.before.before in
+    let above = c.before.before.before.before in
+    let h = c in omega (arith, x-in here, few above, long above)
 
 pub bounds-answer-y : goal.bounds-answer-y
-bounds-answer-y c = let h = c in
-    omega (arith, y-in c.before.before.before, few c.before.before.before.before.before, long c.before.before.before.before.before)
+bounds-answer-y c =
+    let here = c.before.before.before in
+    let above = c.before.before.before.before.before in
+    let h = c in
+    omega (arith, y-in here, few above, long above)
 
 -- the plain parts
 module _ (c : After-gap-arg-2-1) where
@@ -135,8 +142,11 @@ module _ (c : After-gap-arg-2-1) where
   q-fits = sfits_of c.gap-arg-2-1.given
 
 pub gap-plain-requires : goal.gap-plain-requires
-gap-plain-requires c = let s = start c.before.before.before.before in
-    simp (to_z-of_z (long-fits c.before.before), to_z-of_z (wide (long-fits c.before.before))) ((A s).lengths (i s) (inside s))
+gap-plain-requires c =
+    let here = c.before.before in
+    let above = c.before.before.before.before in
+    let s = start above in
+    simp (to_z-of_z (long-fits here), to_z-of_z (wide (long-fits here))) ((A s).lengths (i s) (inside s))
 
 pub bounds-answer-n : goal.bounds-answer-n
 bounds-answer-n c = let h = ends c.before in omega (arith, x-in h, few (start h), long (start h))
@@ -184,11 +194,14 @@ module _ (c : After-gap-arg-4-1) where
   turned-fits = fits-by turned-within tt
 
 pub overflow_sub-strict : goal.overflow_sub-strict
-overflow_sub-strict c = simp (to_z-of_z (strict-fits c.before.before.before.before.before.before), to_z-of_z (wide (strict-fits c.before.before.before.before.before.before))) (turned-fits c)
+overflow_sub-strict c =
+    let here = c.before.before.before.before.before.before in
+    simp (to_z-of_z (strict-fits here), to_z-of_z (wide (strict-fits here))) (turned-fits c)
 
 pub gap-small-requires : goal.gap-small-requires
 gap-small-requires c =
-    simp (to_z-of_z (strict-fits c.before.before.before.before.before.before), to_z-of_z (wide (strict-fits c.before.before.before.before.before.before)), to_z-of_z (turned-fits c))
+    let here = c.before.before.before.before.before.before in
+    simp (to_z-of_z (strict-fits here), to_z-of_z (wide (strict-fits here)), to_z-of_z (turned-fits c))
     (turned-within c)
 
 module _ (c : After-at_most) where
@@ -238,7 +251,10 @@ module _ (c : After-at_most) where
 
 pub returns : goal.returns
 unfolding row_met
-returns c = let h = ends (read c.before.before) in
+returns c =
+    let here = c.before.before in
+    let above = c.before.before.before.before.before.before.before.before.before.before.before in
+    let h = ends (read here) in
     told c
-    ∙ ap (λ (n : ℕ). by c n (x h) (y h)) (vertices c.before.before.before.before.before.before.before.before.before.before.before)
-    ∙ ap₂ (λ (u v : ℕ). by c (n_of (ws c.before.before.before.before.before.before.before.before.before.before.before)) u v) h.tail-x.ensures h.head-y.ensures
+    ∙ ap (λ (n : ℕ). by c n (x h) (y h)) (vertices above)
+    ∙ ap₂ (λ (u v : ℕ). by c (n_of (ws above)) u v) h.tail-x.ensures h.head-y.ensures

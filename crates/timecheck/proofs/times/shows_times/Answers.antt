@@ -54,7 +54,9 @@ rows_met-requires c = let s = c in record { fine = s.requires.fine; rows_in_boun
 
 pub returns : goal.returns
 unfolding times_shown
-returns c = let b = c in
-    c.rows_met.ensures ∙ ap (λ (m : ℕ). all_below m (row_met (ws c.before.before) (a c.before.before))) (s c.before.before).requires.fine.1
-    ∙ sym (rw (tells-true (tells-eq_z (word (a c.before.before) 1) (pos (n_of (ws c.before.before)))) (sym (to_z-of_z (fit c.before.before))
-    ∙ ap (to_z w64) c.if-answer-n.false ∙ to_z-of_z (count_fits c.before.before) ∙ ap pos (s c.before.before).requires.fine.2)) refl)
+returns c =
+    let here = c.before.before in
+    let b = c in
+    c.rows_met.ensures ∙ ap (λ (m : ℕ). all_below m (row_met (ws here) (a here))) (s here).requires.fine.1
+    ∙ sym (rw (tells-true (tells-eq_z (word (a here) 1) (pos (n_of (ws here)))) (sym (to_z-of_z (fit here))
+    ∙ ap (to_z w64) c.if-answer-n.false ∙ to_z-of_z (count_fits here) ∙ ap pos (s here).requires.fine.2)) refl)

@@ -91,4 +91,5 @@ loop-last-smaller c = omega (arith, left c.before)
 pub loop-last-preserved : goal.loop-last-preserved
 loop-last-preserved c p k =
     let e = c in
-    rw c.tail-here.ensures (tracing-more k _ _ _ _ ((top c.before).loop-last.invariant p k) e.if-mark-ne0.false e.if-i-eq-NO_ROW.false)
+    rw c.tail-here.ensures (tracing-more k _ _ _ _ ((top c.before).loop-last.invariant p k) e.if-mark-ne0.false
+    e.if-i-eq-NO_ROW.false)

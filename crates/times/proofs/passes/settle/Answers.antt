@@ -19,7 +19,8 @@ use Rattle.times.proofs.Laws.Looks.{tail-low, head-low, test-is, pass-more}
 use Rattle.times.proofs.Laws.Passing.{looked-start, looked-modest, pass-start, pass-closing}
 use Rattle.times.proofs.Laws.Passing.{pass-settled, settled-quiet}
 use Rattle.times.proofs.passes.settle.Goals as goal
-use Rattle.times.proofs.passes.settle.Goals.{After-head, After-head-y, After-less-is, After-lesser, After-loop-i, After-way_back-way, In-loop-i, Start}
+use Rattle.times.proofs.passes.settle.Goals.{After-head, After-head-y, After-less-is, After-lesser, After-loop-i}
+use Rattle.times.proofs.passes.settle.Goals.{After-way_back-way, In-loop-i, Start}
 
 pub loop-x-init : goal.loop-x-init
 loop-x-init c = (due-start, looked-start _ c.requires.fine)
@@ -130,13 +131,16 @@ pub loop-i-smaller : goal.loop-i-smaller
 loop-i-smaller c = let q = t c.before.before.before in omega (arith, listed q, (begun q).requires.m-is)
 
 pub loop-i-preserved : goal.loop-i-preserved
-loop-i-preserved c = let a = c in let q = t c.before.before.before in (
-  q.loop-i.invariant.0,
-  omega (arith, listed q, (begun q).requires.m-is),
-  rw (c.length_if.ensures, c.row_if.ensures, c.row_if-row.ensures)
-      (pass-more (going q) (listed q) (x-is c.before.before.before.before.before.before.before) a.offer-offered.ensures (y-is c.before.before.before.before.before.before.before) _
-      (same_test c.before.before.before)),
-)
+loop-i-preserved c =
+    let here = c.before.before.before in
+    let above = c.before.before.before.before.before.before.before in
+    let a = c in let q = t here in (
+      q.loop-i.invariant.0,
+      omega (arith, listed q, (begun q).requires.m-is),
+      rw (c.length_if.ensures, c.row_if.ensures, c.row_if-row.ensures)
+          (pass-more (going q) (listed q) (x-is above) a.offer-offered.ensures (y-is above) _
+          (same_test here)),
+    )
 
 -- ---- a pass is done
 
@@ -165,8 +169,17 @@ pub overflow_add-k : goal.overflow_add-k
 overflow_add-k c = omega (arith, (due c.before).early, (due c.before).few)
 
 pub is_quiet-requires : goal.is_quiet-requires
-is_quiet-requires c = let d = c in
-    record { looking = record { fine = (start c.before.before).requires.fine; modest = looked-modest (passed c.before.before).looked (omega arith) }; m_value = (start c.before.before).requires.m-is }
+is_quiet-requires c =
+    let here = c.before.before in
+    let d = c in
+    record {
+      looking = record {
+        fine = (start here).requires.fine;
+        modest = looked-modest (passed here).looked
+            (omega arith);
+      };
+      m_value = (start here).requires.m-is;
+    }
 
 pub returns-then-is_quiet : goal.returns-then-is_quiet
 returns-then-is_quiet c = settled-quiet (passed c.before.before.before.before) c.if-is_quiet.true c.is_quiet.ensures
@@ -182,17 +195,23 @@ pub loop-x-smaller-then-k-due : goal.loop-x-smaller-then-k-due
 loop-x-smaller-then-k-due c = due-falls (due c.before.before.before)
 
 pub loop-x-preserved-then-k-due : goal.loop-x-preserved-then-k-due
-loop-x-preserved-then-k-due c = let d = c in pass_on (passed c.before.before.before) (due-next (due c.before.before.before) c.if-k-due.true)
+loop-x-preserved-then-k-due c =
+    let here = c.before.before.before in
+    let d = c in pass_on (passed here) (due-next (due here) c.if-k-due.true)
 
 -- ---- the way back is due
 
 pub overflow_cast-row : goal.overflow_cast-row
-overflow_cast-row c = let d = c in
-    omega (arith, (passed c.before.before.before).finds.listed c.if-row-eq-NO_ROW.false, time-rows-few (start c.before.before.before).requires.fine)
+overflow_cast-row c =
+    let here = c.before.before.before in
+    let d = c in
+    omega (arith, (passed here).finds.listed c.if-row-eq-NO_ROW.false, time-rows-few (start here).requires.fine)
 
 pub head-requires : goal.head-requires
-head-requires c = let d = c in
-    ((start c.before.before.before).requires.fine, (passed c.before.before.before).finds.listed c.if-row-eq-NO_ROW.false)
+head-requires c =
+    let here = c.before.before.before in
+    let d = c in
+    ((start here).requires.fine, (passed here).finds.listed c.if-row-eq-NO_ROW.false)
 
 module _ (c : After-head) where
   abbrev done : After-loop-i
@@ -205,7 +224,8 @@ pub way_back-way-requires : goal.way_back-way-requires
 way_back-way-requires c = record { tried = (_, tried c); n_value = (start c.before.before.before.before).requires.n-is }
 
 went : (c : After-way_back-way) →
-    Went (words c.before.before.before.before.before) (passes c.before.before.before.before.before) c.way_back-way.result
+    Went (words c.before.before.before.before.before) (passes c.before.before.before.before.before)
+    c.way_back-way.result
 went c = c.way_back-way.ensures _ (tried c.before)
 
 pub returns-then-way : goal.returns-then-way
