@@ -3,6 +3,7 @@ ghost use Rattle.std.specs.Prelude.{◌≡◌, ◌+◌, ◌≤◌, T, length};
 ghost use Rattle.vectors.specs.Listed.{is_told, rows_told, is_listed};
 
 use crate::print;
+use std::io;
 
 const MOST_ROWS: usize = 256;
 
@@ -52,23 +53,24 @@ fn is_listed(out: &[i64], rows: usize, row: i64) -> bool
     false
 }
 
-fn row(out: &[i64], rows: usize, row: i64)
+fn row(rt: &impl Print, out: &[i64], rows: usize, row: i64) -> io::Result<()>
     requires { 2 + rows ≤ length out.now }
 {
     if is_listed(out, rows, row) {
-        print::number(row);
+        print::number(rt, row)?;
     }
+    Ok(())
 }
 
 // The verdict, the count of rows, the rows by number, and what is behind them.
-pub fn words(out: &[i64])
+pub fn words(rt: &impl Print, out: &[i64]) -> io::Result<()>
     requires { 2 ≤ length out.now }
 {
     let rows = rows_of(out);
-    print::number(out[0]);
-    print::number(out[1]);
+    print::number(rt, out[0])?;
+    print::number(rt, out[1])?;
     for i in 0..MOST_ROWS {
-        row(out, rows, i as i64);
+        row(rt, out, rows, i as i64)?;
     }
-    print::words(out, 2 + rows);
+    print::words(rt, out, 2 + rows)
 }

@@ -1,21 +1,16 @@
 // Numbers on standard output.
-use put::size_below;
+use std::io;
 
 // A blank and a number.
-pub fn number(n: i64) {
-    if n < 0 {
-        io::write_all(1, b" -");
-        io::print_decimal(1, size_below(n));
-        return;
-    }
-    io::write_all(1, b" ");
-    io::print_decimal(1, n as u64);
+pub fn number(rt: &impl Print, n: i64) -> io::Result<()> {
+    print!(rt; " {n}")
 }
 
 // The words of a slice from a place on.
-pub fn words(list: &[i64], from: usize) {
+pub fn words(rt: &impl Print, list: &[i64], from: usize) -> io::Result<()> {
     for i in from..list.len() {
         let word = list[i];
-        number(word);
+        number(rt, word)?;
     }
+    Ok(())
 }

@@ -1,38 +1,40 @@
 // A run in slices of 0, 1, 0, 1 and 5 pivots, and a line for each.
+ghost use Rattle.std.specs.Prelude.{IfOk};
 ghost use Rattle.slices.specs.Slices.{SliceStanding};
 
 use crate::line;
 use slices::Slice;
+use std::io;
 
 // Goes on so many pivots, and prints the line.
-fn go_on(slice: Slice, pivots: usize, out: &mut [i64]) -> Slice
+fn go_on(rt: &impl Print, slice: Slice, pivots: usize, out: &mut [i64]) -> io::Result<Slice>
     requires { SliceStanding slice }
-    ensures { SliceStanding result }
+    ensures { IfOk result SliceStanding }
 {
     let next = slice.go_on(pivots, out);
-    line(next.refused, out);
+    line(rt, next.refused, out)?;
     let after = next.slice;
-    after
+    Ok(after)
 }
 
 // Goes on 0 pivots, then 1.
-fn go_on_twice(slice: Slice, out: &mut [i64]) -> Slice
+fn go_on_twice(rt: &impl Print, slice: Slice, out: &mut [i64]) -> io::Result<Slice>
     requires { SliceStanding slice }
-    ensures { SliceStanding result }
+    ensures { IfOk result SliceStanding }
 {
-    let after = go_on(slice, 0, out);
-    go_on(after, 1, out)
+    let after = go_on(rt, slice, 0, out)?;
+    go_on(rt, after, 1, out)
 }
 
 // Starts the run, and goes on five times.
-pub fn run(words: &[i32], out: &mut [i64]) {
+pub fn run(rt: &impl Print, words: &[i32], out: &mut [i64]) -> io::Result<()> {
     let begun = slices::start(words);
     if begun.refused != 0 {
-        line(begun.refused, out);
-        return;
+        return line(rt, begun.refused, out);
     }
     let first = begun.slice;
-    let second = go_on_twice(first, out);
-    let third = go_on_twice(second, out);
-    let last = go_on(third, 5, out);
+    let second = go_on_twice(rt, first, out)?;
+    let third = go_on_twice(rt, second, out)?;
+    let last = go_on(rt, third, 5, out)?;
+    Ok(())
 }

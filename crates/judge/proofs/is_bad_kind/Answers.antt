@@ -13,19 +13,15 @@ wide : (c : Start) → SFits w64 c.args.kind
 wide c = sfits_widen {w = w32} tt c.ranges.kind
 
 pub overflow_cast-kind : goal.overflow_cast-kind
-overflow_cast-kind c = let s = c in simp (to_z-of_z s.ranges.kind) (wide c.before.before.before.before)
+overflow_cast-kind c = simp (to_z-of_z c.ranges.kind) (wide c.before.before.before.before)
 
 pub returns : goal.returns
 unfolding bad_kind_word outside
 returns c =
-    let u = c in
-    let m = c in
-    let l = c in
-    let k = c in
-    let fit = k.ranges.kind in
+    let fit = c.ranges.kind in
     ap₂ ◌||◌ (simp (to_z-of_z fit, to_z-of_z (wide c.before.before.before.before.before)) at c.is_outside.ensures)
     (ap₂ ◌||◌
     (ap₂ (λ a b. a && not b)
-    (simp (to_z-of_z fit) at k.strict_lower.ensures) (simp (to_z-of_z fit) at l.has_lower.ensures))
+    (simp (to_z-of_z fit) at c.strict_lower.ensures) (simp (to_z-of_z fit) at c.has_lower.ensures))
     (ap₂ (λ a b. a && not b)
-    (simp (to_z-of_z fit) at m.strict_upper.ensures) (simp (to_z-of_z fit) at u.has_upper.ensures)))
+    (simp (to_z-of_z fit) at c.strict_upper.ensures) (simp (to_z-of_z fit) at c.has_upper.ensures)))

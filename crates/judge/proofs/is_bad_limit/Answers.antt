@@ -9,12 +9,10 @@ use Rattle.judge.proofs.is_bad_limit.Goals as goal
 pub returns-then-present : goal.returns-then-present
 unfolding bad_limit_word
 returns-then-present c =
-    let s = c in
-    ap not (simp (to_z-of_z s.ranges.word) at c.is_within.ensures)
-    ∙ sym (ap (λ b. bad_limit_word b s.args.word) c.if-present.true)
+    ap not (simp (to_z-of_z c.ranges.word) at c.is_within.ensures)
+    ∙ sym (ap (λ b. bad_limit_word b c.args.word) c.if-present.true)
 
 pub returns : goal.returns
 unfolding bad_limit_word
 returns c =
-    let s = c in
-    ap not (zero_bits s.args.word s.ranges.word) ∙ sym (ap (λ b. bad_limit_word b s.args.word) c.if-present.false)
+    ap not (zero_bits c.args.word c.ranges.word) ∙ sym (ap (λ b. bad_limit_word b c.args.word) c.if-present.false)

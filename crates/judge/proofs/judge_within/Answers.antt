@@ -161,14 +161,10 @@ by-words coefficient kind limit blank = first ((coefficient, 4) ∷ (kind, 5) �
 pub returns : goal.returns
 unfolding problem_tests
 returns c =
-    let blank = c in
-    let limit = c in
-    let kind = c in
-    let coefficient = c in
     let ws = words (origin c.before.before.before.before.before) in
     c.word_refusal.ensures
-    ∙ ap₂ (λ a b. by-words a b limit.some_bad_variable-2.result blank.some_blank_row.result)
-    coefficient.some_bad_coefficient.ensures kind.some_bad_variable.ensures
-    ∙ ap₂ (by-words (bad_coefficient ws) (bad_kind ws)) limit.some_bad_variable-2.ensures
-    blank.some_blank_row.ensures
+    ∙ ap₂ (λ a b. by-words a b c.some_bad_variable-2.result c.some_blank_row.result)
+    c.some_bad_coefficient.ensures c.some_bad_variable.ensures
+    ∙ ap₂ (by-words (bad_coefficient ws) (bad_kind ws)) c.some_bad_variable-2.ensures
+    c.some_blank_row.ensures
     ∙ sym (skip-3 c.before.before.before.before.before)

@@ -50,15 +50,13 @@ module _ (c : After-is_within) where
   told = ap not (simp (to_z-of_z read) at c.is_within.ensures)
 
 pub loop-i-preserved : goal.loop-i-preserved
-loop-i-preserved c =
-    let d = c in (
-      omega arith,
-      rw add-one (c.either-bad.ensures ∙ ap₂ (λ a b. a || b) d.loop-i.invariant.1 (told c.before)
-          ∙ sym (some_more (i c.before) (bad-at (ws c.before)))),
-    )
+loop-i-preserved c = (
+  omega arith,
+  rw add-one (c.either-bad.ensures ∙ ap₂ (λ a b. a || b) c.loop-i.invariant.1 (told c.before)
+      ∙ sym (some_more (i c.before) (bad-at (ws c.before)))),
+)
 
 pub returns : goal.returns
 unfolding bad_coefficient
-returns c = let s = c in
-    let e : c.loop-i.i ≡ s.args.rows * s.args.columns = omega arith in
-    c.loop-i.invariant.1 ∙ ap (λ k. some_below k (bad-at s.args.words.now)) (e ∙ size-product s.requires)
+returns c = let e : c.loop-i.i ≡ c.args.rows * c.args.columns = omega arith in
+    c.loop-i.invariant.1 ∙ ap (λ k. some_below k (bad-at c.args.words.now)) (e ∙ size-product c.requires)

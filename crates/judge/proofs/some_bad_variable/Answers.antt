@@ -80,12 +80,11 @@ module _ (c : After-is_bad_variable) where
       (kind-place start.requires v)
 
 pub loop-v-preserved : goal.loop-v-preserved
-loop-v-preserved c =
-    let d = c in (
-      omega arith,
-      rw add-one (c.either-bad.ensures ∙ ap₂ (λ a b. a || b) (turn c.before).loop-v.invariant.1 (told c.before)
-          ∙ sym (some_more (v c.before) (bad-at (start c.before).args.kinds (ws c.before)))),
-    )
+loop-v-preserved c = (
+  omega arith,
+  rw add-one (c.either-bad.ensures ∙ ap₂ (λ a b. a || b) (turn c.before).loop-v.invariant.1 (told c.before)
+      ∙ sym (some_more (v c.before) (bad-at (start c.before).args.kinds (ws c.before)))),
+)
 
 -- the test at each variable is the definition's at some
 some_is : (kinds : Bool) (ws : List ℤ) → some_below (vars_of ws) (bad-at kinds ws) ≡ bad_variable kinds ws
@@ -94,8 +93,7 @@ some_is true _ = refl
 some_is false _ = refl
 
 pub returns : goal.returns
-returns c = let s = c in
-    let e : c.loop-v.v ≡ s.args.columns + s.args.rows = omega arith in
-    c.loop-v.invariant.1 ∙ ap (λ k. some_below k (bad-at s.args.kinds s.args.words.now))
-    (e ∙ vars-are s.requires)
-    ∙ some_is s.args.kinds s.args.words.now
+returns c = let e : c.loop-v.v ≡ c.args.columns + c.args.rows = omega arith in
+    c.loop-v.invariant.1 ∙ ap (λ k. some_below k (bad-at c.args.kinds c.args.words.now))
+    (e ∙ vars-are c.requires)
+    ∙ some_is c.args.kinds c.args.words.now

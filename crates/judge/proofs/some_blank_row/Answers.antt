@@ -19,25 +19,21 @@ is_blank_row-requires c = record { framed = c.requires; row_lt_rows = omega arit
 pub returns-then-is_blank_row : goal.returns-then-is_blank_row
 unfolding some_blank
 returns-then-is_blank_row c =
-    let at = c in
-    let s = c in
-    let few : at.loop-i.i < s.args.rows = omega arith in
-    sym (ap (λ k. some_below k (blank_row s.args.words.now)) (sym s.requires.rows_are)
-    ∙ some_of s.args.rows at.loop-i.i (blank_row s.args.words.now) few
+    let few : c.loop-i.i < c.args.rows = omega arith in
+    sym (ap (λ k. some_below k (blank_row c.args.words.now)) (sym c.requires.rows_are)
+    ∙ some_of c.args.rows c.loop-i.i (blank_row c.args.words.now) few
     (sym c.is_blank_row.ensures ∙ c.if-is_blank_row.true))
 
 pub loop-i-preserved : goal.loop-i-preserved
 loop-i-preserved c =
-    let at = c in
-    let ws = at.args.words.now in (
+    let ws = c.args.words.now in (
       omega arith,
-      rw add-one (some_more at.loop-i.i (blank_row ws)
-          ∙ ap₂ (λ a b. a || b) at.loop-i.invariant.1 (sym c.is_blank_row.ensures ∙ c.if-is_blank_row.false)),
+      rw add-one (some_more c.loop-i.i (blank_row ws)
+          ∙ ap₂ (λ a b. a || b) c.loop-i.invariant.1 (sym c.is_blank_row.ensures ∙ c.if-is_blank_row.false)),
     )
 
 pub returns : goal.returns
 unfolding some_blank
 returns c =
-    let s = c in
-    let e : c.loop-i.i ≡ s.args.rows = omega arith in
-    sym (ap (λ k. some_below k (blank_row s.args.words.now)) (sym (e ∙ s.requires.rows_are)) ∙ c.loop-i.invariant.1)
+    let e : c.loop-i.i ≡ c.args.rows = omega arith in
+    sym (ap (λ k. some_below k (blank_row c.args.words.now)) (sym (e ∙ c.requires.rows_are)) ∙ c.loop-i.invariant.1)

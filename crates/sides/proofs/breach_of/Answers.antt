@@ -75,10 +75,10 @@ gap-requires c = let s = start c.before.before.before.before.before in
     (rw (least-is c) (least-modest s), s.requires.modest)
 
 pub returns-then-low : goal.returns-then-low
-returns-then-low c = let b = c in let o = tested c.before in let s = start o in
+returns-then-low c = let o = tested c.before in let s = start o in
     ap (λ z. record { violated = true; rises = true; shortfall = z })
     (c.gap.ensures ∙ ap (λ l. amount_of (gap pairs (pair_of l) (x s))) (least-is c.before))
-    ∙ breach-under (d s) (x s) (pair s) (sym (low-is o) ∙ b.if-low.true)
+    ∙ breach-under (d s) (x s) (pair s) (sym (low-is o) ∙ c.if-low.true)
 
 -- the second of two tests, where one of them passes
 second : (a b : Bool) → (a || b) ≡ true → a ≡ false → b ≡ true
@@ -100,8 +100,8 @@ gap-requires-2 c = let s = start c.before.before.before.before.before in
     (s.requires.modest, rw (most-is c) (most-modest s))
 
 pub returns : goal.returns
-returns c = let b = c in let o = passed c.before in let s = start o in let e = b.if-low.false in
+returns c = let o = passed c.before in let s = start o in let e = c.if-low.false in
     ap (λ z. record { violated = true; rises = false; shortfall = z })
     (c.gap-2.ensures ∙ ap (λ u. amount_of (gap pairs (x s) (pair_of u))) (most-is c.before))
     ∙ breach-over (d s) (x s) (pair s) (sym (low-is o) ∙ e)
-    (sym (high_is o) ∙ second (low o) (high o) b.if-not-low-high.false e)
+    (sym (high_is o) ∙ second (low o) (high o) c.if-not-low-high.false e)

@@ -33,23 +33,20 @@ module _ (s : Start) where
 pub overflow_sub-result : goal.overflow_sub-result
 overflow_sub-result c =
     let here = c.before.before.before.before.before in
-    let s = c in
     simp (to_z-of_z (fit-a here).plain, to_z-of_z (fit-b here).plain) (plain here)
 
 pub overflow_sub-result-2 : goal.overflow_sub-result-2
 overflow_sub-result-2 c =
     let here = c.before.before.before.before.before.before.before.before in
-    let s = c in
     simp (to_z-of_z (fit-a here).small, to_z-of_z (fit-b here).small) (small here)
 
 pub returns : goal.returns
-returns c = let s = c in
-    simp (
-      to_z-of_z (fit-a c.before.before.before.before.before.before.before.before).plain,
-      to_z-of_z (fit-a c.before.before.before.before.before.before.before.before).small,
-      to_z-of_z (fit-b c.before.before.before.before.before.before.before.before).plain,
-      to_z-of_z (fit-b c.before.before.before.before.before.before.before.before).small,
-      to_z-of_z (plain c.before.before.before.before.before.before.before.before),
-      to_z-of_z (small c.before.before.before.before.before.before.before.before),
-    )
-    (ap amount_of (sym (gap_parts (pair_of s.args.a) (pair_of s.args.b))))
+returns c = simp (
+  to_z-of_z (fit-a c.before.before.before.before.before.before.before.before).plain,
+  to_z-of_z (fit-a c.before.before.before.before.before.before.before.before).small,
+  to_z-of_z (fit-b c.before.before.before.before.before.before.before.before).plain,
+  to_z-of_z (fit-b c.before.before.before.before.before.before.before.before).small,
+  to_z-of_z (plain c.before.before.before.before.before.before.before.before),
+  to_z-of_z (small c.before.before.before.before.before.before.before.before),
+)
+    (ap amount_of (sym (gap_parts (pair_of c.args.a) (pair_of c.args.b))))

@@ -7,7 +7,7 @@ use Rattle.sides.proofs.Laws.Sides.{fall-joined}
 use Rattle.sides.proofs.may_fall.Goals as goal
 
 pub returns : goal.returns
-returns c = let l = c in let a = l.args in
+returns c = let a = c.args in
     ap (λ b. not a.limit.on || b)
-    (c.is_below.ensures ∙ ap (λ x. pairs.less (pair_in x) (pair_in a.value)) l.lower_value.ensures)
+    (c.is_below.ensures ∙ ap (λ x. pairs.less (pair_in x) (pair_in a.value)) c.lower_value.ensures)
     ∙ fall-joined a.limit (pair_in a.value)

@@ -7,7 +7,7 @@ use Rattle.sides.proofs.Laws.Sides.{rise-joined}
 use Rattle.sides.proofs.may_rise.Goals as goal
 
 pub returns : goal.returns
-returns c = let l = c in let a = l.args in
+returns c = let a = c.args in
     ap (λ b. not a.limit.on || b)
-    (c.is_below.ensures ∙ ap (λ x. pairs.less (pair_in a.value) (pair_in x)) l.upper_value.ensures)
+    (c.is_below.ensures ∙ ap (λ x. pairs.less (pair_in a.value) (pair_in x)) c.upper_value.ensures)
     ∙ rise-joined a.limit (pair_in a.value)

@@ -211,8 +211,8 @@ module _ (rows : ℕ) (body : ℕ → List ℤ) (k : ℕ) where
         side-more = ap (tallied_at (table most_variables f) told at) naming-is ∙ go (eqb w 2) refl
           where
             go : (b : Bool) → eqb w 2 ≡ b →
-                tallied_at (table most_variables f) told at (cond (eqb w 2) (vars_of (body k)) 0) ≡ table
-                most_variables g
+                tallied_at (table most_variables f) told at (cond (eqb w 2) (vars_of (body k)) 0)
+                ≡ table most_variables g
             go true q = ap (λ b. tallied_at (table most_variables f) told at (cond b (vars_of (body k)) 0)) q
                 ∙ tallied-table most_variables f told at (vars_of (body k)) few
                 ∙ table_same most_variables _ g (λ v l. sym (by-verdict v

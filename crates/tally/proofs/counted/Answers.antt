@@ -59,7 +59,7 @@ pub tallied-lower-requires : goal.tallied-lower-requires
 tallied-lower-requires c =
     let here = c.before.before.before in
     let above = c.before.before.before.before in
-    let n = c in let s = start above in let h = named-few here in (
+    let s = start above in let h = named-few here in (
       le_trans h s.requires.1.few-variables,
       omega (arith, h, s.requires.1.whole),
       s.requires.0.few-lower,
@@ -69,7 +69,7 @@ pub tallied-upper-requires : goal.tallied-upper-requires
 tallied-upper-requires c =
     let here = c.before.before.before.before in
     let above = c.before.before.before.before.before in
-    let n = c in let s = start above in let h = named-few here in (
+    let s = start above in let h = named-few here in (
       le_trans h s.requires.1.few-variables,
       omega (arith, h, s.requires.1.whole),
       s.requires.0.few-upper,

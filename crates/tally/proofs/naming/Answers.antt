@@ -20,9 +20,8 @@ unfolding naming_of
 none_named z N n = ap (λ b. cond b N 0) (sym (tells-false (tells-eq_z z (pos 2)) n))
 
 pub returns-then-verdict-eq2 : goal.returns-then-verdict-eq2
-returns-then-verdict-eq2 c = let s = c in
-    all_named s.args.verdict s.args.variables (test-eq w64 s.ranges.verdict (sfits_lit tt) c.if-verdict-eq2.true)
+returns-then-verdict-eq2 c =
+    all_named c.args.verdict c.args.variables (test-eq w64 c.ranges.verdict (sfits_lit tt) c.if-verdict-eq2.true)
 
 pub returns : goal.returns
-returns c = let s = c in
-    none_named s.args.verdict s.args.variables (λ e. c.if-verdict-eq2.false (ap (of_z w64) e))
+returns c = none_named c.args.verdict c.args.variables (λ e. c.if-verdict-eq2.false (ap (of_z w64) e))

@@ -5,7 +5,7 @@ use Rattle.tally.specs.Counting.{refused_at}
 use Rattle.tally.proofs.refused.Goals as goal
 
 pub overflow_add-count : goal.overflow_add-count
-overflow_add-count c = let s = c in omega (arith, s.requires.0.few-refused.few s.args.number)
+overflow_add-count c = omega (arith, c.requires.0.few-refused.few c.args.number)
 
 pub returns : goal.returns
 unfolding refused_at

@@ -68,9 +68,9 @@ told c = c.plus-count.ensures ∙ ap₂ (λ n b. n + cond (not b) 1 0) (as_it_wa
     (sfits_of c.multiplier-1.given) (sfits_lit tt))
 
 pub loop-v-preserved : goal.loop-v-preserved
-loop-v-preserved c = let m = c in (
+loop-v-preserved c = (
   omega arith,
-  ap₂ (λ l n. set l (v c.before) n) m.loop-v.invariant.1 (told c)
+  ap₂ (λ l n. set l (v c.before) n) c.loop-v.invariant.1 (told c)
       ∙ set-table (more c.before) 0 (counts c.before) (v c.before) (in-counts c.before),
 )
 

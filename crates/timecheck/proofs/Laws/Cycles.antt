@@ -1,5 +1,5 @@
 -- The test for a bad cycle over the words of an answer.
---   row_in         the number of a row
+--   row_in_lem         the number of a row
 --   by-outside, by_rows_lem, by_tests_lem      the rule of a cycle, test by test
 --   bad-tests      where all rows are listed and there is one: linked, closed, apart, and a sum below 0
 --   named_by       words that are numbers of rows name them
@@ -39,9 +39,9 @@ use Rattle.timecheck.specs.Walk.{Named, Summable, all_new, bad_around, bad_round
 use Rattle.timecheck.specs.Walk.{new_up_to, word_sum}
 
 -- a word from 0 to m - 1 is the number of one of m rows
-pub row_in : (z : ℤ) (m : ℕ) → pos 0 ≤ℤ z → z <ℤ pos m → nat_abs z < m
-row_in (pos n) m l h = ltb→lt n m h.lt
-row_in (negsuc n) m l h = absurd l.le
+pub row_in_lem : (z : ℤ) (m : ℕ) → pos 0 ≤ℤ z → z <ℤ pos m → nat_abs z < m
+row_in_lem (pos n) m l h = ltb→lt n m h.lt
+row_in_lem (negsuc n) m l h = absurd l.le
 
 -- by the order of pairs
 bad-round-is : (c s : ℤ) → pairs.less (c, neg_ℤ s) (pos 0, pos 0) ≡ bad_round c s

@@ -113,12 +113,12 @@ two c = tells-true (tells-eq_z (verdict_of (answer (s c.before.before))) (pos 2)
     (sym (to_z-of_z (fit c.before.before)) ∙ ap (to_z w64) c.if-verdict-eq2.true)
 
 pub shows_times-requires : goal.shows_times-requires
-shows_times-requires c = let v = c in let e = accepted c.before in
-    record { fine = (fine e, v.count_at-m.ensures, v.count_at-n.ensures); rows_in_bounds = (taken e).roomy }
+shows_times-requires c = let e = accepted c.before in
+    record { fine = (fine e, c.count_at-m.ensures, c.count_at-n.ensures); rows_in_bounds = (taken e).roomy }
 
 times-answer : (c : After-shows_times) → let b = s c.before.before in
     checked_times (words b) (answer b) ≡ cond c.shows_times.result 8 9
-times-answer c = let v = c in
+times-answer c =
     by-verdict c.before.before true _ (one c.before) refl ∙ ap (λ (b : Bool). cond b 8 9) (sym c.shows_times.ensures)
 
 pub returns-then-shows_times : goal.returns-then-shows_times
@@ -128,13 +128,12 @@ pub returns-then-verdict-eq1 : goal.returns-then-verdict-eq1
 returns-then-verdict-eq1 c = sym (times-answer c.before ∙ ap (λ (b : Bool). cond b 8 9) c.if-shows_times.false)
 
 pub shows_cycle-requires : goal.shows_cycle-requires
-shows_cycle-requires c = let v = c in let e = accepted c.before.before in
-    record { fine = (fine e, v.count_at-m.ensures, v.count_at-n.ensures); rows_in_bounds = (taken e).roomy }
+shows_cycle-requires c = let e = accepted c.before.before in
+    record { fine = (fine e, c.count_at-m.ensures, c.count_at-n.ensures); rows_in_bounds = (taken e).roomy }
 
 cycle-answer : (c : After-shows_cycle) → let b = s c.before.before.before in
     checked_times (words b) (answer b) ≡ cond c.shows_cycle.result 8 9
-cycle-answer c = let v = c in
-    by-verdict c.before.before.before false true (not-one c.before.before) (two c.before)
+cycle-answer c = by-verdict c.before.before.before false true (not-one c.before.before) (two c.before)
     ∙ ap (λ (b : Bool). cond b 8 9) (sym c.shows_cycle.ensures)
 
 pub returns-then-shows_cycle : goal.returns-then-shows_cycle
@@ -146,6 +145,5 @@ returns-else-shows_cycle c = sym (cycle-answer c.before ∙ ap (λ (b : Bool). c
 pub returns-else-verdict-eq2 : goal.returns-else-verdict-eq2
 returns-else-verdict-eq2 c =
     let here = c.before.before in
-    let v = c in
     sym (by-verdict here false false (not-one c.before)
     (tells-false (tells-eq_z (verdict_of (answer (s here))) (pos 2)) (λ e. c.if-verdict-eq2.false (ap (of_z w64) e))))

@@ -80,13 +80,11 @@ write-requires c = let s = still c.before.before in (n-low s, n-low s, roomy s)
 
 pub returns-then-s : goal.returns-then-s
 returns-then-s c =
-    let t = c in
-    let b = c in
     let s = still c.before.before.before.before in
     timed-met (ws s) (before s) (accepted s) (ending s).best _ (n s) (n-is s) (settled c.before.before.before.before)
     (c.write.ensures
     ∙ ap₂ (λ p q. output (pos 1) (n s) (record { plain = p; small = q }) (n s) (before s))
-    t.times_of.ensures.0 t.times_of.ensures.1)
+    c.times_of.ensures.0 c.times_of.ensures.1)
 
 -- ---- the way back closed a cycle
 
@@ -115,15 +113,13 @@ pub write-requires-2 : goal.write-requires-2
 write-requires-2 c =
     let here = c.before.before in
     let above = c.before.before.before.before.before in
-    let k = c in (n-low above, omega (arith, (closed here).in_path), roomy above)
+    (n-low above, omega (arith, (closed here).in_path), roomy above)
 
 pub returns : goal.returns
 returns c =
     let here = c.before.before.before.before in
-    let g = c in
-    let k = c in
     let s = from here in
     timed-unmet (ws s) (before s) (accepted s) (way here) (path-long here) (closed here) _ (n s) (n-is s)
     (c.write-2.ensures
     ∙ ap₂ (λ p q. output (pos 2) ((way here).to - (way here).from) (record { plain = p; small = q }) (n s) (before s))
-    g.gathered.ensures.0 g.gathered.ensures.1)
+    c.gathered.ensures.0 c.gathered.ensures.1)

@@ -21,32 +21,29 @@ loop-i-init c = (omega arith, refl)
 
 pub returns-then-due-own : goal.returns-then-due-own
 returns-then-due-own c =
-    let s = c in
-    let a = s.args in
+    let a = c.args in
     let w = part a.text.now a.from a.to in
     let long = part_length a.text.now a.from a.to (omega arith) in
     sym
-    (s.loop-i.invariant.1
-    ∙ same_out a.word.now w s.loop-i.i (omega arith) (omega (arith, long))
-    (λ e. c.if-due-own.true (e ∙ part_at_lem a.text.now a.from a.to s.loop-i.i (omega arith))))
+    (c.loop-i.invariant.1
+    ∙ same_out a.word.now w c.loop-i.i (omega arith) (omega (arith, long))
+    (λ e. c.if-due-own.true (e ∙ part_at_lem a.text.now a.from a.to c.loop-i.i (omega arith))))
 
 pub loop-i-preserved : goal.loop-i-preserved
 loop-i-preserved c =
-    let s = c in
-    let a = s.args in
+    let a = c.args in
     let w = part a.text.now a.from a.to in
     let long = part_length a.text.now a.from a.to (omega arith) in (
       omega arith,
-      s.loop-i.invariant.1
-          ∙ same_in a.word.now w s.loop-i.i (omega arith) (omega (arith, long))
-          (c.if-due-own.false ∙ sym (part_at_lem a.text.now a.from a.to s.loop-i.i (omega arith)))
-          ∙ ap (λ k. same_bytes (drop k a.word.now) (drop k w)) (sym (add-one s.loop-i.i)),
+      c.loop-i.invariant.1
+          ∙ same_in a.word.now w c.loop-i.i (omega arith) (omega (arith, long))
+          (c.if-due-own.false ∙ sym (part_at_lem a.text.now a.from a.to c.loop-i.i (omega arith)))
+          ∙ ap (λ k. same_bytes (drop k a.word.now) (drop k w)) (sym (add-one c.loop-i.i)),
     )
 
 pub returns : goal.returns
 returns c =
-    let s = c in
-    let a = s.args in
+    let a = c.args in
     let w = part a.text.now a.from a.to in
     let long = part_length a.text.now a.from a.to (omega arith) in
-    sym (s.loop-i.invariant.1 ∙ same_end a.word.now w s.loop-i.i (omega arith) (omega (arith, long)))
+    sym (c.loop-i.invariant.1 ∙ same_end a.word.now w c.loop-i.i (omega arith) (omega (arith, long)))

@@ -13,54 +13,49 @@ loop-end-init c = (omega arith, omega arith, refl)
 
 pub returns-then-end-from : goal.returns-then-end-from
 returns-then-end-from c =
-    let s = c in
-    let a = s.args in
-    let back : s.loop-end.end ≡ s.loop-end.end - 1 + 1 = omega arith in
+    let a = c.args in
+    let back : c.loop-end.end ≡ c.loop-end.end - 1 + 1 = omega arith in
     sym
-    (s.loop-end.invariant.2 ∙ ap (λ k. Decimal a.text.now a.from k s.loop-end.rest) back
-    ∙ decimal-far a.text.now a.from (s.loop-end.end - 1) s.loop-end.rest (omega arith) (omega arith)
+    (c.loop-end.invariant.2 ∙ ap (λ k. Decimal a.text.now a.from k c.loop-end.rest) back
+    ∙ decimal-far a.text.now a.from (c.loop-end.end - 1) c.loop-end.rest (omega arith) (omega arith)
     (omega arith) c.if-end-from.true)
 
 pub returns-then-rest-lt10 : goal.returns-then-rest-lt10
 returns-then-rest-lt10 c =
-    let s = c in
-    let a = s.args in
-    let back : s.loop-end.end ≡ s.loop-end.end - 1 + 1 = omega arith in
+    let a = c.args in
+    let back : c.loop-end.end ≡ c.loop-end.end - 1 + 1 = omega arith in
     sym
-    (s.loop-end.invariant.2 ∙ ap (λ k. Decimal a.text.now a.from k s.loop-end.rest) back
-    ∙ decimal-here a.text.now a.from (s.loop-end.end - 1) s.loop-end.rest (omega arith) (omega arith)
+    (c.loop-end.invariant.2 ∙ ap (λ k. Decimal a.text.now a.from k c.loop-end.rest) back
+    ∙ decimal-here a.text.now a.from (c.loop-end.end - 1) c.loop-end.rest (omega arith) (omega arith)
     (omega arith) c.if-end-from.false
-    ∙ ap (eqb (48 + s.loop-end.rest)) (sym c.wide-byte.ensures))
+    ∙ ap (eqb (48 + c.loop-end.rest)) (sym c.wide-byte.ensures))
 
 pub returns-then-rest-byte : goal.returns-then-rest-byte
 returns-then-rest-byte c =
-    let s = c in
-    let a = s.args in
-    let back : s.loop-end.end ≡ s.loop-end.end - 1 + 1 = omega arith in
+    let a = c.args in
+    let back : c.loop-end.end ≡ c.loop-end.end - 1 + 1 = omega arith in
     sym
-    (s.loop-end.invariant.2 ∙ ap (λ k. Decimal a.text.now a.from k s.loop-end.rest) back
-    ∙ decimal-other a.text.now a.from (s.loop-end.end - 1) s.loop-end.rest (omega arith) (omega arith)
+    (c.loop-end.invariant.2 ∙ ap (λ k. Decimal a.text.now a.from k c.loop-end.rest) back
+    ∙ decimal-other a.text.now a.from (c.loop-end.end - 1) c.loop-end.rest (omega arith) (omega arith)
     (omega arith)
     (λ e. c.if-rest-byte.true (e ∙ sym c.wide-byte.ensures)))
 
 pub loop-end-preserved : goal.loop-end-preserved
 loop-end-preserved c =
-    let s = c in
-    let a = s.args in
-    let back : s.loop-end.end ≡ s.loop-end.end - 1 + 1 = omega arith in (
+    let a = c.args in
+    let back : c.loop-end.end ≡ c.loop-end.end - 1 + 1 = omega arith in (
       omega arith,
       omega arith,
-      s.loop-end.invariant.2 ∙ ap (λ k. Decimal a.text.now a.from k s.loop-end.rest) back
-          ∙ decimal-more a.text.now a.from (s.loop-end.end - 1) s.loop-end.rest (omega arith) (omega arith)
+      c.loop-end.invariant.2 ∙ ap (λ k. Decimal a.text.now a.from k c.loop-end.rest) back
+          ∙ decimal-more a.text.now a.from (c.loop-end.end - 1) c.loop-end.rest (omega arith) (omega arith)
           (omega arith)
           (c.if-rest-byte.false ∙ c.wide-byte.ensures),
     )
 
 pub returns : goal.returns
 returns c =
-    let s = c in
-    let a = s.args in
-    let gone : s.loop-end.end ≡ a.from = omega arith in
+    let a = c.args in
+    let gone : c.loop-end.end ≡ a.from = omega arith in
     sym
-    (s.loop-end.invariant.2 ∙ ap (λ k. Decimal a.text.now a.from k s.loop-end.rest) gone
-    ∙ decimal-none a.text.now a.from s.loop-end.rest)
+    (c.loop-end.invariant.2 ∙ ap (λ k. Decimal a.text.now a.from k c.loop-end.rest) gone
+    ∙ decimal-none a.text.now a.from c.loop-end.rest)

@@ -15,26 +15,23 @@ loop-next-init c = (omega arith, refl)
 
 pub returns-then-not-is_between : goal.returns-then-not-is_between
 returns-then-not-is_between c =
-    let s = c in
     sym
-    (s.loop-next.invariant.1
-    ∙ gap-out s.args.text.now s.loop-next.next s.loop-next.noted (omega arith)
+    (c.loop-next.invariant.1
+    ∙ gap-out c.args.text.now c.loop-next.next c.loop-next.noted (omega arith)
     (sym c.is_between.ensures ∙ c.if-not-is_between.true))
 
 pub loop-next-preserved : goal.loop-next-preserved
 loop-next-preserved c =
-    let s = c in
-    let t = s.args.text.now in (
+    let t = c.args.text.now in (
       omega arith,
-      s.loop-next.invariant.1
-          ∙ gap-in t s.loop-next.next s.loop-next.noted (omega arith)
+      c.loop-next.invariant.1
+          ∙ gap-in t c.loop-next.next c.loop-next.noted (omega arith)
           (sym c.is_between.ensures ∙ c.if-not-is_between.false)
-          ∙ ap₂ (λ k b. k + gap_length b (drop k t)) (sym (add-one s.loop-next.next)) (sym c.is_noted-noted.ensures),
+          ∙ ap₂ (λ k b. k + gap_length b (drop k t)) (sym (add-one c.loop-next.next)) (sym c.is_noted-noted.ensures),
     )
 
 pub returns : goal.returns
 returns c =
-    let s = c in
     sym
-    (s.loop-next.invariant.1
-    ∙ gap-end s.args.text.now s.loop-next.next s.loop-next.noted (omega arith))
+    (c.loop-next.invariant.1
+    ∙ gap-end c.args.text.now c.loop-next.next c.loop-next.noted (omega arith))

@@ -11,40 +11,35 @@ use Rattle.tokens.proofs.stop.Goals as goal
 
 pub returns-then-is_parenthesis : goal.returns-then-is_parenthesis
 returns-then-is_parenthesis c =
-    let s = c in
     sym
-    (stop-single s.args.text.now s.args.at (omega arith)
+    (stop-single c.args.text.now c.args.at (omega arith)
     (sym c.is_parenthesis.ensures ∙ c.if-is_parenthesis.true))
 
 pub loop-next-init : goal.loop-next-init
-loop-next-init c =
-    let s = c in (
-      omega arith,
-      stop-run s.args.text.now s.args.at (omega arith)
-          (sym c.is_parenthesis.ensures ∙ c.if-is_parenthesis.false),
-    )
+loop-next-init c = (
+  omega arith,
+  stop-run c.args.text.now c.args.at (omega arith)
+      (sym c.is_parenthesis.ensures ∙ c.if-is_parenthesis.false),
+)
 
 pub returns-then-not-is_plain : goal.returns-then-not-is_plain
 returns-then-not-is_plain c =
-    let s = c in
     sym
-    (s.loop-next.invariant.1
-    ∙ run_out s.args.text.now s.loop-next.next (omega arith)
+    (c.loop-next.invariant.1
+    ∙ run_out c.args.text.now c.loop-next.next (omega arith)
     (sym c.is_plain.ensures ∙ c.if-not-is_plain.true))
 
 pub loop-next-preserved : goal.loop-next-preserved
 loop-next-preserved c =
-    let s = c in
-    let t = s.args.text.now in (
+    let t = c.args.text.now in (
       omega arith,
-      s.loop-next.invariant.1
-          ∙ run_in t s.loop-next.next (omega arith) (sym c.is_plain.ensures ∙ c.if-not-is_plain.false)
-          ∙ ap (λ k. k + run_length (drop k t)) (sym (add-one s.loop-next.next)),
+      c.loop-next.invariant.1
+          ∙ run_in t c.loop-next.next (omega arith) (sym c.is_plain.ensures ∙ c.if-not-is_plain.false)
+          ∙ ap (λ k. k + run_length (drop k t)) (sym (add-one c.loop-next.next)),
     )
 
 pub returns : goal.returns
 returns c =
-    let s = c in
     sym
-    (s.loop-next.invariant.1
-    ∙ run-over s.args.text.now s.loop-next.next (omega arith))
+    (c.loop-next.invariant.1
+    ∙ run-over c.args.text.now c.loop-next.next (omega arith))

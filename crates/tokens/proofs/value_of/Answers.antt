@@ -20,34 +20,30 @@ loop-next-init c = (
 
 pub overflow_mul-value : goal.overflow_mul-value
 overflow_mul-value c =
-    let s = c in
-    omega (arith, s.loop-next.invariant.3, most-few (s.loop-next.next - s.args.from) (omega arith))
+    omega (arith, c.loop-next.invariant.3, most-few (c.loop-next.next - c.args.from) (omega arith))
 
 pub overflow_add-value : goal.overflow_add-value
 overflow_add-value c =
-    let s = c in
     omega (
       arith,
-      s.loop-next.invariant.3,
+      c.loop-next.invariant.3,
       c.digit_of.ensures.1,
-      most-few (s.loop-next.next - s.args.from) (omega arith),
+      most-few (c.loop-next.next - c.args.from) (omega arith),
     )
 
 pub loop-next-preserved : goal.loop-next-preserved
 loop-next-preserved c =
-    let s = c in
-    let a = s.args in (
+    let a = c.args in (
       omega arith,
       omega arith,
-      ap (λ d. 10 * s.loop-next.value + d) c.digit_of.ensures.0
-          ∙ value-more a.text.now a.from s.loop-next.next s.loop-next.value (omega arith) (omega arith)
-          s.loop-next.invariant.2,
-      most-more a.text.now a.from s.loop-next.next s.loop-next.value (omega arith) (omega arith) s.loop-next.invariant.3
+      ap (λ d. 10 * c.loop-next.value + d) c.digit_of.ensures.0
+          ∙ value-more a.text.now a.from c.loop-next.next c.loop-next.value (omega arith) (omega arith)
+          c.loop-next.invariant.2,
+      most-more a.text.now a.from c.loop-next.next c.loop-next.value (omega arith) (omega arith) c.loop-next.invariant.3
           c.digit_of.result c.digit_of.ensures.1,
     )
 
 pub returns : goal.returns
 returns c =
-    let s = c in
-    let a = s.args in
-    s.loop-next.invariant.2 ∙ ap (λ k. reading 0 (part a.text.now a.from k)) (omega arith)
+    let a = c.args in
+    c.loop-next.invariant.2 ∙ ap (λ k. reading 0 (part a.text.now a.from k)) (omega arith)

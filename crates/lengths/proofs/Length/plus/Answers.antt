@@ -26,9 +26,9 @@ module _ (c : Start) where
 pub overflow_add-sum : goal.overflow_add-sum
 overflow_add-sum c =
     let here = c.before.before.before.before in
-    let s = c in simp (to_z-of_z (own here), to_z-of_z (other here)) (fit here)
+    simp (to_z-of_z (own here), to_z-of_z (other here)) (fit here)
 
 pub returns : goal.returns
 returns c =
     let here = c.before.before.before.before in
-    let s = c in simp (to_z-of_z (own here), to_z-of_z (other here), to_z-of_z (fit here))
+    simp (to_z-of_z (own here), to_z-of_z (other here), to_z-of_z (fit here))

@@ -18,15 +18,13 @@ module _ (c : Start) where
   fit = fits-by (within-neg c.requires.modest) tt
 
 pub overflow_sub-result : goal.overflow_sub-result
-overflow_sub-result c = let s = c in simp (to_z-of_z (own c.before.before), +ℤ_idl) (fit c.before.before)
+overflow_sub-result c = simp (to_z-of_z (own c.before.before), +ℤ_idl) (fit c.before.before)
 
 pub overflow_cast-result : goal.overflow_cast-result
 overflow_cast-result c =
-    let s = c in
     simp (to_z-of_z (own c.before.before), +ℤ_idl, to_z-of_z (fit c.before.before))
-    (not_neg 0 _ (turned_up _ s.requires.low), Fits-nat_abs {w = w64} tt (fit c.before.before))
+    (not_neg 0 _ (turned_up _ c.requires.low), Fits-nat_abs {w = w64} tt (fit c.before.before))
 
 pub returns : goal.returns
 returns c =
-    let s = c in
-    simp (to_z-of_z (own c.before.before), +ℤ_idl, to_z-of_z (fit c.before.before)) (abs_neg s.args.self.0)
+    simp (to_z-of_z (own c.before.before), +ℤ_idl, to_z-of_z (fit c.before.before)) (abs_neg c.args.self.0)

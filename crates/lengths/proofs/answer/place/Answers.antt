@@ -22,23 +22,20 @@ long c = search rules
 
 out-long : (c : At-loop-i) → length c.loop-i.out ≡ length c.args.out.now
 out-long c =
-    let s = c in
     ap length c.loop-i.invariant.1
-    ∙ length-paste s.args.out.now s.args.from s.args.half c.loop-i.i (omega arith) (omega (arith, long c.before))
+    ∙ length-paste c.args.out.now c.args.from c.args.half c.loop-i.i (omega arith) (omega (arith, long c.before))
 
 pub bounds-out-at : goal.bounds-out-at
 bounds-out-at c = omega (arith, out-long c.before.before)
 
 pub loop-i-preserved : goal.loop-i-preserved
 loop-i-preserved c =
-    let h = c in
-    let s = c in
     let q : SFits w64 (get_or c.args.half c.loop-i.i (pos 0)) = search rules in (
       omega arith,
-      ap (set h.loop-i.out (s.args.from + h.loop-i.i)) (to_z-of_z q)
-          ∙ ap (λ l. set l (s.args.from + h.loop-i.i) (get_or s.args.half h.loop-i.i (pos 0))) h.loop-i.invariant.1
+      ap (set c.loop-i.out (c.args.from + c.loop-i.i)) (to_z-of_z q)
+          ∙ ap (λ l. set l (c.args.from + c.loop-i.i) (get_or c.args.half c.loop-i.i (pos 0))) c.loop-i.invariant.1
           ∙ rw add-one
-          (paste-suc s.args.out.now s.args.from s.args.half h.loop-i.i (pos 0)
+          (paste-suc c.args.out.now c.args.from c.args.half c.loop-i.i (pos 0)
           (omega arith) (omega (arith, long c.before.before.before))),
     )
 
@@ -47,6 +44,5 @@ shape_of-out c = out-long c.before
 
 pub returns : goal.returns
 returns c =
-    let h = c in
-    let e : h.loop-i.i ≡ h.args.n = omega arith in
-    h.loop-i.invariant.1 ∙ ap (paste h.args.out.now h.args.from h.args.half) e
+    let e : c.loop-i.i ≡ c.args.n = omega arith in
+    c.loop-i.invariant.1 ∙ ap (paste c.args.out.now c.args.from c.args.half) e

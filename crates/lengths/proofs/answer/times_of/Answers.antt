@@ -59,23 +59,20 @@ module _ (part : Length → ℤ) (best : List Length) (all : length best ≡ mos
 pub loop-v-preserved : goal.loop-v-preserved
 loop-v-preserved c =
     let here = c.before.before.before.before.before in
-    let p = c in
-    let h = c in
-    let q : SFits w64 p.plain_time.result = search rules in
+    let q : SFits w64 c.plain_time.result = search rules in
     let r : SFits w64 c.small_time.result = search rules in (
       omega arith,
-      half-more plain_part h.args.best (long here) h.loop-v.plain h.loop-v.v _ _ (omega arith)
-          h.loop-v.invariant.1 (to_z-of_z q) p.plain_time.ensures,
-      half-more small_part h.args.best (long here) h.loop-v.small h.loop-v.v _ _ (omega arith)
-          h.loop-v.invariant.2 (to_z-of_z r) c.small_time.ensures,
+      half-more plain_part c.args.best (long here) c.loop-v.plain c.loop-v.v _ _ (omega arith)
+          c.loop-v.invariant.1 (to_z-of_z q) c.plain_time.ensures,
+      half-more small_part c.args.best (long here) c.loop-v.small c.loop-v.v _ _ (omega arith)
+          c.loop-v.invariant.2 (to_z-of_z r) c.small_time.ensures,
     )
 
 pub returns : goal.returns
 returns c =
-    let s = c in
     let e : c.loop-v.v ≡ most_vertices = omega arith in (
-      half-all plain_part s.args.best (long c.before.before) c.loop-v.plain c.loop-v.v e
+      half-all plain_part c.args.best (long c.before.before) c.loop-v.plain c.loop-v.v e
           c.loop-v.invariant.1,
-      half-all small_part s.args.best (long c.before.before) c.loop-v.small c.loop-v.v e
+      half-all small_part c.args.best (long c.before.before) c.loop-v.small c.loop-v.v e
           c.loop-v.invariant.2,
     )

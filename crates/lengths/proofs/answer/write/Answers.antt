@@ -56,11 +56,10 @@ pub bounds-out-1 : goal.bounds-out-1
 bounds-out-1 c = simp length-set (omega arith)
 
 pub place-requires : goal.place-requires
-place-requires c = let s = c in (omega arith, omega (arith, begun-long c.before.before.before))
+place-requires c = (omega arith, omega (arith, begun-long c.before.before.before))
 
 pub place-requires-2 : goal.place-requires-2
 place-requires-2 c =
-    let s = c in
     (omega arith, omega (arith, ap length c.place.ensures, first-long c.before.before.before.before.before.before))
 
 module _ (c : After-out-2-1) where

@@ -160,6 +160,5 @@ loop-v-preserved c =
 
 pub returns : goal.returns
 returns c =
-    let s = c in
-    all-passed (problem s.args.words.now) _ _ _ _ c.loop-v.invariant.1
-    (omega (arith, vars-are s.requires.framed, problem-vars s.args.words.now))
+    all-passed (problem c.args.words.now) _ _ _ _ c.loop-v.invariant.1
+    (omega (arith, vars-are c.requires.framed, problem-vars c.args.words.now))

@@ -101,13 +101,10 @@ joined P rows_are columns-are entries-are basic-are nonbasic-are starts-are seat
 pub returns : goal.returns
 returns c =
     let here = c.before.before.before.before.before.before.before.before in
-    let v = c in
-    let l = c in
-    let d = c in
     let P = problem (words (start here)) in
     joined P (rows_are here) (columns-are here) c.start_entries.ensures
     (c.start_basic.ensures ∙ ap start_basic (columns-are here))
     c.start_nonbasic.ensures
-    (v.start_values-starts.ensures ∙ ap₂ starts_for l.limits_of-limits.ensures (columns-are here) ∙ starts-same P)
+    (c.start_values-starts.ensures ∙ ap₂ starts_for c.limits_of-limits.ensures (columns-are here) ∙ starts-same P)
     (c.start_seats.ensures ∙ ap₂ (λ n m. start_seats n (n + m)) (columns-are here) (rows_are here))
-    l.limits_of-limits.ensures
+    c.limits_of-limits.ensures

@@ -31,8 +31,7 @@ cell s k = (problem s.args.words.now).coefficient (row_at s.args.rows s.args.col
 pub loop-line-init : goal.loop-line-init
 loop-line-init c = let s : Start = c.before in (omega arith, lines_start s.args.rows s.args.columns (cell s))
 
-in_lines : (c : In-loop) → let s = c in
-    c.loop-line.line < lines s.args.rows s.args.columns
+in_lines : (c : In-loop) → c.loop-line.line < lines c.args.rows c.args.columns
 in_lines c = rw (← c.lines-lines.ensures) (omega arith)
 
 pub start_line-requires : goal.start_line-requires

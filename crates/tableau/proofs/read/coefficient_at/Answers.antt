@@ -45,11 +45,10 @@ offset_bounds-words-at c = omega (arith, in_words c.before.before, few c.before.
 pub bounds-words-at : goal.bounds-words-at
 bounds-words-at c = in_words c.before.before
 
-read : (c : After-result-1) → let s = c in SFits w32 (word (ws c.before.before.before)
+read : (c : After-result-1) → SFits w32 (word (ws c.before.before.before)
     (2 + place c.before.before.before))
 read c = sfits_of c.result-1.given
 
 pub returns : goal.returns
-returns c = let s = c in
-    simp (to_z-of_z (read c))
-    (coefficient-is s.requires.framed s.args.row.0 s.args.column.0)
+returns c = simp (to_z-of_z (read c))
+    (coefficient-is c.requires.framed c.args.row.0 c.args.column.0)

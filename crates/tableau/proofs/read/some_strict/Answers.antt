@@ -5,5 +5,5 @@ use mir.Facts.{to_z-of_z}
 use Rattle.tableau.proofs.read.some_strict.Goals as goal
 
 pub returns : goal.returns
-returns c = let l = c in let fit = l.ranges.kind in
-    ap₂ ◌||◌ (simp (to_z-of_z fit) at l.strict_lower.ensures) (simp (to_z-of_z fit) at c.strict_upper.ensures)
+returns c = let fit = c.ranges.kind in
+    ap₂ ◌||◌ (simp (to_z-of_z fit) at c.strict_lower.ensures) (simp (to_z-of_z fit) at c.strict_upper.ensures)

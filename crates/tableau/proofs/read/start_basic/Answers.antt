@@ -14,8 +14,7 @@ loop-i-init c = (omega arith, filled-start most_rows (variable 0) (row-variable 
 
 pub loop-i-preserved : goal.loop-i-preserved
 loop-i-preserved c =
-    let at = c in
-    (omega arith, filled_more most_rows (variable 0) _ at.loop-i.i (omega arith) at.loop-i.invariant.1 refl)
+    (omega arith, filled_more most_rows (variable 0) _ c.loop-i.i (omega arith) c.loop-i.invariant.1 refl)
 
 pub returns : goal.returns
 returns c =

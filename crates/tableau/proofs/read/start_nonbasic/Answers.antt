@@ -13,8 +13,7 @@ loop-j-init c = (omega arith, filled-start most_columns (variable 0) variable)
 
 pub loop-j-preserved : goal.loop-j-preserved
 loop-j-preserved c =
-    let at = c in
-    (omega arith, filled_more most_columns (variable 0) variable at.loop-j.j (omega arith) at.loop-j.invariant.1 refl)
+    (omega arith, filled_more most_columns (variable 0) variable c.loop-j.j (omega arith) c.loop-j.invariant.1 refl)
 
 pub returns : goal.returns
 returns c =

@@ -12,14 +12,12 @@ pub loop-v-init : goal.loop-v-init
 loop-v-init c = (omega arith, filled-start most_variables nowhere (seat_for c.args.columns))
 
 pub loop-v-preserved : goal.loop-v-preserved
-loop-v-preserved c =
-    let l = c in (
-      omega arith,
-      filled_more most_variables nowhere _ l.loop-v.v (omega arith) l.loop-v.invariant.1 c.seat_for.ensures,
-    )
+loop-v-preserved c = (
+  omega arith,
+  filled_more most_variables nowhere _ c.loop-v.v (omega arith) c.loop-v.invariant.1 c.seat_for.ensures,
+)
 
 pub returns : goal.returns
 returns c =
-    let s = c in
-    let e : c.loop-v.v ≡ s.args.variables = omega arith in
-    c.loop-v.invariant.1 ∙ ap (start_seats s.args.columns) e
+    let e : c.loop-v.v ≡ c.args.variables = omega arith in
+    c.loop-v.invariant.1 ∙ ap (start_seats c.args.columns) e

@@ -63,7 +63,6 @@ module _ (c : After-start_value) where
 pub loop-j-preserved : goal.loop-j-preserved
 loop-j-preserved c =
     let here = c.before.before in
-    let d = c in
     simp (to_z-of_z (fit-plain here), to_z-of_z (fit_small here)) (
       omega arith,
       filled_more most_columns (pos 0) (plain_of (limits here)) (j here) (omega arith) (at here).loop-j.invariant.1
@@ -77,7 +76,6 @@ starts a b = record { values = a; smalls = b }
 
 pub returns : goal.returns
 returns c =
-    let s = c in
     let l = c.loop-j in
-    let e : l.j ≡ s.args.columns = omega arith in
-    ap₂ starts l.invariant.1 l.invariant.2 ∙ ap (starts_for s.args.limits) e
+    let e : l.j ≡ c.args.columns = omega arith in
+    ap₂ starts l.invariant.1 l.invariant.2 ∙ ap (starts_for c.args.limits) e

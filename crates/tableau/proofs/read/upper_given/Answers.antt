@@ -7,8 +7,6 @@ use Rattle.tableau.proofs.read.upper_given.Goals as goal
 
 pub returns : goal.returns
 returns c =
-    let l = c in
-    let s = c in
-    simp (to_z-of_z s.ranges.word)
-    (ap₂ (λ (a b : Bool). given a b s.args.word) (simp (to_z-of_z s.ranges.kind) at l.has_upper-given.ensures)
-    (simp (to_z-of_z s.ranges.kind) at c.strict_upper.ensures))
+    simp (to_z-of_z c.ranges.word)
+    (ap₂ (λ (a b : Bool). given a b c.args.word) (simp (to_z-of_z c.ranges.kind) at c.has_upper-given.ensures)
+    (simp (to_z-of_z c.ranges.kind) at c.strict_upper.ensures))

@@ -17,25 +17,23 @@ pub overflow_add-k : goal.overflow_add-k
 overflow_add-k c = omega (arith, c.requires.named.few, c.requires.last_bound, c.loop-k-test.true)
 
 pub is_linked-fine-requires : goal.is_linked-fine-requires
-is_linked-fine-requires c = let s = c in
-    record {
-      named = s.requires.named;
-      j_lt_count = (
-        omega (arith, s.requires.last_bound, c.loop-k-test.true),
-        omega
-            (arith, s.requires.last_bound, c.loop-k-test.true),
-      );
-    }
+is_linked-fine-requires c = record {
+  named = c.requires.named;
+  j_lt_count = (
+    omega (arith, c.requires.last_bound, c.loop-k-test.true),
+    omega
+        (arith, c.requires.last_bound, c.loop-k-test.true),
+  );
+}
 
 pub overflow_step-k : goal.overflow_step-k
-overflow_step-k c = let s = c in
-    omega (arith, s.requires.named.few, s.requires.last_bound, c.loop-k-test.true)
+overflow_step-k c = omega (arith, c.requires.named.few, c.requires.last_bound, c.loop-k-test.true)
 
 pub loop-k-preserved : goal.loop-k-preserved
-loop-k-preserved c = let s = c in let k = c.loop-k.k in (
+loop-k-preserved c = let k = c.loop-k.k in (
   omega arith,
-  tests-more k (λ j. linked_at s.args.rows.now s.args.answer.now j (suc j)) c.loop-k.invariant.1
-      (c.is_linked-fine.ensures ∙ ap (λ (j : ℕ). linked_at s.args.rows.now s.args.answer.now k j) (add-one k)),
+  tests-more k (λ j. linked_at c.args.rows.now c.args.answer.now j (suc j)) c.loop-k.invariant.1
+      (c.is_linked-fine.ensures ∙ ap (λ (j : ℕ). linked_at c.args.rows.now c.args.answer.now k j) (add-one k)),
 )
 
 all : (c : After-loop-k) → c.loop-k.k ≡ c.args.last

@@ -20,8 +20,8 @@ unfolding new_up_to
 loop-j-init c = (sym (all_start _), omega arith)
 
 pub tail_at-requires : goal.tail_at-requires
-tail_at-requires c = let s = c in
-    record { named = s.requires.named; k_lt_count = omega (arith, s.requires.k_lt_count, c.loop-j-test.true) }
+tail_at-requires c =
+    record { named = c.requires.named; k_lt_count = omega (arith, c.requires.k_lt_count, c.loop-j-test.true) }
 
 few : (s : Start) → s.args.k < most_vertices
 few s = omega (arith, s.requires.named.few, s.requires.k_lt_count)
@@ -31,9 +31,9 @@ overflow_step-j c = omega (arith, few c.before.before.before.before, c.loop-j-te
 
 pub loop-j-preserved : goal.loop-j-preserved
 unfolding new_up_to
-loop-j-preserved c = let l = c in (
-  tests-more l.loop-j.j _ l.loop-j.invariant.0
-      (ap₂ (λ (x y : ℕ). not (eqb x y)) c.tail_at.ensures l.tail_at-here.ensures),
+loop-j-preserved c = (
+  tests-more c.loop-j.j _ c.loop-j.invariant.0
+      (ap₂ (λ (x y : ℕ). not (eqb x y)) c.tail_at.ensures c.tail_at-here.ensures),
   omega arith,
 )
 

@@ -25,12 +25,11 @@ read : (c : After-result-1) → SFits w64 (word c.args.answer.now (2 + c.args.k)
 read c = sfits_of c.result-1.given
 
 pub overflow_cast-result : goal.overflow_cast-result
-overflow_cast-result c = let s = c in
-    simp (to_z-of_z (read c)) (
-      not_neg 0 _ (s.requires.named.least s.args.k s.requires.k_lt_count),
-      Fits-nat_abs
-          {w = w64} tt (read c),
-    )
+overflow_cast-result c = simp (to_z-of_z (read c)) (
+  not_neg 0 _ (c.requires.named.least c.args.k c.requires.k_lt_count),
+  Fits-nat_abs
+      {w = w64} tt (read c),
+)
 
 pub returns : goal.returns
 returns c = ap nat_abs (to_z-of_z (read c))

@@ -23,17 +23,16 @@ fit : (c : After-row-1) →
 fit c = sfits_of c.row-1.given
 
 pub loop-k-preserved : goal.loop-k-preserved
-loop-k-preserved c = let s = c in (
+loop-k-preserved c = (
   omega arith,
-  simp (to_z-of_z (fit c), to_z-of_z s.ranges.most)
-      (tests-more c.loop-k.k (is_between s.args.answer.now s.args.most)
-      (simp (to_z-of_z s.ranges.most) at c.loop-k.invariant.1) refl),
+  simp (to_z-of_z (fit c), to_z-of_z c.ranges.most)
+      (tests-more c.loop-k.k (is_between c.args.answer.now c.args.most)
+      (simp (to_z-of_z c.ranges.most) at c.loop-k.invariant.1) refl),
 )
 
 all : (c : After-loop-k) → c.loop-k.k ≡ c.args.count
 all c = omega arith
 
 pub returns : goal.returns
-returns c = let s = c in
-    simp (to_z-of_z s.ranges.most) at c.loop-k.invariant.1
-    ∙ ap (λ (k : ℕ). all_below k (is_between s.args.answer.now s.args.most)) (all c)
+returns c = simp (to_z-of_z c.ranges.most) at c.loop-k.invariant.1
+    ∙ ap (λ (k : ℕ). all_below k (is_between c.args.answer.now c.args.most)) (all c)

@@ -67,7 +67,7 @@ module _ (c : After-is_outside) where
       ∙ ap (λ (k : ℕ). outside 1 k (word (a start) 1)) start.requires.fine.2
 
 pub returns-then-is_outside : goal.returns-then-is_outside
-returns-then-is_outside c = let b = c in let s = start c.before in
+returns-then-is_outside c = let s = start c.before in
     sym (by-outside (ws s) (a s) (sym (outside-is c.before) ∙ c.if-is_outside.true))
 
 -- ---- as many rows as word 1 says
@@ -121,7 +121,6 @@ pub returns-then-not-rows_named : goal.returns-then-not-rows_named
 returns-then-not-rows_named c =
     let here = c.before.before in
     let above = c.before.before.before.before.before in
-    let b = c in
     sym (by_rows_lem (ws above) (a above) (inside here) (sym (rows_are c.before) ∙ c.if-not-rows_named.true))
 
 -- ---- they are rows
@@ -160,7 +159,7 @@ module _ (c : After-all_linked) where
   links-are = simp (to_z-of_z (read c.before.before.before)) at c.all_linked.ensures
 
 pub returns-then-not-all_linked : goal.returns-then-not-all_linked
-returns-then-not-all_linked c = let b = c in
+returns-then-not-all_linked c =
     sym (tests c.before.before ∙ rw (sym (links-are c.before) ∙ c.if-not-all_linked.true) refl)
 
 module _ (c : Else-not-all_linked) where
@@ -186,7 +185,6 @@ pub returns-then-not-is_linked : goal.returns-then-not-is_linked
 returns-then-not-is_linked c =
     let here = c.before.before in
     let above = c.before.before.before.before in
-    let b = c in
     sym (tests above ∙ rw (all-link here, sym (closes-is c.before) ∙ c.if-not-is_linked.true) refl)
 
 module _ (c : Else-not-is_linked) where
@@ -207,7 +205,6 @@ pub returns-then-not-all_new : goal.returns-then-not-all_new
 returns-then-not-all_new c =
     let here = c.before.before in
     let above = c.before.before.before.before in
-    let b = c in let e = c in
     sym (tests (known above)
     ∙ rw (all-link above, closed here, sym (news-are c.before) ∙ c.if-not-all_new.true) refl)
 
@@ -250,7 +247,7 @@ module _ (c : After-is_bad) where
       (simp (to_z-of_z (read (counted (base passed)))) at summed.word_sum-strict.ensures)
 
 pub returns-then-not-is_bad : goal.returns-then-not-is_bad
-returns-then-not-is_bad c = let b = c in let e = passed c.before in
+returns-then-not-is_bad c = let e = passed c.before in
     sym (tests (base e) ∙ rw (
       all-link (linked (round e)),
       closed (round e),
@@ -269,16 +266,14 @@ module _ (c : Else-not-is_bad) where
   is-bad = sym (bad-is c.before) ∙ c.if-not-is_bad.false
 
 pub overflow_mul-n : goal.overflow_mul-n
-overflow_mul-n c =
-    let here = c.before.before.before.before.before.before.before.before.before.before.before.before.before.before.before in
-    omega (arith, few here)
+overflow_mul-n c = omega (arith, few (last c))
 
 pub zeros_after-requires : goal.zeros_after-requires
 zeros_after-requires c = let s = last c in
     (omega (arith, few s), omega (arith, s.requires.rows_in_bounds, s.requires.fine.2))
 
 pub returns : goal.returns
-returns c = let l = c in let e = apart c.before in let s = last c.before in
+returns c = let e = apart c.before in let s = last c.before in
     simp (to_z-of_z (read (counted (base e)))) at c.zeros_after.ensures
     ∙ ap (λ (n : ℕ). all_below (2 * n) (is_past (a s))) s.requires.fine.2
     ∙ sym (tests (base e) ∙ rw (all-link (linked (round e)), closed (round e), all-news e, is-bad c.before) refl)

@@ -19,7 +19,7 @@ use Rattle.rules.specs.Problem.{m_of, word}
 use Rattle.rules.specs.Sizes.{largest_length, most_time_rows, most_vertices}
 use Rattle.rules.specs.Times.Check.{row_named}
 use Rattle.timecheck.specs.Walk.{word_sum}
-use Rattle.timecheck.proofs.Laws.Cycles.{row_in}
+use Rattle.timecheck.proofs.Laws.Cycles.{row_in_lem}
 use Rattle.timecheck.proofs.cycle.word_sum.Goals as goal
 use Rattle.timecheck.proofs.cycle.word_sum.Goals.{After-loop-j, After-row_at, After-sum-1, Start}
 
@@ -45,7 +45,7 @@ module _ (c : After-row_at) where
   j = c.loop-j.j
 
   named : (k : ℕ) → k < s.args.count → row_named a k < m_of ws
-  named k h = row_in _ _ (s.requires.named.least k h) (s.requires.named.most k h)
+  named k h = row_in_lem _ _ (s.requires.named.least k h) (s.requires.named.most k h)
 
   inside : c.row_at.result < m_of ws
   inside = subst (λ (i : ℕ). i < m_of ws) (sym c.row_at.ensures) (named j c.loop-j-test.true)

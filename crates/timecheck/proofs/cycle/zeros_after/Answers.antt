@@ -27,10 +27,10 @@ fit : (c : After-fine-1) →
 fit c = sfits_of c.fine-1.given
 
 pub loop-k-preserved : goal.loop-k-preserved
-loop-k-preserved c = let l = c in (
+loop-k-preserved c = (
   omega arith,
-  tests-more l.loop-k.k _ l.loop-k.invariant.1
-      (ap (λ (b : Bool). ltb l.loop-k.k l.args.count || b) (bits-eq w64 (fit c) zero-fits)),
+  tests-more c.loop-k.k _ c.loop-k.invariant.1
+      (ap (λ (b : Bool). ltb c.loop-k.k c.args.count || b) (bits-eq w64 (fit c) zero-fits)),
 )
 
 all : (c : After-loop-k) → c.loop-k.k ≡ c.args.room

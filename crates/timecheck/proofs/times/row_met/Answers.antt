@@ -109,13 +109,12 @@ pub bounds-answer-x : goal.bounds-answer-x
 bounds-answer-x c =
     let here = c.before.before in
     let above = c.before.before.before.before in
-    let h = c in omega (arith, x-in here, few above, long above)
+    omega (arith, x-in here, few above, long above)
 
 pub bounds-answer-y : goal.bounds-answer-y
 bounds-answer-y c =
     let here = c.before.before.before in
     let above = c.before.before.before.before.before in
-    let h = c in
     omega (arith, y-in here, few above, long above)
 
 -- the plain parts

@@ -17,11 +17,10 @@ pub loop-i-init : goal.loop-i-init
 loop-i-init c = (omega arith, sym (all_start _))
 
 pub row_met-fine-requires : goal.row_met-fine-requires
-row_met-fine-requires c = let s = c in
-    record {
-      fine = (s.requires.fine.0, omega (arith, s.requires.fine.1, c.loop-i-test.true), s.requires.fine.2);
-      rows_in_bounds = s.requires.rows_in_bounds;
-    }
+row_met-fine-requires c = record {
+  fine = (c.requires.fine.0, omega (arith, c.requires.fine.1, c.loop-i-test.true), c.requires.fine.2);
+  rows_in_bounds = c.requires.rows_in_bounds;
+}
 
 pub overflow_step-i : goal.overflow_step-i
 overflow_step-i c = omega (arith, few c.before.before.before, c.loop-i-test.true)

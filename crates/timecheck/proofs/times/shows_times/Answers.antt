@@ -45,18 +45,17 @@ module _ (c : After-t6-1) where
 
 pub returns-then-answer-n : goal.returns-then-answer-n
 unfolding times_shown
-returns-then-answer-n c = let b = c in
+returns-then-answer-n c =
     sym (rw (tells-false (tells-eq_z (word (a c.before) 1) (pos (n_of (ws c.before)))) (λ e. c.if-answer-n.true
     (ap (of_z w64) (e ∙ ap pos (sym (s c.before).requires.fine.2))))) refl)
 
 pub rows_met-requires : goal.rows_met-requires
-rows_met-requires c = let s = c in record { fine = s.requires.fine; rows_in_bounds = s.requires.rows_in_bounds }
+rows_met-requires c = record { fine = c.requires.fine; rows_in_bounds = c.requires.rows_in_bounds }
 
 pub returns : goal.returns
 unfolding times_shown
 returns c =
     let here = c.before.before in
-    let b = c in
     c.rows_met.ensures ∙ ap (λ (m : ℕ). all_below m (row_met (ws here) (a here))) (s here).requires.fine.1
     ∙ sym (rw (tells-true (tells-eq_z (word (a here) 1) (pos (n_of (ws here)))) (sym (to_z-of_z (fit here))
     ∙ ap (to_z w64) c.if-answer-n.false ∙ to_z-of_z (count_fits here) ∙ ap pos (s here).requires.fine.2)) refl)

@@ -89,7 +89,6 @@ overflow_add-m c = omega (arith, m-is c, m-few c.before)
 pub returns-then-words-m : goal.returns-then-words-m
 unfolding bad_word_count
 returns-then-words-m c =
-    let t = c in
     sym (sized c.before.before
     (first-hit 13 _ (ap not (ne_eqb _ _ (λ e. c.if-words-m.true (e ∙ ap (λ m. 2 + 4 * m) (sym (m-is c.before))))))))
 
@@ -129,7 +128,6 @@ number_is c = c.rows_number-number.ensures ∙ ap (rows_number (ws c.before.befo
 pub returns-then-number-ne-NO_ROOM : goal.returns-then-number-ne-NO_ROOM
 returns-then-number-ne-NO_ROOM c =
     let here = c.before.before in
-    let t = c in
     sym (counted here (rows-refuse _ _ _ (λ e. c.if-number-ne-NO_ROOM.true (number_is c.before ∙ e)) ∙ sym
     (number_is c.before)))
 

@@ -56,7 +56,6 @@ row_number-requires c = simp (to_z-of_z (start c).ranges.most) (most-fine c)
 pub returns : goal.returns
 unfolding row_number bad_end bad_strict bad_row_length
 returns c =
-    let t = c in
     let w = ws c.before in
     let j = i c.before in
     (simp (

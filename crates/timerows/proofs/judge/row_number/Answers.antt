@@ -45,9 +45,8 @@ overflow_cast-x c = simp (to_z-of_z c.ranges.x) (wide c.ranges.x)
 
 told-x : (c : After-is_outside) → c.is_outside.result ≡ bad-x c.before
 told-x c =
-    let s = c in
-    (simp (to_z-of_z s.ranges.x, to_z-of_z (wide s.ranges.x), to_z-of_z s.ranges.most) at c.is_outside.ensures)
-    ∙ outside-most s.args.most s.args.x s.requires
+    (simp (to_z-of_z c.ranges.x, to_z-of_z (wide c.ranges.x), to_z-of_z c.ranges.most) at c.is_outside.ensures)
+    ∙ outside-most c.args.most c.args.x c.requires
 
 pub returns-then-is_outside : goal.returns-then-is_outside
 unfolding test_number
@@ -56,7 +55,7 @@ returns-then-is_outside c =
     sym (first-hit 14 _ (ap (λ t. t || bad-y here) (sym (told-x c.before) ∙ c.if-is_outside.true)))
 
 pub overflow_cast-y : goal.overflow_cast-y
-overflow_cast-y c = let s = c in simp (to_z-of_z s.ranges.y) (wide s.ranges.y)
+overflow_cast-y c = simp (to_z-of_z c.ranges.y) (wide c.ranges.y)
 
 module _ (c : After-is_outside-2) where
   abbrev start : Start

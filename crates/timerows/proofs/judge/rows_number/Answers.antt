@@ -58,25 +58,21 @@ loop-i-init c = (omega arith, sym (rows_start _))
 pub number_at-requires : goal.number_at-requires
 number_at-requires c =
     let here = c.before.before in
-    let t = c in
-    let s = c in
     simp (to_z-of_z (read here), to_z-of_z (wide here), to_z-of_z (fit here))
-    (s.requires.0, omega (arith, s.requires.1, c.loop-i-test.true), one_less (n-word here) s.requires.0.n-least)
+    (c.requires.0, omega (arith, c.requires.1, c.loop-i-test.true), one_less (n-word here) c.requires.0.n-least)
 
 pub overflow_add-i : goal.overflow_add-i
 overflow_add-i c = omega (arith, c.requires.0.m-few)
 
 pub loop-i-preserved : goal.loop-i-preserved
-loop-i-preserved c =
-    let top = c in (
-      omega arith,
-      rw add-one
-          (c.lesser-least.ensures ∙ ap₂ min top.loop-i.invariant.1 c.number_at.ensures
-          ∙ sym (rows_more _ top.loop-i.i)),
-    )
+loop-i-preserved c = (
+  omega arith,
+  rw add-one
+      (c.lesser-least.ensures ∙ ap₂ min c.loop-i.invariant.1 c.number_at.ensures
+      ∙ sym (rows_more _ c.loop-i.i)),
+)
 
 pub returns : goal.returns
 returns c =
-    let top = c in
-    let e : top.loop-i.i ≡ top.args.m = omega arith in
-    top.loop-i.invariant.1 ∙ ap (rows_number top.args.words.now) e
+    let e : c.loop-i.i ≡ c.args.m = omega arith in
+    c.loop-i.invariant.1 ∙ ap (rows_number c.args.words.now) e

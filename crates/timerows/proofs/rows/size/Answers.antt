@@ -35,4 +35,4 @@ of-requires c =
     simp (span c, strict c) (s.requires.0.lengths (i c) s.requires.1, strict-within s.requires.0 (i c) s.requires.1)
 
 pub returns : goal.returns
-returns c = let s = c in simp (span c.before, strict c.before) at c.of.ensures
+returns c = simp (span c.before, strict c.before) at c.of.ensures

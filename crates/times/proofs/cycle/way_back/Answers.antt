@@ -58,8 +58,7 @@ module _ (c : Else-i-eq-NO_ROW) where
 
 pub returns-then-i-eq-NO_ROW : goal.returns-then-i-eq-NO_ROW
 returns-then-i-eq-NO_ROW c p k =
-    let e = c in
-    tracing-ended k _ _ _ _ (e.loop-last.invariant p k) e.if-mark-ne0.false c.if-i-eq-NO_ROW.true
+    tracing-ended k _ _ _ _ (c.loop-last.invariant p k) c.if-mark-ne0.false c.if-i-eq-NO_ROW.true
 
 pub overflow_sub-place : goal.overflow_sub-place
 overflow_sub-place c = left c
@@ -90,6 +89,5 @@ loop-last-smaller c = omega (arith, left c.before)
 
 pub loop-last-preserved : goal.loop-last-preserved
 loop-last-preserved c p k =
-    let e = c in
-    rw c.tail-here.ensures (tracing-more k _ _ _ _ ((top c.before).loop-last.invariant p k) e.if-mark-ne0.false
-    e.if-i-eq-NO_ROW.false)
+    rw c.tail-here.ensures (tracing-more k _ _ _ _ ((top c.before).loop-last.invariant p k) c.if-mark-ne0.false
+    c.if-i-eq-NO_ROW.false)

@@ -96,14 +96,11 @@ pub overflow_add-i : goal.overflow_add-i
 overflow_add-i c = let k = t c.before in omega (arith, listed k, time-rows-few (looking k).fine)
 
 pub loop-i-preserved : goal.loop-i-preserved
-loop-i-preserved c =
-    let here = c.before.before.before.before.before.before.before in
-    (omega arith, λ j h. go j h (ℕ_discrete j (i here)))
+loop-i-preserved c = (omega arith, λ j h. go j h (ℕ_discrete j (i (t c.before))))
   where
-    go : (j : ℕ) → j < i here + 1 → Dec (j ≡ i here) →
-        is_less (ws here) (best c.before) j ≡ false
-    go j h (yes e) =
-        ap (is_less (ws here) (best c.before)) e ∙ same_test c.before ∙ c.if-less.false
+    go : (j : ℕ) → j < i (t c.before) + 1 → Dec (j ≡ i (t c.before)) →
+        is_less (ws (t c.before)) (best c.before) j ≡ false
+    go j h (yes e) = ap (is_less (ws (t c.before)) (best c.before)) e ∙ same_test c.before ∙ c.if-less.false
     go j h (no n) = (t c.before).loop-i.invariant.1 j (omega arith)
 
 pub returns : goal.returns

@@ -12,14 +12,11 @@ use Rattle.lengths.proofs.Laws.Keys.{near_within, size-near}
 use Rattle.times.proofs.passes.offer.Goals as goal
 
 pub plus-requires : goal.plus-requires
-plus-requires c =
-    let s = c in (
-      s.requires.2,
-      subst (λ z. Within z ((unit * largest_length + 1) * looks_made most_vertices 0)) (sym c.size.ensures)
-          (within-le (near_within (size-near s.requires.0 s.args.i s.requires.1)) (omega arith)),
-    )
+plus-requires c = (
+  c.requires.2,
+  subst (λ z. Within z ((unit * largest_length + 1) * looks_made most_vertices 0)) (sym c.size.ensures)
+      (within-le (near_within (size-near c.requires.0 c.args.i c.requires.1)) (omega arith)),
+)
 
 pub returns : goal.returns
-returns c =
-    let s = c in
-    c.plus.ensures ∙ ap (λ z. length_of s.args.best +ℤ z) c.size.ensures
+returns c = c.plus.ensures ∙ ap (λ z. length_of c.args.best +ℤ z) c.size.ensures

@@ -134,11 +134,11 @@ pub loop-i-preserved : goal.loop-i-preserved
 loop-i-preserved c =
     let here = c.before.before.before in
     let above = c.before.before.before.before.before.before.before in
-    let a = c in let q = t here in (
+    let q = t here in (
       q.loop-i.invariant.0,
       omega (arith, listed q, (begun q).requires.m-is),
       rw (c.length_if.ensures, c.row_if.ensures, c.row_if-row.ensures)
-          (pass-more (going q) (listed q) (x-is above) a.offer-offered.ensures (y-is above) _
+          (pass-more (going q) (listed q) (x-is above) c.offer-offered.ensures (y-is above) _
           (same_test here)),
     )
 
@@ -171,7 +171,6 @@ overflow_add-k c = omega (arith, (due c.before).early, (due c.before).few)
 pub is_quiet-requires : goal.is_quiet-requires
 is_quiet-requires c =
     let here = c.before.before in
-    let d = c in
     record {
       looking = record {
         fine = (start here).requires.fine;
@@ -188,7 +187,7 @@ pub loop-x-smaller-then-k-eq1 : goal.loop-x-smaller-then-k-eq1
 loop-x-smaller-then-k-eq1 c = due-falls (due c.before.before.before.before)
 
 pub loop-x-preserved-then-k-eq1 : goal.loop-x-preserved-then-k-eq1
-loop-x-preserved-then-k-eq1 c = let d = c in
+loop-x-preserved-then-k-eq1 c =
     pass_on (passed c.before.before.before.before) (due-first (due c.before.before.before.before) c.if-k-eq1.true)
 
 pub loop-x-smaller-then-k-due : goal.loop-x-smaller-then-k-due
@@ -197,20 +196,18 @@ loop-x-smaller-then-k-due c = due-falls (due c.before.before.before)
 pub loop-x-preserved-then-k-due : goal.loop-x-preserved-then-k-due
 loop-x-preserved-then-k-due c =
     let here = c.before.before.before in
-    let d = c in pass_on (passed here) (due-next (due here) c.if-k-due.true)
+    pass_on (passed here) (due-next (due here) c.if-k-due.true)
 
 -- ---- the way back is due
 
 pub overflow_cast-row : goal.overflow_cast-row
 overflow_cast-row c =
     let here = c.before.before.before in
-    let d = c in
     omega (arith, (passed here).finds.listed c.if-row-eq-NO_ROW.false, time-rows-few (start here).requires.fine)
 
 pub head-requires : goal.head-requires
 head-requires c =
     let here = c.before.before.before in
-    let d = c in
     ((start here).requires.fine, (passed here).finds.listed c.if-row-eq-NO_ROW.false)
 
 module _ (c : After-head) where

@@ -1,0 +1,16 @@
+-- `ramp::main` is safe and ends: what `respond` says it wrote is in the slice, and the slice is never too short.
+-- Assumes nothing but the contracts of std's read and write.
+use native.Mathlib.Omega.{arith}
+use lib.ListN.{length-take}
+use Rattle.lines.proofs.Texts.{bytes_fit, short-clash}
+use Rattle.ramp.proofs.main.Goals as goal
+
+pub slice_bounds-out-end : goal.slice_bounds-out-end
+slice_bounds-out-end c = bytes_fit c.respond-written.ensures c.in-Bytes.is
+
+pub slice_bounds-write_all-end : goal.slice_bounds-write_all-end
+slice_bounds-write_all-end c = let h = bytes_fit c.respond-written.ensures c.in-Bytes.is in
+    omega (arith, length-take c.in-Bytes.length c.respond-written.new.out)
+
+pub unreached-requires : goal.unreached-requires
+unreached-requires c = short-clash c.respond-written.ensures (omega arith) c.in-TooShort.is
