@@ -11,11 +11,6 @@ use respond::respond;
 use std::io;
 use std::io::Read;
 
-// Stands where no run comes: every text fits.
-fn unreached()
-    requires { ⊥ }
-{}
-
 // Reads until `bytes` is full or the input ends, and answers how many bytes stand at the front.
 fn read_full(input: &mut impl Read, bytes: &mut [u8]) -> io::Result<usize>
     ensures { ReadsAtMost result bytes.new }
@@ -41,7 +36,8 @@ fn main(rt: HostRuntime) -> io::Result<()> {
         Written::Bytes(length) => {
             rt.write_all(&out[..length])?;
         }
-        Written::TooShort => unreached(),
+        // no run comes here: every text fits
+        Written::TooShort => unreachable!(),
     }
     Ok(())
 }

@@ -11,11 +11,6 @@ use std::io::Read;
 // One word more than the largest problem has, so that a longer input is seen to be too long and is not read on.
 const MOST_INPUT: usize = 4 * rules::MOST_WORDS + 4;
 
-// Stands where no run comes: every text fits.
-fn unreached()
-    requires { ⊥ }
-{}
-
 // Reads until `bytes` is full or the input ends, and answers how many bytes stand at the front.
 fn read_full(input: &mut impl Read, bytes: &mut [u8]) -> io::Result<usize>
     ensures { ReadsAtMost result bytes.new }
@@ -40,7 +35,8 @@ fn main(rt: HostRuntime) -> io::Result<()> {
         Written::Bytes(length) => {
             rt.write_all(&out[..length])?;
         }
-        Written::TooShort => unreached(),
+        // no run comes here: every text fits
+        Written::TooShort => unreachable!(),
     }
     Ok(())
 }

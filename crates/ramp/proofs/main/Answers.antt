@@ -12,5 +12,5 @@ pub slice_bounds-write_all-end : goal.slice_bounds-write_all-end
 slice_bounds-write_all-end c = let h = bytes_fit c.respond-written.ensures c.in-Bytes.is in
     omega (arith, length-take c.in-Bytes.length c.respond-written.new.out)
 
-pub unreached-requires : goal.unreached-requires
-unreached-requires c = short-clash c.respond-written.ensures (omega arith) c.in-TooShort.is
+pub unreachable-requires : goal.unreachable-requires
+unreachable-requires c = short-clash c.respond-written.ensures (omega arith) c.in-TooShort.is
