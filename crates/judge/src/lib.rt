@@ -152,6 +152,7 @@ fn some_blank_row(words: &[i32], columns: usize, rows: usize) -> bool
 }
 
 // The number of the first of refusals 4 to 6 and 10 that applies, or 0.
+#[tactic(auto, unfolding(rules::specs::Refusal::first))]
 fn word_refusal(coefficient: bool, kind: bool, limit: bool, blank: bool) -> u32
     ensures { result ≡ first ((coefficient, 4) ∷ (kind, 5) ∷ (limit, 6) ∷ (blank, 10) ∷ []) }
 {

@@ -1,4 +1,6 @@
 -- `bundle::judge::is_bad_pair` meets its contract. Assumes nothing.
+use Rattle.std.proofs.Common.{arith}
+use Rattle.std.proofs.lemmas.Int.{ints}
 use borrow.Author.Rules.{rules}
 use mathlib.Core.Bool.{not, ◌||◌}
 use mathlib.Core.Logic.{inl, inr, ◌≢◌, ◌⊎◌}
@@ -11,7 +13,7 @@ use mir.Val.{of_z, to_z}
 use Rattle.whole.specs.Numbers.{eq_z, is_neg}
 use Rattle.whole.specs.Tells.{Tells}
 use Rattle.whole.proofs.Numbers.Halves.{wide, widened}
-use Rattle.whole.proofs.Numbers.Tests.{test-lt, test-nlt}
+use Rattle.whole.proofs.Numbers.Tests.{test-lt}
 use Rattle.whole.proofs.Tells.{tells-eq_z, tells-false, tells-lt_z, tells-not, tells-or, tells-true}
 use Rattle.bundle.proofs.judge.is_bad_pair.Goals as goal
 use Rattle.bundle.proofs.judge.is_bad_pair.Goals.{Start}
@@ -37,7 +39,7 @@ overflow_cast-at c = search rules
 
 pub returns-then-first-at : goal.returns-then-first-at
 returns-then-first-at c =
-    let least = test-nlt w32 c.ranges.size (sfits_lit tt) c.if-size-lt0.false in
+    let least : pos 0 ≤ℤ c.args.size = omega (arith, ints) in
     let same = sym (widened c.ranges.first) ∙ ap (to_z w64) c.if-first-at.true ∙ to_z_pos w64 c.requires in
     sym (tells-false (pair-tells c.before.before) (least, same))
 
