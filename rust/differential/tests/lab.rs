@@ -27,12 +27,12 @@ fn printed(input: &[u8]) -> String {
         .stdin(Stdio::piped())
         .stdout(Stdio::piped())
         .spawn()
-        .unwrap_or_else(|error| panic!("{command:?} does not start: {error}; rt check lab"));
+        .unwrap_or_else(|error| panic!("{command:?} does not start: {error}; tools/program lab"));
     let given = child.stdin.take().expect("it is piped").write_all(input);
     // It does not read on where there are more bytes than it takes.
     assert!(given.is_ok() || given.is_err_and(|error| error.kind() == ErrorKind::BrokenPipe));
     let ended = child.wait_with_output().expect("it ends");
-    assert!(ended.status.success(), "{}; rt check lab", ended.status);
+    assert!(ended.status.success(), "{}; tools/program lab", ended.status);
     String::from_utf8(ended.stdout).expect("it has plain letters")
 }
 

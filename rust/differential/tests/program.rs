@@ -25,12 +25,12 @@ fn printed(input: &[u8]) -> Vec<u8> {
         .stdin(Stdio::piped())
         .stdout(Stdio::piped())
         .spawn()
-        .unwrap_or_else(|error| panic!("{command:?} does not start: {error}; rt check ramp"));
+        .unwrap_or_else(|error| panic!("{command:?} does not start: {error}; tools/program ramp"));
     let given = child.stdin.take().expect("it is piped").write_all(input);
     // It does not read on where there are more bytes than a problem has.
     assert!(given.is_ok() || given.is_err_and(|error| error.kind() == ErrorKind::BrokenPipe));
     let ended = child.wait_with_output().expect("it ends");
-    assert!(ended.status.success(), "{} for {input:?}; rt check ramp", ended.status);
+    assert!(ended.status.success(), "{} for {input:?}; tools/program ramp", ended.status);
     ended.stdout
 }
 

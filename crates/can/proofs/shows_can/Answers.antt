@@ -74,7 +74,7 @@ module _ (c : After-smalls_hold) where
       ∙ ap (λ (half : List ℤ). half_holds largest_small third.args.entries.now half third.args.rows
       third.args.columns) (lent-half (answer third) (variables third))
 
--- ---- the calls and the returns-then-is_outside
+-- ---- the calls and the returns
 
 pub returns-then-is_outside : goal.returns-then-is_outside
 returns-then-is_outside c = sym (can-denominator (start c.before).requires

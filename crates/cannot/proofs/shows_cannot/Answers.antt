@@ -55,7 +55,7 @@ module _ (c : Else-not-columns_cancel) where
   cancel : columns_cancel third.args.entries.now (answer third) third.args.rows third.args.columns ≡ true
   cancel = sym c.columns_cancel.ensures ∙ c.if-not-columns_cancel.false
 
--- ---- the calls and the returns-then-answer-ne0
+-- ---- the calls and the returns
 
 pub returns-then-answer-ne0 : goal.returns-then-answer-ne0
 returns-then-answer-ne0 c = let s = c.before.before in

@@ -1,4 +1,4 @@
--- `wide::numbers::number_fits_lem` meets its contract: each word's own test. Assumes nothing.
+-- `wide::numbers::number_fits` meets its contract: each word's own test. Assumes nothing.
 use mathlib.Core.Bool.{Bool, ◌&&◌}
 use mathlib.Core.Path.{◌≡◌, ap, ap₂, ◌∙◌}
 use borrow.Author.Rules.{rules}
