@@ -23,11 +23,10 @@ fn printed(input: &[u8]) -> String {
         command.args(["-L", "/usr/x86_64-linux-gnu", PROGRAM]);
         command
     };
-    let mut child = command
-        .stdin(Stdio::piped())
-        .stdout(Stdio::piped())
-        .spawn()
-        .unwrap_or_else(|error| panic!("{command:?} does not start: {error}; tools/program lab"));
+    let mut child =
+        command.stdin(Stdio::piped()).stdout(Stdio::piped()).spawn().unwrap_or_else(|error| {
+            panic!("{command:?} does not start: {error}; tools/program lab")
+        });
     let given = child.stdin.take().expect("it is piped").write_all(input);
     // It does not read on where there are more bytes than it takes.
     assert!(given.is_ok() || given.is_err_and(|error| error.kind() == ErrorKind::BrokenPipe));
