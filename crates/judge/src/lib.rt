@@ -6,8 +6,10 @@ ghost use Rattle.rules.specs.Limit.{has_lower, has_upper, strict_lower, strict_u
 ghost use Rattle.rules.specs.Refusal.{bad_coefficient, blank_row, first, problem_refusal, problem_refusal_within};
 ghost use Rattle.rules.specs.Refusal.{some_blank};
 ghost use Rattle.rules.specs.Sizes.{most_rows};
+ghost use Rattle.refusals.specs.Numbers.{told};
 ghost use Rattle.judge.specs.Words.{Framed, bad_by, bad_variable};
 
+use refusals::Refusal;
 use words::{count_at, is_bad_size, is_outside, is_within};
 
 // Whether a kind has the bit that stands for `power`.
@@ -151,41 +153,41 @@ fn some_blank_row(words: &[i32], columns: usize, rows: usize) -> bool
     false
 }
 
-// The number of the first of refusals 4 to 6 and 10 that applies, or 0.
+// The first of refusals 4 to 6 and 10 that applies.
 #[tactic(auto, unfolding(rules::specs::Refusal::first))]
-fn word_refusal(coefficient: bool, kind: bool, limit: bool, blank: bool) -> u32
-    ensures { result ≡ first ((coefficient, 4) ∷ (kind, 5) ∷ (limit, 6) ∷ (blank, 10) ∷ []) }
+fn word_refusal(coefficient: bool, kind: bool, limit: bool, blank: bool) -> Result<(), Refusal>
+    ensures { told result ≡ first ((coefficient, 4) ∷ (kind, 5) ∷ (limit, 6) ∷ (blank, 10) ∷ []) }
 {
     if coefficient {
-        return 4;
+        return Err(Refusal::Coefficient);
     }
     if kind {
-        return 5;
+        return Err(Refusal::Kind);
     }
     if limit {
-        return 6;
+        return Err(Refusal::Limit);
     }
     if blank {
-        return 10;
+        return Err(Refusal::BlankRow);
     }
-    0
+    Ok(())
 }
 
-// The number of the first of refusals 1 to 6 and 10 that applies within so many rows, or 0.
-pub fn judge_within(most: u32, words: &[i32]) -> u32
+/// The first of refusals 1 to 6 and 10 that applies within so many rows.
+pub fn judge_within(most: u32, words: &[i32]) -> Result<(), Refusal>
     requires { most ≤ most_rows }
-    ensures { result ≡ problem_refusal_within most words.now }
+    ensures { told result ≡ problem_refusal_within most words.now }
 {
     if words.len() < 2 {
-        return 1;
+        return Err(Refusal::FewWords);
     }
     if is_bad_size(words, rules::MOST_COLUMNS as u32, most) {
-        return 2;
+        return Err(Refusal::Size);
     }
     let columns = count_at(words, 0);
     let rows = count_at(words, 1);
     if words.len() != 2 + rows * columns + 3 * (columns + rows) {
-        return 3;
+        return Err(Refusal::Length);
     }
     word_refusal(
         some_bad_coefficient(words, columns, rows),
@@ -195,9 +197,9 @@ pub fn judge_within(most: u32, words: &[i32]) -> u32
     )
 }
 
-// .. within the most rows.
-pub fn judge(words: &[i32]) -> u32
-    ensures { result ≡ problem_refusal words.now }
+/// .. within the most rows.
+pub fn judge(words: &[i32]) -> Result<(), Refusal>
+    ensures { told result ≡ problem_refusal words.now }
 {
     judge_within(rules::MOST_ROWS as u32, words)
 }

@@ -1,6 +1,7 @@
 -- Two results that a promise of this crate's public functions allows are equal: NAME-only for each.
 -- The contracts themselves are compared: κs are lifetimes, x the arguments, e what lent words hold at the exit.
 use mathlib.Core.Path.{◌≡◌, sym, ◌∙◌}
+use Rattle.refusals.proofs.Refused.{told-only}
 use Rattle.judge.proofs.has_lower.Reads as has-lower
 use Rattle.judge.proofs.has_upper.Reads as has-upper
 use Rattle.judge.proofs.strict_lower.Reads as strict-lower
@@ -15,11 +16,11 @@ pub has-upper-only : (κs : _) (x : _) (a b : _) (e : _) → has-upper.Post κs 
 has-upper-only κs x a b e h k = h ∙ sym k
 
 pub judge-only : (κs : _) (x : _) (a b : _) (e : _) → judge.Post κs x a e → judge.Post κs x b e → a ≡ b
-judge-only κs x a b e h k = h ∙ sym k
+judge-only κs x a b e h k = told-only a b (h ∙ sym k)
 
 pub judge-within-only : (κs : _) (x : _) (a b : _) (e : _) → judge-within.Post κs x a e → judge-within.Post κs x b e →
     a ≡ b
-judge-within-only κs x a b e h k = h ∙ sym k
+judge-within-only κs x a b e h k = told-only a b (h ∙ sym k)
 
 pub strict-lower-only : (κs : _) (x : _) (a b : _) (e : _) → strict-lower.Post κs x a e → strict-lower.Post κs x b e →
     a ≡ b
