@@ -1,6 +1,6 @@
 -- A pivot by place: the entries before reduction, their divisor, and the entries in lowest common form.
 use Rattle.std.specs.Prelude.{ℕ, ◌+◌, ◌≤◌, ◌<◌, Bool, true, false, cond, ◌&&◌, List, ◌++◌, ◌≡◌, ◌≢◌, T, eqb, drop}
-use Rattle.std.specs.Prelude.{get_or, length, ℤ, pos, neg_ℤ, ◌*ℤ◌, ◌-ℤ◌}
+use Rattle.std.specs.Prelude.{get_or, length, ℤ, pos, neg_ℤ, ◌*ℤ◌, ◌-ℤ◌, Option, Some, None}
 use Rattle.std.specs.Int.Signed.{quot_z}
 use Rattle.whole.specs.Below.{all_below, fold_below}
 use Rattle.whole.specs.Numbers.{Within, AllWithin, within}
@@ -8,8 +8,6 @@ use Rattle.whole.specs.Tables.{filled, table}
 use Rattle.divisor.specs.Cells.{divisor_below, quotients}
 use Rattle.divisor.specs.Signs.{signed_by}
 use Rattle.rules.specs.Sizes.{most_columns, most_rows, largest_number}
-use Rattle.pivot.specs.declared.Pivoted.{Pivoted}
-use Rattle.pivot.specs.declared.Pivoted.TheVariants as pivots
 use Rattle.layout.specs.Layout.{Order, in_use, most_entries, row_laid, column_laid, row_at, column_at, live}
 use Rattle.layout.specs.Layout.{entry_laid, entry_in}
 
@@ -109,10 +107,10 @@ module _ (m n : ℕ) (l : List ℤ) (common : ℤ) (p q : ℕ) where
   abbrev pub fits_after : Bool
   fits_after = fits_laid in_use m n l common p q
 
--- what the code answers
-abbrev pub pivoted_by : Bool → ℤ → Pivoted
-pivoted_by true c = pivots.Common c
-pivoted_by false c = pivots.Beyond
+-- what the code answers: the new common number, and none where a number is beyond the range
+abbrev pub pivoted_by : Bool → ℤ → Option ℤ
+pivoted_by true c = Some c
+pivoted_by false c = None
 
 -- an array that has the first k cells of another
 pub record StartsWith (k : ℕ) (cells next : List ℤ) : Type 0 where

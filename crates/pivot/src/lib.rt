@@ -29,16 +29,14 @@ mod wide;
 // How many cells the array of entries has.
 const MOST_ENTRIES: usize = layout::MOST_ENTRIES;
 
-// What a pivot comes to: the new common number, or a number beyond the largest.
-#[derive(Drop)]
-pub enum Pivoted {
-    Common(i32),
-    Beyond,
-}
-
-// The entries after a pivot, in lowest common form with the common number above 0, are put into `next`. The range is
-// tested after the reduction. Nothing is said of cells that are not in use, nor of any where a number is beyond it.
-pub fn pivot(entries: &[i32; MOST_ENTRIES], asked: Asked, next: &mut [i32; MOST_ENTRIES]) -> Pivoted
+// The entries after a pivot, in lowest common form with the common number above 0, are put into `next`, and the new
+// common number is handed back. The range is tested after the reduction: there is none where a number is beyond it, and
+// nothing is said of `next` then. Nor is anything said of cells that are not in use.
+pub fn pivot(
+    entries: &[i32; MOST_ENTRIES],
+    asked: Asked,
+    next: &mut [i32; MOST_ENTRIES],
+) -> Option<i32>
     requires able { Able entries.now asked }
     requires next_len { length next.old ≡ most_entries }
     ensures answer { result
@@ -48,19 +46,19 @@ pub fn pivot(entries: &[i32; MOST_ENTRIES], asked: Asked, next: &mut [i32; MOST_
 {
     let settled = quick::quick(entries, asked, next);
     if let Settled::Beyond = settled {
-        return Pivoted::Beyond;
+        return None;
     }
     let Settled::By(by) = settled else {
         return wide::pivot(entries, asked, next);
     };
     if range::beyond_in(next, layout::live(asked.rows, asked.columns)) != 0 {
-        return Pivoted::Beyond;
+        return None;
     }
     let after = numbers::product_of(entries, asked) / by as i64;
     if after > rules::LARGEST_NUMBER {
-        return Pivoted::Beyond;
+        return None;
     }
-    Pivoted::Common(after as i32)
+    Some(after as i32)
 }
 
 // The live cells of `next` are kept as entries; the others stay.

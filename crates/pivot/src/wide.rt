@@ -8,7 +8,7 @@ ghost use Rattle.pivot.specs.Pivot.{mixed_of, Mixable, PutBy, pivoted_by};
 ghost use Rattle.pivot.specs.Asked.{Able, cell_for, cells_for, fits_for, common_for, entries_for};
 
 use crate::asked::Asked;
-use crate::{MOST_ENTRIES, Pivoted, numbers, range};
+use crate::{MOST_ENTRIES, numbers, range};
 use layout::Spot;
 
 // The numbers that one cell is made of: `own` is its entry, `beside` stands in its row and the entering column, `above`
@@ -115,7 +115,11 @@ fn halves_of(cells: &[i64; MOST_ENTRIES]) -> [i32; MOST_ENTRIES]
 
 // The entries after a pivot, in lowest common form with the common number above 0, are put into `next`. The range is
 // tested after the reduction; beyond it `next` stays.
-pub fn pivot(entries: &[i32; MOST_ENTRIES], asked: Asked, next: &mut [i32; MOST_ENTRIES]) -> Pivoted
+pub fn pivot(
+    entries: &[i32; MOST_ENTRIES],
+    asked: Asked,
+    next: &mut [i32; MOST_ENTRIES],
+) -> Option<i32>
     requires { Able entries.now asked }
     ensures answer { result
         ≡ pivoted_by (fits_for entries.now asked) (common_for entries.now asked) }
@@ -130,7 +134,7 @@ pub fn pivot(entries: &[i32; MOST_ENTRIES], asked: Asked, next: &mut [i32; MOST_
     let after = product / by;
     if range::all_in_range(&cells, end, after) {
         *next = halves_of(&cells);
-        return Pivoted::Common(after as i32);
+        return Some(after as i32);
     }
-    Pivoted::Beyond
+    None
 }

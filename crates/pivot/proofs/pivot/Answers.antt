@@ -15,8 +15,7 @@ use Rattle.whole.proofs.Numbers.Order.{true→lt, false→le}
 use Rattle.whole.proofs.Numbers.Sizes.{fits-by}
 use Rattle.whole.proofs.Numbers.Halves.{wide, widened}
 use Rattle.pivot.specs.declared.asked.Asked.{Asked}
-use Rattle.pivot.specs.declared.Pivoted.{Pivoted}
-use Rattle.pivot.specs.declared.Pivoted.TheVariants as pivots
+use Rattle.std.proofs.Common.{Option, Some}
 use Rattle.pivot.specs.Asked.{Able, common_for, entries_for, fits_for, product_for}
 use Rattle.layout.specs.Layout.{most_entries, live}
 use Rattle.pivot.specs.Pivot.{PutBy, beyond_below, pivoted_by}
@@ -38,7 +37,7 @@ module _ (l : List ℤ) (a : Asked) where
   abbrev end : ℕ
   end = live a.rows a.columns
 
-  abbrev answer : Bool → Pivoted
+  abbrev answer : Bool → Option ℤ
   answer b = pivoted_by b after
 
   abbrev Left : List ℤ → Bool → Type 0
@@ -136,7 +135,7 @@ overflow_cast-result c = rw (new c) (fit-half c)
 
 pub returns : goal.returns
 returns c = let e = sym (all-fits c) in record {
-  answer = ap (λ (y : ℤ). pivots.Common (to_z w32 (of_z w32 y))) (new c) ∙ ap pivots.Common (to_z-of_z (fit-half c))
+  answer = ap (λ (y : ℤ). Some (to_z w32 (of_z w32 y))) (new c) ∙ ap Some (to_z-of_z (fit-half c))
       ∙ ap (answer (l c) (a c)) e;
   numbers = subst (Left (l c) (a c) _) e (settles c).cells_are;
 }

@@ -19,8 +19,7 @@ use Rattle.divisor.specs.Cells.{divided_cells, divisor_below}
 use Rattle.divisor.specs.Signs.{signed_by}
 use Rattle.rules.specs.Sizes.{largest_number}
 use Rattle.pivot.specs.declared.asked.Asked.{Asked}
-use Rattle.pivot.specs.declared.Pivoted.{Pivoted}
-use Rattle.pivot.specs.declared.Pivoted.TheVariants as pivots
+use Rattle.std.proofs.Common.{Option, Some}
 use Rattle.pivot.specs.Asked.{Able, common_for, entries_for, fits_for}
 use Rattle.layout.specs.Layout.{live, most_entries}
 use Rattle.pivot.specs.Pivot.{StartsWith, PutBy, small_below, product, mix, by, pivoted_by}
@@ -88,7 +87,7 @@ module _ (s : Start) where
   abbrev part : ℤ
   part = by m n old common asked.spot.row.0 asked.spot.column.0
 
-  abbrev answer : Bool → Pivoted
+  abbrev answer : Bool → Option ℤ
   answer b = pivoted_by b (common_for old asked)
 
   abbrev Left : List ℤ → Bool → Type 0
@@ -265,7 +264,7 @@ overflow_cast-result c = let d = made (o c) in
 pub returns-then-all_in_range : goal.returns-then-all_in_range
 returns-then-all_in_range c = let d = made (o c) in let e = sym (fits c.before) in record {
   answer = simp (to_z-of_z (fit-product (r c)), to_z-of_z (fit-signed (sign d)))
-      (ap pivots.Common (after-right c) ∙ ap (answer (had d)) e);
+      (ap Some (after-right c) ∙ ap (answer (had d)) e);
   numbers = subst (Left (had d) _) e (put c);
 }
 
