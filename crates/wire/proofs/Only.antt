@@ -6,15 +6,16 @@ use mathlib.Core.List.{◌++◌}
 use mathlib.Core.Path.{◌≡◌, ap, sym, ◌∙◌}
 use lib.ListN.{drop}
 use Rattle.rules.specs.Program.Bytes.{words_from}
-use Rattle.wire.proofs.count_refusal.Reads as count-refusal
+use Rattle.refusals.proofs.Refused.{told-only}
+use Rattle.wire.proofs.judge.Reads as judge
 use Rattle.wire.proofs.words_of.Reads as words_of
 use Rattle.wire.proofs.join.Reads as join
 use Rattle.wire.proofs.word_at.Reads as word_at
 use Rattle.wire.proofs.bytes_of.Reads as bytes_of
 
-pub count-refusal-only : (κs : _) (x : _) (a b : _) (e : _) → count-refusal.Post κs x a e →
-    count-refusal.Post κs x b e → a ≡ b
-count-refusal-only κs x a b e h k = h ∙ sym k
+pub judge-only : (κs : _) (x : _) (a b : _) (e : _) → judge.Post κs x a e →
+    judge.Post κs x b e → a ≡ b
+judge-only κs x a b e h k = told-only a b (h ∙ sym k)
 
 pub words-of-only : (κs : _) (x : _) (a b : _) (e f : _) → words_of.Post κs x a e → words_of.Post κs x b f →
     (a ≡ b) × (e.1.0.now ≡ f.1.0.now)

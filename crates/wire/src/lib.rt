@@ -6,24 +6,24 @@ ghost use Rattle.std.specs.Prelude.{◌≡◌, [], ◌∷◌, ◌++◌, ◌+◌,
 ghost use Rattle.std.proofs.lemmas.List.Edits.{sets};
 ghost use Rattle.rules.specs.Program.Bytes.{byte_of, bytes_from, joined, signed, unsigned, word_at, words_from};
 ghost use Rattle.rules.specs.Program.Bytes.{count_refusal};
+ghost use Rattle.refusals.specs.Numbers.{told};
+
+use refusals::Refusal;
 
 // The most bytes that a problem has.
 const MOST_BYTES: usize = 4 * rules::MOST_WORDS;
 
-// The refusal of an input of so many bytes, or 0.
-pub fn count_refusal(count: usize) -> u32
-    ensures { result ≡ count_refusal count }
+/// Whether an input may have so many bytes: at least two words, no byte left over, and no more words than a problem has.
+pub fn judge(count: usize) -> Result<(), Refusal>
+    ensures { told result ≡ count_refusal count }
 {
     if count < 8 {
-        return 1;
+        return Err(Refusal::FewWords);
     }
-    if count % 4 != 0 {
-        return 3;
+    if count % 4 != 0 || MOST_BYTES < count {
+        return Err(Refusal::Length);
     }
-    if MOST_BYTES < count {
-        return 3;
-    }
-    0
+    Ok(())
 }
 
 // Puts the words of the bytes at the front of `words`, whose later words stay, and answers how many there are. Up to

@@ -1,20 +1,13 @@
--- `wire::count_refusal` meets its contract: each return is the first line of the table that applies. Assumes nothing.
-use mathlib.Core.Logic.{inl, inr}
-use mathlib.Core.Path.{refl, sym}
-use native.Mathlib.Omega.{arith}
+-- `wire::judge` meets its contract: each return is the first line of the table that applies. Assumes nothing.
+use Rattle.std.proofs.Common.{arith, inl, inr, refl, sym}
 use Rattle.rules.proofs.Program.Counts.{count-exactly, count-fine}
-use Rattle.wire.proofs.count_refusal.Goals as goal
+use Rattle.wire.proofs.judge.Goals as goal
 
 pub returns-then-count-lt8 : goal.returns-then-count-lt8
 returns-then-count-lt8 c = sym ((count-exactly c.args.count 1).1 (inl (c.if-count-lt8.true, refl)))
 
 pub returns-then-count-ne0 : goal.returns-then-count-ne0
-returns-then-count-ne0 c =
-    sym ((count-exactly c.args.count 3).1 (inr (λ h. omega arith, inl (inl c.if-count-ne0.true, refl))))
-
-pub returns-then-count-gt-MOST_BYTES : goal.returns-then-count-gt-MOST_BYTES
-returns-then-count-gt-MOST_BYTES c =
-    sym ((count-exactly c.args.count 3).1 (inr (λ h. omega arith, inl (inr c.if-count-gt-MOST_BYTES.true, refl))))
+returns-then-count-ne0 c = sym ((count-exactly c.args.count 3).1 (inr (λ h. omega arith, inl (grind arith, refl))))
 
 pub returns : goal.returns
 returns c =
