@@ -7,15 +7,7 @@ ghost use Rattle.sides.specs.Sides.{least_in, most_in};
 ghost use Rattle.answers.specs.Conflict.{conflict_at};
 
 use amounts::Given;
-use search::after;
 use tableau::{Limits, Variable};
-
-// The lowest variable whose limits cross, if there is one.
-#[derive(Drop)]
-pub enum Crossed {
-    At(Variable),
-    Nowhere,
-}
 
 // Whether both limits are present and the lower exceeds the upper.
 pub fn is_crossed(lower: Given, upper: Given) -> bool
@@ -26,18 +18,15 @@ pub fn is_crossed(lower: Given, upper: Given) -> bool
     lower.on & upper.on & amounts::is_below(most, least)
 }
 
-// The search over the first variables.
-pub fn conflict_of(limits: Limits, variables: usize) -> Crossed
+// The lowest of the first variables whose limits cross, if there is one.
+pub fn conflict_of(limits: Limits, variables: usize) -> Option<Variable>
     requires { variables ≤ most_variables }
     ensures { result ≡ conflict_at limits variables }
 {
-    let mut v = Variable(0);
-    while (v.0 as usize) < variables {
-        let at = v.0 as usize;
-        if is_crossed(limits.lower[at], limits.upper[at]) {
-            return Crossed::At(v);
+    for v in 0..variables {
+        if is_crossed(limits.lower[v], limits.upper[v]) {
+            return Some(Variable(v as u8));
         }
-        v = after(v);
     }
-    Crossed::Nowhere
+    None
 }

@@ -30,9 +30,6 @@ pub struct Head {
     pub denominator: i64,
 }
 
-// The refusal of an output that is too short.
-pub const TOO_SHORT: u32 = 7;
-
 // Whether an output of so many words has no room for the answer of so many variables.
 pub fn is_short(room: usize, variables: usize) -> bool
     requires { variables ≤ most_variables }

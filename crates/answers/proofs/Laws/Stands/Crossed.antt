@@ -6,6 +6,7 @@ use mathlib.Core.Bool.{Bool, cond, true, false, ◌&&◌}
 use mathlib.Core.List.{◌∷◌, ◌++◌}
 use mathlib.Core.Option.{Option, none, some}
 use mathlib.Core.Path.{◌≡◌, ap, ap₂, refl, sym, ◌∙◌}
+use Rattle.std.proofs.Common.{Some, None}
 use Prim.Native.Nat.{ℕ, ◌+◌, ◌<◌}
 use native.Mathlib.Omega.{arith}
 use lib.IntN.{ℤ, pos}
@@ -29,7 +30,6 @@ use Rattle.tableau.specs.Stands.{Stands}
 use Rattle.sides.specs.Sides.{least_in, most_in}
 use Rattle.search.proofs.Laws.Stands.{all-vars}
 use Rattle.answers.specs.declared.Verdict.TheVariants as verdicts
-use Rattle.answers.specs.declared.conflict.Crossed.TheVariants as crossings
 use Rattle.answers.specs.Answer.{number_of, words_at}
 use Rattle.answers.specs.Conflict.{conflict_at, crossed_from, crosses_at}
 use Rattle.answers.specs.Multipliers.{unit_at}
@@ -55,7 +55,7 @@ module _ {P : Problem (ℤ × ℤ)} {t : Tableau} {s : State (ℤ × ℤ)} (St :
       (λ v h. ap₂ (λ l u. cond (crossed pairs l u) (some v) none) (sym (St.serves.lower-is v h))
       (sym (St.serves.upper_is v h))))
 
-  pub crossing-at : (x : Variable) → conflict_at t.limits (t.rows + t.columns) ≡ crossings.At x →
+  pub crossing-at : (x : Variable) → conflict_at t.limits (t.rows + t.columns) ≡ Some x →
       conflict pairs P ≡ some x.0
   unfolding crossed_from
   crossing-at x e = go (conflict pairs P) refl
@@ -64,7 +64,7 @@ module _ {P : Problem (ℤ × ℤ)} {t : Tableau} {s : State (ℤ × ℤ)} (St :
       go none q = let f = sym conflict-is ∙ e in let g = rw q at f in let k : ◌≡◌ {A = ℕ} 0 1 = cc in zero_one k
       go (some v) q = let f = sym conflict-is ∙ e in let g = rw q at f in let k : v ≡ x.0 = cc in q ∙ ap some k
 
-  pub crossing-none : conflict_at t.limits (t.rows + t.columns) ≡ crossings.Nowhere → conflict pairs P ≡ none
+  pub crossing-none : conflict_at t.limits (t.rows + t.columns) ≡ None → conflict pairs P ≡ none
   unfolding crossed_from
   crossing-none e = go (conflict pairs P) refl
     where
