@@ -1,0 +1,2 @@
+-- One read more.
+pub mod Filled

@@ -1,0 +1,2 @@
+-- What is read of an input.
+pub mod Filled
