@@ -1,18 +1,20 @@
--- A text put at a place of a lent slice. Bytes past the end of the slice are dropped, and the place counts on all the
--- same: so a text is measured by putting it into a slice that is too short.
+-- A text put where a writer stands. Bytes past the end of its slice are dropped, and the place counts on all the same:
+-- so a text is measured by putting it into a slice that is too short.
 use Rattle.std.specs.Prelude.{◌≡◌, List, ℕ, ◌+◌, ◌^◌, ◌≤◌, ◌<◌, length}
 use Rattle.std.proofs.lemmas.List.Edits.{sets}
+use Rattle.put.specs.declared.Writer.{Writer}
 
--- the slice before, the place, the text; the slice afterwards, and the place behind the text
-pub record Put (before : List ℕ) (at : ℕ) (text after : List ℕ) (next : ℕ) : Type 0 where
-  pub bytes : after ≡ sets before at text
-  pub place : next ≡ at + length text
+-- the writer before, the text, and the writer behind it, over the same slice
+pub record Put (before : Writer) (text : List ℕ) (after : Writer) : Type 0 where
+  pub same : after.out.ghost_name ≡ before.out.ghost_name
+  pub bytes : after.out.now ≡ sets before.out.now before.at text
+  pub place : after.at ≡ before.at + length text
 
 -- .. and the text has at most so many bytes
-pub record PutShort (most : ℕ) (before : List ℕ) (at : ℕ) (text after : List ℕ) (next : ℕ) : Type 0 where
-  pub put : Put before at text after next
+pub record PutShort (most : ℕ) (before : Writer) (text : List ℕ) (after : Writer) : Type 0 where
+  pub put : Put before text after
   pub short : length text ≤ most
 
 -- the place behind the text is a number of 64 bits
-pub record Room (at : ℕ) (text : List ℕ) : Type 0 where
-  pub room : at + length text < 2 ^ 64
+pub record Room (before : Writer) (text : List ℕ) : Type 0 where
+  pub room : before.at + length text < 2 ^ 64

@@ -1,67 +1,76 @@
-// Bytes, texts and numbers, put at a place of a lent slice. Each function answers the place behind what it put. Bytes
-// past the end of the slice are dropped, and the place counts on.
+// A writer puts bytes, texts and numbers into a lent slice, one behind the other. Bytes past the end of the slice are
+// dropped, and the place counts on.
 #![tactic(auto)]
 
-ghost use Rattle.std.specs.Prelude.{◌≡◌, [], ◌∷◌, pos, nat_abs, ◌<ℤ◌};
+ghost use Rattle.std.specs.Prelude.{◌≡◌, [], ◌∷◌};
 ghost use Rattle.rules.specs.Program.Text.{digits, decimal};
 ghost use Rattle.put.specs.Put.{Put, Room};
 
-// One byte.
-pub fn put_byte(out: &mut [u8], at: usize, byte: u8) -> usize
-    requires { Room at (byte ∷ []) }
-    ensures { Put out.old at (byte ∷ []) out.new result }
-{
-    let next = at + 1;
-    if out.len() <= at {
-        return next;
-    }
-    out[at] = byte;
-    next
+/// A lent slice, and the place in it where the next byte goes.
+#[derive(Debug, Drop)]
+pub struct Writer<'a> {
+    out: &'a mut [u8],
+    at: usize,
 }
 
-// The bytes of another slice.
-pub fn put_text(out: &mut [u8], at: usize, text: &[u8]) -> usize
-    requires { Room at text.now }
-    ensures { Put out.old at text.now out.new result }
-{
-    let mut next = at;
-    for i in 0..text.len() {
-        let byte = text[i];
-        next = put_byte(out, next, byte);
+impl<'a> Writer<'a> {
+    /// At the front of a slice.
+    pub fn new(out: &'a mut [u8]) -> Writer<'a>
+        ensures same { result.out.ghost_name ≡ out.entry.ghost_name }
+        ensures bytes { result.out.now ≡ out.old }
+        ensures place { result.at ≡ 0 }
+    {
+        Writer { out, at: 0 }
     }
-    next
-}
 
-// The digits of `n`, the last one after all the others.
-pub fn put_digits(out: &mut [u8], at: usize, n: u64) -> usize
-    requires { Room at (digits n) }
-    ensures { Put out.old at (digits n) out.new result }
-{
-    if n < 10 {
-        return put_byte(out, at, 48 + n as u8);
+    /// The place behind what was put.
+    pub fn place(&self) -> usize
+        ensures { result ≡ self.now.at }
+    {
+        self.at
     }
-    let next = put_digits(out, at, n / 10);
-    put_byte(out, next, 48 + (n % 10) as u8)
-}
 
-// The size of a number below 0. Its negative need not fit, and that of the number above it does.
-pub fn size_below(n: i64) -> u64
-    requires { n <ℤ pos 0 }
-    ensures { result ≡ nat_abs n }
-{
-    let above = n + 1;
-    let size = (-above) as u64;
-    size + 1
-}
-
-// A number in decimal, the least one of 64 bits too.
-pub fn put_number(out: &mut [u8], at: usize, n: i64) -> usize
-    requires { Room at (decimal n) }
-    ensures { Put out.old at (decimal n) out.new result }
-{
-    if n < 0 {
-        let next = put_byte(out, at, b'-');
-        return put_digits(out, next, size_below(n));
+    /// One byte.
+    pub fn byte(&mut self, byte: u8)
+        requires { Room self.old (byte ∷ []) }
+        ensures { Put self.old (byte ∷ []) self.new }
+    {
+        if self.at < self.out.len() {
+            self.out[self.at] = byte;
+        }
+        self.at += 1;
     }
-    put_digits(out, at, n as u64)
+
+    /// The bytes of another slice.
+    pub fn text(&mut self, text: &[u8])
+        requires { Room self.old text.now }
+        ensures { Put self.old text.now self.new }
+    {
+        for byte in text {
+            self.byte(*byte);
+        }
+    }
+
+    /// The digits of `n`, the last one after all the others.
+    pub fn digits(&mut self, n: u64)
+        requires { Room self.old (digits n) }
+        ensures { Put self.old (digits n) self.new }
+    {
+        if n < 10 {
+            return self.byte(b'0' + n as u8);
+        }
+        self.digits(n / 10);
+        self.byte(b'0' + (n % 10) as u8);
+    }
+
+    /// A number in decimal, the least one of 64 bits too.
+    pub fn number(&mut self, n: i64)
+        requires { Room self.old (decimal n) }
+        ensures { Put self.old (decimal n) self.new }
+    {
+        if n < 0 {
+            self.byte(b'-');
+        }
+        self.digits(n.unsigned_abs());
+    }
 }
