@@ -1,19 +1,18 @@
 -- The lines of a sheet, from the struct: those of rules/specs/Sheet/Text with its counts.
 use Rattle.std.specs.Prelude.{List, ◌++◌, ℕ, pos, get_or}
-use Rattle.std.proofs.Math.Option.{Option, none, some}
+use Rattle.std.proofs.Math.Option as math
 use Rattle.rules.specs.Program.Text.{ascii, line, lines_below}
 use Rattle.rules.specs.Sheet.Text.{largest_line, named_line, refused_lines}
 use Rattle.rules.specs.Sizes.{most_variables}
-use Rattle.tally.specs.declared.Reached.{Reached}
-use Rattle.tally.specs.declared.Reached.TheVariants.{Body, Nobody}
+use Rattle.std.specs.Prelude.{Some, None}
 use Rattle.tally.specs.declared.Totals.{Totals}
 
 abbrev pub count_at : List ℕ → ℕ → ℕ
 count_at counts v = get_or counts v 0
 
-unfoldable pub reached_name : Reached → Option ℕ
-reached_name Nobody = none
-reached_name (Body i) = some i
+unfoldable pub reached_name : Option ℕ → math.Option ℕ
+reached_name None = math.none
+reached_name (Some i) = math.some i
 
 unfoldable pub count_lines : Totals → List ℕ
 count_lines t =

@@ -11,8 +11,7 @@ use Rattle.rules.specs.Problem.{vars_of, word}
 use Rattle.rules.specs.Refusal.{problem_refusal_within}
 use Rattle.rules.specs.Run.{most_count}
 use Rattle.rules.specs.Sizes.{most_bodies, most_variables}
-use Rattle.tally.specs.declared.Reached.{Reached}
-use Rattle.tally.specs.declared.Reached.TheVariants.{Body, Nobody}
+use Rattle.std.specs.Prelude.{None, Option, Some}
 use Rattle.tally.specs.declared.Totals.{Totals}
 
 -- ---- what fits
@@ -41,9 +40,9 @@ pub record Auditable (a : List ℤ) (N : ℕ) : Type 0 where
 
 -- ---- the parts
 
-unfoldable pub leader_of : Reached → ℕ → ℕ → ℕ → Reached
-leader_of Nobody largest pivots body = Body body
-leader_of (Body before) largest pivots body = cond (ltb largest pivots) (Body body) (Body before)
+unfoldable pub leader_of : Option ℕ → ℕ → ℕ → ℕ → Option ℕ
+leader_of None largest pivots body = Some body
+leader_of (Some before) largest pivots body = cond (ltb largest pivots) (Some body) (Some before)
 
 unfoldable pub naming_of : ℤ → ℕ → ℕ
 naming_of verdict N = cond (eq_z verdict (pos 2)) N 0
@@ -66,7 +65,7 @@ no_totals = record {
   refused = replicate 11 0;
   pivots = 0;
   largest = 0;
-  reached = Nobody;
+  reached = None;
   lower = replicate most_variables 0;
   upper = replicate most_variables 0;
 }

@@ -1,18 +1,16 @@
 -- The totals of the bodies 0 to k - 1 as the struct holds them: each field is a count of rules/specs/Sheet/Totals.
-use Rattle.std.specs.Prelude.{List, ℕ, ℤ}
-use Rattle.std.proofs.Math.Option.{Option, none, some}
+use Rattle.std.specs.Prelude.{List, None, Option, Some, ℕ, ℤ}
+use Rattle.std.proofs.Math.Option as math
 use Rattle.whole.specs.Tables.{table}
 use Rattle.rules.specs.Bundle.File.{bodies_in, count_in, edition_in, rows_in}
 use Rattle.rules.specs.Sheet.Totals.{body_at, largest_body, largest_pivots, lower_named, of_class, pivot_sum, refused}
 use Rattle.rules.specs.Sheet.Totals.{upper_named, verdict}
 use Rattle.rules.specs.Sizes.{most_variables}
-use Rattle.tally.specs.declared.Reached.{Reached}
-use Rattle.tally.specs.declared.Reached.TheVariants.{Body, Nobody}
 use Rattle.tally.specs.declared.Totals.{Totals}
 
-unfoldable pub reached_by : Option ℕ → Reached
-reached_by none = Nobody
-reached_by (some i) = Body i
+unfoldable pub reached_by : math.Option ℕ → Option ℕ
+reached_by math.none = None
+reached_by (math.some i) = Some i
 
 unfoldable pub totals_of : ℕ → ℕ → (ℕ → List ℤ) → Totals
 totals_of rows k body = record {

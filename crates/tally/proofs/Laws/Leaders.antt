@@ -18,7 +18,7 @@ use Rattle.rules.specs.Sheet.Facts.{Answers, Leads, Refuses}
 use Rattle.rules.specs.Sheet.Totals.{largest_below, largest_body, largest_pivots, pivots_of}
 use Rattle.tally.specs.Counting.{leader_of}
 use Rattle.tally.specs.Sums.{reached_by}
-use Rattle.tally.specs.declared.Reached.TheVariants.{Body}
+use Rattle.std.specs.Prelude.{Some}
 
 module _ (rows : ℕ) (body : ℕ → List ℤ) (k : ℕ) where
   abbrev pivots : ℕ → ℕ
@@ -87,12 +87,12 @@ module _ (rows : ℕ) (body : ℕ → List ℤ) (k : ℕ) where
       go (some i) e = by (dec_lt most (pivots k)) ((largest-is rows k body i).0 e)
         where
           by : Dec (most < pivots k) → Leads rows k body i →
-              reached_by (largest_body rows (suc k) body) ≡ cond (ltb most (pivots k)) (Body k) (Body i)
+              reached_by (largest_body rows (suc k) body) ≡ cond (ltb most (pivots k)) (Some k) (Some i)
           by (yes h) L =
               ap reached_by ((largest-is rows (suc k) body k).1 (takes-lead a (omega (arith, h))
               (λ u l b. let m = L.most u l in let r = L.reached in omega (arith, m, r, h))
               (λ u l. let m = L.most u l in let r = L.reached in omega (arith, m, r, h))))
-              ∙ ap (λ t. cond t (Body k) (Body i)) (sym (lt-ltb most (pivots k) h))
+              ∙ ap (λ t. cond t (Some k) (Some i)) (sym (lt-ltb most (pivots k) h))
           by (no h) L =
               ap reached_by ((largest-is rows (suc k) body i).1 (leads-on i L (omega (arith, h))))
-              ∙ ap (λ t. cond t (Body k) (Body i)) (sym (le-ltb most (pivots k) (omega (arith, h))))
+              ∙ ap (λ t. cond t (Some k) (Some i)) (sym (le-ltb most (pivots k) (omega (arith, h))))

@@ -34,15 +34,15 @@ use Rattle.rules.specs.Sheet.Totals.{pivots_of}
 use Rattle.rules.specs.Sheet.Totals.{refused, same_class, sum_below, upper_named, verdict}
 use Rattle.rules.specs.Sizes.{most_rows, most_variables}
 use Rattle.tally.specs.Counting.{audited_at, audited_by, counted_at, leader_of, naming_of, refused_at, tallied_at}
+use Rattle.std.specs.Prelude.{Option}
 use Rattle.tally.specs.Sums.{reached_by, totals_of}
-use Rattle.tally.specs.declared.Reached.{Reached}
 use Rattle.tally.specs.declared.Totals.{Totals}
 use Rattle.tally.proofs.Laws.Leaders.{leader-answered, leader-refused}
 use Rattle.tally.proofs.Laws.Tallies.{as-table, tallied-none, tallied-table}
 
 -- ---- the struct, field by field
 
-abbrev pub made : (bodies can cannot range : ℕ) (away : List ℕ) (pivots largest : ℕ) (reached : Reached)
+abbrev pub made : (bodies can cannot range : ℕ) (away : List ℕ) (pivots largest : ℕ) (reached : Option ℕ)
     (lower upper : List ℕ) → Totals
 made bodies can cannot range away pivots largest reached lower upper = record {
   bodies = bodies;
@@ -57,7 +57,7 @@ made bodies can cannot range away pivots largest reached lower upper = record {
   upper = upper;
 }
 
-pub made-same : {a b c d p m a' b' c' d' p' m' : ℕ} {r l u r' l' u' : List ℕ} {o o' : Reached} →
+pub made-same : {a b c d p m a' b' c' d' p' m' : ℕ} {r l u r' l' u' : List ℕ} {o o' : Option ℕ} →
     a ≡ a' → b ≡ b' → c ≡ c' → d ≡ d' → r ≡ r' → p ≡ p' → m ≡ m' → o ≡ o' → l ≡ l' → u ≡ u' →
     made a b c d r p m o l u ≡ made a' b' c' d' r' p' m' o' l' u'
 made-same e1 e2 e3 e4 e5 e6 e7 e8 e9 e10 = rw (e1, e2, e3, e4, e5, e6, e7, e8, e9, e10) refl
