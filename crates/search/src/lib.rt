@@ -6,7 +6,7 @@ ghost use Rattle.std.specs.Prelude.{◌≡◌, false, ℕ, ◌+◌, ◌≤◌, �
 ghost use Rattle.whole.specs.Numbers.{Within};
 ghost use Rattle.rules.specs.Sizes.{most_columns, most_rows, most_variables, largest_number, largest_limit};
 ghost use Rattle.layout.specs.Layout.{entry_in};
-ghost use Rattle.search.specs.Search.{row_sum_in, Searchable, seen, next_at};
+ghost use Rattle.search.specs.Search.{row_sum_in, Searchable, seen, next_at, view_of};
 
 use amounts::{Amount, Value};
 use layout::{ColumnPlace, RowPlace};
@@ -23,6 +23,23 @@ pub struct View {
     pub smalls: [i32; Tableau::MOST_COLUMNS],
     pub basic: [Variable; Tableau::MOST_ROWS],
     pub seats: [Seat; Tableau::MOST_VARIABLES],
+}
+
+impl View {
+    /// What a step reads of this tableau.
+    pub fn of(t: &Tableau) -> View
+        ensures { result ≡ view_of t.now }
+    {
+        View {
+            rows: t.rows,
+            columns: t.columns,
+            common: t.common,
+            values: t.values,
+            smalls: t.smalls,
+            basic: t.basic,
+            seats: t.seats,
+        }
+    }
 }
 
 // How many rows and columns there are.
