@@ -9,7 +9,6 @@ ghost use Rattle.steps.specs.Step.{PutAt, Steppable, violated_pair, outcome_at};
 
 use amounts::{Given, Value};
 use layout::{ColumnPlace, RowPlace, Spot};
-use pivot::Pivoted;
 use pivot::asked::Asked;
 use search::{Blocked, Next, View};
 use tableau::{Limits, Tableau};
@@ -71,8 +70,8 @@ pub fn step(
             };
             let turned = pivot::pivot(entries, asked, next);
             match turned {
-                Pivoted::Common(after) => Outcome::Goes(row, column, value, after),
-                Pivoted::Beyond => Outcome::Ended(End::Range),
+                Some(after) => Outcome::Goes(row, column, value, after),
+                None => Outcome::Ended(End::Range),
             }
         }
     }

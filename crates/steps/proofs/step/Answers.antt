@@ -11,7 +11,7 @@ use mir.Syntax.{w32}
 use mir.Val.{SFits}
 use Rattle.whole.proofs.Bools.{zero_one}
 use Rattle.whole.proofs.Numbers.Sizes.{fits-by}
-use Rattle.pivot.specs.declared.Pivoted.TheVariants as pivots
+use Rattle.std.proofs.Common.{Some, None}
 use Rattle.tableau.specs.declared.Tableau.{Tableau}
 use Rattle.layout.specs.Layout.{live}
 use Rattle.pivot.specs.Pivot.{PutBy, pivoted_by}
@@ -43,11 +43,11 @@ pivot-turned-requires c =
 
 -- ---- what the pivot answers tells whether it is in range
 
-common-told : (b : Bool) (d z : ℤ) → pivoted_by b d ≡ pivots.Common z → (b ≡ true) × (d ≡ z)
+common-told : (b : Bool) (d z : ℤ) → pivoted_by b d ≡ Some z → (b ≡ true) × (d ≡ z)
 common-told true d z e = (refl, cc)
 common-told false d z e = let y : ◌≡◌ {A = ℕ} 0 1 = cc in zero_one y
 
-beyond-told : (b : Bool) (d : ℤ) → pivoted_by b d ≡ pivots.Beyond → b ≡ false
+beyond-told : (b : Bool) (d : ℤ) → pivoted_by b d ≡ None → b ≡ false
 beyond-told true d e = let y : ◌≡◌ {A = ℕ} 0 1 = cc in zero_one y
 beyond-told false d e = refl
 
@@ -78,8 +78,8 @@ returns-in-Stuck c = let t = seen c.args.entries.now c.args.view c.args.limits i
       numbers = subst (λ (n : Next). PutWhere t n c.args.next.now) (sym e) tt;
     }
 
-pub returns-in-Common : goal.returns-in-Common
-returns-in-Common c =
+pub returns-in-Some : goal.returns-in-Some
+returns-in-Some c =
     let t = seen c.args.entries.now c.args.view c.args.limits in
     let w = c.in-Pivot.choice in
     let e : next_at t ≡ nexts.Pivot w = sym c.in-Pivot.ensures in
@@ -88,8 +88,8 @@ returns-in-Common c =
     simp (to_z-of_z keeps) at c.pivot-turned.ensures.answer in
     let put : PutBy (fits_by t w) (live t.rows t.columns) (entries_moved t w) c.pivot-turned.new.next =
     simp (to_z-of_z keeps) at c.pivot-turned.ensures.numbers in
-    let z = c.in-Common.after in
-    let f = common-told (fits_by t w) (common_moved t w) z (sym told ∙ c.in-Common.is) in
+    let z = c.in-Some.after in
+    let f = common-told (fits_by t w) (common_moved t w) z (sym told ∙ c.in-Some.is) in
     let m = c.requires.steppable.movable w e in
     let fit : SFits w32 z = subst (SFits w32) f.1 (fits-by (fits-common m.pivotable f.0) tt) in record {
       answer = ap₂ (λ v z. outcomes.Goes w.row w.column v z) c.violated_limit-value.ensures
@@ -97,8 +97,8 @@ returns-in-Common c =
       numbers = put_is t w e c.pivot-turned.new.next put;
     }
 
-pub returns-in-Beyond : goal.returns-in-Beyond
-returns-in-Beyond c =
+pub returns-in-None : goal.returns-in-None
+returns-in-None c =
     let t = seen c.args.entries.now c.args.view c.args.limits in
     let w = c.in-Pivot.choice in
     let e : next_at t ≡ nexts.Pivot w = sym c.in-Pivot.ensures in
@@ -107,7 +107,7 @@ returns-in-Beyond c =
     simp (to_z-of_z keeps) at c.pivot-turned.ensures.answer in
     let put : PutBy (fits_by t w) (live t.rows t.columns) (entries_moved t w) c.pivot-turned.new.next =
     simp (to_z-of_z keeps) at c.pivot-turned.ensures.numbers in
-    let f = beyond-told (fits_by t w) (common_moved t w) (sym told ∙ c.in-Beyond.is) in record {
+    let f = beyond-told (fits_by t w) (common_moved t w) (sym told ∙ c.in-None.is) in record {
       answer = answer-is t w e false f;
       numbers = put_is t w e c.pivot-turned.new.next put;
     }
