@@ -1,12 +1,11 @@
 -- Reading by places: what is read of a text from a place on, in a state of the reader. The definition over token
 -- numbers is `read_text` of rules/specs/Exchange/Reader; `read-placed` says that both are the same.
-use Rattle.std.specs.Prelude.{List, [], ◌∷◌, ℕ, length}
+use Rattle.std.specs.Prelude.{List, [], ◌∷◌, ℕ, length, Ok, Err}
 use Rattle.std.proofs.Math.Option.{none, some}
 use Rattle.rules.specs.Exchange.Tokens.{Token}
 use Rattle.rules.specs.Exchange.Reader.{Got, ReaderState, TextOutcome, finish, got, pieces_words, refused_at, stuck}
 use Rattle.rules.specs.Exchange.Reader.{token_step, words}
-use Rattle.tokens.specs.declared.Followed.{Followed}
-use Rattle.tokens.specs.declared.Followed.TheVariants.{Halted, Reached}
+use Rattle.tokens.specs.Followed.{Followed}
 use Rattle.tokens.specs.Gaps.{tokens_from}
 
 -- at the end of the text, which has so many bytes
@@ -27,5 +26,5 @@ read_from t S at = placed (length t) S (tokens_from t at)
 
 -- .. and behind tokens that were followed
 unfoldable pub read_behind : List ℕ → ReaderState → Followed → TextOutcome
-read_behind t S (Reached p) = read_from t S p
-read_behind t S (Halted p) = refused_at p
+read_behind t S (Ok p) = read_from t S p
+read_behind t S (Err e) = refused_at e.place

@@ -1,204 +1,160 @@
 // The tokens of a text by places: where the next one starts and where it stops, and whether it is a given one.
 #![tactic(auto)]
 
-ghost use Rattle.std.specs.Prelude.{◌≡◌, ◌+◌, ◌-◌, ◌≤◌, ◌<◌, length};
+ghost use Rattle.std.specs.Prelude.{◌≡◌, ◌∷◌, [], ◌-◌, ◌≤◌, ◌<◌, length};
 ghost use Rattle.rules.specs.Program.Text.{digits, reading};
 ghost use Rattle.rules.specs.Exchange.Reader.{same_bytes};
 ghost use Rattle.rules.specs.Exchange.Tokens.{is_parenthesis, is_plain, token_bytes};
 ghost use Rattle.tokens.specs.Followed.{followed};
 ghost use Rattle.tokens.specs.Numeral.{short_numeral};
-ghost use Rattle.tokens.specs.Gaps.{noting, part, stands_between, start_at, stop_at};
+ghost use Rattle.tokens.specs.Gaps.{noting, stands_between, start_at, stop_at};
 
+#[tactic(auto, unfolding(rules::specs::Exchange::Tokens::is_parenthesis))]
 fn is_parenthesis(byte: u8) -> bool
     ensures { result ≡ is_parenthesis byte }
 {
-    (byte == 40) | (byte == 41)
+    matches!(byte, b'(' | b')')
 }
 
 // A byte of a run.
+#[tactic(auto, unfolding(rules::specs::Exchange::Tokens::is_plain, rules::specs::Exchange::Tokens::is_blank, rules::specs::Exchange::Tokens::is_parenthesis, rules::specs::Exchange::Tokens::is_comment))]
 fn is_plain(byte: u8) -> bool
     ensures { result ≡ is_plain byte }
 {
-    let blank = (byte == 9) | (byte == 10) | (byte == 13) | (byte == 32);
-    let parenthesis = (byte == 40) | (byte == 41);
-    !(blank | parenthesis | (byte == 59))
+    !matches!(byte, b'\t' | b'\n' | b'\r' | b' ' | b'(' | b')' | b';')
 }
 
 // Whether a byte stands between tokens; `noted` says that it is in a comment.
+#[tactic(auto, unfolding(crate::specs::Gaps::stands_between, rules::specs::Exchange::Tokens::is_blank, rules::specs::Exchange::Tokens::is_comment))]
 fn is_between(noted: bool, byte: u8) -> bool
     ensures { result ≡ stands_between noted byte }
 {
-    let blank = (byte == 9) | (byte == 10) | (byte == 13) | (byte == 32);
-    noted | (blank | (byte == 59))
+    noted || matches!(byte, b'\t' | b'\n' | b'\r' | b' ' | b';')
 }
 
 // Whether the next byte is in a comment.
+#[tactic(auto, unfolding(crate::specs::Gaps::noting, rules::specs::Exchange::Tokens::ends_line, rules::specs::Exchange::Tokens::is_comment))]
 fn is_noted(noted: bool, byte: u8) -> bool
     ensures { result ≡ noting noted byte }
 {
-    let ends = (byte == 10) | (byte == 13);
-    (noted & !ends) | (!noted & (byte == 59))
+    match byte {
+        b'\n' | b'\r' => false,
+        b';' => true,
+        _ => noted,
+    }
 }
 
-// The place of the next token, or the text's length.
+/// The place of the next token, or the text's length.
 pub fn start(text: &[u8], at: usize) -> usize
     requires { at ≤ length text.now }
     ensures { result ≡ start_at text.now at }
 {
-    let mut next = at;
     let mut noted = false;
-    while next < text.len() {
-        let byte = text[next];
+    for (i, &byte) in text[at..].iter().enumerate() {
         if !is_between(noted, byte) {
-            return next;
+            return at + i;
         }
         noted = is_noted(noted, byte);
-        next += 1;
     }
-    next
+    text.len()
 }
 
-// Where the token that starts at `at` stops.
+/// Where the token that starts at `at` stops.
 pub fn stop(text: &[u8], at: usize) -> usize
     requires { at < length text.now }
     ensures { result ≡ stop_at text.now at }
 {
-    let first = text[at];
-    let mut next = at + 1;
-    if is_parenthesis(first) {
-        return next;
+    let behind = at + 1;
+    if is_parenthesis(text[at]) {
+        return behind;
     }
-    while next < text.len() {
-        let byte = text[next];
+    for (i, &byte) in text[behind..].iter().enumerate() {
         if !is_plain(byte) {
-            return next;
+            return behind + i;
         }
-        next += 1;
     }
-    next
+    text.len()
 }
 
-// Whether the bytes from one place up to another are those of `word`.
-pub fn is(text: &[u8], from: usize, to: usize, word: &[u8]) -> bool
-    requires { (from ≤ to) × (to ≤ length text.now) }
-    ensures { result ≡ same_bytes word.now (part text.now from to) }
+/// A text has another token at this place than the one that is due there, or none.
+#[derive(Clone, Copy, Debug, PartialEq, Eq)]
+pub struct Halted {
+    pub place: usize,
+}
+
+/// Behind the token at `at` where it is `word`, or halted at it.
+#[tactic(auto, using(crate::proofs::Laws::Places::token_ends))]
+pub fn pass(text: &[u8], at: usize, word: &[u8]) -> Result<usize, Halted>
+    ensures { result ≡ followed text.now at (word.now ∷ []) }
 {
-    if to - from != word.len() {
-        return false;
+    if text.len() <= at {
+        return Err(Halted { place: at });
     }
-    let mut i = 0;
-    while i < word.len() {
-        let own = text[from + i];
-        let due = word[i];
-        if due != own {
-            return false;
-        }
-        i += 1;
+    let end = stop(text, at);
+    if word != &text[at..end] {
+        return Err(Halted { place: at });
     }
-    true
+    Ok(start(text, end))
 }
 
-// Where the tokens of a script were followed to, or the place of the first that is not there.
-#[derive(Clone, Copy)]
-pub enum Followed {
-    Reached(usize),
-    Halted(usize),
-}
-
-// Follows the tokens of `script` from the token at `at` on, or from the end.
-pub fn follow(text: &[u8], at: usize, script: &[u8]) -> Followed
+/// Follows the tokens of `script` from the token at `at` on, or from the end: behind all of them, or halted at the first
+/// that is not there.
+#[tactic(auto, using(crate::proofs::Laws::Places::token_ends))]
+pub fn follow(text: &[u8], at: usize, script: &[u8]) -> Result<usize, Halted>
     requires { (at ≤ length text.now) × (start_at text.now at ≡ at) }
     ensures { result ≡ followed text.now at (token_bytes script.now) }
 {
     let mut next = at;
     let mut due = start(script, 0);
     while due < script.len() {
-        if text.len() <= next {
-            return Followed::Halted(next);
-        }
-        let end = stop(text, next);
         let last = stop(script, due);
-        if !is(text, next, end, &script[due..last]) {
-            return Followed::Halted(next);
-        }
-        next = start(text, end);
+        next = pass(text, next, &script[due..last])?;
         due = start(script, last);
     }
-    Followed::Reached(next)
+    Ok(next)
 }
 
-// A byte as a number.
-fn wide(byte: u8) -> u64
-    ensures { result ≡ byte }
+/// Whether a token's bytes are the digits of `value`.
+pub fn is_decimal(token: &[u8], value: u64) -> bool
+    ensures { result ≡ same_bytes (digits value) token.now }
 {
-    byte as u64
-}
-
-// Whether the bytes from one place up to another are the digits of `value`, the last one looked at first.
-pub fn is_decimal(text: &[u8], from: usize, to: usize, value: u64) -> bool
-    requires { (from ≤ to) × (to ≤ length text.now) }
-    ensures { result ≡ same_bytes (digits value) (part text.now from to) }
-{
-    let mut rest = value;
-    let mut end = to;
-    while from < end {
-        end -= 1;
-        let byte = wide(text[end]);
-        if rest < 10 {
-            if end != from {
-                return false;
+    match token {
+        [] => false,
+        [front @ .., last] => {
+            if value < 10 {
+                return front.is_empty() && 48 + value == u64::from(*last);
             }
-            return 48 + rest == byte;
+            48 + value % 10 == u64::from(*last) && is_decimal(front, value / 10)
         }
-        if 48 + rest % 10 != byte {
-            return false;
-        }
-        rest = rest / 10;
     }
-    false
 }
 
 // The value of a byte as a digit.
 fn digit_of(byte: u8) -> u64
     ensures { (result ≡ byte - 48) × (result ≤ 207) }
 {
-    if byte < 48 {
-        return 0;
-    }
-    wide(byte) - 48
+    u64::from(byte.saturating_sub(b'0'))
 }
 
-// The value of the bytes from one place up to another, five at most, as digits.
-fn value_of(text: &[u8], from: usize, to: usize) -> u64
-    requires { (from ≤ to) × (to ≤ length text.now) × (to ≤ from + 5) }
-    ensures { result ≡ reading 0 (part text.now from to) }
+// The value of a token of at most five bytes, as digits.
+fn value_of(token: &[u8]) -> u64
+    requires { length token.now ≤ 5 }
+    ensures { result ≡ reading 0 token.now }
 {
     let mut value = 0;
-    let mut next = from;
-    while next < to {
-        value = 10 * value + digit_of(text[next]);
-        next += 1;
+    for &byte in token {
+        value = 10 * value + digit_of(byte);
     }
     value
 }
 
-// A token's number, where it is one of at most five digits.
-#[derive(Drop)]
-pub enum NumberRead {
-    Number(u64),
-    Nothing,
-}
-
-pub fn numeral(text: &[u8], from: usize, to: usize) -> NumberRead
-    requires { (from ≤ to) × (to ≤ length text.now) }
-    ensures { result ≡ short_numeral (part text.now from to) }
+/// A token's number, where it is one of at most five digits.
+pub fn numeral(token: &[u8]) -> Option<u64>
+    ensures { result ≡ short_numeral token.now }
 {
-    if 5 < to - from {
-        return NumberRead::Nothing;
+    if 5 < token.len() {
+        return None;
     }
-    let value = value_of(text, from, to);
-    if is_decimal(text, from, to, value) {
-        return NumberRead::Number(value);
-    }
-    NumberRead::Nothing
+    let value = value_of(token);
+    is_decimal(token, value).then_some(value)
 }

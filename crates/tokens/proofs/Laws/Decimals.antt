@@ -1,22 +1,15 @@
 -- Bytes compared with the digits of a number, the last one first.
---   decimal-far, decimal-here     one digit that is left, and more bytes, or one
---   decimal-other, decimal-more   another last digit; the same, and what is left of both
---   decimal-none                  no byte is left
-use mathlib.Core.Bool.{Bool, true, false, ◌&&◌}
-use mathlib.Core.List.{List, [], ◌∷◌, ◌++◌}
-use mathlib.Core.Path.{◌≡◌, refl, sym, ◌∙◌, ap, subst}
-use Prim.Native.Nat.{ℕ, zero, suc, ◌+◌, ◌-◌, ◌*◌, ◌/◌, ◌%◌, ◌≤◌, ◌<◌}
+--   decimal-none                no byte is left
+--   decimal-one, decimal-more   the last digit, and those before it
+--   value-more, most-more       the value of one byte more, and how large it is
+use Rattle.std.proofs.Common.{◌≡◌, refl, sym, ◌∙◌, ap, subst, arith, Bool, true, false, ◌&&◌, List, [], ◌∷◌, ◌++◌, ℕ}
+use Rattle.std.proofs.Common.{zero, suc, ◌+◌, ◌-◌, ◌*◌, ◌/◌, ◌%◌, ◌≤◌, ◌<◌, eqb, get_or, length, take, add-one}
 use native.Mathlib.Decide.{dec_lt}
-use native.Mathlib.Omega.{arith}
-use borrow.Author.Tests.{eq-eqb, ne_eqb}
-use lib.Dec.{eqb}
-use lib.ListN.{drop, get_or, length, length-drop, take}
-use lib.Seq.{get_or-drop, take-suc}
+use borrow.Author.Tests.{ne_eqb}
+use Rattle.std.proofs.Math.Seq.{take-length, take-suc}
 use Rattle.rules.specs.Program.Text.{digit, digits, reading}
 use Rattle.rules.proofs.Program.Numbers.{digits_more, digits-one, reading-last}
 use Rattle.rules.specs.Exchange.Reader.{same_bytes}
-use Rattle.tokens.specs.Gaps.{part}
-use Rattle.tokens.proofs.Laws.Parts.{part_length}
 
 and_none : (b : Bool) → (b && false) ≡ false
 and_none true = refl
@@ -65,65 +58,41 @@ module _ (k : ℕ) where
       go (yes h) = ap (λ v. same_bytes v []) (digits-one k h) ∙ more-none [] (digit k)
       go (no h) = ap (λ v. same_bytes v []) (digits_more k (omega arith)) ∙ more-none (digits (k / 10)) (digit (k % 10))
 
-part-last : (t : List ℕ) (from end : ℕ) → from ≤ end → end < length t →
-    part t from (end + 1) ≡ part t from end ++ (get_or t end 0 ∷ [])
-unfolding part
-part-last t from end h l =
-    ap (λ k. take k (drop from t)) (let z : end + 1 - from ≡ suc (end - from) = omega arith in z)
-    ∙ take-suc (drop from t) (end - from) 0 (omega (arith, length-drop from t))
-    ∙ ap (λ b. take (end - from) (drop from t) ++ (b ∷ []))
-    (get_or-drop from t (end - from) 0 ∙ ap (λ k. get_or t k 0) (let z : from + (end - from) ≡ end = omega arith in z))
+-- ---- a token by its last byte, and those before it
 
-pub part_none : (t : List ℕ) (from : ℕ) → part t from from ≡ []
-unfolding part
-part_none t from = ap (λ k. take k (drop from t)) (let z : from - from ≡ 0 = omega arith in z)
+abbrev pub front : List ℕ → List ℕ
+front w = take (length w - 1) w
 
--- ---- for a loop: the bytes from `from` up to `end`, and the digits of what is left
+abbrev pub last : List ℕ → ℕ
+last w = get_or w (length w - 1) 0
 
-abbrev pub Decimal : List ℕ → ℕ → ℕ → ℕ → Bool
-Decimal t from end rest = same_bytes (digits rest) (part t from end)
+split_last : (w : List ℕ) → 0 < length w → w ≡ front w ++ (last w ∷ [])
+split_last w h =
+    sym (take-length w)
+    ∙ ap (λ k. take k w) (let z : length w ≡ suc (length w - 1) = omega arith in z)
+    ∙ take-suc w (length w - 1) 0 (omega arith)
 
-pub decimal-none : (t : List ℕ) (from rest : ℕ) → Decimal t from from rest ≡ false
-decimal-none t from rest = ap (same_bytes (digits rest)) (part_none t from) ∙ none_left rest
+pub decimal-none : (k : ℕ) (w : List ℕ) → length w < 1 → same_bytes (digits k) w ≡ false
+decimal-none k [] h = none_left k
+decimal-none k (b ∷ w) h = absurd (omega arith)
 
-module _ (t : List ℕ) (from end rest : ℕ) (h : from ≤ end) (l : end < length t) where
-  last_byte : Decimal t from (end + 1) rest ≡ same_bytes (digits rest) (part t from end ++ (get_or t end 0 ∷ []))
-  last_byte = ap (same_bytes (digits rest)) (part-last t from end h l)
+module _ (k : ℕ) (w : List ℕ) (h : 0 < length w) where
+  pub decimal-one : k < 10 → same_bytes (digits k) w ≡ (same_bytes [] (front w) && eqb (48 + k) (last w))
+  decimal-one few = ap (same_bytes (digits k)) (split_last w h) ∙ decimal-single k (front w) (last w) few
 
-  pub decimal-far : rest < 10 → (end ≡ from → ⊥) → Decimal t from (end + 1) rest ≡ false
-  unfolding same_bytes
-  decimal-far few n =
-      last_byte ∙ decimal-single rest (part t from end) (get_or t end 0) few
-      ∙ ap (λ b. b && eqb (digit rest) (get_or t end 0))
-      (filled (part t from end) (part_length t from end (omega arith)))
-    where
-      filled : (s : List ℕ) → length s ≡ end - from → same_bytes [] s ≡ false
-      filled [] e = let o : ⊥ = omega arith in absurd o
-      filled (b ∷ s) e = refl
+  pub decimal-more : 10 ≤ k →
+      same_bytes (digits k) w ≡ (same_bytes (digits (k / 10)) (front w) && eqb (48 + k % 10) (last w))
+  decimal-more many = ap (same_bytes (digits k)) (split_last w h) ∙ decimal-last k (front w) (last w) many
 
-  pub decimal-here : rest < 10 → end ≡ from → Decimal t from (end + 1) rest ≡ eqb (48 + rest) (get_or t end 0)
-  unfolding same_bytes
-  decimal-here few e =
-      last_byte ∙ decimal-single rest (part t from end) (get_or t end 0) few
-      ∙ ap (λ s. same_bytes [] s && eqb (digit rest) (get_or t end 0)) (ap (part t from) e ∙ part_none t from)
-
-  pub decimal-other : 10 ≤ rest → (48 + rest % 10 ≡ get_or t end 0 → ⊥) → Decimal t from (end + 1) rest ≡ false
-  decimal-other many n =
-      last_byte ∙ decimal-last rest (part t from end) (get_or t end 0) many
-      ∙ ap (λ b. Decimal t from end (rest / 10) && b) (ne_eqb (48 + rest % 10) (get_or t end 0) n)
-      ∙ and_none (Decimal t from end (rest / 10))
-
-  pub decimal-more : 10 ≤ rest → 48 + rest % 10 ≡ get_or t end 0 →
-      Decimal t from (end + 1) rest ≡ Decimal t from end (rest / 10)
-  decimal-more many e =
-      last_byte ∙ decimal-last rest (part t from end) (get_or t end 0) many
-      ∙ ap (λ b. Decimal t from end (rest / 10) && b) (eq-eqb (48 + rest % 10) (get_or t end 0) e)
-      ∙ and-all (Decimal t from end (rest / 10))
+pub nothing-same : (w : List ℕ) → same_bytes [] w ≡ eqb (length w) 0
+unfolding same_bytes
+nothing-same [] = refl
+nothing-same (b ∷ w) = sym (ne_eqb (suc (length w)) 0 (omega arith))
 
 -- ---- the value of some bytes
 
 -- how large that of k bytes is at most
-pub most : ℕ → ℕ
+abbrev pub most : ℕ → ℕ
 most zero = 0
 most (suc k) = 10 * most k + 207
 
@@ -136,16 +105,13 @@ most-few (suc (suc (suc zero))) h = omega arith
 most-few (suc (suc (suc (suc zero)))) h = omega arith
 most-few (suc (suc (suc (suc (suc k))))) h = let o : ⊥ = omega arith in absurd o
 
-module _ (t : List ℕ) (from next value : ℕ) (h : from ≤ next) (l : next < length t) where
-  pub value-more : value ≡ reading 0 (part t from next) →
-      10 * value + (get_or t next 0 - 48) ≡ reading 0 (part t from (next + 1))
+module _ (w : List ℕ) (i value : ℕ) (l : i < length w) where
+  pub value-more : value ≡ reading 0 (take i w) → 10 * value + (get_or w i 0 - 48) ≡ reading 0 (take (i + 1) w)
   value-more e =
-      ap (λ v. 10 * v + (get_or t next 0 - 48)) e
-      ∙ sym (reading-last 0 (part t from next) (get_or t next 0))
-      ∙ ap (reading 0) (sym (part-last t from next h l))
+      ap (λ v. 10 * v + (get_or w i 0 - 48)) e
+      ∙ sym (reading-last 0 (take i w) (get_or w i 0))
+      ∙ ap (reading 0) (sym (take-suc w i 0 l) ∙ ap (λ k. take k w) (sym (add-one i)))
 
-  pub most-more : value ≤ most (next - from) → (d : ℕ) → d ≤ 207 → 10 * value + d ≤ most (next + 1 - from)
-  unfolding most
-  most-more few d q =
-      subst (λ k. 10 * value + d ≤ most k) (let z : suc (next - from) ≡ next + 1 - from = omega arith in z)
-      (omega arith)
+pub most-more : (i value d : ℕ) → value ≤ most i → d ≤ 207 → 10 * value + d ≤ most (i + 1)
+unfolding most
+most-more i value d few q = subst (λ k. 10 * value + d ≤ most k) (sym (add-one i)) (omega arith)

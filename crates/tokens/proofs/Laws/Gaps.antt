@@ -32,10 +32,10 @@ run-stopped b t e = rw (e, run_length) refl
 
 module _ (t : List ℕ) (k : ℕ) where
   pub gap-in : (noted : Bool) → k < length t → stands_between noted (get_or t k 0) ≡ true →
-      k + gap_length noted (drop k t) ≡ suc k + gap_length (noting noted (get_or t k 0)) (drop (suc k) t)
+      k + gap_length noted (drop k t) ≡ k + 1 + gap_length (noting noted (get_or t k 0)) (drop (k + 1) t)
   gap-in noted h e =
       ap (λ l. k + gap_length noted l) (drop-cons t k 0 h)
-      ∙ ap (λ n. k + n) (gap-passed noted (get_or t k 0) (drop (suc k) t) e) ∙ (omega arith)
+      ∙ ap (λ n. k + n) (gap-passed noted (get_or t k 0) (drop (suc k) t) e) ∙ (rw add-one (omega arith))
 
   pub gap-out : (noted : Bool) → k < length t → stands_between noted (get_or t k 0) ≡ false →
       k + gap_length noted (drop k t) ≡ k
@@ -48,10 +48,10 @@ module _ (t : List ℕ) (k : ℕ) where
   gap-end noted h = ap (λ l. k + gap_length noted l) (drop_of_length-le t h) ∙ (omega arith)
 
   pub run_in : k < length t → is_plain (get_or t k 0) ≡ true → k + run_length (drop k t)
-      ≡ suc k + run_length (drop (suc k) t)
+      ≡ k + 1 + run_length (drop (k + 1) t)
   run_in h e =
       ap (λ l. k + run_length l) (drop-cons t k 0 h)
-      ∙ ap (λ n. k + n) (run-passed (get_or t k 0) (drop (suc k) t) e) ∙ (omega arith)
+      ∙ ap (λ n. k + n) (run-passed (get_or t k 0) (drop (suc k) t) e) ∙ (rw add-one (omega arith))
 
   pub run_out : k < length t → is_plain (get_or t k 0) ≡ false → k + run_length (drop k t) ≡ k
   run_out h e =

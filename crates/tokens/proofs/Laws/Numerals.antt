@@ -1,5 +1,5 @@
 -- A token as a number, by its value and its digits.
---   short-long, short-some, short_none   too long; its value's digits; and not
+--   short-long, short-read               too long; and by its value, whose digits it is or not
 --   long-refused                         too long, no number can stand there
 use mathlib.Core.Bool.{Bool, true, false, not, ◌&&◌}
 use mathlib.Core.List.{List}
@@ -20,26 +20,31 @@ use Rattle.rules.proofs.Program.Numbers.{digits-short}
 use Rattle.rules.specs.Exchange.Reader.{Bytes, Spot, admitted, all_zero, coefficient, fits, limit, numeral, same_bytes}
 use Rattle.rules.specs.Exchange.Reader.{with_sign}
 use Rattle.rules.proofs.Exchange.Reader.Openings.{numeral-some}
-use Rattle.tokens.specs.declared.NumberRead.TheVariants.{Nothing, Number}
+use Rattle.std.specs.Prelude.{Some, None}
+use Rattle.std.specs.Bool.{then_some}
 use Rattle.tokens.specs.Numeral.{numeral_of, short_numeral}
 
 module _ (w : List ℕ) where
-  pub short-long : 5 < length w → short_numeral w ≡ Nothing
+  pub short-long : 5 < length w → short_numeral w ≡ None
   unfolding short_numeral
   short-long h = rw (lt-ltb 5 (length w) h) refl
 
   module _ (h : length w ≤ 5) (value : ℕ) (e : value ≡ reading 0 w) where
-    pub short-some : same_bytes (digits value) w ≡ true → short_numeral w ≡ Number value
+    short-some : same_bytes (digits value) w ≡ true → short_numeral w ≡ Some value
     unfolding short_numeral numeral numeral_of
     short-some q =
         let same : same_bytes (digits (reading 0 w)) w ≡ true = sym (ap (λ k. same_bytes (digits k) w) e) ∙ q in
-        rw (le-ltb 5 (length w) h, same) (ap Number (sym e))
+        rw (le-ltb 5 (length w) h, same) (ap Some (sym e))
 
-    pub short_none : same_bytes (digits value) w ≡ false → short_numeral w ≡ Nothing
+    short_none : same_bytes (digits value) w ≡ false → short_numeral w ≡ None
     unfolding short_numeral numeral numeral_of
     short_none q =
         let other : same_bytes (digits (reading 0 w)) w ≡ false = sym (ap (λ k. same_bytes (digits k) w) e) ∙ q in
         rw (le-ltb 5 (length w) h, other) refl
+
+    pub short-read : {b : Bool} → b ≡ same_bytes (digits value) w → then_some b value ≡ short_numeral w
+    short-read {b = true} q = sym (short-some (sym q))
+    short-read {b = false} q = sym (short_none (sym q))
 
 -- ---- a token of more than five bytes is no number that fits
 

@@ -1,6 +1,7 @@
 -- Where gaps and tokens may end.
 --   start-most, start-least, stop-ends  not past the text's end; not before; a token has a byte
 --   start-again                         no gap starts behind one
+--   token_ends                          for slices of a token
 use mathlib.Core.Bool.{Bool, true, false}
 use mathlib.Core.List.{List, [], ◌∷◌}
 use mathlib.Core.Path.{◌≡◌, refl, sym, ◌∙◌, ap}
@@ -79,3 +80,5 @@ module _ (t : List ℕ) (at : ℕ) where
       let w = width-short (get_or t at 0) (drop (suc at) t) in
       let e : width (drop at t) ≡ width (get_or t at 0 ∷ drop (suc at) t) = ap width (drop-cons t at 0 h) in
       omega (arith, w, e, length-drop (suc at) t)
+
+pub ruleset token_ends = (stop-ends, start-least)

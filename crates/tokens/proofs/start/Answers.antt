@@ -1,37 +1,32 @@
--- `tokens::start` meets its contract. The loop's invariant: from `next` on, in a comment or not, the gap ends where
--- that from `at` on does. The measure is what is left of the text. Assumes nothing.
-use mathlib.Core.Path.{refl, sym, ◌∙◌, ap₂}
-use Prim.Native.Nat.{◌+◌}
-use native.Mathlib.Omega.{arith}
-use native.Mathlib.Numerals.{add-one}
-use lib.ListN.{drop}
+-- `tokens::start` meets its contract. The loop's invariant: from the next byte on, in a comment or not, the gap ends
+-- where that from `at` on does. Assumes nothing.
+use Rattle.std.proofs.Common.{sym, ◌∙◌, ◌+◌, ap, arith, length, length-drop, false}
 use Rattle.tokens.specs.Gaps.{gap_length, start_at}
 use Rattle.tokens.proofs.Laws.Gaps.{gap-end, gap-in, gap-out}
+use Rattle.tokens.proofs.Laws.Parts.{rest-all}
 use Rattle.tokens.proofs.start.Goals as goal
 
-pub loop-next-init : goal.loop-next-init
-unfolding start_at
-loop-next-init c = (omega arith, refl)
+pub loop-i-init : goal.loop-i-init
+loop-i-init c = omega (arith, ap (gap_length false) (rest-all c.args.text.now c.args.at))
 
 pub returns-then-not-is_between : goal.returns-then-not-is_between
+unfolding start_at
 returns-then-not-is_between c =
-    sym
-    (c.loop-next.invariant.1
-    ∙ gap-out c.args.text.now c.loop-next.next c.loop-next.noted (omega arith)
-    (sym c.is_between.ensures ∙ c.if-not-is_between.true))
+    ap (λ k. c.args.at + k)
+    (sym
+    (c.loop-i.invariant
+    ∙ gap-out _ c.loop-i.i c.loop-i.noted c.loop-i-test.true
+    (sym c.is_between.ensures ∙ c.if-not-is_between.true)))
 
-pub loop-next-preserved : goal.loop-next-preserved
-loop-next-preserved c =
-    let t = c.args.text.now in (
-      omega arith,
-      c.loop-next.invariant.1
-          ∙ gap-in t c.loop-next.next c.loop-next.noted (omega arith)
-          (sym c.is_between.ensures ∙ c.if-not-is_between.false)
-          ∙ ap₂ (λ k b. k + gap_length b (drop k t)) (sym (add-one c.loop-next.next)) (sym c.is_noted-noted.ensures),
-    )
+pub loop-i-preserved : goal.loop-i-preserved
+loop-i-preserved c =
+    let h = c.loop-i.invariant
+    ∙ gap-in _ c.loop-i.i c.loop-i.noted c.loop-i-test.true
+    (sym c.is_between.ensures ∙ c.if-not-is_between.false) in
+    rw c.is_noted-noted.ensures h
 
 pub returns : goal.returns
+unfolding start_at
 returns c =
-    sym
-    (c.loop-next.invariant.1
-    ∙ gap-end c.args.text.now c.loop-next.next c.loop-next.noted (omega arith))
+    let rest = c.loop-i.invariant ∙ gap-end _ c.loop-i.i c.loop-i.noted c.loop-i-test.false in
+    omega (arith, rest, ap length (rest-all c.args.text.now c.args.at), length-drop c.args.at c.args.text.now)
