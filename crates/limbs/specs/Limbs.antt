@@ -79,3 +79,7 @@ unfoldable pub pick : ℤ → ℤ → ℤ
 pick (pos zero) rest = rest
 pick (pos (suc n)) rest = pos (suc n)
 pick (negsuc n) rest = negsuc n
+
+-- a fact of the limbs of two numbers, place by place
+abbrev pub AtEachLimb : (ℤ → ℤ → Type 0) → Wide → Wide → Type 0
+AtEachLimb fact v w = fact v.a w.a × fact v.b w.b × fact v.c w.c × fact v.d w.d

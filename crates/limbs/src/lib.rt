@@ -5,11 +5,12 @@
 
 ghost use Rattle.std.specs.Prelude.{◌≡◌, pos};
 ghost use Rattle.whole.specs.Numbers.{Within, eq_z, is_pos};
-ghost use Rattle.rules.specs.Sizes.{largest_limit};
-ghost use Rattle.limbs.specs.Limbs.{LimbsWithin, less_of, most_factor, most_sum, of_number, pick, plus_of, sign_of};
-ghost use Rattle.limbs.specs.Limbs.{settled_of, scaled_of, value, zero_wide};
+ghost use Rattle.rules.specs.Sizes.{largest_limit, limb_turn};
+ghost use Rattle.std.specs.Int.Signed.{quot_z, rem_z};
+ghost use Rattle.limbs.specs.Limbs.{AtEachLimb, Carried, LimbsWithin, less_of, most_factor, most_sum, of_number};
+ghost use Rattle.limbs.specs.Limbs.{plus_of, settled_of, scaled_of, sign_of, value, zero_wide};
 
-#[derive(Clone, Copy)]
+#[derive(Clone, Copy, Debug, Default, PartialEq, Eq)]
 pub struct Wide {
     pub a: i64,
     pub b: i64,
@@ -17,27 +18,12 @@ pub struct Wide {
     pub d: i64,
 }
 
-// The sign of a number: -1, 0 or 1.
-fn sign_of(z: i64) -> i64
-    ensures { result ≡ sign_of z }
+// What is left of a number below 2^32, and what is carried.
+fn parts(z: i64) -> (i64, i64)
+    ensures left { result.0 ≡ rem_z z (pos limb_turn) }
+    ensures carried { result.1 ≡ quot_z z (pos limb_turn) }
 {
-    if z < 0 {
-        return -1;
-    }
-    if 0 < z {
-        return 1;
-    }
-    0
-}
-
-// A sign, or where it is 0 that of what counts less.
-fn first_of(sign: i64, rest: i64) -> i64
-    ensures { result ≡ pick sign rest }
-{
-    if sign == 0 {
-        return rest;
-    }
-    sign
+    (z % Wide::TURN, z / Wide::TURN)
 }
 
 impl Wide {
@@ -58,13 +44,23 @@ impl Wide {
     pub fn of(z: i64) -> Wide
         ensures { result ≡ of_number z }
     {
-        let low = z % Wide::TURN;
-        let high = z / Wide::TURN;
+        let (a, b) = parts(z);
+        Wide { a, b, c: 0, d: 0 }
+    }
+
+    // What is made of each limb and the same limb of another number.
+    fn with<F: Fn(i64, i64) -> i64>(self, other: Wide, make: F) -> Wide
+        requires { AtEachLimb (F.pre make) self other }
+        ensures a { F.post make self.a other.a result.a }
+        ensures b { F.post make self.b other.b result.b }
+        ensures c { F.post make self.c other.c result.c }
+        ensures d { F.post make self.d other.d result.d }
+    {
         Wide {
-            a: low,
-            b: high,
-            c: 0,
-            d: 0,
+            a: make(self.a, other.a),
+            b: make(self.b, other.b),
+            c: make(self.c, other.c),
+            d: make(self.d, other.d),
         }
     }
 
@@ -72,22 +68,14 @@ impl Wide {
         requires { (LimbsWithin self most_sum) × (LimbsWithin other most_sum) }
         ensures { result ≡ plus_of self other }
     {
-        let a = self.a + other.a;
-        let b = self.b + other.b;
-        let c = self.c + other.c;
-        let d = self.d + other.d;
-        Wide { a, b, c, d }
+        self.with(other, |x, y| x + y)
     }
 
     pub fn less(self, other: Wide) -> Wide
         requires { (LimbsWithin self most_sum) × (LimbsWithin other most_sum) }
         ensures { result ≡ less_of self other }
     {
-        let a = self.a - other.a;
-        let b = self.b - other.b;
-        let c = self.c - other.c;
-        let d = self.d - other.d;
-        Wide { a, b, c, d }
+        self.with(other, |x, y| x - y)
     }
 
     // A small multiple.
@@ -96,11 +84,12 @@ impl Wide {
         ensures { result ≡ scaled_of k self }
     {
         let by = k as i64;
-        let a = by * self.a;
-        let b = by * self.b;
-        let c = by * self.c;
-        let d = by * self.d;
-        Wide { a, b, c, d }
+        Wide {
+            a: by * self.a,
+            b: by * self.b,
+            c: by * self.c,
+            d: by * self.d,
+        }
     }
 
     // The same number after its carries.
@@ -108,13 +97,31 @@ impl Wide {
         requires { LimbsWithin self most_sum }
         ensures { result ≡ settled_of self }
     {
-        let a = self.a % Wide::TURN;
-        let second = self.b + self.a / Wide::TURN;
-        let b = second % Wide::TURN;
-        let third = self.c + second / Wide::TURN;
-        let c = third % Wide::TURN;
-        let d = self.d + third / Wide::TURN;
-        Wide { a, b, c, d }
+        let (a, carry) = parts(self.a);
+        let (b, carry) = parts(self.b + carry);
+        let (c, carry) = parts(self.c + carry);
+        Wide {
+            a,
+            b,
+            c,
+            d: self.d + carry,
+        }
+    }
+
+    // The highest limb that is not 0.
+    fn highest(self) -> i64
+        requires { Carried self }
+        ensures { sign_of result ≡ sign_of (value self) }
+    {
+        if self.d != 0 {
+            self.d
+        } else if self.c != 0 {
+            self.c
+        } else if self.b != 0 {
+            self.b
+        } else {
+            self.a
+        }
     }
 
     // The sign of the number: -1, 0 or 1.
@@ -122,10 +129,7 @@ impl Wide {
         requires { LimbsWithin self most_sum }
         ensures { result ≡ sign_of (value self) }
     {
-        let s = self.settled();
-        let top = first_of(sign_of(s.d), sign_of(s.c));
-        let next = first_of(top, sign_of(s.b));
-        first_of(next, sign_of(s.a))
+        self.settled().highest().signum()
     }
 
     // Whether it is 0.
@@ -133,8 +137,7 @@ impl Wide {
         requires { LimbsWithin self most_sum }
         ensures { result ≡ eq_z (value self) (pos 0) }
     {
-        let sign = self.sign();
-        sign == 0
+        self.sign() == 0
     }
 
     // Whether it is above 0.
@@ -142,7 +145,6 @@ impl Wide {
         requires { LimbsWithin self most_sum }
         ensures { result ≡ is_pos (value self) }
     {
-        let sign = self.sign();
-        0 < sign
+        self.sign() > 0
     }
 }

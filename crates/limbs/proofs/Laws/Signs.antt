@@ -1,7 +1,9 @@
 -- The sign of a number by its limbs.
 --   sign-over        a limb below 2^32 has the sign where what is above it is 0
---   sign-limbs       so the highest limb that is not 0 has it
+--   sign-limbs, highest-d, highest-c, ..       so the highest limb that is not 0 has it
+--   signum-sign      the library's sign is the sign
 --   sign_zero, sign_above, sign_below       the sign is 0, above or below 0 exactly where the number is
+use mathlib.Core.Logic.{◌≢◌}
 use mathlib.Core.List.{[], ◌∷◌}
 use mathlib.Core.Path.{ap, refl, sym, ◌∙◌, ◌≡◌}
 use Prim.Native.Nat.{suc, zero, ◌<◌}
@@ -9,6 +11,7 @@ use native.Mathlib.Omega.{arith}
 use lib.Dec.{ltb→lt}
 use lib.IntN.{nat_abs, negsuc, pos, ℤ, ◌*ℤ◌, ◌+ℤ◌}
 use lib.Signed.{<ℤ_irrefl, lt_z, ◌<ℤ◌}
+use Rattle.std.specs.Int.{int_signum}
 use Rattle.whole.proofs.Numbers.Order.{Sign, minus, null, plus, sign}
 use Rattle.whole.proofs.Numbers.Sizes.{within-hi, within-lo}
 use Rattle.whole.proofs.Ring.Nonneg.{nn-nat, of_le, of_lt, slk, ◌⊞◌, ◌⊠◌}
@@ -63,6 +66,57 @@ pub sign-limbs : (w : Wide) → Carried w →
 sign-limbs w S = sym (sign-over w.a _ S.under-a
     ∙ ap (λ s. pick s (sign_of w.a)) (sign-over w.b _ S.under-b
     ∙ ap (λ s. pick s (sign_of w.b)) (sign-over w.c w.d S.under-c)))
+
+-- so the highest limb that is not 0 has it
+pick-some : (z rest : ℤ) → z ≢ pos 0 → pick (sign_of z) rest ≡ sign_of z
+unfolding pick sign_of
+pick-some (pos zero) rest n = absurd (n refl)
+pick-some (pos (suc n)) rest h = refl
+pick-some (negsuc n) rest h = refl
+
+pick-none : (z rest : ℤ) → z ≡ pos 0 → pick (sign_of z) rest ≡ rest
+unfolding pick sign_of
+pick-none z rest e = rw e refl
+
+module _ (w : Wide) (S : Carried w) where
+  pub highest-d : w.d ≢ pos 0 → sign_of w.d ≡ sign_of (value w)
+  highest-d n = rw (
+    ← sign-limbs w S,
+    pick-some w.d (sign_of w.c) n,
+    pick-some w.d (sign_of w.b) n,
+    pick-some w.d (sign_of w.a) n,
+  )
+
+  pub highest-c : w.d ≡ pos 0 → w.c ≢ pos 0 → sign_of w.c ≡ sign_of (value w)
+  highest-c d n = rw (
+    ← sign-limbs w S,
+    pick-none w.d (sign_of w.c) d,
+    pick-some w.c (sign_of w.b) n,
+    pick-some w.c (sign_of w.a) n,
+  )
+
+  pub highest-b : w.d ≡ pos 0 → w.c ≡ pos 0 → w.b ≢ pos 0 → sign_of w.b ≡ sign_of (value w)
+  highest-b d c n = rw (
+    ← sign-limbs w S,
+    pick-none w.d (sign_of w.c) d,
+    pick-none w.c (sign_of w.b) c,
+    pick-some w.b (sign_of w.a) n,
+  )
+
+  pub highest-a : w.d ≡ pos 0 → w.c ≡ pos 0 → w.b ≡ pos 0 → sign_of w.a ≡ sign_of (value w)
+  highest-a d c b = rw (
+    ← sign-limbs w S,
+    pick-none w.d (sign_of w.c) d,
+    pick-none w.c (sign_of w.b) c,
+    pick-none w.b (sign_of w.a) b,
+  )
+
+-- the library's sign is the sign
+pub signum-sign : (z : ℤ) → int_signum z ≡ sign_of z
+unfolding sign_of
+signum-sign (pos zero) = refl
+signum-sign (pos (suc n)) = ap pos (omega arith)
+signum-sign (negsuc n) = refl
 
 pub sign_zero : (z : ℤ) → eq_z (sign_of z) (pos 0) ≡ eq_z z (pos 0)
 unfolding sign_of

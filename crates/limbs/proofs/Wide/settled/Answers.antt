@@ -1,182 +1,91 @@
 -- `limbs::Wide::settled` meets its contract: no limb with what is carried to it is beyond 2^62. Assumes nothing.
-use borrow.Author.Rules.{rules}
-use Prim.Native.Nat.{◌+◌}
-use lib.Dec.{lit<}
-use lib.IntN.{pos, ℤ, ◌+ℤ◌}
+use Rattle.std.proofs.Common.{◌≡◌, ap, ◌∙◌, ◌+◌, ℤ, pos, ◌+ℤ◌, FitsSigned, w64}
 use lib.Signed.{quot_z, rem_z}
-use mir.Facts.{to_z-of_z}
-use mir.Syntax.{w64}
-use mir.Val.{SFits}
 use Rattle.whole.proofs.Numbers.Division.{within-quot}
 use Rattle.whole.proofs.Numbers.Halves.{rem-most}
-use Rattle.whole.proofs.Numbers.Sizes.{fits-by, quot_fits, within-+}
+use Rattle.whole.proofs.Numbers.Sizes.{fits-by, within-+}
 use Rattle.whole.specs.Numbers.{Within}
 use Rattle.rules.specs.Sizes.{limb_turn}
-use Rattle.limbs.specs.Limbs.{most_sum, second_of, third_of}
+use Rattle.limbs.proofs.Laws.Sizes.{kept, kept-is, same-limbs}
+use Rattle.limbs.specs.Limbs.{LimbsWithin, most_sum, second_of, third_of}
 use Rattle.limbs.specs.declared.Wide.{Wide}
 use Rattle.limbs.proofs.Wide.settled.Goals as goal
-use Rattle.limbs.proofs.Wide.settled.Lts as lts
-use Rattle.limbs.proofs.Wide.settled.Reads as reads
 
--- places of the code, as records of what is known there
-abbrev Start : Type 0
-Start = lts.Start reads.Pre reads.Post
+abbrev quotient : ℤ → ℤ
+quotient z = quot_z z (pos limb_turn)
 
--- a quotient and a rest of what fits
-quotient : (z : ℤ) → SFits w64 z → SFits w64 (quot_z z (pos limb_turn))
-quotient z f = quot_fits z (pos limb_turn) (record { lt = tt }) f
+abbrev rest : ℤ → ℤ
+rest z = rem_z z (pos limb_turn)
 
-rest : (z : ℤ) → SFits w64 (rem_z z (pos limb_turn))
-rest z = fits-by (rem-most z) tt
+-- what is carried from each of three limbs, by what was carried to it
+module _ {w : Wide} (S : LimbsWithin w most_sum) where
+  carry-a : Within (quotient w.a) most_sum
+  carry-a = within-quot (pos limb_turn) S.size-a
 
-module _ (c : Start) where
-  abbrev w : Wide
-  w = c.args.self
+  sum-b : Within (second_of w) (most_sum + most_sum)
+  sum-b = within-+ S.size-b carry-a
 
-  fit-a : SFits w64 w.a
-  fit-a = search rules
+  carry-b : Within (quotient (second_of w)) (most_sum + most_sum)
+  carry-b = within-quot (pos limb_turn) sum-b
 
-  fit-b : SFits w64 w.b
-  fit-b = search rules
+  sum-c : Within (third_of w) (most_sum + (most_sum + most_sum))
+  sum-c = within-+ S.size-c carry-b
 
-  fit-c : SFits w64 w.c
-  fit-c = search rules
+  carry-c : Within (quotient (third_of w)) (most_sum + (most_sum + most_sum))
+  carry-c = within-quot (pos limb_turn) sum-c
 
-  fit-d : SFits w64 w.d
-  fit-d = search rules
+  sum-d : Within (w.d +ℤ quotient (third_of w)) (most_sum + (most_sum + (most_sum + most_sum)))
+  sum-d = within-+ S.size-d carry-c
 
-  second : Within (second_of w) (most_sum + most_sum)
-  second = within-+ c.requires.size-b (within-quot (pos limb_turn) c.requires.size-a)
+  left-of : (z : ℤ) → kept (rest z) ≡ rest z
+  left-of z = kept-is (rem-most z) tt
 
-  third : Within (third_of w) (most_sum + (most_sum + most_sum))
-  third = within-+ c.requires.size-c (within-quot (pos limb_turn) second)
+  a-is : {z : ℤ} → z ≡ rest (kept w.a) → kept z ≡ rest w.a
+  a-is e = rw (kept-is S.size-a tt) at (ap kept e) ∙ left-of w.a
 
-  fourth : Within (w.d +ℤ quot_z (third_of w) (pos limb_turn)) (most_sum + (most_sum + (most_sum + most_sum)))
-  fourth = within-+ c.requires.size-d (within-quot (pos limb_turn) third)
+  module _ {p : ℤ} (A : p ≡ quotient (kept w.a)) where
+    first : p ≡ quotient w.a
+    first = rw (kept-is S.size-a tt) at A
 
-  fit-second : SFits w64 (second_of w)
-  fit-second = fits-by second tt
+    second : kept (kept w.b +ℤ kept p) ≡ second_of w
+    second = rw (first, kept-is S.size-b tt, kept-is carry-a tt) (kept-is sum-b tt)
 
-  fit-third : SFits w64 (third_of w)
-  fit-third = fits-by third tt
+    b-is : {z : ℤ} → z ≡ rest (kept (kept w.b +ℤ kept p)) → kept z ≡ rest (second_of w)
+    b-is e = rw second at (ap kept e) ∙ left-of (second_of w)
 
-  fit-fourth : SFits w64 (w.d +ℤ quot_z (third_of w) (pos limb_turn))
-  fit-fourth = fits-by fourth tt
+    module _ {q : ℤ} (B : q ≡ quotient (kept (kept w.b +ℤ kept p))) where
+      next : q ≡ quotient (second_of w)
+      next = rw second at B
 
--- the promise first
+      fits-c : FitsSigned w64 (kept w.c +ℤ kept q)
+      fits-c = rw (next, kept-is S.size-c tt, kept-is carry-b tt) (fits-by sum-c tt)
+
+      third : kept (kept w.c +ℤ kept q) ≡ third_of w
+      third = rw (next, kept-is S.size-c tt, kept-is carry-b tt) (kept-is sum-c tt)
+
+      c-is : {z : ℤ} → z ≡ rest (kept (kept w.c +ℤ kept q)) → kept z ≡ rest (third_of w)
+      c-is e = rw third at (ap kept e) ∙ left-of (third_of w)
+
+      module _ {r : ℤ} (C : r ≡ quotient (kept (kept w.c +ℤ kept q))) where
+        last : r ≡ quotient (third_of w)
+        last = rw third at C
+
+        fits-d : FitsSigned w64 (kept w.d +ℤ kept r)
+        fits-d = rw (last, kept-is S.size-d tt, kept-is carry-c tt) (fits-by sum-d tt)
+
+        d-is : kept (kept w.d +ℤ kept r) ≡ w.d +ℤ quotient (third_of w)
+        d-is = rw (last, kept-is S.size-d tt, kept-is carry-c tt) (kept-is sum-d tt)
+
+pub overflow_add-self-2 : goal.overflow_add-self-2
+overflow_add-self-2 c = fits-c c.requires c.parts-a.ensures.carried c.parts-b.ensures.carried
+
+pub overflow_add-result : goal.overflow_add-result
+overflow_add-result c =
+    fits-d c.requires c.parts-a.ensures.carried c.parts-b.ensures.carried c.parts-c.ensures.carried
+
 pub returns : goal.returns
-returns c = let s = c in
-    simp (
-      to_z-of_z (fit-a c.before.before.before.before.before.before.before.before.before.before),
-      to_z-of_z (fit-b c.before.before.before.before.before.before.before.before.before.before),
-      to_z-of_z (fit-c c.before.before.before.before.before.before.before.before.before.before),
-      to_z-of_z (fit-d c.before.before.before.before.before.before.before.before.before.before),
-      to_z-of_z (quotient _ (fit-a c.before.before.before.before.before.before.before.before.before.before)),
-      to_z-of_z (fit-second c.before.before.before.before.before.before.before.before.before.before),
-      to_z-of_z (quotient _ (fit-second c.before.before.before.before.before.before.before.before.before.before)),
-      to_z-of_z (fit-third c.before.before.before.before.before.before.before.before.before.before),
-      to_z-of_z (quotient _ (fit-third c.before.before.before.before.before.before.before.before.before.before)),
-      to_z-of_z (fit-fourth c.before.before.before.before.before.before.before.before.before.before),
-      to_z-of_z (rest (w c.before.before.before.before.before.before.before.before.before.before).a),
-      to_z-of_z (rest (second_of (w c.before.before.before.before.before.before.before.before.before.before))),
-      to_z-of_z (rest (third_of (w c.before.before.before.before.before.before.before.before.before.before))),
-    )
-
-pub nonzero_rem-a : goal.nonzero_rem-a
-nonzero_rem-a c =
-    let here = c.before.before.before in
-    let s = c in (lit< tt, simp (to_z-of_z (fit-a here)) (quotient _ (fit-a here)))
-
-pub nonzero_div-second : goal.nonzero_div-second
-nonzero_div-second c =
-    let here = c.before.before.before.before.before in
-    let s = c in (lit< tt, simp (to_z-of_z (fit-a here)) (quotient _ (fit-a here)))
-
-pub overflow_add-second : goal.overflow_add-second
-overflow_add-second c =
-    let here = c.before.before.before.before.before.before.before in
-    let s = c in
-    simp (to_z-of_z (fit-a here), to_z-of_z (fit-b here), to_z-of_z (quotient _ (fit-a here))) (fit-second here)
-
-pub nonzero_rem-b : goal.nonzero_rem-b
-nonzero_rem-b c =
-    let here = c.before.before.before.before.before.before.before in
-    let s = c in (
-      lit< tt,
-      simp (
-        to_z-of_z (fit-a here),
-        to_z-of_z (fit-b here),
-        to_z-of_z (quotient _ (fit-a here)),
-        to_z-of_z
-            (fit-second here),
-      )
-          (quotient _ (fit-second here)),
-    )
-
-pub nonzero_div-third : goal.nonzero_div-third
-nonzero_div-third c =
-    let here = c.before.before.before.before.before.before.before in
-    let s = c in (
-      lit< tt,
-      simp (
-        to_z-of_z (fit-a here),
-        to_z-of_z (fit-b here),
-        to_z-of_z (quotient _ (fit-a here)),
-        to_z-of_z
-            (fit-second here),
-      )
-          (quotient _ (fit-second here)),
-    )
-
-pub overflow_add-third : goal.overflow_add-third
-overflow_add-third c = let s = c in
-    simp (
-      to_z-of_z (fit-a c.before.before.before.before.before.before.before.before.before),
-      to_z-of_z (fit-b c.before.before.before.before.before.before.before.before.before),
-      to_z-of_z (fit-c c.before.before.before.before.before.before.before.before.before),
-      to_z-of_z (quotient _ (fit-a c.before.before.before.before.before.before.before.before.before)),
-      to_z-of_z (fit-second c.before.before.before.before.before.before.before.before.before),
-      to_z-of_z (quotient _ (fit-second c.before.before.before.before.before.before.before.before.before)),
-    ) (fit-third c.before.before.before.before.before.before.before.before.before)
-
-pub nonzero_rem-c : goal.nonzero_rem-c
-nonzero_rem-c c = let s = c in (
-  lit< tt,
-  simp (
-    to_z-of_z (fit-a c.before.before.before.before.before.before.before.before.before),
-    to_z-of_z (fit-b c.before.before.before.before.before.before.before.before.before),
-    to_z-of_z (fit-c c.before.before.before.before.before.before.before.before.before),
-    to_z-of_z (quotient _ (fit-a c.before.before.before.before.before.before.before.before.before)),
-    to_z-of_z (fit-second c.before.before.before.before.before.before.before.before.before),
-    to_z-of_z (quotient _ (fit-second c.before.before.before.before.before.before.before.before.before)),
-    to_z-of_z (fit-third c.before.before.before.before.before.before.before.before.before),
-  ) (quotient _ (fit-third c.before.before.before.before.before.before.before.before.before)),
-)
-
-pub nonzero_div-d : goal.nonzero_div-d
-nonzero_div-d c = let s = c in (
-  lit< tt,
-  simp (
-    to_z-of_z (fit-a c.before.before.before.before.before.before.before.before.before),
-    to_z-of_z (fit-b c.before.before.before.before.before.before.before.before.before),
-    to_z-of_z (fit-c c.before.before.before.before.before.before.before.before.before),
-    to_z-of_z (quotient _ (fit-a c.before.before.before.before.before.before.before.before.before)),
-    to_z-of_z (fit-second c.before.before.before.before.before.before.before.before.before),
-    to_z-of_z (quotient _ (fit-second c.before.before.before.before.before.before.before.before.before)),
-    to_z-of_z (fit-third c.before.before.before.before.before.before.before.before.before),
-  ) (quotient _ (fit-third c.before.before.before.before.before.before.before.before.before)),
-)
-
-pub overflow_add-d : goal.overflow_add-d
-overflow_add-d c = let s = c in
-    simp (
-      to_z-of_z (fit-a c.before.before.before.before.before.before.before.before.before.before),
-      to_z-of_z (fit-b c.before.before.before.before.before.before.before.before.before.before),
-      to_z-of_z (fit-c c.before.before.before.before.before.before.before.before.before.before),
-      to_z-of_z (fit-d c.before.before.before.before.before.before.before.before.before.before),
-      to_z-of_z (quotient _ (fit-a c.before.before.before.before.before.before.before.before.before.before)),
-      to_z-of_z (fit-second c.before.before.before.before.before.before.before.before.before.before),
-      to_z-of_z (quotient _ (fit-second c.before.before.before.before.before.before.before.before.before.before)),
-      to_z-of_z (fit-third c.before.before.before.before.before.before.before.before.before.before),
-      to_z-of_z (quotient _ (fit-third c.before.before.before.before.before.before.before.before.before.before)),
-    ) (fit-fourth c.before.before.before.before.before.before.before.before.before.before)
+returns c =
+    let p = c.parts-a.ensures.carried in
+    let q = c.parts-b.ensures.carried in
+    same-limbs (a-is c.requires c.parts-a.ensures.left) (b-is c.requires p c.parts-b.ensures.left)
+    (c-is c.requires p q c.parts-c.ensures.left) (d-is c.requires p q c.parts-c.ensures.carried)
