@@ -7,10 +7,12 @@ ghost use Rattle.rules.specs.Sizes.{most_rows};
 ghost use Rattle.rules.specs.Problem.{answer_length, problem};
 ghost use Rattle.rules.specs.Refusal.{Accepted};
 ghost use Rattle.rules.specs.Evidence.{checked, shows_can, shows_cannot};
+ghost use Rattle.refusals.specs.Numbers.{verdict_told};
 ghost use Rattle.judge.specs.Words.{Framed};
 
 use can::shows_can;
 use cannot::shows_cannot;
+use refusals::Refusal;
 use tableau::Tableau;
 use words::count_at;
 
@@ -37,30 +39,19 @@ fn cannot_holds(words: &[i32], columns: usize, rows: usize, answer: &[i64]) -> b
     shows_cannot(&entries, limits, rows, columns, answer)
 }
 
-// 1 to 6 and 10 by the problem, 7 where the answer is too short, 8 accepted, 9 not. Nothing is written.
-pub fn check(words: &[i32], answer: &[i64]) -> u32
-    ensures { result ≡ checked words.now answer.now }
+/// Refused by the problem, or where the answer is too short; else whether the evidence is right. Nothing is written.
+pub fn check(words: &[i32], answer: &[i64]) -> Result<bool, Refusal>
+    ensures { verdict_told result ≡ checked words.now answer.now }
 {
-    let refused = judge::judge(words);
-    if refused != 0 {
-        return refused;
-    }
+    judge::judge(words)?;
     let columns = count_at(words, 0);
     let rows = count_at(words, 1);
     if answer.len() < 3 + 2 * (columns + rows) {
-        return 7;
+        return Err(Refusal::ShortRoom);
     }
-    let verdict = answer[0];
-    if verdict == 1 {
-        if can_holds(words, columns, rows, answer) {
-            return 8;
-        }
-        return 9;
+    match answer[0] {
+        1 => Ok(can_holds(words, columns, rows, answer)),
+        2 => Ok(cannot_holds(words, columns, rows, answer)),
+        _ => Ok(false),
     }
-    if verdict == 2 {
-        if cannot_holds(words, columns, rows, answer) {
-            return 8;
-        }
-    }
-    9
 }

@@ -4,3 +4,4 @@ pub mod Tests
 pub mod Halves
 pub mod Shown
 pub mod Read
+pub mod Judged

@@ -1,23 +1,35 @@
 -- The checker's number for words that are accepted, by the answer's length and verdict.
 --   length-is                                     how long an answer must be, from the sizes that were read
---   too_short_lem, can-judged, cannot-judged, other-judged
-use mathlib.Core.Path.{◌≡◌, refl, ap, ap₂, ◌∙◌}
+--   refused-first, too_short_lem, can-judged, cannot-judged, other-judged
+use mathlib.Core.Path.{◌≡◌, refl, ap, ap₂, sym, ◌∙◌}
 use mathlib.Core.Bool.{Bool, true, false, cond}
 use mathlib.Core.List.{List}
 use mathlib.Core.Logic.{◌≢◌}
-use Prim.Native.Nat.{ℕ, ◌+◌, ◌*◌, ◌<◌, ◌≤◌}
+use Prim.Native.Nat.{ℕ, zero, suc, ◌+◌, ◌*◌, ◌<◌, ◌≤◌}
 use lib.IntN.{ℤ, pos}
 use lib.ListN.{length}
+use Rattle.refusals.proofs.Refused.{number-some}
+use Rattle.refusals.specs.Numbers.{number_of}
+use Rattle.refusals.specs.declared.Refusal.{Refusal}
 use Rattle.whole.specs.Numbers.{eq_z}
 use Rattle.whole.proofs.Tells.{tells-eq_z, tells-false, tells-true}
 use Rattle.rules.specs.Problem.{answer_length, m_of, n_of, problem}
 use Rattle.rules.specs.Refusal.{problem_refusal}
 use Rattle.rules.specs.Evidence.{verdict_of, shows_can, shows_cannot, accepted, checked}
 use Rattle.rules.proofs.Refusal.Exactly.{room-tells}
-use Rattle.rules.proofs.Evidence.Checked.{checked-by-answer}
+use Rattle.rules.proofs.Evidence.Checked.{checked-by-answer, checked-by-problem}
+use Rattle.parts.proofs.Laws.Judged.{one-two}
 
 pub length-is : (ws : List ℤ) {n m : ℕ} → n ≡ n_of ws → m ≡ m_of ws → 3 + 2 * (n + m) ≡ answer_length ws
 length-is ws e q = ap₂ (λ n m. 3 + 2 * (n + m)) e q
+
+-- what refuses the problem is told
+pub refused-first : (ws a : List ℤ) (r : Refusal) → number_of r ≡ problem_refusal ws → number_of r ≡ checked ws a
+refused-first ws a r e = go (number_of r) e (number-some r)
+  where
+    go : (k : ℕ) → k ≡ problem_refusal ws → k ≢ 0 → k ≡ checked ws a
+    go zero e n = absurd (n refl)
+    go (suc k) e n = sym (checked-by-problem ws a k (sym e))
 
 module _ (ws a : List ℤ) (fine : problem_refusal ws ≡ 0) where
   pub too_short_lem : length a < answer_length ws → checked ws a ≡ 7
@@ -41,11 +53,10 @@ module _ (ws a : List ℤ) (fine : problem_refusal ws ≡ 0) where
         ∙ ap (λ b. cond b 8 9) (of-verdict true (eq_z (verdict_of a) (pos 2)) (tells-true (tells-eq_z _ (pos 1)) e)
         refl)
 
-    pub cannot-judged : verdict_of a ≢ pos 1 → verdict_of a ≡ pos 2 → checked ws a
-        ≡ cond (shows_cannot (problem ws) a) 8 9
-    cannot-judged n e = judged
-        ∙ ap (λ b. cond b 8 9) (of-verdict false true (tells-false (tells-eq_z (verdict_of a) (pos 1)) n)
-        (tells-true (tells-eq_z _ (pos 2)) e))
+    pub cannot-judged : verdict_of a ≡ pos 2 → checked ws a ≡ cond (shows_cannot (problem ws) a) 8 9
+    cannot-judged e = judged
+        ∙ ap (λ b. cond b 8 9) (of-verdict false true
+        (tells-false (tells-eq_z (verdict_of a) (pos 1)) (λ f. one-two (sym f ∙ e))) (tells-true (tells-eq_z _ (pos 2)) e))
 
     pub other-judged : verdict_of a ≢ pos 1 → verdict_of a ≢ pos 2 → checked ws a ≡ 9
     other-judged n m = judged

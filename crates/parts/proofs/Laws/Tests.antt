@@ -8,7 +8,6 @@ use mathlib.Core.Bool.{Bool, true, false, not, ◌&&◌, ◌||◌}
 use lib.IntN.{ℤ, nat_abs, negsuc, neg_ℤ, pos, ◌*ℤ◌}
 use lib.Signed.{lt_z, ◌≤ℤ◌}
 use Rattle.whole.specs.Numbers.{outside, eq_z, is_neg, within}
-use Rattle.whole.proofs.Numbers.Order.{<ℤ→≤ℤ, le→false}
 use Rattle.whole.proofs.Tells.{outside-within, tells-eq_z}
 use Rattle.rules.proofs.Evidence.Joined.{or-none}
 use Rattle.rules.specs.Limit.{Limit, present}
