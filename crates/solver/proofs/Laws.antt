@@ -1,7 +1,6 @@
 -- Laws that the proofs cite. Assumes nothing.
 pub mod Spends
 pub mod Running
-pub mod Telling
 pub mod Refusals
 pub mod TwoOrders
 pub mod Only

@@ -3,4 +3,3 @@ pub mod Run
 pub mod Spend
 pub mod TwoOrders
 pub mod Came
-pub mod Told

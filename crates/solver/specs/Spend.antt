@@ -6,11 +6,12 @@ use Rattle.tableau.specs.declared.Tableau.{Tableau}
 use Rattle.tableau.specs.Stands.{Ranged, Stands}
 use Rattle.tableau.specs.declared.Limits.{Limits}
 use Rattle.answers.specs.declared.Verdict.TheVariants as verdicts
-use Rattle.answers.specs.declared.conflict.Crossed.{Crossed}
-use Rattle.answers.specs.declared.conflict.Crossed.TheVariants as crossings
+use Rattle.std.specs.Prelude.{Option, Some, None}
+use Rattle.tableau.specs.declared.Variable.{Variable}
 use Rattle.answers.specs.Answer.{laid_over, words_at}
 use Rattle.answers.specs.Conflict.{conflict_at}
 use Rattle.answers.specs.Multipliers.{unit_at}
+use Rattle.steps.specs.declared.End.{End}
 use Rattle.steps.specs.Step.{Course, on, over, stepped_at}
 use Rattle.solver.specs.declared.spend.Spent.{Spent}
 use Rattle.solver.specs.Run.{end_words}
@@ -51,6 +52,14 @@ ran_by look t b = let r : Ran = ran_at t b in
 abbrev pub many_of : Tableau → ℕ
 many_of t = t.rows + t.columns
 
+-- how a run stands: over by the end that it reached, if it did
+abbrev pub course_of : Option End → Course
+course_of (Some e) = over e
+course_of None = on
+
+abbrev pub ran_as : Option End → ℕ → Tableau → Ran
+ran_as e k t = record { tableau = t; course = course_of e; count = k }
+
 abbrev pub is_over : Course → Bool
 is_over (over e) = true
 is_over on = false
@@ -67,22 +76,22 @@ abbrev pub ran_out : ℕ → Ran → List ℤ → List ℤ
 ran_out before r out = out_by r.course (before + r.count) r.tableau out
 
 -- .. by the limits that cross, if some do
-abbrev pub spent_where : Crossed → Bool → Tableau → ℕ → ℕ → Spent
-spent_where (crossings.At v) look t before most = record { answered = true; count = before; tableau = t }
-spent_where crossings.Nowhere look t before most = spent_from before (ran_by look t most)
+abbrev pub spent_where : Option Variable → Bool → Tableau → ℕ → ℕ → Spent
+spent_where (Some v) look t before most = record { answered = true; count = before; tableau = t }
+spent_where None look t before most = spent_from before (ran_by look t most)
 
-abbrev pub out_where : Crossed → Bool → Tableau → ℕ → ℕ → List ℤ → List ℤ
-out_where (crossings.At v) look t before most out =
+abbrev pub out_where : Option Variable → Bool → Tableau → ℕ → ℕ → List ℤ → List ℤ
+out_where (Some v) look t before most out =
     laid_over (many_of t) out (words_at verdicts.Cannot before (pos 0) (many_of t) (unit_at v.0) (unit_at v.0))
-out_where crossings.Nowhere look t before most out = ran_out before (ran_by look t most) out
+out_where None look t before most out = ran_out before (ran_by look t most) out
 
 abbrev pub Uncrossed : Tableau → Type 0
-Uncrossed t = conflict_at t.limits (many_of t) ≡ crossings.Nowhere
+Uncrossed t = conflict_at t.limits (many_of t) ≡ None
 
 -- a run that is some pivots on has no limits that cross
-abbrev pub crossed_since : ℕ → Limits → ℕ → Crossed
+abbrev pub crossed_since : ℕ → Limits → ℕ → Option Variable
 crossed_since zero limits N = conflict_at limits N
-crossed_since (suc k) limits N = crossings.Nowhere
+crossed_since (suc k) limits N = None
 
 unfoldable pub spent_as : Bool → Tableau → ℕ → ℕ → Spent
 spent_as look t before most = spent_where (conflict_at t.limits (many_of t)) look t before most

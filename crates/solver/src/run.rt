@@ -1,99 +1,114 @@
-// What a run is made of beside its steps: the seats of two variables that change places, and the answer at its end.
+// A run, step by step, and the answer at its end.
 ghost use Rattle.std.specs.Prelude.{◌≡◌, ◌+◌, ◌*◌, ◌≤◌, length};
-ghost use Rattle.solver.specs.Spend.{is_over, out_by};
-ghost use Rattle.solver.specs.Told.{TellableAs, course_of, last_of};
+ghost use Rattle.steps.specs.Step.{Held, over};
+ghost use Rattle.solver.specs.Run.{Tellable};
+ghost use Rattle.solver.specs.Spend.{is_done, out_by, ran_as, ran_by};
 
 use answers::multipliers::multipliers_of;
 use answers::{Head, Verdict, numerators_of, write};
-use layout::{ColumnPlace, RowPlace};
-use search::Size;
-use steps::End;
+use search::{Size, View};
+use steps::{End, Outcome, step};
 use tableau::{Seat, Tableau};
 
-// The run is over, or goes on past the pivots that were spent.
-#[derive(Drop)]
-pub enum Course {
-    Over(End),
-    On,
-}
-
-// What an answer reads of the last tableau beside its numbers, how the run stands there, and after how many pivots.
-#[derive(Drop)]
-pub struct Told {
-    pub size: Size,
-    pub common: i32,
-    pub strict: bool,
-    pub seats: [Seat; Tableau::MOST_VARIABLES],
-    pub course: Course,
-    pub count: usize,
-}
-
-// The seat of a variable that has just got one: a basic one has a row, the other a column.
-pub fn seated(basic: bool, row: RowPlace, column: ColumnPlace) -> Seat
-    ensures { result ≡ record { basic = basic; row = row; column = column } }
+// Whether there is nothing left to do: all pivots are spent, and the run is not to be looked at there.
+fn is_done(look: bool, count: usize, most: usize) -> bool
+    ensures { result ≡ is_done look count most }
 {
-    Seat { basic, row, column }
+    !look & (count == most)
 }
 
-// The first three words of an answer.
-fn headed(verdict: Verdict, count: usize, denominator: i32) -> Head
-    ensures { result ≡ record { verdict = verdict; count = count; denominator = denominator } }
+// Completes `most` pivots, or all that are left, and then looks whether the run goes on, if it is to: the end that it
+// reached, if it did, and how many pivots were made. A step puts the entries after it into room of its own; what a look
+// puts there is not kept.
+pub fn advance(t: &mut Tableau, most: usize, look: bool) -> (Option<End>, usize)
+    requires { Held t.old }
+    ensures { ran_as result.0 result.1 t.new ≡ ran_by look t.old most }
 {
-    let denominator = denominator as i64;
-    Head {
-        verdict,
-        count,
-        denominator,
+    let mut count = 0usize;
+    let mut next = [0i32; Tableau::MOST_ENTRIES];
+    loop {
+        if is_done(look, count, most) {
+            return (None, count);
+        }
+        let outcome = step(View::of(t), t.limits, &t.entries, &mut next);
+        match outcome {
+            Outcome::Ended(end) => return (Some(end), count),
+            Outcome::Goes(row, column, value, common) => {
+                if count == most {
+                    return (None, count);
+                }
+                let live = layout::live(t.rows, t.columns);
+                pivot::keep(&next, live, &mut t.entries);
+                let i = row.0 as usize;
+                let j = column.0 as usize;
+                let leaving = t.basic[i];
+                let entering = t.nonbasic[j];
+                let v = leaving.0 as usize;
+                let w = entering.0 as usize;
+                t.common = common;
+                t.basic[i] = entering;
+                t.nonbasic[j] = leaving;
+                t.values[j] = value.plain;
+                t.smalls[j] = value.small;
+                t.seats[w] = Seat {
+                    basic: true,
+                    row,
+                    column,
+                };
+                t.seats[v] = Seat {
+                    basic: false,
+                    row,
+                    column,
+                };
+                count += 1;
+            }
+        }
     }
 }
 
-// Writes the answer of a run that is over: how, after how many pivots, and with which tableau. Of one that goes on it
-// writes nothing. Says which of both.
-pub fn tell<'a>(
-    entries: &'a [i32; Tableau::MOST_ENTRIES],
-    values: &'a [i32; Tableau::MOST_COLUMNS],
-    smalls: &'a [i32; Tableau::MOST_COLUMNS],
-    told: Told,
-    out: &mut [i64],
-) -> bool
-    requires tellable_as { TellableAs (last_of entries.now values.now smalls.now told) told.course told.count }
-    requires columns_in_bounds { 3 + 2 * (told.size.rows + told.size.columns) ≤ length out.old }
-    ensures answered { result ≡ is_over (course_of told.course) }
-    ensures output { out.new ≡ out_by (course_of told.course) told.count
-        (last_of entries.now values.now smalls.now told) out.old }
+// Writes the answer of a run that is over: how, after how many pivots, and with which tableau.
+pub fn tell(t: &Tableau, end: End, count: usize, out: &mut [i64])
+    requires tellable { Tellable end count t.now }
+    requires columns_in_bounds { 3 + 2 * (t.now.rows + t.now.columns) ≤ length out.old }
+    ensures { out.new ≡ out_by (over end) count t.now out.old }
 {
-    let course = told.course;
-    let Course::Over(end) = course else {
-        return false;
+    let size = Size {
+        rows: t.rows,
+        columns: t.columns,
     };
-    let size = told.size;
     let variables = size.rows + size.columns;
-    let common = told.common;
-    let seats = told.seats;
-    let count = told.count;
     let zeros = [0i64; Tableau::MOST_VARIABLES];
     match end {
         End::Can => {
-            let found = numerators_of(entries, values, seats, common, size);
-            let head = headed(Verdict::Can, count, common);
-            if told.strict {
-                let others = numerators_of(entries, smalls, seats, common, size);
+            let head = Head {
+                verdict: Verdict::Can,
+                count,
+                denominator: i64::from(t.common),
+            };
+            let found = numerators_of(&t.entries, &t.values, t.seats, t.common, size);
+            if t.limits.strict {
+                let others = numerators_of(&t.entries, &t.smalls, t.seats, t.common, size);
                 write(out, head, variables, &found, &others);
-                return true;
+                return;
             }
             write(out, head, variables, &found, &zeros);
-            true
         }
         End::Cannot(blocked) => {
-            let found = multipliers_of(entries, seats, common, size, blocked);
-            let head = headed(Verdict::Cannot, count, 0);
+            let head = Head {
+                verdict: Verdict::Cannot,
+                count,
+                denominator: 0,
+            };
+            let found = multipliers_of(&t.entries, t.seats, t.common, size, blocked);
             write(out, head, variables, &found.lower, &found.upper);
-            true
         }
         End::Range => {
-            let head = headed(Verdict::Range, count, 0);
+            let head = Head {
+                verdict: Verdict::Range,
+                count,
+                denominator: 0,
+            };
             write(out, head, variables, &zeros, &zeros);
-            true
         }
     }
 }

@@ -3,11 +3,13 @@
 use mathlib.Core.Bool.{Bool, false}
 use mathlib.Core.List.{List}
 use mathlib.Core.Path.{◌≡◌, ap, ap₂, sym, ◌∙◌}
+use mathlib.Core.Logic.{◌≢◌}
 use Prim.Native.Nat.{ℕ, ◌+◌, ◌≤◌}
 use native.Mathlib.Nat.{min-le_right}
 use native.Mathlib.Omega.{arith}
 use borrow.Author.Tests.{ltb-false}
 use lib.IntN.{ℤ}
+use Rattle.std.proofs.lemmas.Result.{err_from_is_err_and}
 use lib.ListN.{length}
 use Rattle.whole.proofs.Numbers.Order.{≤ℤ-trans}
 use Rattle.rules.specs.Problem.{answer_length, m_of, n_of, vars_of}
@@ -15,6 +17,8 @@ use Rattle.rules.specs.Refusal.{problem_refusal, problem_refusal_within, refusal
 use Rattle.rules.specs.Sizes.{most_columns, most_rows}
 use Rattle.rules.proofs.Refusal.Accepted.{m-few, n-few}
 use Rattle.answers.specs.Answer.{is_short}
+use Rattle.refusals.specs.Numbers.{told}
+use Rattle.refusals.proofs.Refused.{told-err}
 use Rattle.solver.proofs.Laws.Refusals.{accepted-of, answered-is, fine-within, holds-start, start-many}
 use Rattle.solver.proofs.Laws.Refusals.{within_none, within-problem, within-short, written-refused}
 use Rattle.solver.proofs.solve_within.Goals as goal
@@ -23,31 +27,29 @@ use Rattle.solver.proofs.solve_within.Goals as goal
 rows_few : {rows : ℕ} (most : ℕ) → rows ≡ rows_within most → rows ≤ most_rows
 rows_few most e = rw e (min-le_right most most_rows)
 
-pub judge_within-refused-requires : goal.judge_within-refused-requires
-judge_within-refused-requires c = rows_few c.args.most c.rows_within-rows.ensures
-
-pub returns-then-refused-ne0 : goal.returns-then-refused-ne0
-returns-then-refused-ne0 c = let a = c.args in let k = c.judge_within-refused.result in
-    let rows = c.rows_within-rows.result in
-    let e : k ≡ problem_refusal_within rows a.words.now = c.judge_within-refused.ensures in record {
-      number = e ∙ within-problem rows a.words.now (length a.out.now) (λ z. c.if-refused-ne0.true (e ∙ z))
-          ∙ ap (λ n. refusal_within n a.words.now (length a.out.now)) c.rows_within-rows.ensures;
-      output = written-refused k a.words.now a.out.now c.if-refused-ne0.true;
+pub returns-in_err-judge_within : goal.returns-in_err-judge_within
+returns-in_err-judge_within c = let a = c.args in let ws = a.words.now in let room = length a.out.now in
+    let rows = c.min-rows.result in
+    let p = err_from_is_err_and c.from_residual.result c.from_residual.ensures.1 in
+    let k : told c.from_residual.result ≡ problem_refusal_within rows ws = rw (p.1, p.2) c.in_err-judge_within.ensures in
+    let some : told c.from_residual.result ≢ 0 = told-err c.from_residual.result p.1 in record {
+      number = k ∙ within-problem rows ws room (λ z. some (k ∙ z)) ∙ ap (λ n. refusal_within n ws room) c.min-rows.ensures;
+      output = written-refused _ ws a.out.now some;
     }
 
 -- the words are a problem
-not-refused : {rows k : ℕ} (most : ℕ) (ws : List ℤ) → rows ≡ rows_within most → k ≡ problem_refusal_within rows ws →
-    k ≡ 0 → problem_refusal ws ≡ 0
-not-refused {rows} most ws e f g = fine-within rows ws (rows_few most e) (sym f ∙ g)
+fine-by : {rows : ℕ} (most : ℕ) (ws : List ℤ) → rows ≡ rows_within most → 0 ≡ problem_refusal_within rows ws →
+    problem_refusal ws ≡ 0
+fine-by {rows} most ws e f = fine-within rows ws (rows_few most e) (sym f)
 
 pub count_at-requires : goal.count_at-requires
 count_at-requires c = let ws = c.args.words.now in let fine = accepted-of ws
-    (not-refused c.args.most ws c.rows_within-rows.ensures c.judge_within-refused.ensures c.if-refused-ne0.false) in
+    (fine-by c.args.most ws c.min-rows.ensures c.in_ok-judge_within.ensures) in
     (let z = fine.enough in omega arith, ≤ℤ-trans (record { le = tt }) fine.n-least)
 
 pub count_at-requires-2 : goal.count_at-requires-2
 count_at-requires-2 c = let ws = c.args.words.now in let fine = accepted-of ws
-    (not-refused c.args.most ws c.rows_within-rows.ensures c.judge_within-refused.ensures c.if-refused-ne0.false) in
+    (fine-by c.args.most ws c.min-rows.ensures c.in_ok-judge_within.ensures) in
     (let z = fine.enough in omega arith, fine.m-least)
 
 -- n and m
@@ -58,14 +60,12 @@ few-together ws d e f = let a = n-few (accepted-of ws f) in let b = m-few (accep
 
 pub overflow_add-variables : goal.overflow_add-variables
 overflow_add-variables c = let ws = c.args.words.now in
-    let f = not-refused c.args.most ws c.rows_within-rows.ensures c.judge_within-refused.ensures
-    c.if-refused-ne0.false in
+    let f = fine-by c.args.most ws c.min-rows.ensures c.in_ok-judge_within.ensures in
     let z = few-together ws c.count_at.ensures c.count_at-2.ensures f in omega arith
 
 pub is_short-requires : goal.is_short-requires
 is_short-requires c = let ws = c.args.words.now in
-    let f = not-refused c.args.most ws c.rows_within-rows.ensures c.judge_within-refused.ensures
-    c.if-refused-ne0.false in
+    let f = fine-by c.args.most ws c.min-rows.ensures c.in_ok-judge_within.ensures in
     let z = few-together ws c.count_at.ensures c.count_at-2.ensures f in omega arith
 
 -- whether the output is too short
@@ -74,28 +74,26 @@ short-is : {n m : ℕ} {b : Bool} (here : ℕ) (ws : List ℤ) → n ≡ n_of ws
 short-is here ws d e f = f ∙ ap₂ (λ n m. is_short here (n + m)) d e
 
 pub returns-then-is_short : goal.returns-then-is_short
-returns-then-is_short c = let a = c.args in let ws = a.words.now in let rows = c.rows_within-rows.result in
+returns-then-is_short c = let a = c.args in let ws = a.words.now in let rows = c.min-rows.result in
     let s = short-is (length a.out.now) ws c.count_at.ensures c.count_at-2.ensures c.is_short.ensures in record {
-      number = within-short rows ws (length a.out.now) (sym c.judge_within-refused.ensures ∙ c.if-refused-ne0.false)
+      number = within-short rows ws (length a.out.now) (sym c.in_ok-judge_within.ensures)
           (sym s ∙ c.if-is_short.true)
-          ∙ ap (λ n. refusal_within n ws (length a.out.now)) c.rows_within-rows.ensures;
+          ∙ ap (λ n. refusal_within n ws (length a.out.now)) c.min-rows.ensures;
       output = written-refused 7 ws a.out.now (λ z. omega arith);
     }
 
 pub new-t-requires : goal.new-t-requires
 new-t-requires c =
-    not-refused c.args.most c.args.words.now c.rows_within-rows.ensures c.judge_within-refused.ensures
-    c.if-refused-ne0.false
+    fine-by c.args.most c.args.words.now c.min-rows.ensures c.in_ok-judge_within.ensures
 
 -- the answer fits
 room : {n m : ℕ} {b : Bool} (here : ℕ) (ws : List ℤ) → n ≡ n_of ws → m ≡ m_of ws → b ≡ is_short here (n + m) →
     b ≡ false → answer_length ws ≤ here
 room here ws d e f g = ltb-false here (answer_length ws) (sym (short-is here ws d e f) ∙ g)
 
-pub spend-spent-requires : goal.spend-spent-requires
-spend-spent-requires c = let ws = c.args.words.now in let t = c.new-t.result in
-    let f = not-refused c.args.most ws c.rows_within-rows.ensures c.judge_within-refused.ensures
-    c.if-refused-ne0.false in record {
+pub spend-requires : goal.spend-requires
+spend-requires c = let ws = c.args.words.now in let t = c.new-t.result in
+    let f = fine-by c.args.most ws c.min-rows.ensures c.in_ok-judge_within.ensures in record {
       standing = record { slice = _; holds = holds-start ws t c.new-t.ensures f };
       columns_in_bounds =
           let a = room (length c.args.out.now) ws c.count_at.ensures c.count_at-2.ensures c.is_short.ensures
@@ -104,13 +102,12 @@ spend-spent-requires c = let ws = c.args.words.now in let t = c.new-t.result in
     }
 
 pub returns : goal.returns
-returns c = let a = c.args in let ws = a.words.now in let rows = c.rows_within-rows.result in
-    let f = not-refused c.args.most ws c.rows_within-rows.ensures c.judge_within-refused.ensures
-    c.if-refused-ne0.false in
+returns c = let a = c.args in let ws = a.words.now in let rows = c.min-rows.result in
+    let f = fine-by c.args.most ws c.min-rows.ensures c.in_ok-judge_within.ensures in
     let r = room (length c.args.out.now) ws c.count_at.ensures c.count_at-2.ensures c.is_short.ensures
     c.if-is_short.false in record {
-      number = within_none rows ws (length a.out.now) (sym c.judge_within-refused.ensures ∙ c.if-refused-ne0.false) r
-          ∙ ap (λ n. refusal_within n ws (length a.out.now)) c.rows_within-rows.ensures;
-      output = c.spend-spent.ensures.output
+      number = within_none rows ws (length a.out.now) (sym c.in_ok-judge_within.ensures) r
+          ∙ ap (λ n. refusal_within n ws (length a.out.now)) c.min-rows.ensures;
+      output = c.spend.ensures.output
           ∙ answered-is ws c.new-t.result c.new-t.ensures f 18446744073709551615 (omega arith) a.out.now;
     }

@@ -28,8 +28,7 @@ use Rattle.tableau.specs.Stands.{Ranged, Stands}
 use Rattle.search.specs.Search.{blocked_at}
 use Rattle.search.proofs.Laws.Stands.{all-vars}
 use Rattle.answers.specs.declared.Verdict.TheVariants as verdicts
-use Rattle.answers.specs.declared.conflict.Crossed.{Crossed}
-use Rattle.answers.specs.declared.conflict.Crossed.TheVariants as crossings
+use Rattle.std.proofs.Common.{Option, Some, None}
 use Rattle.answers.specs.Answer.{laid_over, words_at}
 use Rattle.answers.specs.Conflict.{conflict_at}
 use Rattle.answers.specs.Multipliers.{unit_at}
@@ -48,12 +47,12 @@ use Rattle.solver.proofs.Laws.Stands.Told.{came-many, tellable-came, told-came}
 -- ---- by what the search for crossed limits says
 
 module _ (look : Bool) (t : Tableau) (k b : ℕ) where
-  pub spent-where : (c : Crossed) → conflict_at t.limits (many_of t) ≡ c →
+  pub spent-where : (c : Option Variable) → conflict_at t.limits (many_of t) ≡ c →
       spent_as look t k b ≡ spent_where c look t k b
   unfolding spent_as
   spent-where c q = ap (λ x. spent_where x look t k b) q
 
-  pub out-where : (c : Crossed) → conflict_at t.limits (many_of t) ≡ c → (before : List ℤ) →
+  pub out-where : (c : Option Variable) → conflict_at t.limits (many_of t) ≡ c → (before : List ℤ) →
       out_as look t k b before ≡ out_where c look t k b before
   unfolding out_as
   out-where c q before = ap (λ x. out_where x look t k b before) q
@@ -86,11 +85,11 @@ module _ {S : Slice (ℤ × ℤ)} {t : Tableau} {k : ℕ} (H : Holds S t k) wher
   pub crossed-since : crossed_since k t.limits (many_of t) ≡ conflict_at t.limits (many_of t)
   crossed-since = go k refl (conflict_at t.limits (many_of t)) refl
     where
-      go : (j : ℕ) → k ≡ j → (c : Crossed) → conflict_at t.limits (many_of t) ≡ c →
+      go : (j : ℕ) → k ≡ j → (c : Option Variable) → conflict_at t.limits (many_of t) ≡ c →
           crossed_since j t.limits (many_of t) ≡ conflict_at t.limits (many_of t)
       go zero e c q = refl
-      go (suc j) e crossings.Nowhere q = sym q
-      go (suc j) e (crossings.At v) q =
+      go (suc j) e None q = sym q
+      go (suc j) e (Some v) q =
           let z = on-way-apart S H.on-way v.0 (crossing-at H.stands rowed v q) in
           let y = H.count-is in let x : ⊥ = omega (arith, y, z, e) in absurd x
 
@@ -176,7 +175,7 @@ module _ {S : Slice (ℤ × ℤ)} {t : Tableau} {k : ℕ} (H : Holds S t k) wher
 
   -- ---- limits that cross
 
-  module _ (v : Variable) (at : conflict_at t.limits (many_of t) ≡ crossings.At v) (b : ℕ) where
+  module _ (v : Variable) (at : conflict_at t.limits (many_of t) ≡ Some v) (b : ℕ) where
     crosses : conflict pairs P ≡ some v.0
     crosses = crossing-at H.stands rowed v at
 
@@ -216,21 +215,21 @@ module _ {S : Slice (ℤ × ℤ)} {t : Tableau} {k : ℕ} (H : Holds S t k) wher
   pub holds_more : (b : ℕ) → Holds (continued pairs S b) (spent_at t k b).tableau (spent_at t k b).count
   holds_more b = go (conflict_at t.limits (many_of t)) refl
     where
-      go : (c : Crossed) → conflict_at t.limits (many_of t) ≡ c →
+      go : (c : Option Variable) → conflict_at t.limits (many_of t) ≡ c →
           Holds (continued pairs S b) (spent_at t k b).tableau (spent_at t k b).count
-      go (crossings.At v) q = rw (spent-where true t k b (crossings.At v) q) (holds-crossed v q b)
-      go crossings.Nowhere q = rw (spent-where true t k b crossings.Nowhere q) (holds-ran q b)
+      go (Some v) q = rw (spent-where true t k b (Some v) q) (holds-crossed v q b)
+      go None q = rw (spent-where true t k b None q) (holds-ran q b)
 
   pub out-is : (b : ℕ) (before : List ℤ) → ((spent_at t k b).answered ≡ is_answer (slice_answer S b))
       × (out_at t k b before ≡ slice_output (slice_answer S b) (slice_length S) before)
   out-is b before = go (conflict_at t.limits (many_of t)) refl
     where
-      go : (c : Crossed) → conflict_at t.limits (many_of t) ≡ c →
+      go : (c : Option Variable) → conflict_at t.limits (many_of t) ≡ c →
           ((spent_at t k b).answered ≡ is_answer (slice_answer S b))
           × (out_at t k b before ≡ slice_output (slice_answer S b) (slice_length S) before)
-      go (crossings.At v) q =
-          rw (spent-where true t k b (crossings.At v) q, out-where true t k b (crossings.At v) q before)
+      go (Some v) q =
+          rw (spent-where true t k b (Some v) q, out-where true t k b (Some v) q before)
           (crossed-says v q b before)
-      go crossings.Nowhere q =
-          rw (spent-where true t k b crossings.Nowhere q, out-where true t k b crossings.Nowhere q before)
+      go None q =
+          rw (spent-where true t k b None q, out-where true t k b None q before)
           (ran_says q b before)
