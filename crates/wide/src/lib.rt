@@ -11,9 +11,11 @@ ghost use Rattle.rules.specs.Problem.{problem, vars};
 ghost use Rattle.rules.specs.Refusal.{Accepted};
 ghost use Rattle.rules.specs.Evidence.{right_can, right_cannot};
 ghost use Rattle.rules.specs.Wide.{checked_wide, numbers_of, wide_denominator, wide_length, wide_lower, wide_upper};
+ghost use Rattle.refusals.specs.Numbers.{verdict_told};
 ghost use Rattle.judge.specs.Words.{Framed};
 ghost use Rattle.wide.specs.Reads.{AllFormed};
 
+use refusals::Refusal;
 use tableau::Tableau;
 use words::count_at;
 
@@ -48,34 +50,23 @@ fn cannot_holds(words: &[i32], columns: usize, rows: usize, answer: &[i64]) -> b
     cannot::shows_cannot(&entries, limits, rows, columns, answer)
 }
 
-// 1 to 6 and 10 by the problem, 7 where the answer is too short, 8 accepted, 9 not. Nothing is written.
-pub fn check(words: &[i32], answer: &[i64]) -> u32
-    ensures { result ≡ checked_wide words.now answer.now }
+/// Refused by the problem, or where the answer is too short; else whether the evidence is right. Nothing is written.
+pub fn check(words: &[i32], answer: &[i64]) -> Result<bool, Refusal>
+    ensures { verdict_told result ≡ checked_wide words.now answer.now }
 {
-    let refused = judge::judge(words);
-    if refused != 0 {
-        return refused;
-    }
+    judge::judge(words)?;
     let columns = count_at(words, 0);
     let rows = count_at(words, 1);
     let variables = columns + rows;
     if answer.len() < 6 + 8 * variables {
-        return 7;
+        return Err(Refusal::ShortRoom);
     }
     if !numbers::numbers_fit(answer, 1 + 2 * variables) {
-        return 9;
+        return Ok(false);
     }
-    let verdict = answer[0];
-    if verdict == 1 {
-        if can_holds(words, columns, rows, answer) {
-            return 8;
-        }
-        return 9;
+    match answer[0] {
+        1 => Ok(can_holds(words, columns, rows, answer)),
+        2 => Ok(cannot_holds(words, columns, rows, answer)),
+        _ => Ok(false),
     }
-    if verdict == 2 {
-        if cannot_holds(words, columns, rows, answer) {
-            return 8;
-        }
-    }
-    9
 }
