@@ -2,16 +2,21 @@
 --   count-hit, edition-hit, bodies-hit, table-hit    a test applies, and none before it does
 --   all-skipped                                      none of the first four applies
 --   read_kept, read_short, read-fine                 the reader's refusal, from the file's
+--   edition-tested, bodies-tested                    the tests of the first two words, as they are read
 --   count-enough, edition-least, edition-few, bodies-least, bodies-most    what a test that does not apply leaves
 use mathlib.Core.Bool.{Bool, false, true}
 use mathlib.Core.List.{List, [], ◌∷◌}
 use mathlib.Core.Logic.{◌≢◌, ◌⊎◌}
-use mathlib.Core.Path.{◌≡◌, refl, sym, ◌∙◌}
+use mathlib.Core.Path.{◌≡◌, ap, ap₂, refl, sym, ◌∙◌}
 use Prim.Native.Nat.{ℕ, zero, suc, ◌-◌, ◌≤◌, ◌<◌}
 use native.Mathlib.Omega.{arith}
 use lib.IntN.{ℤ, pos}
 use lib.ListN.{length}
 use lib.Signed.{◌≤ℤ◌}
+use mir.Facts.{to_z-of_z}
+use mir.Syntax.{w32}
+use mir.Val.{SFits, of_z, to_z}
+use Rattle.whole.specs.Numbers.{outside}
 use Rattle.whole.proofs.Numbers.Tests.{under-size}
 use Rattle.whole.proofs.Tells.{tells-false, tells-outside, tells-true}
 use Rattle.rules.specs.Problem.{word}
@@ -40,6 +45,17 @@ module _ (bs : List ℕ) where
 
   abbrev tests-31 : List (Bool × ℕ)
   tests-31 = (bad_edition ws, 31) ∷ tests-32
+
+  pub edition-tested : (z : ℤ) → SFits w32 z → z ≡ word ws 0 → (b : Bool) →
+      b ≡ outside 1 2 (to_z w32 (of_z w32 z)) → b ≡ bad_edition ws
+  unfolding bad_edition editions
+  edition-tested z fit is b e = e ∙ ap (outside 1 2) (to_z-of_z fit ∙ is)
+
+  pub bodies-tested : (z : ℤ) (most e : ℕ) → SFits w32 z → z ≡ word ws 1 → e ≡ edition_in ws → most ≡ bodies_most e →
+      (b : Bool) → b ≡ outside 0 most (to_z w32 (of_z w32 z)) → b ≡ bad_bodies ws
+  unfolding bad_bodies
+  bodies-tested z most e fit is known most-is b t =
+      t ∙ ap₂ (outside 0) (most-is ∙ ap bodies_most known) (to_z-of_z fit ∙ is)
 
   pub count-hit : bad_count (length bs) ≡ true → 30 ≡ file_refusal bs
   unfolding file_refusal file_tests

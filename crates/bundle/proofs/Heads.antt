@@ -3,6 +3,7 @@
 --   head-begun, head-kept, head_more, head_done    two words first, with what is behind them; a pair more; all of it
 --   word_first, word_size          what stands where in a pair
 --   place-few                      every place is within a file
+--   front-is, front-long           the part of the front that is the head
 --   head-length, file-put          head and words as bytes, one behind the other, are the file
 use mathlib.Core.List.{List, [], ◌++◌}
 use mathlib.Core.List.{append-nil}
@@ -11,8 +12,8 @@ use Prim.Native.Nat.{ℕ, ◌+◌, ◌*◌, ◌≤◌, ◌<◌}
 use native.Mathlib.Omega.{arith}
 use lib.Dec.{leb→le}
 use lib.IntN.{ℤ, pos, ◌+ℤ◌}
-use lib.ListN.{drop, length, set}
-use lib.Seq.{drop-set-lt, sets}
+use lib.ListN.{drop, length, set, take}
+use lib.Seq.{drop-set-lt, sets, take_at}
 use Rattle.whole.specs.Tables.{table, table_from}
 use Rattle.whole.proofs.Lists.Prefix.{set-table}
 use Rattle.whole.proofs.Lists.Stores.{sets-front, sets_then}
@@ -101,6 +102,14 @@ head-then e lengths ws = ap (λ l. l ++ ws) (append-nil (head_words e lengths))
 
 pub head-length : (e : ℕ) (lengths : List ℤ) → length (file_words e lengths []) ≡ head_size (length lengths)
 head-length e lengths = omega (arith, file-length e lengths [])
+
+module _ (e : ℕ) (lengths front rest : List ℤ) (size : ℕ) (size-is : size ≡ head_size (length lengths))
+    (content : front ≡ file_words e lengths [] ++ rest) where
+  pub front-is : take size front ≡ file_words e lengths []
+  front-is = ap (take size) content ∙ take_at (file_words e lengths []) rest size (head-length e lengths ∙ sym size-is)
+
+  pub front-long : length (take size front) ≡ size
+  front-long = ap length front-is ∙ head-length e lengths ∙ sym size-is
 
 pub file-put : (e : ℕ) (lengths ws : List ℤ) (file : List ℕ) → 4 * file_size lengths ws ≤ length file → (r : ℕ) →
     r ≡ head_size (length lengths) →

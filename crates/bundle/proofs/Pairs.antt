@@ -2,7 +2,7 @@
 --   PairsPass        the pairs before i are where the rule puts them
 --   behind, behind-none, behind_more    the place behind the bodies before i
 --   pair-tested   the test of pair i, by the place that the loop has
---   passed-more, passed-least    one pair more; no length before i is negative, and size_few: it is within 31 bits
+--   passed-more   one pair more
 --   table-pair, table-total, table-fine    refusals 34, 35 and 0
 use mathlib.Core.Bool.{Bool, false, not, true, ◌||◌}
 use mathlib.Core.List.{List, [], ◌∷◌}
@@ -12,11 +12,12 @@ use Prim.Native.Nat.{ℕ, ◌+◌, ◌<◌}
 use native.Mathlib.Decide.{dec_lt}
 use native.Mathlib.Numerals.{add-one}
 use native.Mathlib.Omega.{arith}
-use lib.IntN.{ℤ, pos, negsuc, nat_abs, ◌+ℤ◌}
+use lib.IntN.{ℤ, pos, nat_abs, ◌+ℤ◌}
 use lib.ListN.{length}
 use lib.Signed.{◌≤ℤ◌}
+use mir.Facts.{to_z-of_z}
 use mir.Syntax.{w32}
-use mir.Val.{SFits}
+use mir.Val.{SFits, of_z, to_z}
 use Rattle.whole.specs.Numbers.{eq_z, is_neg}
 use Rattle.whole.specs.Tells.{Tells}
 use Rattle.whole.proofs.Bools.{or-false, true-false}
@@ -27,10 +28,6 @@ use Rattle.rules.specs.Bundle.File.{bad_pair, bad_table, bad_total, count_in, he
 use Rattle.rules.specs.Bundle.File.{start_for}
 use Rattle.rules.proofs.Refusal.First.{first-hit, first-skip}
 use Rattle.rules.proofs.Bundle.Places.{count_before, counts-next, counts-none, sum-counts}
-
-pub size_few : (z : ℤ) → pos 0 ≤ℤ z → SFits w32 z → nat_abs z < 2147483648
-size_few (pos n) h f = f.sfits
-size_few (negsuc n) h f = absurd h.le
 
 -- a test tells what it is
 own-tells : (b : Bool) → Tells b (b ≡ true) (b ≡ false)
@@ -44,7 +41,7 @@ module _ (ws : List ℤ) where
   abbrev pub behind : ℕ → ℕ
   behind i = head_size (count_in ws) + count_before i (pair_length ws)
 
-  pub passed-least : (i : ℕ) → PairsPass i → (j : ℕ) → j < i → pos 0 ≤ℤ pair_length ws j
+  passed-least : (i : ℕ) → PairsPass i → (j : ℕ) → j < i → pos 0 ≤ℤ pair_length ws j
   unfolding bad_pair
   passed-least i h j l = false→le (or-false _ _ (h j l)).0
 
@@ -57,11 +54,13 @@ module _ (ws : List ℤ) where
   unfolding bad_pair
   pair_is i h = ap (λ z. is_neg (pair_length ws i) || not (eq_z (pair_first ws i) z)) (sym (start_is i h))
 
-  pub pair-tested : (i : ℕ) → PairsPass i → (f z : ℤ) (at : ℕ) → f ≡ pair_first ws i → z ≡ pair_length ws i →
-      at ≡ behind i → (b : Bool) → b ≡ (is_neg z || not (eq_z f (pos at))) → b ≡ bad_pair ws i
-  pair-tested i h f z at f-is z-is at-is b e =
-      e ∙ ap (λ n. is_neg z || not (eq_z f (pos n))) at-is
-      ∙ ap₂ (λ g y. is_neg y || not (eq_z g (pos (behind i)))) f-is z-is ∙ pair_is i h
+  pub pair-tested : (i : ℕ) → PairsPass i → (f z : ℤ) (at : ℕ) → SFits w32 f → SFits w32 z → f ≡ pair_first ws i →
+      z ≡ pair_length ws i → at ≡ behind i → (b : Bool) →
+      b ≡ (is_neg (to_z w32 (of_z w32 z)) || not (eq_z (to_z w32 (of_z w32 f)) (pos at))) → b ≡ bad_pair ws i
+  pair-tested i h f z at f-fits z-fits f-is z-is at-is b e =
+      e ∙ ap (λ n. is_neg (to_z w32 (of_z w32 z)) || not (eq_z (to_z w32 (of_z w32 f)) (pos n))) at-is
+      ∙ ap₂ (λ g y. is_neg y || not (eq_z g (pos (behind i)))) (to_z-of_z f-fits ∙ f-is) (to_z-of_z z-fits ∙ z-is)
+      ∙ pair_is i h
 
   pub passed-more : (i : ℕ) → PairsPass i → bad_pair ws i ≡ false → PairsPass (i + 1)
   passed-more i h e j l = elim (dec_lt j i) [

@@ -3,14 +3,17 @@
 --   unknown-hit, many-hit, negative-hit, sum-hit, long-hit, room-hit    a test applies, and none before it does
 --   none-hit                           none applies
 --   counts_of                          what the first three tests leave
+--   file-kept                          a refusal keeps what is lent
+--   fillable                           what is written without a refusal
 use mathlib.Core.Bool.{false, true}
 use mathlib.Core.List.{List}
 use mathlib.Core.Logic.{inl, inr, ◌≢◌, ◌⊎◌}
 use mathlib.Core.Path.{◌≡◌, ap, refl, sym, ◌∙◌}
-use Prim.Native.Nat.{ℕ, ◌*◌, ◌≤◌, ◌<◌}
+use Prim.Native.Nat.{ℕ, zero, suc, ◌*◌, ◌≤◌, ◌<◌}
 use native.Mathlib.Omega.{arith}
 use lib.IntN.{ℤ, pos, nat_abs}
 use lib.ListN.{length}
+use lib.Dec.{le→leb}
 use lib.Signed.{◌<ℤ◌, ◌≤ℤ◌}
 use Rattle.whole.specs.Numbers.{is_neg}
 use Rattle.whole.specs.Sums.{sum}
@@ -19,10 +22,11 @@ use Rattle.whole.proofs.Tells.{tells-lt, tells-lt_z, tells-or, tells-some}
 use Rattle.rules.specs.Problem.{word}
 use Rattle.rules.specs.Sizes.{most_file_words}
 use Rattle.rules.specs.Bundle.File.{bodies_most, editions}
-use Rattle.rules.specs.Bundle.Writer.{bad_lengths, file_size, no_such_edition, writer_refusal}
+use Rattle.rules.specs.Bundle.Facts.{WriterAccepted}
+use Rattle.rules.specs.Bundle.Writer.{bad_lengths, file_left, file_size, no_such_edition, writer_refusal}
 use Rattle.rules.proofs.Bundle.Exactly.{writer-accepted-exactly, writer-refusal-exactly}
 use Rattle.rules.proofs.Bundle.Places.{bodies-few}
-use Rattle.bundle.specs.Lengths.{Counts}
+use Rattle.bundle.specs.Lengths.{Counts, Fillable}
 
 pub negative-tells : (l : List ℤ) → Tells (bad_lengths l) ((i : ℕ) × (i < length l) × (word l i <ℤ pos 0))
     ((i : ℕ) → i < length l → pos 0 ≤ℤ word l i)
@@ -94,3 +98,14 @@ module _ (e : ℕ) (lengths ws : List ℤ) (room : ℕ) where
               few = l;
               roomy = h;
             }))
+
+pub file-kept : (k e : ℕ) (lengths ws : List ℤ) (file : List ℕ) → k ≢ 0 → file ≡ file_left k e lengths ws file
+unfolding file_left
+file-kept zero e lengths ws file n = absurd (n refl)
+file-kept (suc k) e lengths ws file n = refl
+
+pub fillable : {e : ℕ} {lengths ws : List ℤ} {room : ℕ} → WriterAccepted e lengths ws room → Fillable lengths
+fillable {e} {lengths} {ws} A = record {
+  counts = record { few = omega (arith, A.count_most, bodies-few e); least = A.lengths-least };
+  total = rw A.total (record { le = le→leb (length ws) most_file_words (omega (arith, A.few)) });
+}

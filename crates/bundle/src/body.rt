@@ -6,14 +6,14 @@ ghost use Rattle.bundle.specs.Opened.{Opened, part_at};
 use editions::rows_in;
 use words::count_at;
 
-// The place of a body's first word, and the place behind its last.
-#[derive(Drop)]
+/// The place of a body's first word, and the place behind its last.
+#[derive(Clone, Copy, Debug, Default, PartialEq, Eq)]
 pub struct Part {
     pub first: usize,
     pub end: usize,
 }
 
-// The most rows of a body, by the edition of the file.
+/// The most rows of a body, by the edition of the file.
 pub fn rows_of(words: &[i32]) -> u32
     requires { Opened words.now }
     ensures { result ≡ rows_in (edition_in words.now) }
@@ -21,7 +21,7 @@ pub fn rows_of(words: &[i32]) -> u32
     rows_in(count_at(words, 0) as u32)
 }
 
-// Where body `i` stands.
+/// Where body `i` stands.
 pub fn part_of(words: &[i32], i: usize) -> Part
     requires { Opened words.now × (i < count_in words.now) }
     ensures { result ≡ part_at words.now i }

@@ -4,8 +4,6 @@ ghost use Rattle.rules.specs.Bundle.File.{head_size};
 ghost use Rattle.rules.specs.Bundle.Writer.{file_words};
 ghost use Rattle.bundle.specs.Lengths.{Fillable};
 
-use crate::counts::count_of;
-
 // The words of a head.
 pub const MOST_HEAD: usize = 2 + 2 * rules::MOST_BODIES;
 
@@ -22,11 +20,10 @@ pub fn fill(edition: u32, lengths: &[i32], front: &mut [i32]) -> usize
     front[0] = edition as i32;
     front[1] = bodies as i32;
     let mut at = 2 + 2 * bodies;
-    for i in 0..bodies {
+    for (i, size) in lengths.iter().enumerate() {
         front[2 + 2 * i] = at as i32;
-        let size = lengths[i];
-        front[3 + 2 * i] = size;
-        at = at + count_of(size);
+        front[3 + 2 * i] = *size;
+        at += size.unsigned_abs() as usize;
     }
     2 + 2 * bodies
 }

@@ -5,10 +5,11 @@ ghost use Rattle.rules.specs.Sizes.{most_bodies};
 ghost use Rattle.rules.specs.Refusal.{first};
 ghost use Rattle.rules.specs.Program.Bytes.{words_from};
 ghost use Rattle.rules.specs.Bundle.File.{bad_count, bad_table, bad_total, count_in, file_refusal, head_size};
+ghost use Rattle.refusals.specs.Numbers.{told};
 
-use crate::counts::count_of;
+use crate::places::{count_of, word_of};
 use editions::{EDITIONS, bodies_in};
-use wire::word_at;
+use refusals::Refusal;
 use words::is_outside;
 
 // Bytes that are left over, fewer than two words, or too many.
@@ -30,56 +31,47 @@ fn is_bad_pair(first: i32, size: i32, at: usize) -> bool
     requires { at < 2 ^ 63 }
     ensures { result ≡ (is_neg size || not (eq_z first (pos at))) }
 {
-    if size < 0 {
-        return true;
-    }
-    if first as i64 == at as i64 {
-        return false;
-    }
-    true
+    size < 0 || first as i64 != at as i64
 }
 
-// Refusals 34 and 35, or 0: the pairs one after the other, with the place where the next body has to start.
-fn table_refusal(file: &[u8], bodies: usize) -> u32
+// Refusals 34 and 35: the pairs one after the other, with the place where the next body has to start.
+fn judge_table(file: &[u8], bodies: usize) -> Result<(), Refusal>
     requires { (bodies ≡ count_in (words_from file.now)) × (bodies ≤ most_bodies)
         × (head_size bodies ≤ length (words_from file.now)) }
-    ensures { result ≡ first ((bad_table (words_from file.now), 34)
+    ensures { told result ≡ first ((bad_table (words_from file.now), 34)
         ∷ (bad_total (words_from file.now), 35) ∷ []) }
 {
     let mut at = 2 + 2 * bodies;
     for i in 0..bodies {
-        let first = word_at(file, 8 + 8 * i);
-        let size = word_at(file, 12 + 8 * i);
-        if is_bad_pair(first, size, at) {
-            return 34;
+        let size = word_of(file, 3 + 2 * i);
+        if is_bad_pair(word_of(file, 2 + 2 * i), size, at) {
+            return Err(Refusal::BodyPlace);
         }
-        at = at + count_of(size);
+        at += size.unsigned_abs() as usize;
     }
     if at != file.len() / 4 {
-        return 35;
+        return Err(Refusal::BodyTotal);
     }
-    0
+    Ok(())
 }
 
-// The refusal of a file, or 0.
-pub fn file_refusal(file: &[u8]) -> u32
-    ensures { result ≡ file_refusal file.now }
+/// Whether bytes are a day's file: the first of refusals 30 to 35 that applies.
+pub fn judge(file: &[u8]) -> Result<(), Refusal>
+    ensures { told result ≡ file_refusal file.now }
 {
     if is_bad_count(file.len()) {
-        return 30;
+        return Err(Refusal::ByteCount);
     }
-    let edition = word_at(file, 0);
-    if is_bad_word(edition, 1, EDITIONS) {
-        return 31;
+    if is_bad_word(word_of(file, 0), 1, EDITIONS) {
+        return Err(Refusal::Edition);
     }
-    let most = bodies_in(count_of(edition) as u32);
-    let number = word_at(file, 4);
-    if is_bad_word(number, 0, most as u32) {
-        return 32;
+    let most = bodies_in(count_of(file, 0) as u32);
+    if is_bad_word(word_of(file, 1), 0, most as u32) {
+        return Err(Refusal::BodyCount);
     }
-    let bodies = count_of(number);
+    let bodies = count_of(file, 1);
     if file.len() / 4 < 2 + 2 * bodies {
-        return 33;
+        return Err(Refusal::ShortHead);
     }
-    table_refusal(file, bodies)
+    judge_table(file, bodies)
 }

@@ -2,9 +2,9 @@
 #![tactic(auto)]
 
 pub mod body;
-mod counts;
 mod head;
 pub mod judge;
+mod places;
 mod writer;
 
 ghost use Rattle.std.specs.Prelude.{◌++◌, ◌≡◌, ◌*◌, ◌≤◌, drop, length};
@@ -13,37 +13,30 @@ ghost use Rattle.rules.specs.Program.Bytes.{words_from};
 ghost use Rattle.rules.specs.Bundle.File.{head_size, lengths_left, pair_length, read_refusal, words_left};
 ghost use Rattle.rules.specs.Bundle.Writer.{file_left, writer_refusal};
 ghost use Rattle.bundle.specs.Contents.{contents_told};
+ghost use Rattle.refusals.specs.Numbers.{told};
 
-use counts::count_of;
-use judge::file_refusal;
-use wire::word_at;
-use writer::writer_refusal;
+use places::{count_of, word_of};
+use refusals::Refusal;
 
-// What a reader tells of a file: its refusal, or 0 with its edition and how many bodies it has.
+/// What a reader tells of a file: its refusal, or 0 with its edition and how many bodies it has.
 #[repr(C)]
-#[derive(Drop)]
+#[derive(Clone, Copy, Debug, Default, PartialEq, Eq)]
 pub struct Contents {
     pub refused: u32,
     pub edition: u32,
     pub bodies: usize,
 }
 
-// The refusal of a reader that is lent room for so many lengths and so many words, or 0.
-fn read_refusal(file: &[u8], sizes: usize, words: usize) -> u32
-    ensures { result ≡ read_refusal file.now sizes words }
+// Whether a reader may be lent room for so many lengths and so many words: the file is judged first.
+fn judge_reading(file: &[u8], sizes: usize, words: usize) -> Result<(), Refusal>
+    ensures { told result ≡ read_refusal file.now sizes words }
 {
-    let refused = file_refusal(file);
-    if refused != 0 {
-        return refused;
+    judge::judge(file)?;
+    let bodies = count_of(file, 1);
+    if sizes < bodies || words < file.len() / 4 - (2 + 2 * bodies) {
+        return Err(Refusal::ShortFileRoom);
     }
-    let bodies = count_of(word_at(file, 4));
-    if sizes < bodies {
-        return 36;
-    }
-    if words < file.len() / 4 - (2 + 2 * bodies) {
-        return 36;
-    }
-    0
+    Ok(())
 }
 
 // The lengths of the bodies, at the front of `lengths`, whose later words stay.
@@ -52,13 +45,12 @@ fn take_lengths(file: &[u8], bodies: usize, lengths: &mut [i32])
     ensures { lengths.new
         ≡ table bodies (pair_length (words_from file.now)) ++ drop bodies lengths.old }
 {
-    for i in 0..bodies {
-        let size = word_at(file, 12 + 8 * i);
-        lengths[i] = size;
+    for (i, length) in lengths[..bodies].iter_mut().enumerate() {
+        *length = word_of(file, 3 + 2 * i);
     }
 }
 
-// Reads a file: the lengths of its bodies, and all their words back to back. A refusal keeps what is lent.
+/// Reads a file: the lengths of its bodies, and all their words back to back. A refusal keeps what is lent.
 pub fn read(file: &[u8], lengths: &mut [i32], words: &mut [i32]) -> Contents
     ensures told { result ≡ contents_told
         (read_refusal file.now (length lengths.old) (length words.old))
@@ -68,40 +60,35 @@ pub fn read(file: &[u8], lengths: &mut [i32], words: &mut [i32]) -> Contents
     ensures words { words.new
         ≡ words_left result.refused (words_from file.now) words.old }
 {
-    let refused = read_refusal(file, lengths.len(), words.len());
-    if refused != 0 {
+    if let Err(refusal) = judge_reading(file, lengths.len(), words.len()) {
         return Contents {
-            refused: refused,
-            edition: 0,
-            bodies: 0,
+            refused: refusal.number(),
+            ..Contents::default()
         };
     }
-    let edition = count_of(word_at(file, 0));
-    let bodies = count_of(word_at(file, 4));
+    let edition = count_of(file, 0);
+    let bodies = count_of(file, 1);
     take_lengths(file, bodies, lengths);
     let start = 8 + 8 * bodies;
     wire::words_of(&file[start..], words);
     Contents {
         refused: 0,
         edition: edition as u32,
-        bodies: bodies,
+        bodies,
     }
 }
 
-// Writes a file of an edition from the lengths of its bodies and all their words back to back. A refusal keeps `file`.
-pub fn write(edition: u32, lengths: &[i32], words: &[i32], file: &mut [u8]) -> u32
-    ensures number { result ≡ writer_refusal edition lengths.now words.now
+/// Writes a file of an edition from the lengths of its bodies and all their words back to back. A refusal keeps `file`.
+pub fn write(edition: u32, lengths: &[i32], words: &[i32], file: &mut [u8]) -> Result<(), Refusal>
+    ensures number { told result ≡ writer_refusal edition lengths.now words.now
         (length file.old) }
     ensures output { file.new
-        ≡ file_left result edition lengths.now words.now file.old }
+        ≡ file_left (told result) edition lengths.now words.now file.old }
 {
-    let refused = writer_refusal(edition, lengths, words, file.len());
-    if refused != 0 {
-        return refused;
-    }
+    writer::judge(edition, lengths, words, file.len())?;
     let mut front = [0i32; head::MOST_HEAD];
     let size = head::fill(edition, lengths, &mut front);
     wire::bytes_of(&front[..size], file, 0);
     wire::bytes_of(words, file, 4 * size);
-    0
+    Ok(())
 }

@@ -4,19 +4,15 @@ ghost use Rattle.whole.specs.Sums.{sum};
 ghost use Rattle.rules.specs.Problem.{word};
 ghost use Rattle.rules.specs.Bundle.Writer.{bad_lengths, writer_refusal};
 ghost use Rattle.bundle.specs.Lengths.{Counts};
+ghost use Rattle.refusals.specs.Numbers.{told};
 
-use crate::counts::count_of;
+use refusals::Refusal;
 
 // Whether some length is negative.
 fn has_negative(lengths: &[i32]) -> bool
     ensures { result ≡ bad_lengths lengths.now }
 {
-    for i in 0..lengths.len() {
-        if lengths[i] < 0 {
-            return true;
-        }
-    }
-    false
+    lengths.iter().any(|length| *length < 0)
 }
 
 // All lengths together.
@@ -25,36 +21,36 @@ fn total_of(lengths: &[i32]) -> usize
     ensures { pos result ≡ sum (length lengths.now) (word lengths.now) }
 {
     let mut total = 0usize;
-    for i in 0..lengths.len() {
-        total = total + count_of(lengths[i]);
+    for length in lengths {
+        total += length.unsigned_abs() as usize;
     }
     total
 }
 
-// The refusal of what is to be written, or 0; room is in bytes.
-pub fn writer_refusal(edition: u32, lengths: &[i32], words: &[i32], room: usize) -> u32
-    ensures { result ≡ writer_refusal edition lengths.now words.now room }
+// The first of the refusals that applies to what is to be written; room is in bytes.
+pub fn judge(edition: u32, lengths: &[i32], words: &[i32], room: usize) -> Result<(), Refusal>
+    ensures { told result ≡ writer_refusal edition lengths.now words.now room }
 {
     if editions::is_unknown(edition) {
-        return 31;
+        return Err(Refusal::Edition);
     }
     let bodies = lengths.len();
     if editions::bodies_in(edition) < bodies {
-        return 32;
+        return Err(Refusal::BodyCount);
     }
     if has_negative(lengths) {
-        return 34;
+        return Err(Refusal::BodyPlace);
     }
     let count = words.len();
     if total_of(lengths) != count {
-        return 35;
+        return Err(Refusal::BodyTotal);
     }
     let size = 2 + 2 * bodies + count;
     if rules::MOST_FILE_WORDS < size {
-        return 30;
+        return Err(Refusal::ByteCount);
     }
     if room < 4 * size {
-        return 36;
+        return Err(Refusal::ShortFileRoom);
     }
-    0
+    Ok(())
 }

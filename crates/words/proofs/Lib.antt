@@ -1,3 +1,4 @@
 -- Laws that the proofs share. Assumes nothing.
+pub mod Chains
 pub mod Only
 mod Ranges

@@ -1,53 +1,23 @@
--- `bundle::writer::has_negative` meets its contract. The invariant of its loop: none of the first i lengths is
--- negative. The measure is the number of lengths that are left. Assumes nothing.
-use borrow.Author.Rules.{rules}
-use mathlib.Core.Path.{◌≡◌, sym}
-use native.Mathlib.Decide.{dec_lt}
-use native.Mathlib.Omega.{arith}
-use lib.IntN.{pos}
-use lib.Signed.{◌≤ℤ◌}
-use mir.Facts.{sfits_lit}
-use mir.Syntax.{w32}
+-- `bundle::writer::has_negative` meets its contract: it asks whether one of the lengths is negative.
+use Rattle.std.proofs.Common.{◌≡◌, rules, pos, Bool, true, false, ℤ, to_z, of_z, w32}
+use Rattle.std.proofs.lemmas.Iterator.{YieldsList-from_slice, cases_from_any}
+use borrow.Author.Tests.{tests}
+use mir.Facts.{to_z-of_z}
 use mir.Val.{SFits}
-use Rattle.whole.proofs.Numbers.Tests.{test-lt, test-nlt}
-use Rattle.whole.proofs.Tells.{tells-false, tells-true}
-use Rattle.rules.specs.Problem.{word}
-use Rattle.bundle.proofs.Writers.{negative-tells}
+use Rattle.whole.specs.Numbers.{is_neg}
+use Rattle.rules.specs.Bundle.Writer.{bad_lengths}
+use Rattle.words.proofs.Chains.{any-below}
 use Rattle.bundle.proofs.writer.has_negative.Goals as goal
 
-pub loop-i-init : goal.loop-i-init
-loop-i-init c = (omega arith, λ j h. absurd (omega arith))
-
-pub offset_bounds-lengths-i : goal.offset_bounds-lengths-i
-offset_bounds-lengths-i c = omega arith
-
-pub bounds-lengths-i : goal.bounds-lengths-i
-bounds-lengths-i c = omega arith
-
-pub returns-then-lengths-i-lt0 : goal.returns-then-lengths-i-lt0
-returns-then-lengths-i-lt0 c =
-    let ls = c.args.lengths.now in
-    let fit : SFits w32 (word ls c.loop-i.i) = search rules in
-    sym (tells-true (negative-tells ls)
-    (c.loop-i.i, omega arith, test-lt w32 fit (sfits_lit tt) c.if-lengths-i-lt0.true))
-
-pub overflow_step-i : goal.overflow_step-i
-overflow_step-i c = omega arith
-
-pub loop-i-smaller : goal.loop-i-smaller
-loop-i-smaller c = omega arith
-
-pub loop-i-preserved : goal.loop-i-preserved
-loop-i-preserved c =
-    let one = word c.args.lengths.now c.loop-i.i in
-    let fit : SFits w32 one = search rules in
-    let least : pos 0 ≤ℤ one = test-nlt w32 fit (sfits_lit tt) c.if-lengths-i-lt0.false in (
-      omega arith,
-      λ j h. elim (dec_lt j c.loop-i.i) [
-        | yes l ↦ c.loop-i.invariant.1 j l
-        | no l ↦ let e : j ≡ c.loop-i.i = omega arith in rw e least
-      ],
-    )
+-- what the closure tells of a length that fits, as it was read
+told : (b : Bool) (z : ℤ) → SFits w32 z → is_neg (to_z w32 (of_z w32 z)) ≡ b → is_neg z ≡ b
+told b z fit e = simp (to_z-of_z fit) at e
 
 pub returns : goal.returns
-returns c = sym (tells-false (negative-tells c.args.lengths.now) (λ i h. c.loop-i.invariant.1 i (omega arith)))
+unfolding bad_lengths
+returns c =
+    let ls = c.args.lengths.now in
+    any-below is_neg ls (pos 0) c.any.result
+    (cases_from_any _ _ c.any.result (λ z. is_neg z ≡ true) (λ z. is_neg z ≡ false) c.any.ensures.ran
+    (YieldsList-from_slice ls cc) (λ x q k. told true x.now (search rules) (search (rules, tests)))
+    (λ x q k. (search rules, told false x.now (search rules) (search (rules, tests)))))
