@@ -1,13 +1,26 @@
 -- The text of a row from its coefficients, and of a variable's limits from their words, as code has them at hand. The
 -- laws say that these are the pieces of the text of the rules.
-use Rattle.std.specs.Prelude.{Bool, true, false, cond, List, ◌++◌, ℕ, ℤ, length}
+use Rattle.std.specs.Prelude.{cond, List, [], ◌++◌, ℕ, ◌-◌, ltb, ℤ, length, Option, None, Some}
 use Rattle.rules.specs.Limit.{has_lower, has_upper, strict_lower, strict_upper}
 use Rattle.rules.specs.Problem.{word}
 use Rattle.rules.specs.Program.Text.{lines_below}
-use Rattle.rules.specs.Exchange.Script.{assert_limit, assert_row, end_assert, limit_text, lower_relation, name_of}
-use Rattle.rules.specs.Exchange.Script.{row_name}
-use Rattle.rules.specs.Exchange.Script.{space, sum_text, term, upper_relation}
-use Rattle.exchange.specs.declared.limits.Shown.{Shown}
+use Rattle.rules.specs.Exchange.Script.{assert_limit, assert_row, column_name, end_assert, less, more, no_less}
+use Rattle.rules.specs.Exchange.Script.{no_more, number_text, row_name, space, sum_text, term}
+use Rattle.exchange.specs.declared.limits.Limit.{Limit}
+use Rattle.exchange.specs.declared.limits.Relation.{Relation}
+use Rattle.exchange.specs.declared.limits.Relation.TheVariants as relations
+use Rattle.exchange.specs.declared.names.Name.{Name}
+use Rattle.exchange.specs.declared.names.Name.TheVariants.{Column, Row}
+
+-- ---- names
+
+-- of variable v, where the first n are the problem's
+abbrev pub name_at : ℕ → ℕ → Name
+name_at n v = cond (ltb v n) (Column v) (Row (v - n))
+
+abbrev pub name_text : Name → List ℕ
+name_text (Column j) = column_name j
+name_text (Row i) = row_name i
 
 -- ---- a row
 
@@ -22,25 +35,29 @@ row_piece i cs = assert_row ++ row_name i ++ sum_piece cs ++ end_assert
 
 -- ---- limits
 
--- the relation of an upper limit, or of a lower one, by the strict mark
-abbrev pub relation_for : Bool → Bool → List ℕ
-relation_for upper strict = cond upper (upper_relation strict) (lower_relation strict)
+abbrev pub relation_text : Relation → List ℕ
+relation_text relations.NoLess = no_less
+relation_text relations.More = more
+relation_text relations.NoMore = no_more
+relation_text relations.Less = less
 
-abbrev pub lower_shown : ℤ → ℤ → Shown
-lower_shown kind z = record { present = has_lower kind; upper = false; strict = strict_lower kind; number = z }
+abbrev pub lower_limit : ℤ → ℤ → Option Limit
+lower_limit kind z =
+    cond (has_lower kind)
+    (Some (record { relation = cond (strict_lower kind) relations.More relations.NoLess; number = z })) None
 
-abbrev pub upper_shown : ℤ → ℤ → Shown
-upper_shown kind z = record { present = has_upper kind; upper = true; strict = strict_upper kind; number = z }
+abbrev pub upper_limit : ℤ → ℤ → Option Limit
+upper_limit kind z =
+    cond (has_upper kind)
+    (Some (record { relation = cond (strict_upper kind) relations.Less relations.NoMore; number = z })) None
 
--- of variable v, where the first n are the problem's
-abbrev pub shown_piece : ℕ → ℕ → Shown → List ℕ
-shown_piece n v limit =
-    limit_text limit.present (relation_for limit.upper limit.strict) (name_of n v) limit.number
+-- one that is missing has no text
+abbrev pub limit_piece : Name → Option Limit → List ℕ
+limit_piece name None = []
+limit_piece name (Some limit) =
+    assert_limit ++ relation_text limit.relation ++ space ++ name_text name ++ space ++ number_text limit.number
+    ++ end_assert
 
--- up to its name
-abbrev pub head_piece : ℕ → ℕ → Shown → List ℕ
-head_piece n v limit = assert_limit ++ relation_for limit.upper limit.strict ++ space ++ name_of n v
-
-abbrev pub limits_piece : ℕ → ℕ → List ℤ → List ℕ
-limits_piece n v ls =
-    shown_piece n v (lower_shown (word ls 0) (word ls 1)) ++ shown_piece n v (upper_shown (word ls 0) (word ls 2))
+abbrev pub limits_piece : Name → List ℤ → List ℕ
+limits_piece name ls =
+    limit_piece name (lower_limit (word ls 0) (word ls 1)) ++ limit_piece name (upper_limit (word ls 0) (word ls 2))

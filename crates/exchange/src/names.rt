@@ -1,41 +1,60 @@
-// Names and numbers, put at a place of a lent slice.
-ghost use Rattle.std.specs.Prelude.{◌∷◌};
-ghost use Rattle.rules.specs.Program.Text.{digits};
-ghost use Rattle.rules.specs.Exchange.Script.{name_of, number_text};
+// Names and numbers, put where a writer stands.
+ghost use Rattle.std.specs.Prelude.{◌≡◌};
+ghost use Rattle.rules.specs.Exchange.Script.{number_text};
 ghost use Rattle.put.specs.Put.{Put, Room};
+ghost use Rattle.exchange.specs.Pieces.{name_at, name_text};
 
 use crate::texts::OPEN_MINUS;
-use put::{put_byte, put_digits, put_text, size_below};
+use put::Writer;
 
-// A letter and a number.
-pub fn put_name(out: &mut [u8], at: usize, letter: u8, number: usize) -> usize
-    requires { Room at (letter ∷ digits number) }
-    ensures { Put out.old at (letter ∷ digits number) out.new result }
-{
-    let next = put_byte(out, at, letter);
-    put_digits(out, next, number as u64)
+// Who is named: a column of the problem or a row, by its number.
+#[derive(Clone, Copy, Debug, PartialEq, Eq)]
+pub enum Name {
+    Column(usize),
+    Row(usize),
 }
 
-// The name of a variable, where the first `columns` are the problem's.
-pub fn put_variable(out: &mut [u8], at: usize, columns: usize, variable: usize) -> usize
-    requires { Room at (name_of columns variable) }
-    ensures { Put out.old at (name_of columns variable) out.new result }
-{
-    if variable < columns {
-        return put_name(out, at, b'x', variable);
+impl Name {
+    // Of a variable, where the first `columns` are the problem's.
+    pub fn of(columns: usize, variable: usize) -> Name
+        ensures { result ≡ name_at columns variable }
+    {
+        if variable < columns {
+            Name::Column(variable)
+        } else {
+            Name::Row(variable - columns)
+        }
     }
-    put_name(out, at, b'r', variable - columns)
+}
+
+// A letter and a number.
+pub fn put_name(out: &mut Writer, name: Name)
+    requires { Room out.old (name_text name) }
+    ensures { Put out.old (name_text name) out.new }
+{
+    match name {
+        Name::Column(number) => {
+            out.byte(b'x');
+            out.digits(number as u64);
+        }
+        Name::Row(number) => {
+            out.byte(b'r');
+            out.digits(number as u64);
+        }
+    }
 }
 
 // A number: below 0 its size behind a minus, in parentheses.
-pub fn put_value(out: &mut [u8], at: usize, n: i32) -> usize
-    requires { Room at (number_text n) }
-    ensures { Put out.old at (number_text n) out.new result }
+pub fn put_value(out: &mut Writer, n: i32)
+    requires { Room out.old (number_text n) }
+    ensures { Put out.old (number_text n) out.new }
 {
+    let size = u64::from(n.unsigned_abs());
     if n < 0 {
-        let opened = put_text(out, at, &OPEN_MINUS);
-        let told = put_digits(out, opened, size_below(n as i64));
-        return put_byte(out, told, b')');
+        out.text(&OPEN_MINUS);
+        out.digits(size);
+        out.byte(b')');
+    } else {
+        out.digits(size);
     }
-    put_digits(out, at, n as u64)
 }

@@ -2,31 +2,76 @@
 --   row-part, limits-part      a row from its coefficients among the words, the limits of a variable from their words
 --   row_inside, limits-inside  .. which are all there
 --   sum-alone, sum-joined      one term, or more
---   limit-none, limit-some     a limit that is missing, or present
---   shown-same                 a limit as it is written, part by part
+--   named_as                    a name, by its number among the variables
+--   lower_text, upper_text     a limit that is missing, or present, strict or not
 --   script-at                  the whole text
-use mathlib.Core.Bool.{Bool, true, false}
-use mathlib.Core.List.{List, [], ◌++◌}
+use mathlib.Core.Bool.{Bool, true, false, cond}
+use mathlib.Core.List.{List, ◌++◌}
 use mathlib.Core.Logic.{◌≢◌}
 use mathlib.Core.Path.{◌≡◌, refl, sym, ◌∙◌, ap, ap₂}
 use Prim.Native.Nat.{ℕ, suc, ◌+◌, ◌-◌, ◌*◌, ◌≤◌, ◌<◌}
 use native.Mathlib.Nat.{add-zero, le_refl, mul-le-mul, suc-mul}
 use native.Mathlib.Omega.{arith}
 use borrow.Author.Tests.{ne_eqb}
+use lib.Dec.{ltb}
 use lib.IntN.{ℤ, pos}
 use lib.ListN.{drop, length, take, length-drop}
 use lib.Seq.{get_or-drop, get_or-take, length-take-le}
+use Rattle.std.proofs.Common.{None, Some}
+use Rattle.rules.specs.Limit.{has_lower, has_upper, strict_lower, strict_upper}
 use Rattle.rules.specs.Problem.{word}
 use Rattle.rules.specs.Program.Text.{lines_below}
-use Rattle.rules.specs.Exchange.Script.{assert_limit, assert_row, check_sat, close, declaration, end_assert}
-use Rattle.rules.specs.Exchange.Script.{exchange_text}
-use Rattle.rules.specs.Exchange.Script.{limit_text, limits_text, number_text, open_sum, row_name, row_text, set_logic}
-use Rattle.rules.specs.Exchange.Script.{space}
-use Rattle.rules.specs.Exchange.Script.{sum_text, term, terms_text}
+use Rattle.rules.specs.Exchange.Script.{assert_row, check_sat, close, column_name, declaration, end_assert}
+use Rattle.rules.specs.Exchange.Script.{exchange_text, limit_text, limits_text, lower_relation, name_of, open_sum}
+use Rattle.rules.specs.Exchange.Script.{row_name, row_text, set_logic, sum_text, term, terms_text, upper_relation}
 use Rattle.rules.proofs.Program.Same.{lines_same}
 use Rattle.judge.specs.Words.{Framed}
-use Rattle.exchange.specs.Pieces.{limits_piece, row_piece, terms_piece}
-use Rattle.exchange.specs.declared.limits.Shown.{Shown}
+use Rattle.exchange.specs.Pieces.{limit_piece, limits_piece, lower_limit, name_at, name_text, row_piece, terms_piece}
+use Rattle.exchange.specs.Pieces.{upper_limit}
+use Rattle.exchange.specs.declared.limits.Limit.{Limit}
+use Rattle.exchange.specs.declared.limits.Relation.TheVariants as relations
+use Rattle.exchange.specs.declared.names.Name.{Name}
+use Rattle.exchange.specs.declared.names.Name.TheVariants.{Column, Row}
+
+-- ---- names and limits
+
+pub named_as : (n v : ℕ) → name_text (name_at n v) ≡ name_of n v
+unfolding name_of
+named_as n v = go (ltb v n)
+  where
+    go : (b : Bool) → name_text (cond b (Column v) (Row (v - n))) ≡ cond b (column_name v) (row_name (v - n))
+    go true = refl
+    go false = refl
+
+pub lower_text : (name : Name) (kind z : ℤ) →
+    limit_piece name (lower_limit kind z)
+    ≡ limit_text (has_lower kind) (lower_relation (strict_lower kind)) (name_text name) z
+unfolding limit_text lower_relation
+lower_text name kind z = go (has_lower kind) (strict_lower kind)
+  where
+    limit : Bool → Limit
+    limit s = record { relation = cond s relations.More relations.NoLess; number = z }
+
+    go : (b s : Bool) →
+        limit_piece name (cond b (Some (limit s)) None) ≡ limit_text b (lower_relation s) (name_text name) z
+    go false s = refl
+    go true true = refl
+    go true false = refl
+
+pub upper_text : (name : Name) (kind z : ℤ) →
+    limit_piece name (upper_limit kind z)
+    ≡ limit_text (has_upper kind) (upper_relation (strict_upper kind)) (name_text name) z
+unfolding limit_text upper_relation
+upper_text name kind z = go (has_upper kind) (strict_upper kind)
+  where
+    limit : Bool → Limit
+    limit s = record { relation = cond s relations.Less relations.NoMore; number = z }
+
+    go : (b s : Bool) →
+        limit_piece name (cond b (Some (limit s)) None) ≡ limit_text b (upper_relation s) (name_text name) z
+    go false s = refl
+    go true true = refl
+    go true false = refl
 
 -- ---- a part of the words
 
@@ -83,10 +128,14 @@ module _ {ws : List ℤ} {n m : ℕ} (F : Framed ws n m) where
   pub limits-length : (v : ℕ) → v < n + m → length (words_part ws (2 + m * n + 3 * v) 3) ≡ 3
   limits-length v h = part_length ws (2 + m * n + 3 * v) 3 (limits-inside v h)
 
-  pub limits-part : (v : ℕ) → limits_piece n v (words_part ws (2 + m * n + 3 * v) 3) ≡ limits_text ws v
+  pub limits-part :
+      (v : ℕ) → limits_piece (name_at n v) (words_part ws (2 + m * n + 3 * v) 3) ≡ limits_text ws v
   unfolding limits_text
   limits-part v =
       rw (
+        lower_text,
+        upper_text,
+        named_as,
         part-word ws (2 + m * n + 3 * v) 3 0 (omega arith),
         part-word ws (2 + m * n + 3 * v) 3 1 (omega arith),
         part-word ws (2 + m * n + 3 * v) 3 2 (omega arith),
@@ -110,18 +159,3 @@ sum-alone n terms e = rw e refl
 pub sum-joined : (n : ℕ) (terms : List ℕ) → n ≢ 1 → sum_text n terms ≡ open_sum ++ terms ++ close
 unfolding sum_text
 sum-joined n terms h = rw (ne_eqb n 1 h) refl
-
-module _ (b : Bool) (relation name : List ℕ) (z : ℤ) where
-  pub limit-none : b ≡ false → limit_text b relation name z ≡ []
-  unfolding limit_text
-  limit-none e = rw (e, limit_text) refl
-
-  pub limit-some : b ≡ true →
-      limit_text b relation name z ≡ assert_limit ++ relation ++ space ++ name ++ space ++ number_text z ++ end_assert
-  unfolding limit_text
-  limit-some e = rw (e, limit_text) refl
-
-pub shown-same : (upper : Bool) {b c s t : Bool} {x z : ℤ} → b ≡ c → s ≡ t → x ≡ z →
-    ◌≡◌ {A = Shown} (record { present = b; upper = upper; strict = s; number = x })
-    (record { present = c; upper = upper; strict = t; number = z })
-shown-same upper p q e = rw (p, q, e) refl

@@ -1,55 +1,59 @@
--- What is answered and what stands in the slice afterwards, from the refusal's number.
---   sends-refused    a number other than 0 is told, and the slice is kept
---   sends-text       0: the text is measured in one slice, and put into another
-use mathlib.Core.List.{List}
-use mathlib.Core.Logic.{◌≢◌}
-use mathlib.Core.Path.{◌≡◌, refl, sym, ◌∙◌, ap}
-use Prim.Native.Nat.{ℕ, zero, suc, ◌≤◌}
-use native.Mathlib.Omega.{arith}
-use lib.IntN.{ℤ}
-use lib.ListN.{length}
+-- What is answered and what stands in the slice afterwards.
+--   problem-refused, room-refused    why nothing is written, and the slice is kept
+--   text-put                         the text stands at the front
+--   answered                         the answer, from what became of the text
+use mathlib.Core.Path.{ap₂}
+use lib.Seq.{sets}
+use Rattle.std.proofs.Common.{◌≡◌, ◌≢◌, ◌<◌, ◌≤◌, ℕ, zero, suc, ℤ, List, Result, Ok, Err, IfOk, refl, arith, ap, sym}
+use Rattle.std.proofs.Common.{◌∙◌, length}
 use Rattle.whole.proofs.Lists.Stores.{sets-front}
 use Rattle.rules.specs.Exchange.Script.{exchange_output, exchange_refusal, exchange_text}
-use Rattle.rules.proofs.Exchange.Refusals.{output-refused}
+use Rattle.rules.specs.Refusal.{problem_refusal}
+use Rattle.rules.proofs.Exchange.Refusals.{exchange-none, exchange-problem, exchange-short, output-refused}
+use Rattle.refusals.specs.declared.Refusal.{Refusal}
+use Rattle.refusals.specs.Numbers.{number_of, told_by}
+use Rattle.refusals.proofs.Refused.{number-some}
+use Rattle.put.specs.declared.Writer.{Writer}
 use Rattle.put.specs.Put.{Put}
 use Rattle.exchange.specs.Sent.{sent_by}
 use Rattle.exchange.specs.declared.Exchanged.{Exchanged}
 
--- what is promised of words and a slice
-abbrev pub Sends : List ℤ → List ℕ → Exchanged → List ℕ → Type 0
-Sends ws before r after =
-    (r ≡ sent_by (exchange_refusal ws (length before)) (exchange_text ws))
-    × (after ≡ exchange_output (exchange_refusal ws (length before)) ws before)
-
-abbrev refused_with : ℕ → Exchanged
-refused_with k = record { refused = k; count = 0 }
-
-abbrev bytes : ℕ → Exchanged
-bytes n = record { refused = 0; count = n }
-
 module _ (ws : List ℤ) (before : List ℕ) where
-  refused-by : (k : ℕ) → k ≢ 0 → refused_with k ≡ sent_by k (exchange_text ws)
-  unfolding sent_by
-  refused-by zero n = absurd (n refl)
-  refused-by (suc k) n = refl
+  -- what is told of words and a slice, and what stands in the slice afterwards
+  abbrev pub Kept : ℕ → List ℕ → Type 0
+  Kept told after = (told ≡ exchange_refusal ws (length before)) × (after ≡ exchange_output told ws before)
 
-  pub sends-refused : (k : ℕ) → k ≡ exchange_refusal ws (length before) → k ≢ 0 →
-      Sends ws before (refused_with k) before
-  sends-refused k e n = (
-    refused-by k n ∙ ap (λ j. sent_by j (exchange_text ws)) e,
-    sym (output-refused k ws before n) ∙ ap (λ j. exchange_output j ws before) e,
+  pub problem-refused : (r : Refusal) → number_of r ≡ problem_refusal ws → Kept (number_of r) before
+  problem-refused r e = (
+    e ∙ exchange-problem ws (length before) (λ z. number-some r (e ∙ z)),
+    sym (output-refused (number_of r) ws before (number-some r)),
   )
 
-  pub sends-text : {l m after : List ℕ} {n k : ℕ} → exchange_refusal ws (length before) ≡ 0 →
-      length (exchange_text ws) ≤ length before → Put l 0 (exchange_text ws) m n →
-      Put before 0 (exchange_text ws) after k →
-      Sends ws before (bytes n) after
-  unfolding sent_by exchange_output
-  sends-text {after = after} {n = n} e fits measured put =
-      (ap bytes size ∙ sym (ap (λ j. sent_by j (exchange_text ws)) e), kept)
-    where
-      size : n ≡ length (exchange_text ws)
-      size = omega (arith, measured.place)
+  pub room-refused : problem_refusal ws ≡ 0 → length before < length (exchange_text ws) → Kept 7 before
+  room-refused e h = (
+    sym (exchange-short ws (length before) e h),
+    sym (output-refused 7 ws before (λ z. omega arith)),
+  )
 
-      kept : after ≡ exchange_output (exchange_refusal ws (length before)) ws before
-      kept = put.bytes ∙ sets-front (exchange_text ws) before fits ∙ sym (ap (λ j. exchange_output j ws before) e)
+  pub text-put : {v w : Writer} → problem_refusal ws ≡ 0 → length (exchange_text ws) ≤ length before →
+      v.out.now ≡ before → v.at ≡ 0 → Put v (exchange_text ws) w → Kept 0 w.out.now
+  unfolding exchange_output
+  text-put {v} e fits b z p = (
+    sym (exchange-none ws (length before) e fits),
+    p.bytes ∙ ap₂ (λ l i. sets l i (exchange_text ws)) b z ∙ sets-front (exchange_text ws) before fits,
+  )
+
+-- from the result
+abbrev pub exchanged : Result ℕ Refusal → Exchanged
+exchanged (Ok n) = record { refused = 0; count = n }
+exchanged (Err r) = record { refused = number_of r; count = 0 }
+
+pub answered : (text : List ℕ) (r : Result ℕ Refusal) → IfOk r (λ n. n ≡ length text) →
+    exchanged r ≡ sent_by (told_by r) text
+unfolding sent_by
+answered text (Ok n) e = ap (λ k. record { refused = 0; count = k }) e
+answered text (Err r) e = go (number_of r) (number-some r)
+  where
+    go : (k : ℕ) → k ≢ 0 → ◌≡◌ {A = Exchanged} (record { refused = k; count = 0 }) (sent_by k text)
+    go zero n = absurd (n refl)
+    go (suc k) n = refl

@@ -1,18 +1,30 @@
--- `exchange::names::put_name` meets its contract: a byte, and then digits. Assumes nothing.
-use borrow.Author.Rules.{rules}
-use Rattle.put.proofs.Texts.{put_then}
+-- `exchange::names::put_name` meets its contract: a letter, and then digits. Assumes nothing.
+use Rattle.std.proofs.Common.{rules}
+use Rattle.rules.specs.Program.Text.{ascii}
+use Rattle.rules.specs.Exchange.Script.{column_name, row_name}
+use Rattle.put.proofs.Texts.{texts}
 use Rattle.exchange.proofs.names.put_name.Goals as goal
 
-pub put_byte-next-requires : goal.put_byte-next-requires
-put_byte-next-requires c = search rules
+pub byte-requires : goal.byte-requires
+unfolding column_name row_name ascii
+byte-requires c = search (rules, texts)
 
-pub put_digits-requires : goal.put_digits-requires
-put_digits-requires c = search rules
+pub digits-requires : goal.digits-requires
+unfolding column_name row_name ascii
+digits-requires c = search (rules, texts)
 
-pub shape_of-out : goal.shape_of-out
-shape_of-out c = search rules
+pub byte-requires-in-Row : goal.byte-requires-in-Row
+unfolding column_name row_name ascii
+byte-requires-in-Row c = search (rules, texts)
 
-pub returns : goal.returns
-returns c =
-    put_then c.put_byte-next.ensures
-    c.put_digits.ensures
+pub digits-requires-in-Row : goal.digits-requires-in-Row
+unfolding column_name row_name ascii
+digits-requires-in-Row c = search (rules, texts)
+
+pub returns-in-Column : goal.returns-in-Column
+unfolding column_name row_name ascii
+returns-in-Column c = search (rules, texts)
+
+pub returns-in-Row : goal.returns-in-Row
+unfolding column_name row_name ascii
+returns-in-Row c = search (rules, texts)

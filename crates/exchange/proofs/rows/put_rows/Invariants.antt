@@ -1,13 +1,8 @@
--- `exchange::rows::put_rows` meets its contract. The invariant of its loop: the rows below i are put. The measure is
--- the number of rows that are left. Assumes nothing.
-use Prim.Native.Nat.{◌-◌, ◌≤◌}
+-- `exchange::rows::put_rows` meets its contract. The invariant of its loop: the rows so far are put. Assumes nothing.
 use Rattle.rules.specs.Program.Text.{lines_below}
 use Rattle.rules.specs.Exchange.Script.{row_text}
 use Rattle.put.specs.Put.{Put}
 use Rattle.exchange.proofs.rows.put_rows.Given as goal
 
-abbrev pub invariant-loop-i : goal.invariant-loop-i
-invariant-loop-i l = (l.i ≤ l.rows) × Put l.initial.out l.at (lines_below l.i (row_text l.words)) l.out l.next
-
-abbrev pub decreases-loop-i : goal.decreases-loop-i
-decreases-loop-i l = l.rows - l.i
+abbrev pub invariant-loop-row : goal.invariant-loop-row
+invariant-loop-row l = Put l.initial.out (lines_below l.row (row_text l.words)) l.out
