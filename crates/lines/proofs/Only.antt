@@ -18,9 +18,9 @@ pub write-text-only : (κs : _) (x : _) (a b : _) (e f : _) → write-text.Post 
 write-text-only κs x a b e f h k = printed-only h k
 
 pub put-reply-only : (κs : _) (x : _) (a b : _) (e f : _) → put-reply.Post κs x a e → put-reply.Post κs x b f →
-    (e.0.now ≡ f.0.now) × (a ≡ b)
+    (e.0.now.out.now ≡ f.0.now.out.now) × (e.0.now.at ≡ f.0.now.at)
 put-reply-only κs x a b e f h k = put_only h.put k.put
 
 pub put-refusal-only : (κs : _) (x : _) (a b : _) (e f : _) → put-refusal.Post κs x a e → put-refusal.Post κs x b f →
-    (e.0.now ≡ f.0.now) × (a ≡ b)
+    (e.0.now.out.now ≡ f.0.now.out.now) × (e.0.now.at ≡ f.0.now.at)
 put-refusal-only κs x a b e f h k = put_only h.put k.put

@@ -27,10 +27,11 @@ use Rattle.rules.proofs.Program.Counts.{count-fine}
 use Rattle.rules.proofs.Program.Words.{words-length}
 use Rattle.rules.proofs.Program.Same.{answer-text-same}
 use Rattle.put.specs.Put.{PutShort}
+use Rattle.put.specs.declared.Writer.{Writer}
 use Rattle.solver.proofs.Laws.Refusals.{accepted-of, fine-within, within_none, within-problem}
 
-pub put_as : {text other before after : List ℕ} {most at next : ℕ} → text ≡ other →
-    PutShort most before at text after next → PutShort most before at other after next
+pub put_as : {text other : List ℕ} {before after : Writer} {most : ℕ} → text ≡ other →
+    PutShort most before text after → PutShort most before other after
 put_as e p = rw e at p
 
 module _ (rows : ℕ) (few : rows ≤ most_rows) (ws : List ℤ) where

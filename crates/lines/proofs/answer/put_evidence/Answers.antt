@@ -1,55 +1,22 @@
--- `lines::answer::put_evidence` meets its contract. The invariant of its loop: the lines of the variables below v are
--- put. The measure is the number of variables that are left. Assumes nothing.
-use mathlib.Core.List.{List}
-use mathlib.Core.Path.{◌≡◌}
-use Prim.Native.Nat.{ℕ}
-use native.Mathlib.Omega.{arith}
-use Rattle.rules.specs.Sizes.{most_multiplier_lines, most_variables}
+-- `lines::answer::put_evidence`: the lines of the variables passed are put. Assumes nothing.
+use Rattle.std.proofs.Common.{arith}
+use Rattle.rules.specs.Sizes.{most_variables, most_multiplier_lines}
 use Rattle.rules.specs.Program.Text.{multiplier_lines}
-use Rattle.put.proofs.Texts.{put-length}
-use Rattle.lines.proofs.Texts.{text-lines-start, lines-room, text-lines-more}
+use Rattle.lines.proofs.Texts.{lines-room, text-lines-more, text-lines-start}
 use Rattle.lines.proofs.answer.put_evidence.Goals as goal
-use Rattle.lines.proofs.answer.put_evidence.Lts as lts
-use Rattle.lines.proofs.answer.put_evidence.Reads as reads
-use Rattle.lines.proofs.answer.put_evidence.Tie as tie
-
--- places of the code, as records of what is known there
-abbrev Start : Type 0
-Start = lts.Start tie.the-claims reads.Pre reads.Post goal.the-invariant-loop-v goal.the-decreases-loop-v
-
--- the line of a variable
-module _ (c : Start) where
-  abbrev entry : ℕ → List ℕ
-  entry = multiplier_lines c.args.answer.now c.args.variables
 
 pub loop-v-init : goal.loop-v-init
-loop-v-init c =
-    (omega arith, text-lines-start (entry c.before.before) most_multiplier_lines c.args.out.now c.args.at)
+loop-v-init c = (omega arith, text-lines-start (multiplier_lines c.args.answer.now c.args.variables) most_multiplier_lines c.args.out.now)
 
-pub put_multipliers-next-requires : goal.put_multipliers-next-requires
-put_multipliers-next-requires c =
-    let room = lines-room _ most_multiplier_lines c.loop-v.v most_variables c.loop-v.invariant.1
-    (omega arith) (omega arith) in
-    (omega arith, omega arith, room)
-
-pub overflow_step-v : goal.overflow_step-v
-overflow_step-v c = omega arith
-
-pub loop-v-smaller : goal.loop-v-smaller
-loop-v-smaller c = omega arith
+pub put_multipliers-requires : goal.put_multipliers-requires
+put_multipliers-requires c =
+    let room = lines-room (multiplier_lines c.args.answer.now c.args.variables) most_multiplier_lines c.loop-v.v most_variables
+    c.loop-v.invariant.1 (omega (arith, c.requires.0)) c.requires.2 in
+    (omega (arith, c.requires.1), omega (arith, c.requires.0), room)
 
 pub loop-v-preserved : goal.loop-v-preserved
-loop-v-preserved c =
-    let line = c.put_multipliers-next.ensures in (
-      omega arith,
-      text-lines-more (entry c.before.before.before.before.before.before.before.before) most_multiplier_lines
-          c.loop-v.v c.loop-v.invariant.1 line,
-    )
-
-pub shape_of-out : goal.shape_of-out
-shape_of-out c = put-length c.loop-v.invariant.1.put
-
-pub returns : goal.returns
-returns c =
-    let all : c.loop-v.v ≡ c.args.variables = omega arith in
-    rw all at c.loop-v.invariant.1
+loop-v-preserved c = (
+  omega arith,
+  text-lines-more (multiplier_lines c.args.answer.now c.args.variables) most_multiplier_lines c.loop-v.v c.loop-v.invariant.1
+      c.put_multipliers.ensures,
+)

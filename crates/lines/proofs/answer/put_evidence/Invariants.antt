@@ -9,8 +9,8 @@ use Rattle.lines.proofs.answer.put_evidence.Given as goal
 abbrev pub invariant-loop-v : goal.invariant-loop-v
 invariant-loop-v l =
     (l.v ≤ l.variables)
-    × PutShort (most_multiplier_lines * l.v) l.initial.out l.at
-    (lines_below l.v (multiplier_lines l.answer l.variables)) l.out l.next
+    × PutShort (most_multiplier_lines * l.v) l.initial.out
+    (lines_below l.v (multiplier_lines l.answer l.variables)) l.out
 
 abbrev pub decreases-loop-v : goal.decreases-loop-v
 decreases-loop-v l = l.variables - l.v

@@ -8,8 +8,8 @@ use Rattle.lines.proofs.answer.put_values.Given as goal
 
 abbrev pub invariant-loop-v : goal.invariant-loop-v
 invariant-loop-v l =
-    (l.v ≤ l.variables) × PutShort (most_value_line * l.v) l.initial.out l.at
-    (lines_below l.v (value_line l.answer l.variables)) l.out l.next
+    (l.v ≤ l.variables) × PutShort (most_value_line * l.v) l.initial.out
+    (lines_below l.v (value_line l.answer l.variables)) l.out
 
 abbrev pub decreases-loop-v : goal.decreases-loop-v
 decreases-loop-v l = l.variables - l.v
