@@ -1,4 +1,4 @@
--- The live cells of an array, which are its first: their greatest common divisor with a number, and their quotients.
+-- The first cells of a list: their greatest common divisor with a number, and their quotients.
 use Rattle.std.specs.Prelude.{ℕ, List, ◌++◌, ◌≢◌, ℤ, pos, nat_abs, drop, get_or}
 use Rattle.std.specs.Int.Signed.{quot_z}
 use Rattle.whole.specs.Below.{fold_below}

@@ -9,19 +9,19 @@ ghost use Rattle.layout.specs.Layout.{OnLine, flat, line_at, spot_at, row_strip,
 ghost use Rattle.layout.specs.Layout as layout;
 
 // How many cells the array of entries has.
-pub const MOST_ENTRIES: usize = divisor::MOST_CELLS;
+pub const MOST_ENTRIES: usize = rules::MOST_CELLS;
 
 // The two kinds of place: neither stands for the other.
 #[repr(C)]
-#[derive(Clone, Copy)]
+#[derive(Clone, Copy, PartialEq, Eq, PartialOrd, Ord, Debug)]
 pub struct RowPlace(pub u8);
 
 #[repr(C)]
-#[derive(Clone, Copy)]
+#[derive(Clone, Copy, PartialEq, Eq, PartialOrd, Ord, Debug)]
 pub struct ColumnPlace(pub u8);
 
 // The row place and the column place of one entry.
-#[derive(Clone, Copy)]
+#[derive(Clone, Copy, PartialEq, Eq, Debug)]
 pub struct Spot {
     pub row: RowPlace,
     pub column: ColumnPlace,
@@ -77,11 +77,23 @@ pub fn live(rows: usize, columns: usize) -> usize
 }
 
 // The cells of a row or of a column: where the first lies, how far the next is from it, how many there are.
-#[derive(Drop)]
+#[derive(Clone, Copy, PartialEq, Eq, Debug)]
 pub struct Strip {
     pub start: usize,
     pub stride: usize,
     pub count: usize,
+}
+
+impl Strip {
+    ghost use Rattle.layout.specs.Layout.{along, most_entries};
+
+    // The flat place of one of its cells.
+    pub fn place_of(self, i: usize) -> usize
+        requires { along self i < most_entries }
+        ensures { result ≡ along self i }
+    {
+        self.start + i * self.stride
+    }
 }
 
 pub fn row_strip(rows: usize, columns: usize, row: RowPlace) -> Strip

@@ -1,8 +1,8 @@
 -- A pivot by place: the entries before reduction, their divisor, and the entries in lowest common form.
-use Rattle.std.specs.Prelude.{ℕ, ◌+◌, ◌≤◌, ◌<◌, Bool, true, false, cond, ◌&&◌, List, ◌++◌, ◌≡◌, ◌≢◌, T, eqb, drop}
+use Rattle.std.specs.Prelude.{ℕ, ◌≤◌, ◌<◌, Bool, true, false, ◌&&◌, List, ◌++◌, ◌≡◌, ◌≢◌, T, eqb, drop}
 use Rattle.std.specs.Prelude.{get_or, length, ℤ, pos, neg_ℤ, ◌*ℤ◌, ◌-ℤ◌, Option, Some, None}
 use Rattle.std.specs.Int.Signed.{quot_z}
-use Rattle.whole.specs.Below.{all_below, fold_below}
+use Rattle.whole.specs.Below.{all_below}
 use Rattle.whole.specs.Numbers.{Within, AllWithin, within}
 use Rattle.whole.specs.Tables.{filled, table}
 use Rattle.divisor.specs.Cells.{divisor_below, quotients}
@@ -54,17 +54,13 @@ mixed_up_to m n common l p q k = filled most_entries (pos 0) k (mixed_at m n com
 abbrev pub in_range : ℤ → Bool
 in_range z = within largest_number z
 
--- the common number and the first k cells are within the largest number
+-- the first k cells are within the largest number
+abbrev pub all_small : ℕ → List ℤ → Bool
+all_small k l = all_below k (λ i. in_range (get_or l i (pos 0)))
+
+-- .. and the common number too
 unfoldable pub small_below : ℕ → List ℤ → ℤ → Bool
-small_below k l common = in_range common && all_below k (λ i. in_range (get_or l i (pos 0)))
-
--- 1 for a number beyond the range, else 0
-abbrev pub beyond_of : ℤ → ℕ
-beyond_of z = cond (in_range z) 0 1
-
--- how many of the first k cells are beyond it
-unfoldable pub beyond_below : ℕ → List ℤ → ℕ
-beyond_below k l = fold_below k (λ i many. many + beyond_of (get_or l i (pos 0))) 0
+small_below k l common = in_range common && all_small k l
 
 -- ---- the whole pivot, of m rows and n columns with these entries and this common number
 

@@ -60,8 +60,8 @@ some_above l besides c k limit = some_below k (λ i. ltb limit (nat_abs (differe
 
 -- what a trial of all columns tells: every quotient is right, or which column has one that is not
 abbrev pub TriedAs : List ℤ → Border → ℤ → Tried → List ℤ → Type 0
-TriedAs l b by tries.Exact out = (k : ℕ) → k < in_border b → Quotient by (difference_at l b k) (get_or out k (pos 0))
-TriedAs l b by (tries.Wrong j) out = j < b.columns
+TriedAs l b z tries.Exact out = (k : ℕ) → k < in_border b → Quotient z (difference_at l b k) (get_or out k (pos 0))
+TriedAs l b z (tries.Wrong j) out = j < b.columns
 
 -- the divisor z of a number and all cells is found, and the quotients by it are written over old ones
 pub record DivisorFound (l : List ℤ) (b : Border) (from : ℤ) (old : List ℤ) (z : ℤ) (out : List ℤ) : Type 0 where

@@ -2,7 +2,7 @@
 use layout::Spot;
 
 // The sizes, the common number, and the spot of the pivot.
-#[derive(Clone, Copy)]
+#[derive(Clone, Copy, PartialEq, Eq, Debug)]
 pub struct Asked {
     pub rows: usize,
     pub columns: usize,

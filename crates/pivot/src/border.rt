@@ -4,7 +4,7 @@
 //   the leaving row          p c - (p + D) c = -D c
 //   the entering column      p b - b (p - D) = b D
 //   the pivot                p p - (p + D) (p - D) = D D
-ghost use Rattle.std.specs.Prelude.{◌≡◌, true, ◌+◌, ◌≤◌, pos, nat_abs, ◌+ℤ◌};
+ghost use Rattle.std.specs.Prelude.{◌≡◌, true, ◌+◌, ◌≤◌, pos, nat_abs, ◌+ℤ◌, length};
 ghost use Rattle.whole.specs.Numbers.{Within};
 ghost use Rattle.divisor.specs.Cells.{divisor_below};
 ghost use Rattle.rules.specs.Sizes.{most_rows, most_columns, largest_number};
@@ -12,8 +12,8 @@ ghost use Rattle.pivot.specs.Asked.{Able, pivot_for};
 ghost use Rattle.pivot.specs.Border.{raised_by, raised_strip, Bears, border_for, border_divisor};
 
 use crate::asked::Asked;
-use crate::{MOST_ENTRIES, numbers};
-use layout::Strip;
+use crate::numbers;
+use layout::{MOST_ENTRIES, Strip};
 
 #[derive(Clone, Copy)]
 pub struct Border {
@@ -28,10 +28,7 @@ fn raised(here: bool, a: i32, extra: i32) -> i32
     requires { here ≡ true → Within (a +ℤ extra) largest_number }
     ensures { result ≡ raised_by here a extra }
 {
-    if here {
-        return a + extra;
-    }
-    a
+    if here { a + extra } else { a }
 }
 
 // A row or a column of the entries, with a number added at one place of it.
@@ -46,8 +43,7 @@ fn raised_strip(
 {
     let mut numbers = [0i32; rules::MOST_ROWS];
     for i in 0..strip.count {
-        let k = strip.start + i * strip.stride;
-        numbers[i] = raised(i == at, entries[k], extra);
+        numbers[i] = raised(i == at, entries[strip.place_of(i)], extra);
     }
     numbers
 }
@@ -71,17 +67,16 @@ pub fn border_of(entries: &[i32; MOST_ENTRIES], asked: Asked) -> Border
     }
 }
 
-// The greatest common divisor of a number and the first of others. Once it is 1 it stays 1.
-fn part_of(numbers: &[i32; rules::MOST_ROWS], count: usize, start: u64) -> u64
-    requires { count ≤ most_rows }
-    ensures { result ≡ divisor_below count numbers.now (pos start) }
+// The greatest common divisor of a number and others. Once it is 1 it stays 1.
+fn part_of(numbers: &[i32], start: u64) -> u64
+    ensures { result ≡ divisor_below (length numbers.now) numbers.now (pos start) }
 {
     let mut g = start;
-    for i in 0..count {
+    for &number in numbers {
         if g == 1 {
             return 1;
         }
-        g = divisor::common_of(divisor::size(numbers[i] as i64), g);
+        g = divisor::common_of(u64::from(number.unsigned_abs()), g);
     }
     g
 }
@@ -92,9 +87,9 @@ pub fn border_divisor(border: Border, common: i32) -> u64
     ensures { result ≡ border_divisor border common }
 {
     let both = divisor::common_of(
-        divisor::size(border.pivot as i64),
-        divisor::size(common as i64),
+        u64::from(border.pivot.unsigned_abs()),
+        u64::from(common.unsigned_abs()),
     );
-    let above = part_of(&border.aboves, border.columns, both);
-    part_of(&border.besides, border.rows, above)
+    let above = part_of(&border.aboves[..border.columns], both);
+    part_of(&border.besides[..border.rows], above)
 }

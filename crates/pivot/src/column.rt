@@ -4,7 +4,8 @@ ghost use Rattle.layout.specs.Layout.{most_entries};
 ghost use Rattle.pivot.specs.Trials.{Quotient, difference_in, Columned, Spared, column_divisor, some_above};
 
 use crate::guess::Divider;
-use crate::{MOST_ENTRIES, guess, numbers};
+use crate::{guess, numbers};
+use layout::MOST_ENTRIES;
 
 // A column of the entries: where it starts and how many cells it has, the pivot, and what stands in the leaving row.
 #[derive(Clone, Copy)]
@@ -43,7 +44,7 @@ fn size_at<'a>(
     requires i_lt_rows { i < column.rows }
     ensures { result ≡ nat_abs (difference_in entries.now besides.now column i) }
 {
-    divisor::size(cell_at(entries, besides, column, i))
+    cell_at(entries, besides, column, i).unsigned_abs()
 }
 
 // 1 where a quotient, multiplied back, is another number, else 0.

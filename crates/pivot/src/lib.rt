@@ -14,6 +14,7 @@ ghost use Rattle.pivot.specs.Pivot.{PutBy, kept_cells, pivoted_by};
 ghost use Rattle.pivot.specs.Asked.{Able, common_for, entries_for, fits_for};
 
 use asked::Asked;
+use layout::MOST_ENTRIES;
 use settle::Settled;
 
 pub mod asked;
@@ -25,9 +26,6 @@ mod quick;
 mod range;
 mod settle;
 mod wide;
-
-// How many cells the array of entries has.
-const MOST_ENTRIES: usize = layout::MOST_ENTRIES;
 
 // The entries after a pivot, in lowest common form with the common number above 0, are put into `next`, and the new
 // common number is handed back. The range is tested after the reduction: there is none where a number is beyond it, and
@@ -44,21 +42,18 @@ pub fn pivot(
     ensures numbers { PutBy (fits_for entries.now asked) (live asked.rows asked.columns)
         (entries_for entries.now asked) next.new }
 {
-    let settled = quick::quick(entries, asked, next);
-    if let Settled::Beyond = settled {
-        return None;
+    match quick::quick(entries, asked, next) {
+        Settled::By(by) => {
+            let live = layout::live(asked.rows, asked.columns);
+            let after = numbers::product_of(entries, asked) / by as i64;
+            if range::halves_in_range(&next[..live]) && after <= rules::LARGEST_NUMBER {
+                return Some(after as i32);
+            }
+            None
+        }
+        Settled::Beyond => None,
+        Settled::Open => wide::pivot(entries, asked, next),
     }
-    let Settled::By(by) = settled else {
-        return wide::pivot(entries, asked, next);
-    };
-    if range::beyond_in(next, layout::live(asked.rows, asked.columns)) != 0 {
-        return None;
-    }
-    let after = numbers::product_of(entries, asked) / by as i64;
-    if after > rules::LARGEST_NUMBER {
-        return None;
-    }
-    Some(after as i32)
 }
 
 // The live cells of `next` are kept as entries; the others stay.
@@ -66,7 +61,5 @@ pub fn keep(next: &[i32; MOST_ENTRIES], live: usize, entries: &mut [i32; MOST_EN
     requires { (live ≤ most_entries) × (length entries.old ≡ most_entries) }
     ensures { entries.new ≡ kept_cells live next.now entries.old }
 {
-    for k in 0..live {
-        entries[k] = next[k];
-    }
+    entries[..live].copy_from_slice(&next[..live]);
 }

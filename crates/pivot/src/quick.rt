@@ -8,14 +8,15 @@ ghost use Rattle.pivot.specs.Trials.{EndsAs};
 
 use crate::asked::Asked;
 use crate::settle::Settled;
-use crate::{MOST_ENTRIES, border, numbers, settle};
+use crate::{border, numbers, settle};
+use layout::MOST_ENTRIES;
 
 // Whether two sizes together are within the largest number.
 fn are_near(a: i32, b: i32) -> bool
     requires { (Within a largest_number) × (Within b largest_number) }
     ensures { result ≡ leb (nat_abs a + nat_abs b) largest_number }
 {
-    divisor::size(a as i64) + divisor::size(b as i64) <= rules::LARGEST_NUMBER as u64
+    u64::from(a.unsigned_abs()) + u64::from(b.unsigned_abs()) <= rules::LARGEST_NUMBER as u64
 }
 
 // The divisor and the quotients by it, or a cell is beyond the range, or nothing is settled. Every common divisor
@@ -29,7 +30,8 @@ pub fn quick(entries: &[i32; MOST_ENTRIES], asked: Asked, out: &mut [i32; MOST_E
         return Settled::Open;
     }
     let border = border::border_of(entries, asked);
-    let first = divisor::size(asked.common as i64) * border::border_divisor(border, asked.common);
+    let first = u64::from(asked.common.unsigned_abs())
+        * border::border_divisor(border, asked.common);
     if first > rules::LARGEST_NUMBER as u64 {
         return Settled::Open;
     }

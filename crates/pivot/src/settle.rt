@@ -10,7 +10,8 @@ ghost use Rattle.pivot.specs.Trials.{Spared, border_column, column_divisor, some
 
 use crate::border::Border;
 use crate::column::Column;
-use crate::{MOST_ENTRIES, column, guess};
+use crate::{column, guess};
+use layout::MOST_ENTRIES;
 
 // What a divisor that is tried comes to: all quotients are right, or one of a column is not.
 #[derive(Drop)]
@@ -77,7 +78,7 @@ fn lessened(entries: &[i32; MOST_ENTRIES], border: Border, j: usize, by: i32) ->
         (column_divisor entries.now border.besides (border_column border j) border.rows (nat_abs by)) }
 {
     let column = column_at(border, j);
-    let size = divisor::size(by as i64);
+    let size = u64::from(by.unsigned_abs());
     let less = column::column_divisor(entries, &border.besides, column, size);
     divisor::signed(by as i64, less) as i32
 }
@@ -90,7 +91,7 @@ fn is_beyond(entries: &[i32; MOST_ENTRIES], border: Border, j: usize, by: i32) -
         (nat_abs by * largest_number) }
 {
     let column = column_at(border, j);
-    let limit = divisor::size(by as i64) * rules::LARGEST_NUMBER as u64;
+    let limit = u64::from(by.unsigned_abs()) * rules::LARGEST_NUMBER as u64;
     column::is_above(entries, &border.besides, column, limit)
 }
 

@@ -1,14 +1,10 @@
 -- Two results that a promise of this crate's public functions allows are equal: NAME-only for each.
 -- The contracts themselves are compared: κs are lifetimes, x the arguments, e what lent words hold at the exit.
 use mathlib.Core.Path.{◌≡◌, sym, ◌∙◌}
-use Rattle.divisor.proofs.size.Reads as size
 use Rattle.divisor.proofs.signed.Reads as signed
 use Rattle.divisor.proofs.common_of.Reads as common-of
 use Rattle.divisor.proofs.divisor_of.Reads as divisor-of
 use Rattle.divisor.proofs.divide.Reads as divide
-
-pub size-only : (κs : _) (x : _) (a b : _) (e : _) → size.Post κs x a e → size.Post κs x b e → a ≡ b
-size-only κs x a b e h k = h ∙ sym k
 
 pub signed-only : (κs : _) (x : _) (a b : _) (e : _) → signed.Post κs x a e → signed.Post κs x b e → a ≡ b
 signed-only κs x a b e h k = h ∙ sym k

@@ -1,6 +1,6 @@
 -- `divisor::common_of` meets its contract. The invariant: Euclid's step keeps the divisor. The measure is the second
 -- number, which becomes a remainder by itself. Assumes nothing.
-use mathlib.Core.Path.{◌≡◌}
+use Rattle.std.proofs.Common.{◌≡◌}
 use Rattle.whole.specs.Divisors.{gcd}
 use Rattle.divisor.proofs.common_of.Given as goal
 

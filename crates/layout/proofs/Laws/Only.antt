@@ -9,6 +9,7 @@ use Rattle.layout.proofs.spot_at.Reads as spot-at
 use Rattle.layout.proofs.live.Reads as live
 use Rattle.layout.proofs.row_strip.Reads as row-strip
 use Rattle.layout.proofs.column_strip.Reads as column-strip
+use Rattle.layout.proofs.Strip.place_of.Reads as place-of
 
 pub place-only : (κs : _) (x : _) (a b : _) (e : _) → place.Post κs x a e → place.Post κs x b e → a ≡ b
 place-only κs x a b e h k = h ∙ sym k
@@ -34,3 +35,6 @@ row-strip-only κs x a b e h k = h ∙ sym k
 pub column-strip-only : (κs : _) (x : _) (a b : _) (e : _) → column-strip.Post κs x a e → column-strip.Post κs x b e →
     a ≡ b
 column-strip-only κs x a b e h k = h ∙ sym k
+
+pub place-of-only : (κs : _) (x : _) (a b : _) (e : _) → place-of.Post κs x a e → place-of.Post κs x b e → a ≡ b
+place-of-only κs x a b e h k = h ∙ sym k

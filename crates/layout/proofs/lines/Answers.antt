@@ -1,5 +1,5 @@
 -- `layout::lines` meets its contract. Assumes nothing.
-use mathlib.Core.Path.{refl}
+use Rattle.std.proofs.Common.{refl}
 use Rattle.layout.specs.Layout.{lines_laid}
 use Rattle.layout.proofs.lines.Goals as goal
 

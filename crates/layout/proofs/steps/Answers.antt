@@ -1,5 +1,5 @@
 -- `layout::steps` meets its contract. Assumes nothing.
-use mathlib.Core.Path.{refl}
+use Rattle.std.proofs.Common.{refl}
 use Rattle.layout.specs.Layout.{steps_laid}
 use Rattle.layout.proofs.steps.Goals as goal
 

@@ -1,8 +1,6 @@
 -- `pivot::border::raised_strip` meets its contract. The invariant: the numbers passed are the definition's, the others
--- 0. The measure is how many are left. Assumes nothing.
-use mathlib.Core.Path.{◌≡◌}
-use Prim.Native.Nat.{◌≤◌, ◌-◌}
-use lib.IntN.{pos}
+-- 0. Assumes nothing.
+use Rattle.std.proofs.Common.{◌≡◌, pos}
 use Rattle.whole.specs.Tables.{filled}
 use Rattle.rules.specs.Sizes.{most_rows}
 use Rattle.pivot.specs.Border.{raised_at}
@@ -10,8 +8,4 @@ use Rattle.pivot.proofs.border.raised_strip.Given as goal
 
 abbrev pub invariant-loop-i : goal.invariant-loop-i
 invariant-loop-i l =
-    (l.i-end ≡ l.strip.count) × (l.i ≤ l.i-end)
-    × (l.numbers ≡ filled most_rows (pos 0) l.i (raised_at l.entries l.strip l.at l.extra))
-
-abbrev pub decreases-loop-i : goal.decreases-loop-i
-decreases-loop-i l = l.i-end - l.i
+    (l.i-end ≡ l.strip.count) × (l.numbers ≡ filled most_rows (pos 0) l.i (raised_at l.entries l.strip l.at l.extra))

@@ -15,7 +15,6 @@ use mir.Val.{SFits}
 use Rattle.whole.specs.Numbers.{Within}
 use Rattle.whole.proofs.Bools.{true→T}
 use Rattle.whole.proofs.Numbers.Sizes.{fits-by, size-pos}
-use Rattle.whole.proofs.Numbers.Halves.{widened}
 use Rattle.rules.specs.Sizes.{largest_number}
 use Rattle.divisor.specs.Cells.{largest_size}
 use Rattle.divisor.specs.Signs.{signed_by}
@@ -128,9 +127,9 @@ module _ (c : After-border_divisor) where
   abbrev known : After-pivot_of
   known = seen bounded
 
-  first-is : c.size.result * c.border_divisor.result ≡ first (s known)
+  first-is : c.from.result * c.border_divisor.result ≡ first (s known)
   first-is = ap₂ (λ (a b : ℕ). a * b)
-      (c.size.ensures ∙ ap nat_abs (widened (fit-common known)))
+      (c.from.ensures ∙ (simp (to_z-of_z (fit-common known)) at c.unsigned_abs.ensures.value))
       ((simp (to_z-of_z (fit-common known)) at c.border_divisor.ensures)
       ∙ ap (λ (b : Border). border_divisor b (common (s known))) (border-is bounded))
 

@@ -1,273 +1,168 @@
 -- `pivot::wide::pivot` meets its contract: each call gives the definition's part, and every product and quotient fits.
 -- Assumes nothing.
-use mathlib.Core.Bool.{Bool, true}
-use mathlib.Core.List.{List}
-use mathlib.Core.Path.{◌≡◌, ap, ap₂, sym, subst, ◌∙◌}
-use Prim.Native.Nat.{ℕ, ◌≤◌}
-use borrow.Author.Rules.{rules}
-use lib.IntN.{ℤ, pos}
-use lib.ListN.{get_or, length}
+use Rattle.std.proofs.Common.{rules, arith, refl, ap, ap₂, sym, subst, ◌∙◌, ◌≡◌}
+use Rattle.std.proofs.Common.{◌≤◌, ◌<◌, Bool, ℕ, ℤ, pos, get_or, List, ◌++◌}
+use Rattle.std.proofs.Common.{take, drop, length, FitsSigned, w32, w64, to_z, of_z, to_z-of_z}
+use native.Mathlib.Decide.{dec_lt}
+use lib.ListN.{get_or-append, get_or-eq_default, length-append, length-drop, length-take}
+use Rattle.std.proofs.lemmas.List.{get_or-take, length-take-le}
 use lib.Signed.{quot_z}
-use mir.Facts.{to_z-of_z}
-use mir.Syntax.{w32, w64}
-use mir.Val.{SFits, to_z, of_z}
-use Rattle.whole.specs.Numbers.{AllWithin}
+use Rattle.whole.specs.Numbers.{Within, AllWithin}
 use Rattle.whole.proofs.Numbers.Division.{bits-nonzero}
 use Rattle.whole.proofs.Numbers.Sizes.{fits-by}
-use Rattle.whole.proofs.Lists.Tables.{filled-length}
+use Rattle.whole.proofs.Lists.Tables.{filled-length, table-length}
 use Rattle.divisor.specs.Cells.{divided_cells, divisor_below}
 use Rattle.divisor.specs.Signs.{signed_by}
+use Rattle.divisor.proofs.Laws.Cells.{divisor-front, divided-front}
 use Rattle.rules.specs.Sizes.{largest_number}
-use Rattle.pivot.specs.declared.asked.Asked.{Asked}
-use Rattle.std.proofs.Common.{Option, Some}
-use Rattle.pivot.specs.Asked.{Able, common_for, entries_for, fits_for}
 use Rattle.layout.specs.Layout.{live, most_entries}
-use Rattle.pivot.specs.Pivot.{StartsWith, PutBy, small_below, product, mix, by, pivoted_by}
-use Rattle.pivot.proofs.Laws.Wide.Reductions.{end-in, within-size, mix-within, size-most}
+use Rattle.pivot.specs.Asked.{common_for, entries_for}
+use Rattle.pivot.specs.Pivot.{Pivotable, PutBy, small_below, product, mix, by, pivoted_by}
+use Rattle.pivot.specs.Pivot.{common_after, entries_after, fits_after}
+use Rattle.pivot.proofs.Laws.Ranges.{small_below-same}
+use Rattle.pivot.proofs.Laws.Wide.Reductions.{end-in, mix-within, size-most}
 use Rattle.pivot.proofs.Laws.Wide.Reductions.{nonzero-by, quotient_fits, divided-all, fits-common, fits-entries}
 use Rattle.pivot.proofs.wide.pivot.Goals as goal
-use Rattle.pivot.proofs.wide.pivot.Lts as lts
-use Rattle.pivot.proofs.wide.pivot.Reads as reads
-use Rattle.pivot.proofs.wide.pivot.Tie as tie
-
--- places of the code, as records of what is known there
-abbrev After-all_in_range : Type 0
-After-all_in_range = lts.After-all_in_range tie.the-claims reads.Pre reads.Post tie.handed_clauses
-
-abbrev After-cells4 : Type 0
-After-cells4 = lts.After-cells4 tie.the-claims reads.Pre reads.Post tie.handed_clauses
-
-abbrev After-divide : Type 0
-After-divide = lts.After-divide tie.the-claims reads.Pre reads.Post tie.handed_clauses
-
-abbrev After-divisor_of : Type 0
-After-divisor_of = lts.After-divisor_of tie.the-claims reads.Pre reads.Post tie.handed_clauses
-
-abbrev After-halves_of : Type 0
-After-halves_of = lts.After-halves_of tie.the-claims reads.Pre reads.Post tie.handed_clauses
-
-abbrev After-mixed_entries : Type 0
-After-mixed_entries = lts.After-mixed_entries tie.the-claims reads.Pre reads.Post tie.handed_clauses
-
-abbrev After-product_of : Type 0
-After-product_of = lts.After-product_of tie.the-claims reads.Pre reads.Post tie.handed_clauses
-
-abbrev After-signed : Type 0
-After-signed = lts.After-signed tie.the-claims reads.Pre reads.Post tie.handed_clauses
-
-abbrev Start : Type 0
-Start = lts.Start tie.the-claims reads.Pre reads.Post tie.handed_clauses
-
--- the definition's parts
-module _ (s : Start) where
-  abbrev asked : Asked
-  asked = s.args.asked
-
-  abbrev m : ℕ
-  m = asked.rows
-
-  abbrev n : ℕ
-  n = asked.columns
-
-  abbrev old : List ℤ
-  old = s.args.entries.now
-
-  abbrev common : ℤ
-  common = asked.common
-
-  able : Able old asked
-  able = s.requires
-
-  abbrev new : ℤ
-  new = product m n old common asked.spot.row.0 asked.spot.column.0
-
-  abbrev mixes : List ℤ
-  mixes = mix m n old common asked.spot.row.0 asked.spot.column.0
-
-  abbrev part : ℤ
-  part = by m n old common asked.spot.row.0 asked.spot.column.0
-
-  abbrev answer : Bool → Option ℤ
-  answer b = pivoted_by b (common_for old asked)
-
-  abbrev Left : List ℤ → Bool → Type 0
-  Left next b = PutBy b (live m n) (entries_for old asked) next
-
--- the product is known
-module _ (c : After-product_of) where
-  abbrev start : Start
-  start = c.before.before
-
-  abbrev found : ℤ
-  found = c.product_of-product.result
-
-  product_is : found ≡ new start
-  product_is = c.product_of-product.ensures
-
-  fit-product : SFits w64 found
-  fit-product = search rules
-
-  live-is : c.live-end.result ≡ live (m start) (n start)
-  live-is = c.live-end.ensures
-
-  end-small : c.live-end.result ≤ most_entries
-  end-small = rw live-is (end-in (able start))
 
 -- a function of live cells, an array and a number, at equal arguments
 alike : {A : Type 0} (f : ℕ → List ℤ → ℤ → A) {e e' : ℕ} {l l' : List ℤ} {z z' : ℤ} →
     e ≡ e' → l ≡ l' → z ≡ z' → f e l z ≡ f e' l' z'
 alike f {e} {e'} {l} {l'} {z} {z'} a b c = ap (λ e. f e l z) a ∙ ap₂ (f e') b c
 
--- what the call gives are the definition's entries
-module _ (c : After-mixed_entries) where
-  abbrev asks : After-product_of
-  asks = c.before
+within-front : {l : List ℤ} {most : ℕ} (k : ℕ) → AllWithin l most → AllWithin (take k l) most
+within-front {l} {most} k h = record { each = λ i. go i (dec_lt i k) }
+  where
+    go : (i : ℕ) → Dec (i < k) → Within (get_or (take k l) i (pos 0)) most
+    go i (yes b) = rw (get_or-take k l i (pos 0) b) (h.each i)
+    go i (no o) = rw (get_or-eq_default (take k l) (pos 0) {n = i} (rw (length-take k l) (omega arith)))
+        (record { within = omega arith })
 
-  mixed-right : c.mixed_entries-cells.result ≡ mixes (start asks)
-  mixed-right = c.mixed_entries-cells.ensures
+module _ {m n : ℕ} {l : List ℤ} {c : ℤ} {p q : ℕ} (h : Pivotable m n l c p q) {end : ℕ} {mixes : List ℤ} {new : ℤ}
+    (end-is : end ≡ live m n) (mixes-are : mixes ≡ mix m n l c p q) (new-is : new ≡ product m n l c p q) where
+  room : end ≤ length mixes
+  room = subst (λ k. end ≤ k) (sym (ap length mixes-are ∙ filled-length most_entries (pos 0) _ _ (end-in h)))
+      (rw end-is (end-in h))
 
-pub divisor_of-requires : goal.divisor_of-requires
-divisor_of-requires c = let o = asks c.before in let h = able (start o) in record {
-  live_le_most_cells = end-small o;
-  within = simp (to_z-of_z (fit-product o)) (rw (product_is o) (within-size h));
-  all_within = rw (mixed-right c.before) (mix-within h);
-}
+  module _ (fit-new : FitsSigned w64 new) {g : ℕ}
+      (g-is : g ≡ divisor_below (length (take end mixes)) (take end mixes) (to_z w64 (of_z w64 new))) where
+    -- the divisor
+    divisor-right : g ≡ divisor_below (live m n) (mix m n l c p q) (product m n l c p q)
+    divisor-right = (simp (to_z-of_z fit-new) at g-is) ∙ divisor-front end mixes room new
+        ∙ alike divisor_below end-is mixes-are new-is
 
--- .. and their divisor
-module _ (c : After-divisor_of) where
-  abbrev mixed : After-mixed_entries
-  mixed = c.before.before
+    module _ {z : ℤ} (fit-z : FitsSigned w64 z) (z-is : z ≡ signed_by (to_z w64 (of_z w64 new)) g) where
+      -- .. with its sign
+      by-right : z ≡ by m n l c p q
+      by-right = (simp (to_z-of_z fit-new) at z-is) ∙ ap₂ signed_by new-is divisor-right
 
-  divisor-right : let s = start (asks mixed) in
-      c.divisor_of.result ≡ divisor_below (live (m s) (n s)) (mixes s) (new s)
-  divisor-right = let o = asks mixed in
-      (simp (to_z-of_z (fit-product o)) at c.divisor_of.ensures)
-      ∙ alike divisor_below (live-is o) (mixed-right mixed) (product_is o)
+      quotient-right : quot_z new z ≡ common_after m n l c p q
+      quotient-right = ap₂ quot_z new-is by-right
+
+      fit-after : FitsSigned w64 (quot_z new z)
+      fit-after = rw quotient-right (quotient_fits h)
+
+      -- the common number after it
+      after-right : to_z w64 (of_z w64 (quot_z (to_z w64 (of_z w64 new)) (to_z w64 (of_z w64 z))))
+          ≡ common_after m n l c p q
+      after-right = simp (to_z-of_z fit-new, to_z-of_z fit-z, to_z-of_z fit-after) quotient-right
+
+      module _ {cells : List ℤ}
+          (cells_are : cells ≡ divided_cells (length (take end mixes)) (take end mixes) (to_z w64 (of_z w64 z))) where
+        -- the entries after it
+        divided-right : cells ++ drop end mixes ≡ entries_after m n l c p q
+        divided-right = ap (λ t. t ++ drop end mixes) (simp (to_z-of_z fit-z) at cells_are)
+            ∙ divided-front end mixes room z ∙ alike divided_cells end-is mixes-are by-right
+            ∙ divided-all (live m n) _ (by m n l c p q)
+
+        long : length cells ≡ end
+        long = ap length cells_are ∙ simp (length-append, length-drop, table-length)
+            (let e = length-take-le end mixes room in omega arith)
+
+        -- .. and their test
+        test-right : {r : Bool} → r ≡ small_below (length cells) cells
+            (to_z w64 (of_z w64 (quot_z (to_z w64 (of_z w64 new)) (to_z w64 (of_z w64 z))))) →
+            r ≡ fits_after m n l c p q
+        test-right {r} e = e ∙ ap₂ (λ k y. small_below k cells y) long after-right
+            ∙ small_below-same end cells (entries_after m n l c p q) (common_after m n l c p q)
+            (λ i b. sym (get_or-append cells (drop end mixes) (pos 0) i (rw long b))
+            ∙ ap (λ k. get_or k i (pos 0)) divided-right)
+            ∙ alike small_below end-is refl refl
+
+pub slice_bounds-cells-end : goal.slice_bounds-cells-end
+slice_bounds-cells-end c = room c.requires c.live-end.ensures c.mixed_entries-cells.ensures c.product_of-product.ensures
+
+pub slice_bounds-live-end : goal.slice_bounds-live-end
+slice_bounds-live-end c = sym (length-take-le c.live-end.result c.mixed_entries-cells.result
+    (room c.requires c.live-end.ensures c.mixed_entries-cells.ensures c.product_of-product.ensures))
 
 pub signed-by-requires : goal.signed-by-requires
-signed-by-requires c = rw (divisor-right c) (size-most (able (start (asks c.before.before))))
-
-module _ (c : After-signed) where
-  abbrev read : After-product_of
-  read = asks c.before.before.before
-
-  abbrev first : Start
-  first = start read
-
-  signed-right : c.signed-by.result ≡ part first
-  signed-right =
-      (simp (to_z-of_z (fit-product read)) at c.signed-by.ensures)
-      ∙ ap₂ signed_by (product_is read) (divisor-right c.before)
-
-  fit-signed : SFits w64 c.signed-by.result
-  fit-signed = search rules
-
-  quotient-right : quot_z (found read) c.signed-by.result ≡ common_for (old first) (asked first)
-  quotient-right = ap₂ quot_z (product_is read) signed-right
+signed-by-requires c = rw (divisor-right c.requires c.live-end.ensures c.mixed_entries-cells.ensures
+    c.product_of-product.ensures (search rules) c.divisor_of.ensures) (size-most c.requires)
 
 pub divide-requires : goal.divide-requires
 divide-requires c =
-    let h = c.requires in
-    let e = mixed-right c.before.before.before.before in record {
-      live_le_most_cells =
-          (end-small c.before.before.before.before.before, rw e (filled-length most_entries (pos 0) _ _ (end-in h)));
-      divides =
-          simp (to_z-of_z (fit-signed c.before)) (record { nonzero = rw (signed-right c.before) (nonzero-by h) });
-      all_within = rw e (mix-within h);
+    let by : FitsSigned w64 c.signed-by.result = search rules in
+    let z = by-right c.requires c.live-end.ensures c.mixed_entries-cells.ensures c.product_of-product.ensures
+    (search rules) c.divisor_of.ensures by c.signed-by.ensures in record {
+      divides = simp (to_z-of_z by) (record { nonzero = rw z (nonzero-by c.requires) });
+      all_within = within-front c.live-end.result (rw c.mixed_entries-cells.ensures (mix-within c.requires));
     }
 
--- the entries divided in place are the definition's
-module _ (c : After-divide) where
-  abbrev sign : After-signed
-  sign = c.before.before
-
-  abbrev had : Start
-  had = first sign
-
-  divided-right : c.divide.new.cells ≡ entries_for (old had) (asked had)
-  divided-right = (simp (to_z-of_z (fit-signed sign)) at c.divide.ensures)
-      ∙ alike divided_cells (live-is (read sign)) (mixed-right (mixed sign.before)) (signed-right sign)
-      ∙ divided-all (live (m had) (n had)) _ (part had)
-
-  common-right : to_z w64 (of_z w64 (quot_z (found (read sign)) sign.signed-by.result))
-      ≡ common_for (old had) (asked had)
-  common-right = ap (λ (z : ℤ). to_z w64 (of_z w64 z)) (quotient-right sign) ∙ to_z-of_z (quotient_fits (able had))
-
 pub nonzero_div-after : goal.nonzero_div-after
-nonzero_div-after c = let s = sign c.before in (
-  bits-nonzero w64 s.signed-by.result (fit-signed s) (rw (signed-right s) (nonzero-by c.requires)),
-  simp (to_z-of_z (fit-product (read s)), to_z-of_z (fit-signed s))
-      (rw (quotient-right s) (quotient_fits c.requires)),
-)
+nonzero_div-after c =
+    let new : FitsSigned w64 c.product_of-product.result = search rules in
+    let by : FitsSigned w64 c.signed-by.result = search rules in
+    let z = by-right c.requires c.live-end.ensures c.mixed_entries-cells.ensures c.product_of-product.ensures
+    new c.divisor_of.ensures by c.signed-by.ensures in (
+      bits-nonzero w64 c.signed-by.result by (rw z (nonzero-by c.requires)),
+      simp (to_z-of_z new, to_z-of_z by) (fit-after c.requires c.live-end.ensures c.mixed_entries-cells.ensures
+          c.product_of-product.ensures new c.divisor_of.ensures by c.signed-by.ensures),
+    )
 
-pub all_in_range-requires : goal.all_in_range-requires
-all_in_range-requires c = end-small (read c.before.before.before)
-
--- .. and so is the range test
-module _ (c : After-all_in_range) where
-  abbrev made : After-divide
-  made = c.before.before
-
-  abbrev begun : Start
-  begun = had made
-
-  test-right : c.all_in_range.result ≡ fits_for (old begun) (asked begun)
-  test-right = let o = read (sign made) in
-      (simp (to_z-of_z (fit-product o), to_z-of_z (fit-signed (sign made)))
-      at c.all_in_range.ensures)
-      ∙ alike small_below (live-is o) (divided-right made) (common-right made)
-
--- the test is passed
-module _ (c : After-cells4) where
-  abbrev tested : After-all_in_range
-  tested = c.before.before
-
-  fits : fits_for (old (begun tested)) (asked (begun tested)) ≡ true
-  fits = sym (test-right tested) ∙ c.if-all_in_range.true
+pub returns-then-not-all_in_range : goal.returns-then-not-all_in_range
+returns-then-not-all_in_range c =
+    let a = c.args.asked in
+    let l = c.args.entries.now in
+    let t = test-right c.requires c.live-end.ensures c.mixed_entries-cells.ensures c.product_of-product.ensures
+    (search rules) c.divisor_of.ensures (search rules) c.signed-by.ensures c.divide.ensures c.all_in_range.ensures in
+    let e = sym c.if-not-all_in_range.true ∙ t in record {
+      answer = ap (λ b. pivoted_by b (common_for l a)) e;
+      numbers = subst (λ b. PutBy b (live a.rows a.columns) (entries_for l a) c.args.next.now) e tt;
+    }
 
 pub halves_of-requires : goal.halves_of-requires
-halves_of-requires c = let e = divided-right (made c.before.before) in record {
-  cells_len = ap length e ∙ filled-length most_entries (pos 0) _ _ (end-in c.requires);
-  all_within =
-      subst (λ (l : List ℤ). AllWithin l largest_number) (sym e) (fits-entries c.requires (fits c));
-}
-
-module _ (c : After-halves_of) where
-  abbrev o : After-all_in_range
-  o = tested c.before
-
-  abbrev r : After-product_of
-  r = read (sign (made o))
-
-  fit-after : SFits w32 (common_for (old (begun o)) (asked (begun o)))
-  fit-after = fits-by (fits-common (able (begun o)) (fits c.before)) tt
-
-  after-right : to_z w32 (of_z w32 (to_z w64 (of_z w64 (quot_z (found r) (sign (made o)).signed-by.result))))
-      ≡ common_for (old (begun o)) (asked (begun o))
-  after-right = ap (λ (z : ℤ). to_z w32 (of_z w32 z)) (common-right (made o)) ∙ to_z-of_z fit-after
-
-  put_is : c.halves_of.result ≡ entries_for (old (begun o)) (asked (begun o))
-  put_is = c.halves_of.ensures ∙ divided-right (made o)
-
-  put : StartsWith (live (m (begun o)) (n (begun o)))
-      (entries_for (old (begun o)) (asked (begun o))) c.halves_of.result
-  put = record {
-    long = ap length put_is ∙ filled-length most_entries (pos 0) _ _ (end-in (able (begun o)));
-    same = λ i h. ap (λ l. get_or l i (pos 0)) put_is;
-  }
+halves_of-requires c =
+    let t = test-right c.requires c.live-end.ensures c.mixed_entries-cells.ensures c.product_of-product.ensures
+    (search rules) c.divisor_of.ensures (search rules) c.signed-by.ensures c.divide.ensures c.all_in_range.ensures in
+    let d = divided-right c.requires c.live-end.ensures c.mixed_entries-cells.ensures c.product_of-product.ensures
+    (search rules) c.divisor_of.ensures (search rules) c.signed-by.ensures c.divide.ensures in
+    subst (λ (l : List ℤ). AllWithin l largest_number) (sym d)
+    (fits-entries c.requires (sym t ∙ c.if-not-all_in_range.false))
 
 pub overflow_cast-result : goal.overflow_cast-result
-overflow_cast-result c = let d = made (o c) in
-    simp (to_z-of_z (fit-product (r c)), to_z-of_z (fit-signed (sign d)))
-    (subst (λ (z : ℤ). SFits w32 z) (sym (common-right d)) (fit-after c))
-
-pub returns-then-all_in_range : goal.returns-then-all_in_range
-returns-then-all_in_range c = let d = made (o c) in let e = sym (fits c.before) in record {
-  answer = simp (to_z-of_z (fit-product (r c)), to_z-of_z (fit-signed (sign d)))
-      (ap Some (after-right c) ∙ ap (answer (had d)) e);
-  numbers = subst (Left (had d) _) e (put c);
-}
+overflow_cast-result c =
+    let t = test-right c.requires c.live-end.ensures c.mixed_entries-cells.ensures c.product_of-product.ensures
+    (search rules) c.divisor_of.ensures (search rules) c.signed-by.ensures c.divide.ensures c.all_in_range.ensures in
+    let after = after-right c.requires c.live-end.ensures c.mixed_entries-cells.ensures c.product_of-product.ensures
+    (search rules) c.divisor_of.ensures (search rules) c.signed-by.ensures in
+    rw after (fits-by (fits-common c.requires (sym t ∙ c.if-not-all_in_range.false)) tt)
 
 pub returns : goal.returns
-returns c = let s = begun c.before in let e = sym c.if-all_in_range.false ∙ test-right c.before in
-    record { answer = ap (answer s) e; numbers = subst (Left s _) e tt }
+returns c =
+    let a = c.args.asked in
+    let l = c.args.entries.now in
+    let t = test-right c.requires c.live-end.ensures c.mixed_entries-cells.ensures c.product_of-product.ensures
+    (search rules) c.divisor_of.ensures (search rules) c.signed-by.ensures c.divide.ensures c.all_in_range.ensures in
+    let d = divided-right c.requires c.live-end.ensures c.mixed_entries-cells.ensures c.product_of-product.ensures
+    (search rules) c.divisor_of.ensures (search rules) c.signed-by.ensures c.divide.ensures in
+    let after = after-right c.requires c.live-end.ensures c.mixed_entries-cells.ensures c.product_of-product.ensures
+    (search rules) c.divisor_of.ensures (search rules) c.signed-by.ensures in
+    let e = sym c.if-not-all_in_range.false ∙ t in
+    let half : FitsSigned w32 (common_for l a) = fits-by (fits-common c.requires (sym e)) tt in
+    let put_is = c.halves_of.ensures ∙ d in record {
+      answer = rw (after, to_z-of_z half) (ap (λ b. pivoted_by b (common_for l a)) e);
+      numbers = subst (λ b. PutBy b (live a.rows a.columns) (entries_for l a) c.halves_of.result) e (record {
+        long = ap length put_is ∙ filled-length most_entries (pos 0) _ _ (end-in c.requires);
+        same = λ i h. ap (λ k. get_or k i (pos 0)) put_is;
+      });
+    }
