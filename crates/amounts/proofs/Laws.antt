@@ -1,4 +1,4 @@
 -- Laws that this crate's proofs, and those of its callers, cite.
-pub mod Parts
 pub mod Inside
+pub mod Order
 pub mod Only

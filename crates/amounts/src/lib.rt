@@ -10,7 +10,7 @@ ghost use Rattle.amounts.specs.Amounts.{amount_of, given_lower, given_upper, pai
 // A limit as it was given: whether it was, whether it is on, whether it excludes its own number, and that number. Every
 // answer is by the limits that are on. Of a missing limit no flag is set and the number is 0.
 #[repr(C)]
-#[derive(Clone, Copy)]
+#[derive(Clone, Copy, Debug, Default, PartialEq, Eq)]
 pub struct Given {
     pub given: bool,
     pub on: bool,
@@ -18,15 +18,16 @@ pub struct Given {
     pub plain: i32,
 }
 
-// A value that a nonbasic variable may have: 0, or what a limit stands for.
-#[derive(Clone, Copy)]
+// A value that a nonbasic variable may have: 0, or what a limit stands for. The order is that of the run: by the plain
+// parts, and where these are equal by the small ones.
+#[derive(Clone, Copy, Debug, Default, PartialEq, Eq, PartialOrd, Ord)]
 pub struct Value {
     pub plain: i32,
     pub small: i32,
 }
 
-// A value, or D times it.
-#[derive(Clone, Copy)]
+// A value, or D times it; in the same order.
+#[derive(Clone, Copy, Debug, Default, PartialEq, Eq, PartialOrd, Ord)]
 pub struct Amount {
     pub plain: i64,
     pub small: i64,
@@ -36,10 +37,7 @@ pub struct Amount {
 fn inset_of(strict: bool) -> i32
     ensures { result ≡ inset strict }
 {
-    if strict {
-        return 1;
-    }
-    0
+    i32::from(strict)
 }
 
 // What a lower limit stands for: where it is strict, one small amount above its number.
@@ -62,39 +60,14 @@ pub fn upper_value(limit: Given) -> Value
     }
 }
 
-// The same value in wider words.
-fn widened(value: Value) -> Amount
-    ensures { result ≡ amount_of (pair_in value) }
-{
-    Amount {
-        plain: value.plain as i64,
-        small: value.small as i64,
-    }
-}
-
 // D times a value.
 pub fn times(common: i32, value: Value) -> Amount
     ensures { result ≡ amount_of (pairs.scale common (pair_in value)) }
 {
     Amount {
-        plain: common as i64 * value.plain as i64,
-        small: common as i64 * value.small as i64,
+        plain: i64::from(common) * i64::from(value.plain),
+        small: i64::from(common) * i64::from(value.small),
     }
-}
-
-// Whether one is less than the other.
-pub fn less(a: Amount, b: Amount) -> bool
-    ensures { result ≡ pairs.less (pair_of a) (pair_of b) }
-{
-    let tie = !(b.plain < a.plain) & (a.small < b.small);
-    (a.plain < b.plain) | tie
-}
-
-// Whether one value is less than another.
-pub fn is_below(a: Value, b: Value) -> bool
-    ensures { result ≡ pairs.less (pair_in a) (pair_in b) }
-{
-    less(widened(a), widened(b))
 }
 
 // A value below its lower limit goes to what that stands for, else one above its upper limit to what that does.
@@ -103,10 +76,10 @@ pub fn put_inside(lower: Given, upper: Given, value: Value) -> Value
 {
     let least = lower_value(lower);
     let most = upper_value(upper);
-    if lower.on & is_below(value, least) {
+    if lower.on && value < least {
         return least;
     }
-    if upper.on & is_below(most, value) {
+    if upper.on && most < value {
         return most;
     }
     value

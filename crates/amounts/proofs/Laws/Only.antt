@@ -4,8 +4,6 @@ use mathlib.Core.Path.{◌≡◌, sym, ◌∙◌}
 use Rattle.amounts.proofs.lower_value.Reads as lower-value
 use Rattle.amounts.proofs.upper_value.Reads as upper-value
 use Rattle.amounts.proofs.times.Reads as times
-use Rattle.amounts.proofs.less.Reads as less
-use Rattle.amounts.proofs.is_below.Reads as is_below
 use Rattle.amounts.proofs.put_inside.Reads as put-inside
 
 pub lower-value-only : (κs : _) (x : _) (a b : _) (e : _) → lower-value.Post κs x a e →
@@ -18,12 +16,6 @@ upper-value-only κs x a b e h k = h ∙ sym k
 
 pub times-only : (κs : _) (x : _) (a b : _) (e : _) → times.Post κs x a e → times.Post κs x b e → a ≡ b
 times-only κs x a b e h k = h ∙ sym k
-
-pub less-only : (κs : _) (x : _) (a b : _) (e : _) → less.Post κs x a e → less.Post κs x b e → a ≡ b
-less-only κs x a b e h k = h ∙ sym k
-
-pub is-below-only : (κs : _) (x : _) (a b : _) (e : _) → is_below.Post κs x a e → is_below.Post κs x b e → a ≡ b
-is-below-only κs x a b e h k = h ∙ sym k
 
 pub put-inside-only : (κs : _) (x : _) (a b : _) (e : _) → put-inside.Post κs x a e → put-inside.Post κs x b e → a ≡ b
 put-inside-only κs x a b e h k = h ∙ sym k

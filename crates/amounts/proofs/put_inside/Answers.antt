@@ -1,81 +1,66 @@
 -- `amounts::put_inside` meets its contract: the tests in their order. Assumes nothing.
-use mathlib.Core.Bool.{Bool, true, false, cond, ◌&&◌}
-use mathlib.Core.Path.{◌≡◌, ap, ap₂, refl, sym, ◌∙◌}
-use borrow.Author.Rules.{rules}
-use lib.IntN.{ℤ}
+use Rattle.std.proofs.Common.{◌≡◌, Bool, true, false, cond, ◌&&◌, ap, refl, sym, ◌∙◌}
+use Rattle.std.specs.Ordering.{partial_lt}
 use Rattle.whole.specs.Values.{pairs}
+use Rattle.amounts.specs.contracts.ValuePartialOrd.TheImpl as values
 use Rattle.amounts.specs.declared.Given.{Given}
+use Rattle.amounts.specs.declared.Value.{Value}
 use Rattle.amounts.specs.Amounts.{given_lower, given_upper, pair_in, put_inside, value_of}
+use Rattle.amounts.proofs.Laws.Order.{value-less}
 use Rattle.amounts.proofs.put_inside.Goals as goal
-use Rattle.amounts.proofs.put_inside.Goals.{After-is_below, After-is_below-2, Start}
+use Rattle.amounts.proofs.put_inside.Goals.{else-lower-via-then-lower+else-lt, else-lower-via-else-lower}
+use Rattle.amounts.proofs.put_inside.Goals.{else-upper-via-then-upper+else-lt-2, else-upper-via-else-upper}
 
--- the value by the answers of the two tests
-module _ (s : Start) where
-  abbrev lower : Given
-  lower = s.args.lower
+abbrev is_less : Value → Value → Bool
+is_less = partial_lt values.partial_cmp-value.it
 
-  abbrev upper : Given
-  upper = s.args.upper
-
-  abbrev value : ℤ × ℤ
-  value = pair_in s.args.value
-
-  by_tests_lem : (a b : Bool) → (lower.on && pairs.less value (given_lower lower)) ≡ a →
-      (upper.on && pairs.less (given_upper upper) value) ≡ b →
-      cond a (given_lower lower) (cond b (given_upper upper) value) ≡ put_inside lower upper value
+module _ (lower upper : Given) (x : Value) where
+  -- the value by the answers of the two tests
+  by_tests : {a b : Bool} → (lower.on && pairs.less (pair_in x) (given_lower lower)) ≡ a →
+      (upper.on && pairs.less (given_upper upper) (pair_in x)) ≡ b →
+      value_of (cond a (given_lower lower) (cond b (given_upper upper) (pair_in x)))
+      ≡ value_of (put_inside lower upper (pair_in x))
   unfolding put_inside
-  by_tests_lem a b e q = sym (ap₂ (λ (a b : Bool). cond a (given_lower lower) (cond b (given_upper upper) value)) e q)
+  by_tests e q = simp (e, q)
 
-pub lower_value-least-requires : goal.lower_value-least-requires
-lower_value-least-requires c = search rules
+  -- .. which are asked of a limit that is on
+  raised : {least : Value} {r b : Bool} → lower.on ≡ true → least ≡ value_of (given_lower lower) →
+      r ≡ is_less x least → r ≡ b → (lower.on && pairs.less (pair_in x) (given_lower lower)) ≡ b
+  raised o l e f = rw o (sym (value-less x (value_of (given_lower lower))) ∙ ap (is_less x) (sym l) ∙ sym e ∙ f)
 
-pub upper_value-most-requires : goal.upper_value-most-requires
-upper_value-most-requires c = search rules
+  lowered : {most : Value} {r b : Bool} → upper.on ≡ true → most ≡ value_of (given_upper upper) →
+      r ≡ is_less most x → r ≡ b → (upper.on && pairs.less (given_upper upper) (pair_in x)) ≡ b
+  lowered o l e f = rw o (sym (value-less (value_of (given_upper upper)) x)
+      ∙ ap (λ y. is_less y x) (sym l) ∙ sym e ∙ f)
 
-pub is_below-requires : goal.is_below-requires
-is_below-requires c = search rules
+-- a limit that is off raises nothing, and lowers nothing
+off : {on : Bool} (rest : Bool) → on ≡ false → (on && rest) ≡ false
+off rest e = rw e
 
--- what the lower limit's test says
-module _ (c : After-is_below) where
-  abbrev begun : Start
-  begun = c.before.before.before
+pub returns-then-lt : goal.returns-then-lt
+returns-then-lt c = let a = c.args in
+    c.lower_value-least.ensures ∙ by_tests a.lower a.upper a.value
+    (raised a.lower a.upper a.value c.if-lower.true c.lower_value-least.ensures c.lt.ensures c.if-lt.true) refl
 
-  low-less : c.is_below.result ≡ pairs.less (value begun) (given_lower (lower begun))
-  low-less = c.is_below.ensures
-      ∙ ap (λ x. pairs.less (value begun) (pair_in x)) c.lower_value-least.ensures
-
-pub returns-then-lower-is_below : goal.returns-then-lower-is_below
-returns-then-lower-is_below c =
-    let d = c in
-    d.lower_value-least.ensures
-    ∙ ap value_of (by_tests_lem c.before.before.before.before.before true _
-    (rw (sym (low-less c.before.before)) c.if-lower-is_below.true) refl)
-
-pub is_below-requires-2 : goal.is_below-requires-2
-is_below-requires-2 c = search rules
-
--- .. and the upper limit's, where that failed
-module _ (c : After-is_below-2) where
-  abbrev first : After-is_below
-  first = c.before.before.before
-
-  not-raised : ((lower (begun first)).on && pairs.less (value (begun first)) (given_lower (lower (begun first)))) ≡
-      false
-  not-raised = rw (sym (low-less first)) c.if-lower-is_below.false
-
-  high-less : c.is_below-2.result ≡ pairs.less (given_upper (upper (begun first))) (value (begun first))
-  high-less = c.is_below-2.ensures
-      ∙ ap (λ x. pairs.less (pair_in x) (value (begun first))) first.upper_value-most.ensures
-
-pub returns-then-upper-is_below : goal.returns-then-upper-is_below
-returns-then-upper-is_below c =
-    let d = c in
-    (first c.before.before).upper_value-most.ensures
-    ∙ ap value_of (by_tests_lem (begun c.before.before.before.before.before) false true (not-raised c.before.before)
-    (rw (sym (high-less c.before.before)) c.if-upper-is_below.true))
+pub returns-then-lt-2 : goal.returns-then-lt-2
+returns-then-lt-2 c = let a = c.args in c.upper_value-most.ensures ∙ by_tests a.lower a.upper a.value
+    (elim c.else-lower.branch [
+      | else-lower-via-then-lower+else-lt w ↦
+          raised a.lower a.upper a.value w.if-lower.true c.lower_value-least.ensures w.lt.ensures w.if-lt.false
+      | else-lower-via-else-lower w ↦ off _ w.if-lower.false
+    ])
+    (lowered a.lower a.upper a.value c.if-upper.true c.upper_value-most.ensures c.lt-then-upper.ensures c.if-lt-2.true)
 
 pub returns : goal.returns
-returns c =
-    let d = c in
-    ap value_of (by_tests_lem (begun c.before.before.before.before.before) false false (not-raised c.before.before)
-    (rw (sym (high-less c.before.before)) c.if-upper-is_below.false))
+returns c = let a = c.args in by_tests a.lower a.upper a.value
+    (elim c.else-lower.branch [
+      | else-lower-via-then-lower+else-lt w ↦
+          raised a.lower a.upper a.value w.if-lower.true c.lower_value-least.ensures w.lt.ensures w.if-lt.false
+      | else-lower-via-else-lower w ↦ off _ w.if-lower.false
+    ])
+    (elim c.else-upper.branch [
+      | else-upper-via-then-upper+else-lt-2 w ↦
+          lowered a.lower a.upper a.value w.if-upper.true c.upper_value-most.ensures w.lt-then-upper.ensures
+          w.if-lt-2.false
+      | else-upper-via-else-upper w ↦ off _ w.if-upper.false
+    ])
