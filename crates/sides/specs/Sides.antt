@@ -1,6 +1,7 @@
 -- A value against limits that may be missing, as the code holds them: a record for each limit, a flag for the side.
 -- The pairs that value and limits stand for are compared.
-use Rattle.std.specs.Prelude.{Bool, true, false, ℤ}
+use Rattle.std.specs.Prelude.{Bool, true, false, ℤ, Some, None}
+use Rattle.std.specs.Prelude as answered
 use Rattle.std.proofs.Math.Option.{Option, none, some}
 use Rattle.whole.specs.Numbers.{Within}
 use Rattle.whole.specs.Values.{pairs}
@@ -36,10 +37,10 @@ abbrev pub side_by : Bool → Side
 side_by true = below
 side_by false = above
 
--- a side, with the shortfall on each side; 0 where there is none
-abbrev pub as_breach : Option Side → (Side → ℤ × ℤ) → Breach
-as_breach none short = record { violated = false; rises = false; shortfall = amount_of pairs.nil }
-as_breach (some σ) short = record { violated = true; rises = rising σ; shortfall = amount_of (short σ) }
+-- a side, with the shortfall on each side
+abbrev pub as_breach : Option Side → (Side → ℤ × ℤ) → answered.Option Breach
+as_breach none short = None
+as_breach (some σ) short = Some (record { rises = rising σ; shortfall = amount_of (short σ) })
 
 -- what a lower and an upper limit stand for, which may be missing
 abbrev pub least_in : Given → Option (ℤ × ℤ)
@@ -56,10 +57,10 @@ abbrev pub upper_in : LimitPair → Option (ℤ × ℤ)
 upper_in p = most_in p.upper
 
 -- D, and D times a value, against two limits
-abbrev pub breach_at : ℤ → ℤ × ℤ → Option (ℤ × ℤ) → Option (ℤ × ℤ) → Breach
+abbrev pub breach_at : ℤ → ℤ × ℤ → Option (ℤ × ℤ) → Option (ℤ × ℤ) → answered.Option Breach
 breach_at d x l u = as_breach (side_of d x l u) (shortfall_by pairs d x l u)
 
-unfoldable pub breach_of : ℤ → ℤ × ℤ → LimitPair → Breach
+unfoldable pub breach_of : ℤ → ℤ × ℤ → LimitPair → answered.Option Breach
 breach_of d x p = breach_at d x (lower_in p) (upper_in p)
 
 unfoldable pub suits_of : Bool → ℤ → ℤ × ℤ → LimitPair → Bool

@@ -13,18 +13,16 @@ ghost use Rattle.sides.specs.Sides.{Modest, least_in, most_in, breach_of, suits_
 
 use amounts::{Amount, Given, Value};
 
-// Whether a variable is outside its limits; whether it must rise to come inside, that is, whether it is below its lower
-// limit and not above its upper one; and how far D times its value is from D times that limit, which is above 0. A
-// variable within its limits has a shortfall of 0.
-#[derive(Drop)]
+// By which limit a variable is outside: whether it must rise to come inside, that is, whether it is below its lower
+// limit and not above its upper one; and how far D times its value is from D times that limit, which is above 0.
+#[derive(Clone, Copy, Debug, PartialEq, Eq)]
 pub struct Breach {
-    pub violated: bool,
     pub rises: bool,
     pub shortfall: Amount,
 }
 
 // The two limits of one variable.
-#[derive(Drop)]
+#[derive(Clone, Copy, Debug, Default, PartialEq, Eq)]
 pub struct LimitPair {
     pub lower: Given,
     pub upper: Given,
@@ -34,20 +32,7 @@ pub struct LimitPair {
 pub fn product(a: i32, b: i32) -> i64
     ensures { result ≡ a *ℤ b }
 {
-    a as i64 * b as i64
-}
-
-// A value, as D times it, against a limit.
-fn under(common: i32, value: Amount, limit: Given) -> bool
-    ensures { result ≡ step.under pairs common (pair_of value) (least_in limit) }
-{
-    limit.on & amounts::less(value, amounts::times(common, amounts::lower_value(limit)))
-}
-
-fn over(common: i32, value: Amount, limit: Given) -> bool
-    ensures { result ≡ step.over pairs common (pair_of value) (most_in limit) }
-{
-    limit.on & amounts::less(amounts::times(common, amounts::upper_value(limit)), value)
+    i64::from(a) * i64::from(b)
 }
 
 // One amount less another, part by part.
@@ -61,49 +46,41 @@ fn gap(a: Amount, b: Amount) -> Amount
     }
 }
 
-// By which limit a value is outside, and by how much.
-pub fn breach_of(common: i32, value: Amount, limits: LimitPair) -> Breach
+// By which limit a value is outside, and by how much, if it is.
+pub fn breach_of(common: i32, value: Amount, limits: LimitPair) -> Option<Breach>
     requires within { (Within common largest_number)
         × (Within limits.lower.plain largest_limit) × (Within limits.upper.plain largest_limit) }
     requires modest { Modest (pair_of value) }
     ensures { result ≡ breach_of common (pair_of value) limits }
 {
-    let low = under(common, value, limits.lower);
-    let high = over(common, value, limits.upper);
-    if !(low | high) {
-        return Breach {
-            violated: false,
-            rises: false,
-            shortfall: Amount { plain: 0, small: 0 },
-        };
-    }
-    if low {
-        let least = amounts::times(common, amounts::lower_value(limits.lower));
-        return Breach {
-            violated: true,
+    let least = amounts::times(common, amounts::lower_value(limits.lower));
+    if limits.lower.on & (value < least) {
+        return Some(Breach {
             rises: true,
             shortfall: gap(least, value),
-        };
+        });
     }
     let most = amounts::times(common, amounts::upper_value(limits.upper));
-    Breach {
-        violated: true,
-        rises: false,
-        shortfall: gap(value, most),
+    if limits.upper.on & (most < value) {
+        return Some(Breach {
+            rises: false,
+            shortfall: gap(value, most),
+        });
     }
+    None
 }
 
 // A nonbasic variable may increase, and may decrease.
 fn may_rise(value: Value, limit: Given) -> bool
     ensures { result ≡ may_rise pairs (pair_in value) (most_in limit) }
 {
-    !limit.on | amounts::is_below(value, amounts::upper_value(limit))
+    !limit.on | (value < amounts::upper_value(limit))
 }
 
 fn may_fall(value: Value, limit: Given) -> bool
     ensures { result ≡ may_fall pairs (pair_in value) (least_in limit) }
 {
-    !limit.on | amounts::is_below(amounts::lower_value(limit), value)
+    !limit.on | (amounts::lower_value(limit) < value)
 }
 
 // Whether a nonbasic variable can move the right way, by its entry in the row of the variable that must rise or fall.

@@ -2,6 +2,7 @@
 --   stated                           the limit of a record
 --   gap_parts                        a gap of pairs is the difference of their parts
 --   breach-under, -over, -none       the breach by the two tests
+--   under-tested, over-tested        the two tests, as the code asks them
 --   under-, over-, rise-, fall-, suits-joined       the tests, joined without a branch
 use Prim.Native.Nat.{ℕ, zero, suc}
 use mathlib.Core.Path.{◌≡◌, refl, sym, ap, ap₂, ◌∙◌}
@@ -9,6 +10,8 @@ use mathlib.Core.Bool.{Bool, true, false, not, ◌&&◌, ◌||◌, beq}
 use mathlib.Core.List.{[], ◌∷◌}
 use mathlib.Core.Option.{Option, none}
 use native.Mathlib.Omega.{arith}
+use Rattle.std.proofs.Common.{Some, None}
+use Rattle.std.specs.Ordering.{partial_lt}
 use borrow.Author.Tests.{ne_eqb}
 use lib.Dec.{leb-suc-zero}
 use lib.IntN.{ℤ, pos, negsuc, ◌-ℤ◌}
@@ -22,10 +25,17 @@ use Rattle.rules.specs.Limit.{Limit, lower_pair, present, upper_pair}
 use Rattle.rules.specs.Problem.{mapped}
 use Rattle.rules.specs.Step.{Side, above, below, gap, may_fall, may_rise, over, pull, seated, shortfall_by, suits}
 use Rattle.rules.specs.Step.{under}
+use Rattle.amounts.specs.contracts.AmountPartialOrd.TheImpl as amounts
+use Rattle.amounts.specs.declared.Amount.{Amount}
 use Rattle.amounts.specs.declared.Given.{Given}
-use Rattle.amounts.specs.Amounts.{amount_of, given_lower, given_upper}
+use Rattle.amounts.specs.Amounts.{amount_of, given_lower, given_upper, pair_of}
+use Rattle.amounts.proofs.Laws.Order.{amount-less}
+use Rattle.sides.specs.declared.Breach.{Breach}
 use Rattle.sides.specs.declared.LimitPair.{LimitPair}
 use Rattle.sides.specs.Sides.{side_from, side_of, as_breach, least_in, most_in, lower_in, upper_in, breach_of, suits_of}
+
+abbrev is_less : Amount → Amount → Bool
+is_less = partial_lt amounts.partial_cmp-value.it
 
 gap_is : (x y : ℤ) → gap whole x y ≡ x -ℤ y
 gap_is x y = ring-at (x ∷ y ∷ []) (search reify depth 30) refl
@@ -58,30 +68,23 @@ module _ (d : ℤ) (x : ℤ × ℤ) (p : LimitPair) where
   short-above e = ap (λ u. gap pairs x (pairs.scale d u))
       (is-there upper_pair p.upper.on (stated p.upper) (over pairs d x) refl e)
 
+  -- a breach on a side
+  abbrev told : Bool → ℤ × ℤ → Breach
+  told rises z = record { rises = rises; shortfall = amount_of z }
+
   pub breach-under : under pairs d x (lower_in p) ≡ true →
-      record {
-        violated = true;
-        rises = true;
-        shortfall = amount_of (gap pairs (pairs.scale d (given_lower p.lower)) x);
-      }
-      ≡ breach_of d x p
+      Some (told true (gap pairs (pairs.scale d (given_lower p.lower)) x)) ≡ breach_of d x p
   unfolding breach_of side_of
-  breach-under e = ap (λ z. record { violated = true; rises = true; shortfall = amount_of z }) (sym (short-below e))
+  breach-under e = ap (λ z. Some (told true z)) (sym (short-below e))
       ∙ sym (ap (λ t. as_breach (side_from t (over pairs d x (upper_in p))) short) e)
 
   pub breach-over : under pairs d x (lower_in p) ≡ false → over pairs d x (upper_in p) ≡ true →
-      record {
-        violated = true;
-        rises = false;
-        shortfall = amount_of (gap pairs x (pairs.scale d (given_upper p.upper)));
-      }
-      ≡ breach_of d x p
+      Some (told false (gap pairs x (pairs.scale d (given_upper p.upper)))) ≡ breach_of d x p
   unfolding breach_of side_of
-  breach-over e f = ap (λ z. record { violated = true; rises = false; shortfall = amount_of z }) (sym (short-above f))
+  breach-over e f = ap (λ z. Some (told false z)) (sym (short-above f))
       ∙ sym (ap₂ (λ t o. as_breach (side_from t o) short) e f)
 
-  pub breach-none : under pairs d x (lower_in p) ≡ false → over pairs d x (upper_in p) ≡ false →
-      record { violated = false; rises = false; shortfall = amount_of pairs.nil } ≡ breach_of d x p
+  pub breach-none : under pairs d x (lower_in p) ≡ false → over pairs d x (upper_in p) ≡ false → None ≡ breach_of d x p
   unfolding breach_of side_of
   breach-none e f = sym (ap₂ (λ t o. as_breach (side_from t o) short) e f)
 
@@ -125,6 +128,20 @@ module _ (g : Given) where
 
   pub fall-joined : (x : ℤ × ℤ) → (not g.on || pairs.less (given_lower g) x) ≡ may_fall pairs x (least_in g)
   fall-joined = fall-there lower_pair (stated g) g.on
+
+-- .. of D times a value, as the code tests it against D times a limit
+module _ (d : ℤ) (x : Amount) (g : Given) {t : Amount} {r b : Bool} where
+  pub under-tested : t ≡ amount_of (pairs.scale d (given_lower g)) → r ≡ is_less x t → (g.on && r) ≡ b →
+      under pairs d (pair_of x) (least_in g) ≡ b
+  under-tested e f h = sym (under-joined g d (pair_of x))
+      ∙ ap (λ a. g.on && pairs.less (pair_of x) (pair_of a)) (sym e)
+      ∙ ap (λ r. g.on && r) (sym (amount-less x t) ∙ sym f) ∙ h
+
+  pub over-tested : t ≡ amount_of (pairs.scale d (given_upper g)) → r ≡ is_less t x → (g.on && r) ≡ b →
+      over pairs d (pair_of x) (most_in g) ≡ b
+  over-tested e f h = sym (over-joined g d (pair_of x))
+      ∙ ap (λ a. g.on && pairs.less (pair_of a) (pair_of x)) (sym e)
+      ∙ ap (λ r. g.on && r) (sym (amount-less t x) ∙ sym f) ∙ h
 
 not-below : (k : ℕ) → lt_z (pos (suc k)) (pos 0) ≡ false
 not-below k = leb-suc-zero (suc k)
