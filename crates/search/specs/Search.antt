@@ -1,6 +1,8 @@
 -- The search for the next pivot, by place: docs/RULES.md, "The run", over the struct. Both searches go by the
 -- variables' numbers.
 use Rattle.std.specs.Prelude.{◌≡◌, Bool, true, false, cond, List, [], ℕ, ◌+◌, ◌≤◌, ◌<◌, ℤ, pos, ◌*ℤ◌, get_or}
+use Rattle.std.specs.Prelude.{Some, None}
+use Rattle.std.specs.Prelude as answered
 use Rattle.std.proofs.Math.Option.{Option, none, some}
 use Rattle.whole.specs.Below.{lowest}
 use Rattle.whole.specs.Numbers.{Within}
@@ -11,11 +13,12 @@ use Rattle.rules.specs.Step.{Side, Leaving, leaves, shortfall_by, pull, suits}
 use Rattle.amounts.specs.Amounts.{amount_of}
 use Rattle.tableau.specs.declared.Limits.{Limits}
 use Rattle.tableau.specs.declared.Tableau.{Tableau}
+use Rattle.layout.specs.declared.ColumnPlace.{ColumnPlace}
 use Rattle.layout.specs.Layout.{Order, in_use, entry_laid}
 use Rattle.tableau.specs.Parts.{cell_laid, value_at, seat_at, row_of, column_of, lowest_of, highest_of}
 use Rattle.tableau.specs.Parts.{plain_at, small_at, lower_given, upper_given}
 use Rattle.tableau.specs.Pivot.{Cells}
-use Rattle.sides.specs.Sides.{side_of, rising}
+use Rattle.sides.specs.Sides.{side_of, rising, side_by}
 use Rattle.search.specs.declared.Blocked.{Blocked}
 use Rattle.search.specs.declared.Choice.{Choice}
 use Rattle.search.specs.declared.Next.{Next}
@@ -136,6 +139,22 @@ next_by = next_by_laid in_use
 
 abbrev pub next_at : Tableau → Next
 next_at = next_laid in_use
+
+-- ---- what the code finds: the leaving variable's row, side and shortfall, and the entering variable's column
+
+unfoldable pub blocked_by : Tableau → Option (Leaving (ℤ × ℤ)) → answered.Option Blocked
+blocked_by t none = None
+blocked_by t (some r) = Some (blocked_at t r)
+
+abbrev pub blocked_in : Tableau → answered.Option Blocked
+blocked_in t = blocked_by t (leaving_at t)
+
+unfoldable pub column_by : Tableau → Option ℕ → answered.Option ColumnPlace
+column_by t none = None
+column_by t (some w) = Some (seat_at t w).column
+
+abbrev pub column_in : Tableau → ℕ → Bool → answered.Option ColumnPlace
+column_in t i rises = column_by t (entering_at t i (side_by rises))
 
 -- ---- what the code reads
 

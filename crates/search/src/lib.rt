@@ -6,7 +6,7 @@ ghost use Rattle.std.specs.Prelude.{◌≡◌, false, ℕ, ◌+◌, ◌≤◌, �
 ghost use Rattle.whole.specs.Numbers.{Within};
 ghost use Rattle.rules.specs.Sizes.{most_columns, most_rows, most_variables, largest_number, largest_limit};
 ghost use Rattle.layout.specs.Layout.{entry_in};
-ghost use Rattle.search.specs.Search.{row_sum_in, Searchable, seen, next_at, view_of};
+ghost use Rattle.search.specs.Search.{blocked_in, column_in, row_sum_in, Searchable, seen, next_at, view_of};
 
 use amounts::{Amount, Value};
 use layout::{ColumnPlace, RowPlace};
@@ -43,7 +43,7 @@ impl View {
 }
 
 // How many rows and columns there are.
-#[derive(Clone, Copy)]
+#[derive(Clone, Copy, Debug, PartialEq, Eq)]
 pub struct Size {
     pub rows: usize,
     pub columns: usize,
@@ -53,7 +53,7 @@ pub struct Size {
 // lower limit, and fall where it is above its upper one; its shortfall is how far D times its value is from D times
 // that limit, part by part. At the first step of case A of docs/RULES.md, whose D is 1, variable 2 must rise by 2: it
 // is 0 and its lower limit is 2.
-#[derive(Drop)]
+#[derive(Clone, Copy)]
 pub struct Choice {
     pub row: RowPlace,
     pub column: ColumnPlace,
@@ -70,7 +70,7 @@ pub struct Blocked {
 }
 
 // What a search comes to: every variable is within its limits, one is outside and stuck, or a pivot moves it.
-#[derive(Drop)]
+#[derive(Clone, Copy)]
 pub enum Next {
     Within,
     Stuck(Blocked),
@@ -104,12 +104,10 @@ pub fn row_value<'a>(
     requires by_index_2 { (j : ℕ) → Within (get_or values.now j (pos 0)) largest_limit }
     ensures { result ≡ row_sum_in size.rows size.columns entries.now values.now row.0 }
 {
-    let columns = size.columns;
-    let mut sum = 0i64;
-    for j in 0..columns {
-        let e = entry_at(entries, size, row, ColumnPlace(j as u8));
-        let x = values[j];
-        sum = sum + sides::product(e, x);
+    let mut sum = 0;
+    for j in 0..size.columns {
+        let entry = entry_at(entries, size, row, ColumnPlace(j as u8));
+        sum += sides::product(entry, values[j]);
     }
     sum
 }
@@ -134,12 +132,72 @@ fn row_small<'a>(
     row_value(entries, smalls, size, row)
 }
 
-// The next variable by number.
-pub fn after(v: Variable) -> Variable
-    requires { v.0 < most_variables }
-    ensures { result ≡ record { 0 = v.0 + 1 } }
+// The leaving variable: of the basic ones, the lowest-numbered that is outside its limits.
+fn leaving(entries: &[i32; Tableau::MOST_ENTRIES], view: &View, limits: &Limits) -> Option<Blocked>
+    requires { Searchable (seen entries.now view.now limits.now) }
+    ensures { result ≡ blocked_in (seen entries.now view.now limits.now) }
 {
-    Variable(v.0 + 1)
+    let size = Size {
+        rows: view.rows,
+        columns: view.columns,
+    };
+    for v in 0..size.rows + size.columns {
+        let seat = view.seats[v];
+        if seat.basic {
+            let plain = row_value(entries, &view.values, size, seat.row);
+            let small = row_small(entries, &view.smalls, size, seat.row, limits.strict);
+            let own = LimitPair {
+                lower: limits.lower[v],
+                upper: limits.upper[v],
+            };
+            let outside = sides::breach_of(view.common, Amount { plain, small }, own);
+            if let Some(breach) = outside {
+                return Some(Blocked {
+                    row: seat.row,
+                    rises: breach.rises,
+                    shortfall: breach.shortfall,
+                });
+            }
+        }
+    }
+    None
+}
+
+// The column of the entering variable: of the nonbasic ones, the lowest-numbered that can move the one of this row.
+fn entering(
+    entries: &[i32; Tableau::MOST_ENTRIES],
+    view: &View,
+    limits: &Limits,
+    row: RowPlace,
+    rises: bool,
+) -> Option<ColumnPlace>
+    requires searchable { Searchable (seen entries.now view.now limits.now) }
+    requires in_rows { row.0 < view.now.rows }
+    ensures { result ≡ column_in (seen entries.now view.now limits.now) row.0 rises }
+{
+    let size = Size {
+        rows: view.rows,
+        columns: view.columns,
+    };
+    for w in 0..size.rows + size.columns {
+        let seat = view.seats[w];
+        if !seat.basic {
+            let entry = entry_at(entries, size, row, seat.column);
+            let j = seat.column.0 as usize;
+            let value = Value {
+                plain: view.values[j],
+                small: view.smalls[j],
+            };
+            let its = LimitPair {
+                lower: limits.lower[w],
+                upper: limits.upper[w],
+            };
+            if sides::suits(rises, entry, value, its) {
+                return Some(seat.column);
+            }
+        }
+    }
+    None
 }
 
 // The search runs over the basic variables, and for the first one outside its limits over the nonbasic ones, both in
@@ -148,70 +206,21 @@ pub fn next_step(entries: &[i32; Tableau::MOST_ENTRIES], view: View, limits: Lim
     requires { Searchable (seen entries.now view limits) }
     ensures { result ≡ next_at (seen entries.now view limits) }
 {
-    let size = Size {
-        rows: view.rows,
-        columns: view.columns,
+    let Some(outside) = leaving(entries, &view, &limits) else {
+        return Next::Within;
     };
-    let end = size.rows + size.columns;
-    let mut v = Variable(0);
-    let found = 'search: loop {
-        let at = v.0 as usize;
-        if at >= end {
-            break 'search Next::Within;
-        }
-        let seat = view.seats[at];
-        if !seat.basic {
-            v = after(v);
-            continue 'search;
-        }
-        let row = seat.row;
-        let plain = row_value(entries, &view.values, size, row);
-        let small = row_small(entries, &view.smalls, size, row, limits.strict);
-        let own = LimitPair {
-            lower: limits.lower[at],
-            upper: limits.upper[at],
-        };
-        let outside = sides::breach_of(view.common, Amount { plain, small }, own);
-        if !outside.violated {
-            v = after(v);
-            continue 'search;
-        }
-        let rises = outside.rises;
-        let shortfall = outside.shortfall;
-        let mut w = Variable(0);
-        while (w.0 as usize) < end {
-            let place = w.0 as usize;
-            let other = view.seats[place];
-            if other.basic {
-                w = after(w);
-                continue;
-            }
-            let column = other.column;
-            let j = column.0 as usize;
-            let entry = entry_at(entries, size, row, column);
-            let its = LimitPair {
-                lower: limits.lower[place],
-                upper: limits.upper[place],
-            };
-            let value = Value {
-                plain: view.values[j],
-                small: view.smalls[j],
-            };
-            if sides::suits(rises, entry, value, its) {
-                break 'search Next::Pivot(Choice {
-                    row,
-                    column,
-                    rises,
-                    shortfall,
-                });
-            }
-            w = after(w);
-        }
-        break 'search Next::Stuck(Blocked {
+    let Blocked {
+        row,
+        rises,
+        shortfall,
+    } = outside;
+    match entering(entries, &view, &limits, row, rises) {
+        Some(column) => Next::Pivot(Choice {
             row,
+            column,
             rises,
             shortfall,
-        });
-    };
-    found
+        }),
+        None => Next::Stuck(outside),
+    }
 }

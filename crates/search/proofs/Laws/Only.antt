@@ -1,13 +1,9 @@
 -- Two results that a promise of this crate's public functions allows are equal: NAME-only for each.
 -- The contracts themselves are compared: κs are lifetimes, x the arguments, e what lent words hold at the exit.
 use mathlib.Core.Path.{◌≡◌, sym, ◌∙◌}
-use Rattle.search.proofs.after.Reads as after
 use Rattle.search.proofs.entry_at.Reads as entry_at
 use Rattle.search.proofs.row_value.Reads as row-value
 use Rattle.search.proofs.next_step.Reads as next-step
-
-pub after-only : (κs : _) (x : _) (a b : _) (e : _) → after.Post κs x a e → after.Post κs x b e → a ≡ b
-after-only κs x a b e h k = h ∙ sym k
 
 pub entry-at-only : (κs : _) (x : _) (a b : _) (e : _) → entry_at.Post κs x a e → entry_at.Post κs x b e → a ≡ b
 entry-at-only κs x a b e h k = h ∙ sym k

@@ -1,5 +1,5 @@
--- `search::row_value` meets its contract. The loop's invariant: the sum is that of the columns passed. The measure is
--- the columns that are left. The sum of at most 8 products stays in 64 bits. Assumes nothing.
+-- `search::row_value` meets its contract. The loop's invariant: the sum is that of the columns passed. The sum of at
+-- most 8 products stays in 64 bits. Assumes nothing.
 use mathlib.Core.List.{List}
 use mathlib.Core.Path.{◌≡◌, refl, ap, subst, sym, ◌∙◌}
 use Prim.Native.Nat.{ℕ, ◌*◌, ◌<◌}
@@ -21,7 +21,7 @@ use Rattle.search.proofs.row_value.Goals as goal
 
 pub loop-j-init : goal.loop-j-init
 unfolding sum_laid sum_by
-loop-j-init c = (omega arith, refl)
+loop-j-init c = refl
 
 -- a term, and the sum with it
 module _ (rows columns : ℕ) (l x : List ℤ) (i j : ℕ)
@@ -47,30 +47,27 @@ product-is {x} f g q h = (simp (to_z-of_z f, to_z-of_z g) at h) ∙ ap (λ e. e 
 
 pub overflow_add-sum : goal.overflow_add-sum
 overflow_add-sum c = let s = c.args in let r = c.requires in
-    let fit-entry : SFits w32 c.entry_at-e.result = search rules in
+    let fit-entry : SFits w32 c.entry_at-entry.result = search rules in
     let fit-value : SFits w32 (get_or s.values.now c.loop-j.j (pos 0)) = search rules in
     let fit-product : SFits w64 c.product-sum.result = search rules in
-    let p = product-is fit-entry fit-value c.entry_at-e.ensures c.product-sum.ensures in
+    let p = product-is fit-entry fit-value c.entry_at-entry.ensures c.product-sum.ensures in
     let f = fit-sum s.size.rows s.size.columns s.entries.now s.values.now s.row.0 c.loop-j.j
     r.by_index r.by_index_2 (omega arith) _ p in
-    simp (to_z-of_z fit-product, c.loop-j.invariant.1) f
+    simp (to_z-of_z fit-product, c.loop-j.invariant) f
 
 pub loop-j-preserved : goal.loop-j-preserved
 loop-j-preserved c = let s = c.args in let r = c.requires in
-    let fit-entry : SFits w32 c.entry_at-e.result = search rules in
+    let fit-entry : SFits w32 c.entry_at-entry.result = search rules in
     let fit-value : SFits w32 (get_or s.values.now c.loop-j.j (pos 0)) = search rules in
     let fit-product : SFits w64 c.product-sum.result = search rules in
-    let p = product-is fit-entry fit-value c.entry_at-e.ensures c.product-sum.ensures in
+    let p = product-is fit-entry fit-value c.entry_at-entry.ensures c.product-sum.ensures in
     let f = fit-sum s.size.rows s.size.columns s.entries.now s.values.now s.row.0 c.loop-j.j
     r.by_index r.by_index_2 (omega arith) _ p in
-    let sum = part_sum s.size.rows s.size.columns s.entries.now s.values.now s.row.0 c.loop-j.j in (
-      omega arith,
-      simp (to_z-of_z fit-product, c.loop-j.invariant.1, to_z-of_z f)
-          (ap (λ z. sum +ℤ z) p
-          ∙ sym (row_more s.size.rows s.size.columns s.entries.now s.values.now s.row.0 c.loop-j.j)),
-    )
+    let sum = part_sum s.size.rows s.size.columns s.entries.now s.values.now s.row.0 c.loop-j.j in
+    simp (to_z-of_z fit-product, c.loop-j.invariant, to_z-of_z f) (ap (λ z. sum +ℤ z) p
+    ∙ sym (row_more s.size.rows s.size.columns s.entries.now s.values.now s.row.0 c.loop-j.j))
 
 pub returns : goal.returns
 returns c = let s = c.args in
     let all : c.loop-j.j ≡ s.size.columns = omega arith in
-    c.loop-j.invariant.1 ∙ ap (part_sum s.size.rows s.size.columns s.entries.now s.values.now s.row.0) all
+    c.loop-j.invariant ∙ ap (part_sum s.size.rows s.size.columns s.entries.now s.values.now s.row.0) all

