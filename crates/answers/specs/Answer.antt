@@ -1,7 +1,7 @@
 -- The words of an answer, from the struct: docs/RULES.md, "Refusal numbers and their order", the paragraph on answered
 -- output.
 use Rattle.std.specs.Prelude.{Bool, true, false, List, ◌∷◌, ◌++◌, ◌≡◌, ℕ, ◌+◌, ◌*◌, ◌≤◌, ◌<◌, ltb, ℤ, pos, ◌*ℤ◌, get_or}
-use Rattle.std.specs.Prelude.{take, drop, replicate}
+use Rattle.std.specs.Prelude.{drop, replicate}
 use Rattle.whole.specs.Numbers.{Within}
 use Rattle.whole.specs.Tables.{table, filled}
 use Rattle.rules.specs.Sizes.{most_columns, most_rows, most_variables, largest_limit, largest_number}
@@ -75,10 +75,6 @@ noughts = replicate most_variables (pos 0)
 -- the first words of an array
 abbrev pub first_of : ℕ → List ℤ → List ℤ
 first_of N l = table N (λ v. get_or l v (pos 0))
-
--- .. over the words from a place on
-unfoldable pub copied_at : List ℤ → ℕ → ℕ → List ℤ → List ℤ
-copied_at before at N l = take at before ++ (first_of N l ++ drop (at + N) before)
 
 -- verdict, count, denominator, and two words for each variable
 unfoldable pub words_at : Verdict → ℕ → ℤ → ℕ → List ℤ → List ℤ → List ℤ

@@ -15,7 +15,7 @@ pub fn is_crossed(lower: Given, upper: Given) -> bool
 {
     let least = amounts::lower_value(lower);
     let most = amounts::upper_value(upper);
-    lower.on & upper.on & amounts::is_below(most, least)
+    lower.on & upper.on & (most < least)
 }
 
 // The lowest of the first variables whose limits cross, if there is one.

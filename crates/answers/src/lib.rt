@@ -6,24 +6,39 @@ ghost use Rattle.rules.specs.Run.{most_count};
 ghost use Rattle.rules.specs.Sizes.{most_columns, most_rows, most_variables};
 ghost use Rattle.tableau.specs.Parts.{nowhere};
 ghost use Rattle.answers.specs.Answer.{number_of, Numerable, numerator_of, numerators_in};
-ghost use Rattle.answers.specs.Answer.{copied_at, is_short, words_at, laid_over};
+ghost use Rattle.answers.specs.Answer.{is_short, words_at, laid_over};
 
-use search::{Size, after};
+use search::Size;
 use sides::product;
-use tableau::{Seat, Tableau, Variable};
+use tableau::{Seat, Tableau};
 
 pub mod conflict;
 pub mod multipliers;
 
-#[derive(Drop)]
+// How a run ends: with values, with multipliers, or with neither where a number is too large.
+#[derive(Clone, Copy, Debug, PartialEq, Eq)]
 pub enum Verdict {
     Can,
     Cannot,
     Range,
 }
 
+// The number of a verdict in an answer.
+impl From<Verdict> for i64 {
+    ghost from_gives = { λ verdict n. n ≡ number_of verdict };
+
+    #[tactic(auto, unfolding(crate::specs::Answer::number_of))]
+    fn from(verdict: Verdict) -> i64 {
+        match verdict {
+            Verdict::Can => 1,
+            Verdict::Cannot => 2,
+            Verdict::Range => 3,
+        }
+    }
+}
+
 // The first three words of an answer: how it ends, after how many pivots, and over which denominator.
-#[derive(Drop)]
+#[derive(Clone, Copy, Debug, PartialEq, Eq)]
 pub struct Head {
     pub verdict: Verdict,
     pub count: usize,
@@ -36,17 +51,6 @@ pub fn is_short(room: usize, variables: usize) -> bool
     ensures { result ≡ is_short room variables }
 {
     room < 3 + 2 * variables
-}
-
-// The number of a verdict in an answer.
-fn number_of(verdict: Verdict) -> i64
-    ensures { result ≡ number_of verdict }
-{
-    match verdict {
-        Verdict::Can => 1,
-        Verdict::Cannot => 2,
-        Verdict::Range => 3,
-    }
 }
 
 // D times the value of the variable of a seat, from plain parts or from small parts.
@@ -62,12 +66,10 @@ fn numerator_of<'a>(
         ≡ numerator_of entries.now values.now size.rows size.columns common seat }
 {
     if seat.basic {
-        return search::row_value(entries, values, size, seat.row);
+        search::row_value(entries, values, size, seat.row)
+    } else {
+        product(common, values[seat.column.0 as usize])
     }
-    let column = seat.column;
-    let j = column.0 as usize;
-    let x = values[j];
-    product(common, x)
 }
 
 // The numerators of all variables, over D: of the plain parts, or of the small parts.
@@ -84,28 +86,11 @@ pub fn numerators_of<'a>(
     ensures { result
         ≡ numerators_in entries.now values.now seats common size.rows size.columns }
 {
-    let variables = size.rows + size.columns;
-    let mut numerators = [0i64; Tableau::MOST_VARIABLES];
-    let mut v = Variable(0);
-    while (v.0 as usize) < variables {
-        let at = v.0 as usize;
-        let seat = seats[at];
-        numerators[at] = numerator_of(entries, values, size, common, seat);
-        v = after(v);
+    let mut numerators = [0; Tableau::MOST_VARIABLES];
+    for v in 0..size.rows + size.columns {
+        numerators[v] = numerator_of(entries, values, size, common, seats[v]);
     }
     numerators
-}
-
-// The first words of an array, from a place of the output on; nothing else is touched.
-fn copy_at(out: &mut [i64], at: usize, many: usize, from: &[i64; Tableau::MOST_VARIABLES])
-    requires { (at + many ≤ length out.old) × (many ≤ most_variables) }
-    ensures { out.new ≡ copied_at out.old at many from.now }
-{
-    for v in 0..many {
-        let x = from[v];
-        let k = at + v;
-        out[k] = x;
-    }
 }
 
 // The whole answer.
@@ -121,11 +106,7 @@ pub fn write<'a>(
         (words_at head.verdict head.count head.denominator variables
         lower.now upper.now) }
 {
-    let verdict = head.verdict;
-    out[0] = number_of(verdict);
-    out[1] = head.count as i64;
-    let denominator = head.denominator;
-    out[2] = denominator;
-    copy_at(out, 3, variables, lower);
-    copy_at(out, 3 + variables, variables, upper);
+    out[..3].copy_from_slice(&[i64::from(head.verdict), head.count as i64, head.denominator]);
+    out[3..3 + variables].copy_from_slice(&lower[..variables]);
+    out[3 + variables..3 + 2 * variables].copy_from_slice(&upper[..variables]);
 }

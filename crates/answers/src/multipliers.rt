@@ -3,17 +3,16 @@
 ghost use Rattle.std.specs.Prelude.{◌≡◌, ℕ, ◌+◌, ◌≤◌, ◌<◌, get_or};
 ghost use Rattle.whole.specs.Numbers.{Within};
 ghost use Rattle.rules.specs.Sizes.{most_columns, most_rows, most_variables, largest_number};
-ghost use Rattle.rules.specs.Step as step;
 ghost use Rattle.rules.specs.Step.{pull};
 ghost use Rattle.tableau.specs.Parts.{nowhere};
 ghost use Rattle.sides.specs.Sides.{side_by};
 ghost use Rattle.answers.specs.Multipliers.{Blockable, unit_at, pull_of, multipliers_in};
 
-use search::{Blocked, Size, after};
+use search::{Blocked, Size};
 use tableau::{Seat, Tableau, Variable};
 
 // One multiplier for the lower and one for the upper limit of each variable.
-#[derive(Drop)]
+#[derive(Clone, Copy)]
 pub struct Multipliers {
     pub lower: [i64; Tableau::MOST_VARIABLES],
     pub upper: [i64; Tableau::MOST_VARIABLES],
@@ -24,20 +23,9 @@ pub fn unit(variable: Variable) -> [i64; Tableau::MOST_VARIABLES]
     requires { variable.0 < most_variables }
     ensures { result ≡ unit_at variable.0 }
 {
-    let mut ones = [0i64; Tableau::MOST_VARIABLES];
-    let v = variable.0 as usize;
-    ones[v] = 1;
+    let mut ones = [0; Tableau::MOST_VARIABLES];
+    ones[variable.0 as usize] = 1;
     ones
-}
-
-// A number where it is above 0, else 0.
-fn positive(z: i64) -> i64
-    ensures { result ≡ step.positive z }
-{
-    if 0 < z {
-        return z;
-    }
-    0
 }
 
 // An entry, with its sign swapped where the row's variable must fall.
@@ -45,10 +33,7 @@ fn turned(rises: bool, entry: i64) -> i64
     requires { Within entry largest_number }
     ensures { result ≡ pull (side_by rises) entry }
 {
-    if rises {
-        return entry;
-    }
-    -entry
+    if rises { entry } else { -entry }
 }
 
 // The row as an equation "the sum is 0", turned to rise, at the variable of a seat: minus D at the row's own variable,
@@ -63,16 +48,14 @@ fn pull_of(
     requires { Blockable entries.now size.rows size.columns common blocked.row.0 seat }
     ensures { result ≡ pull_of entries.now size.rows size.columns common blocked seat }
 {
-    let row = blocked.row;
     if !seat.basic {
-        let e = search::entry_at(entries, size, row, seat.column);
-        return turned(blocked.rises, e as i64);
+        let entry = search::entry_at(entries, size, blocked.row, seat.column);
+        turned(blocked.rises, i64::from(entry))
+    } else if seat.row.0 == blocked.row.0 {
+        turned(blocked.rises, -i64::from(common))
+    } else {
+        0
     }
-    let own = seat.row;
-    if own.0 == row.0 {
-        return turned(blocked.rises, -(common as i64));
-    }
-    0
 }
 
 // The multipliers of a blocked row. D goes to the limit that its variable violates. The size of each entry goes to the
@@ -90,17 +73,12 @@ pub fn multipliers_of(
         Blockable entries.now size.rows size.columns common blocked.row.0 (get_or seats v nowhere) }
     ensures { result ≡ multipliers_in entries.now seats common size.rows size.columns blocked }
 {
-    let variables = size.rows + size.columns;
-    let mut lower = [0i64; Tableau::MOST_VARIABLES];
-    let mut upper = [0i64; Tableau::MOST_VARIABLES];
-    let mut v = Variable(0);
-    while (v.0 as usize) < variables {
-        let at = v.0 as usize;
-        let seat = seats[at];
-        let y = pull_of(entries, size, common, blocked, seat);
-        lower[at] = positive(-y);
-        upper[at] = positive(y);
-        v = after(v);
+    let mut lower = [0; Tableau::MOST_VARIABLES];
+    let mut upper = [0; Tableau::MOST_VARIABLES];
+    for v in 0..size.rows + size.columns {
+        let pull = pull_of(entries, size, common, blocked, seats[v]);
+        lower[v] = (-pull).max(0);
+        upper[v] = pull.max(0);
     }
     Multipliers { lower, upper }
 }

@@ -1,8 +1,6 @@
 -- `answers::multipliers::multipliers_of` meets its contract. The loop's invariant: the multipliers of the variables
--- passed stand in the two arrays, and 0 elsewhere. The measure is the variables that are left. Assumes nothing.
-use mathlib.Core.Path.{◌≡◌}
-use Prim.Native.Nat.{◌-◌, ◌≤◌}
-use lib.IntN.{neg_ℤ, pos}
+-- passed stand in the two arrays, and 0 elsewhere. Assumes nothing.
+use Rattle.std.proofs.Common.{◌≡◌, pos, neg_ℤ}
 use Rattle.whole.specs.Tables.{filled}
 use Rattle.rules.specs.Sizes.{most_variables}
 use Rattle.rules.specs.Step.{positive}
@@ -10,12 +8,9 @@ use Rattle.answers.specs.Multipliers.{pull_in}
 use Rattle.answers.proofs.multipliers.multipliers_of.Given as goal
 
 abbrev pub invariant-loop-v : goal.invariant-loop-v
-invariant-loop-v l =
-    (l.v.0 ≤ l.variables)
-    × (l.lower ≡ filled most_variables (pos 0) l.v.0
-    (λ v. positive (neg_ℤ (pull_in l.entries l.seats l.size.rows l.size.columns l.common l.blocked v))))
-    × (l.upper ≡ filled most_variables (pos 0) l.v.0
-    (λ v. positive (pull_in l.entries l.seats l.size.rows l.size.columns l.common l.blocked v)))
-
-abbrev pub decreases-loop-v : goal.decreases-loop-v
-decreases-loop-v l = l.variables - l.v.0
+invariant-loop-v l = record {
+  lower : l.lower ≡ filled most_variables (pos 0) l.v
+      (λ v. positive (neg_ℤ (pull_in l.entries l.seats l.size.rows l.size.columns l.common l.blocked v)));
+  upper : l.upper ≡ filled most_variables (pos 0) l.v
+      (λ v. positive (pull_in l.entries l.seats l.size.rows l.size.columns l.common l.blocked v));
+}

@@ -1,5 +1,5 @@
 -- `answers::multipliers::unit` meets its contract. Assumes nothing.
-use mathlib.Core.Path.{refl}
+use Rattle.std.proofs.Common.{refl}
 use Rattle.answers.specs.Multipliers.{unit_at}
 use Rattle.answers.proofs.multipliers.unit.Goals as goal
 
