@@ -1,3 +1,4 @@
--- Words stored as bytes; and that two allowed results are equal. Assumes nothing.
+-- Words read from bytes and put as bytes; and that two allowed results are equal. Assumes nothing.
+pub mod Signs
 pub mod Stores
 pub mod Only
