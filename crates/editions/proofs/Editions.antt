@@ -1,27 +1,33 @@
--- An edition by its number: there are two.
---   edition-first, edition-second    what each allows
---   edition-other                    any other allows nothing
-use mathlib.Core.Logic.{◌≢◌}
-use mathlib.Core.Path.{◌≡◌, refl}
-use Prim.Native.Nat.{ℕ, zero, suc}
-use Rattle.rules.specs.Sizes.{first_bodies, first_rows, most_rows, second_bodies}
-use Rattle.rules.specs.Bundle.File.{Edition, edition, editions}
+-- An edition by its number: what a number that is looked up tells.
+--   unknown-told    whether there is such an edition
+--   edition_other   a number of none allows nothing
+use Rattle.std.proofs.Common.{◌≡◌, ◌≢◌, ℕ, zero, suc, Result, Ok, Err, arith, refl, true}
+use Rattle.std.specs.Result.{is_err}
+use borrow.Author.Tests.{le-ltb, lt-ltb}
+use Rattle.refusals.specs.declared.Refusal.{Refusal}
+use Rattle.rules.specs.Bundle.File.{edition, editions}
+use Rattle.rules.specs.Bundle.Writer.{no_such_edition}
+use Rattle.editions.specs.declared.Edition.{Edition}
+use Rattle.editions.specs.declared.Edition.TheVariants.{First, Second}
+use Rattle.editions.specs.Numbered.{Decodes}
 
--- so many bodies, so many rows
-abbrev allows : ℕ → ℕ → Edition
-allows bodies rows = record { bodies = bodies; rows = rows }
+other-unknown : (n : ℕ) → n ≢ 1 → n ≢ 2 → true ≡ no_such_edition n
+unfolding no_such_edition editions
+other-unknown zero p q = refl
+other-unknown (suc zero) p q = absurd (p refl)
+other-unknown (suc (suc zero)) p q = absurd (q refl)
+other-unknown (suc (suc (suc n))) p q =
+    rw (le-ltb (suc (suc (suc n))) 1 (omega arith), lt-ltb 2 (suc (suc (suc n))) (omega arith)) refl
 
-pub edition-first : (e : ℕ) → e ≡ 1 → edition e ≡ allows first_bodies first_rows
+pub unknown-told : (n : ℕ) (r : Result Edition Refusal) → Decodes n r → is_err r ≡ no_such_edition n
+unfolding no_such_edition editions
+unknown-told n (Ok First) e = rw e refl
+unknown-told n (Ok Second) e = rw e refl
+unknown-told n (Err r) e = other-unknown n e.1 e.2
+
+pub edition_other : (n : ℕ) → n ≢ 1 → n ≢ 2 → edition n ≡ record { bodies = 0; rows = 0 }
 unfolding edition editions
-edition-first e q = rw q refl
-
-pub edition-second : (e : ℕ) → e ≡ 2 → edition e ≡ allows second_bodies most_rows
-unfolding edition editions
-edition-second e q = rw q refl
-
-pub edition-other : (e : ℕ) → e ≢ 1 → e ≢ 2 → edition e ≡ allows 0 0
-unfolding edition editions
-edition-other zero p q = refl
-edition-other (suc zero) p q = absurd (p refl)
-edition-other (suc (suc zero)) p q = absurd (q refl)
-edition-other (suc (suc (suc e))) p q = refl
+edition_other zero p q = refl
+edition_other (suc zero) p q = absurd (p refl)
+edition_other (suc (suc zero)) p q = absurd (q refl)
+edition_other (suc (suc (suc n))) p q = refl

@@ -1,0 +1,2 @@
+-- Editions by their numbers.
+pub mod Numbered
