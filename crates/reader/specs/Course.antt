@@ -1,23 +1,30 @@
 -- Where a reading stands: the state of the rules' reader there, and the words so far. Each says that what is read of
 -- the whole text is what is read from there on.
-use Rattle.std.specs.Prelude.{Bool, ◌&&◌, ◌≡◌, ℕ, suc, ◌+◌, ◌-◌, ◌*◌, ◌≤◌, ◌<◌, eqb, ℤ, pos, length, replicate}
+use Rattle.std.specs.Prelude.{Bool, ◌&&◌, ◌≡◌, ℕ, suc, ◌+◌, ◌-◌, ◌*◌, ◌≤◌, eqb, ℤ, pos, length, replicate}
+use Rattle.std.specs.Prelude.{Result}
 use mathlib.Core.List.{List, [], ◌∷◌, ◌++◌, flatten}
 use Rattle.std.proofs.Math.Option.{Option}
 use Rattle.rules.specs.Limit.{Limit}
 use Rattle.rules.specs.Sizes.{most_columns, most_rows, most_words}
 use Rattle.rules.specs.Exchange.Reader.{Pieces, ReaderState, all_zero, behind_term, coefficient, declaring, ended}
-use Rattle.rules.specs.Exchange.Reader.{going, limiting, number, on, pieces, pieces_words, read_text}
+use Rattle.rules.specs.Exchange.Reader.{going, limiting, number, on, pieces, pieces_words, read_text, refused_at, words}
 use Rattle.rules.specs.Exchange.Script.{open_term}
 use Rattle.rules.specs.Exchange.Tokens.{token_bytes}
-use Rattle.tokens.specs.declared.Followed.{Followed}
+use Rattle.tokens.specs.declared.Halted.{Halted}
+use Rattle.tokens.specs.Followed.{Followed}
 use Rattle.tokens.specs.Placed.{read_behind}
 use Rattle.reader.specs.declared.numbers.Told.{Told}
 use Rattle.reader.specs.Flow.{StandsAt}
+use Rattle.reader.specs.Numbers.{place_of, value_of}
 
 -- what is read from there on, in this state, is what is read of the text
 pub record Reads (t : List ℕ) (S : ReaderState) (so : Followed) : Type 0 where
   pub reads : read_text t ≡ read_behind t S so
   pub stands : StandsAt t so
+
+-- the text is refused where a reading was halted
+abbrev pub Refused : List ℕ → Halted → Type 0
+Refused t e = read_text t ≡ refused_at e.place
 
 -- sizes in their range
 pub record FewSizes (n m : ℕ) : Type 0 where
@@ -61,11 +68,11 @@ pub record TermsAt (t : List ℕ) (n m i j : ℕ) (ws : List ℤ) (blank : Bool)
   pub on-course : Reads t (behind_term (pieces n m rows []) row) so
 
 -- a term is read: the next coefficient of a row, which is not 0 where it is the last one and all others are
-pub record TermGoes (t : List ℕ) (so : Followed) (j : ℕ) (blank : Bool) (r : Told) : Type 0 where
+pub record TermGoes (t : List ℕ) (so : Followed) (j : ℕ) (blank : Bool) (r : Result Told Halted) : Type 0 where
   pub goes : (P : Pieces) (row : List ℤ) → length row ≡ j → blank ≡ (eqb (suc j) P.n && all_zero row) →
       read_behind t (on (token_bytes open_term) (number (coefficient P row))) so
-      ≡ read_behind t (behind_term P (row ++ (r.value ∷ []))) r.to
-  pub stands : StandsAt t r.to
+      ≡ read_behind t (behind_term P (row ++ (value_of r ∷ []))) (place_of r)
+  pub stands : StandsAt t (place_of r)
 
 -- .. and all of its coefficients
 pub record TermsDone (t : List ℕ) (n m i : ℕ) (ws : List ℤ) (so : Followed) : Type 0 where
@@ -94,10 +101,10 @@ pub record EndedAt (t : List ℕ) (n m : ℕ) (ws : List ℤ) (so : Followed) : 
   pub held : HeldWords n m count ws
   pub on-course : Reads t (on [] (ended (pieces n m held.rows held.limits))) so
 
--- .. and how many words it has
-pub record WholeAt (t : List ℕ) (ws : List ℤ) (count : ℕ) (so : Followed) : Type 0 where
-  pub P : Pieces
-  pub size : length (pieces_words P) ≡ count
+-- the whole text is read, and its words, so many, stand at the front of the array
+pub record WholeAt (t : List ℕ) (ws : List ℤ) (count : ℕ) : Type 0 where
+  pub own : List ℤ
+  pub size : length own ≡ count
   pub room : count ≤ most_words
-  pub words : ws ≡ pushed (pieces_words P)
-  pub on-course : Reads t (on [] (ended P)) so
+  pub front : ws ≡ pushed own
+  pub reads : read_text t ≡ words own

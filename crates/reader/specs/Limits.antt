@@ -1,13 +1,13 @@
 -- One limit: which variable has it, and its words.
-use Rattle.std.specs.Prelude.{Bool, true, false, cond, ◌&&◌, List, [], ◌≡◌, ℕ, suc, ◌+◌, ◌-◌, ◌*◌, leb}
-use Rattle.std.specs.Prelude.{ℤ, pos, ◌+ℤ◌, get_or, length, set}
+use Rattle.std.specs.Prelude.{Bool, true, false, cond, ◌&&◌, List, [], ◌≡◌, ℕ, ◌+◌, ◌*◌, leb}
+use Rattle.std.specs.Prelude.{ℤ, pos, ◌+ℤ◌, get_or, length, set, Result, Ok, Err}
 use Rattle.std.proofs.Math.Option.{Option, none, some}
 use Rattle.whole.specs.Below.{lowest}
 use Rattle.rules.specs.Exchange.Script.{name_of}
-use Rattle.rules.specs.Exchange.Reader.{Pieces, bounding, on, relating}
-use Rattle.tokens.specs.declared.Followed.{Followed}
-use Rattle.tokens.specs.declared.Followed.TheVariants.{Halted, Reached}
-use Rattle.tokens.specs.Placed.{read_behind}
+use Rattle.rules.specs.Exchange.Reader.{Pieces, TextOutcome, bounding, on, refused_at, relating}
+use Rattle.tokens.specs.declared.Halted.{Halted}
+use Rattle.tokens.specs.Followed.{Followed}
+use Rattle.tokens.specs.Placed.{read_behind, read_from}
 use Rattle.reader.specs.declared.limits.Related.{Related}
 use Rattle.reader.specs.Flow.{StandsAt, next_is, skip_if}
 
@@ -35,17 +35,21 @@ unfoldable pub limit_set : List ℤ → ℕ → Bool → Bool → ℤ → List �
 limit_set ws at false strict z = set (set ws at (pos (mark_of strict))) (at + 1) z
 limit_set ws at true strict z = set (set ws at (get_or ws at (pos 0) +ℤ pos (2 * mark_of strict))) (at + 2) z
 
--- what is left to do: nothing where a reading was halted
-unfoldable pub left_of : Followed → ℕ → ℕ → ℕ
-left_of (Halted p) count most = 0
-left_of (Reached p) count most = suc (most - count)
+-- a relation, and the place behind it, or halted
+unfoldable pub related : Followed → Bool → Bool → Result Related Halted
+related (Ok at) upper strict = Ok (record { upper = upper; strict = strict; at = at })
+related (Err e) upper strict = Err e
 
-unfoldable pub related_by : List ℕ → Followed → Bool → Bool → Bool → Related
-related_by t so left upper strict = record { to = skip_if t so left; upper = upper; strict = strict }
+unfoldable pub related_by : List ℕ → Followed → Bool → Bool → Bool → Result Related Halted
+related_by t so left upper strict = related (skip_if t so left) upper strict
+
+-- what is read behind it
+unfoldable pub read_related : List ℕ → Pieces → Result Related Halted → TextOutcome
+read_related t P (Ok r) = read_from t (on [] (bounding P (side_number r.upper) r.strict)) r.at
+read_related t P (Err e) = refused_at e.place
 
 -- a relation is read, where `count` limits are passed of `most`
-pub record RelationGoes (t : List ℕ) (so : Followed) (count most : ℕ) (r : Related) : Type 0 where
+pub record RelationGoes (t : List ℕ) (so : Followed) (count most : ℕ) (r : Result Related Halted) : Type 0 where
   pub goes : (P : Pieces) → length P.limits ≡ count → 2 * (P.n + P.m) ≡ most →
-      read_behind t (on [] (relating P)) so
-      ≡ read_behind t (on [] (bounding P (side_number r.upper) r.strict)) r.to
-  pub stands : StandsAt t r.to
+      read_behind t (on [] (relating P)) so ≡ read_related t P r
+  pub stands : (s : Related) → r ≡ Ok s → StandsAt t (Ok s.at)

@@ -1,12 +1,10 @@
 -- A number by its next token: a numeral, or the size of a number below 0.
 use Rattle.std.specs.Prelude.{Bool, true, false, not, ◌&&◌, ◌||◌, List, [], ◌≡◌, ℕ, zero, suc}
-use Rattle.std.specs.Prelude.{eqb, ltb, ℤ, negsuc, pos, length}
+use Rattle.std.specs.Prelude.{eqb, ltb, ℤ, negsuc, pos, length, Result, Ok, Err, Option, Some, None}
 use Rattle.whole.specs.Numbers.{eq_z, within}
 use Rattle.rules.specs.Exchange.Reader.{Spot, fits, number, on, taken}
-use Rattle.tokens.specs.declared.Followed.{Followed}
-use Rattle.tokens.specs.declared.Followed.TheVariants.{Halted, Reached}
-use Rattle.tokens.specs.declared.NumberRead.{NumberRead}
-use Rattle.tokens.specs.declared.NumberRead.TheVariants.{Nothing, Number}
+use Rattle.tokens.specs.declared.Halted.{Halted}
+use Rattle.tokens.specs.Followed.{Followed, halted}
 use Rattle.tokens.specs.Placed.{read_behind}
 use Rattle.tokens.specs.Numeral.{short_numeral}
 use Rattle.tokens.specs.Gaps.{bytes_at, start_at, stop_at}
@@ -27,27 +25,33 @@ value_by false k = pos k
 value_by true zero = pos 0
 value_by true (suc k) = negsuc k
 
-unfoldable pub halted_at : ℕ → Told
-halted_at p = record { to = Halted p; value = pos 0 }
+-- the place behind a number, or halted; and the number, 0 where there is none
+abbrev pub place_of : Result Told Halted → Followed
+place_of (Ok r) = Ok r.at
+place_of (Err e) = Err e
 
-unfoldable pub numeral_fit : List ℕ → ℕ → Bool → ℕ → Bool → Told
-numeral_fit t at below k false = halted_at at
-numeral_fit t at below k true = record { to = Reached (start_at t (stop_at t at)); value = value_by below k }
+abbrev pub value_of : Result Told Halted → ℤ
+value_of (Ok r) = r.value
+value_of (Err e) = pos 0
 
-unfoldable pub numeral_by : List ℕ → ℕ → Bool → Asked → NumberRead → Told
-numeral_by t at below a Nothing = halted_at at
-numeral_by t at below a (Number k) = numeral_fit t at below k (admissible k below a)
+unfoldable pub numeral_fit : List ℕ → ℕ → Bool → ℕ → Bool → Result Told Halted
+numeral_fit t at below k false = halted at
+numeral_fit t at below k true = Ok (record { value = value_by below k; at = start_at t (stop_at t at) })
 
-unfoldable pub numeral_at : List ℕ → ℕ → Bool → Asked → Told
+unfoldable pub numeral_by : List ℕ → ℕ → Bool → Asked → Option ℕ → Result Told Halted
+numeral_by t at below a None = halted at
+numeral_by t at below a (Some k) = numeral_fit t at below k (admissible k below a)
+
+unfoldable pub numeral_at : List ℕ → ℕ → Bool → Asked → Result Told Halted
 numeral_at t at below a =
-    elim (ltb at (length t)) [ true ↦ numeral_by t at below a (short_numeral (bytes_at t at)) | false ↦ halted_at at ]
+    elim (ltb at (length t)) [ true ↦ numeral_by t at below a (short_numeral (bytes_at t at)) | false ↦ halted at ]
 
-unfoldable pub numeral_on : List ℕ → Followed → Bool → Asked → Told
-numeral_on t (Reached at) below a = numeral_at t at below a
-numeral_on t (Halted p) below a = halted_at p
+unfoldable pub numeral_on : List ℕ → Followed → Bool → Asked → Result Told Halted
+numeral_on t (Ok at) below a = numeral_at t at below a
+numeral_on t (Err e) below a = Err e
 
 -- a number is read, in any spot that asks so
-pub record NumberGoes (t : List ℕ) (so : Followed) (a : Asked) (r : Told) : Type 0 where
+pub record NumberGoes (t : List ℕ) (so : Followed) (a : Asked) (r : Result Told Halted) : Type 0 where
   pub goes : (c : Spot) → Asks c a →
-      read_behind t (on [] (number c)) so ≡ read_behind t (taken c r.value) r.to
-  pub stands : StandsAt t r.to
+      read_behind t (on [] (number c)) so ≡ read_behind t (taken c (value_of r)) (place_of r)
+  pub stands : StandsAt t (place_of r)

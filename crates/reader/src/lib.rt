@@ -1,5 +1,6 @@
 // SMT-LIB text read back: exactly the texts that have the tokens of a written one, into a lent slice of words. A
-// reading goes on from a place of the text, or was halted at one; no part looks further than the next token.
+// reading goes on from a place of the text; where another token stands than one that may, it is halted, and nothing more
+// is read. No part looks further than the next token.
 #![tactic(auto)]
 
 mod flow;
@@ -9,101 +10,67 @@ mod rows;
 mod sizes;
 mod texts;
 
-ghost use Rattle.std.specs.Prelude.{[], ◌++◌, ◌≡◌, ◌≤◌, pos, drop, length, take, replicate};
+ghost use Rattle.std.specs.Prelude.{◌≡◌, pos, length, replicate, MatchResult};
 ghost use Rattle.rules.specs.Sizes.{most_words};
 ghost use Rattle.rules.specs.Exchange.Reader.{read_text};
-ghost use Rattle.reader.specs.Course.{WholeAt};
+ghost use Rattle.reader.specs.Course.{Refused, WholeAt};
 ghost use Rattle.reader.specs.Taken.{taken_by, taken_output};
 
 use limits::all_limits;
+use refusals::Refusal;
 use rows::{Counts, all_rows};
 use sizes::sizes;
-use tokens::Followed;
+use tokens::Halted;
 
 // What became of a text: 0, and its words, so many, stand at the front of the slice; or the number of the refusal, and
 // with it the place of the first token that cannot stand there, or 0. The slice is as it was then.
 #[repr(C)]
-#[derive(Drop)]
+#[derive(Clone, Copy, Debug, PartialEq, Eq)]
 pub struct Taken {
     pub refused: u32,
     pub count: usize,
 }
 
-// The refusals: of the text, and of a slice that is too short.
-const NOT_OURS: u32 = 60;
-
-const TOO_SHORT: u32 = 7;
-
-// Where a reading came to, and how many words it made.
-#[derive(Drop)]
-struct Whole {
-    pub to: Followed,
-    pub count: usize,
-}
-
-// The whole text, into an array of zeros.
-fn read_words(text: &[u8], words: &mut [i32]) -> Whole
+// The whole text, into an array of zeros: how many words it has.
+fn read_words(text: &[u8], words: &mut [i32]) -> Result<usize, Halted>
     requires { words.old ≡ replicate most_words (pos 0) }
-    ensures { WholeAt text.now words.new result.count result.to }
+    ensures { MatchResult result (WholeAt text.now words.new) (Refused text.now) }
 {
-    let found = sizes(text);
+    let shape = sizes(text)?;
     let counts = Counts {
-        columns: found.columns,
-        rows: found.rows,
+        columns: shape.columns,
+        rows: shape.rows,
     };
-    let first = found.to;
-    words[0] = found.columns as i32;
-    words[1] = found.rows as i32;
-    let summed = all_rows(text, first, counts, words);
-    let to = all_limits(text, summed, counts, words);
-    Whole {
-        to,
-        count: 2 + found.rows * found.columns + 3 * (found.columns + found.rows),
+    words[0] = counts.columns as i32;
+    words[1] = counts.rows as i32;
+    let summed = all_rows(text, shape.at, counts, words)?;
+    let end = all_limits(text, summed, counts, words)?;
+    if end < text.len() {
+        return Err(Halted { place: end });
     }
+    Ok(2 + counts.rows * counts.columns + 3 * (counts.columns + counts.rows))
 }
 
-// The first `count` words.
-fn copy(words: &[i32], count: usize, out: &mut [i32])
-    requires { (count ≤ length words.now) × (count ≤ length out.old) }
-    ensures { out.new ≡ take count words.now ++ drop count out.old }
-{
-    for i in 0..count {
-        let word = words[i];
-        out[i] = word;
-    }
-}
-
-// The words of a text.
+/// The words of a text.
 pub fn read(text: &[u8], out: &mut [i32]) -> Taken
     ensures answer { result ≡ taken_by (read_text text.now) (length out.old) }
     ensures content { out.new ≡ taken_output (read_text text.now) out.old }
 {
     let mut words = [0i32; rules::MOST_WORDS];
-    let whole = read_words(text, &mut words);
-    let to = whole.to;
-    match to {
-        Followed::Halted(place) => Taken {
-            refused: NOT_OURS,
-            count: place,
+    match read_words(text, &mut words) {
+        Err(halted) => Taken {
+            refused: Refusal::Token.number(),
+            count: halted.place,
         },
-        Followed::Reached(at) => {
-            if at < text.len() {
+        Ok(count) => {
+            if out.len() < count {
                 return Taken {
-                    refused: NOT_OURS,
-                    count: at,
-                };
-            }
-            if out.len() < whole.count {
-                return Taken {
-                    refused: TOO_SHORT,
+                    refused: Refusal::ShortRoom.number(),
                     count: 0,
                 };
             }
-            copy(&words, whole.count, out);
-            Taken {
-                refused: 0,
-                count: whole.count,
-            }
+            out[..count].copy_from_slice(&words[..count]);
+            Taken { refused: 0, count }
         }
     }
 }

@@ -1,23 +1,23 @@
 // Numbers: of 0 or more a numeral, below 0 its size behind a minus, in parentheses.
-ghost use Rattle.std.specs.Prelude.{◌≡◌, ◌≤◌};
+ghost use Rattle.std.specs.Prelude.{◌≡◌, ◌≤◌, Ok};
 ghost use Rattle.rules.specs.Sizes.{largest_limit};
 ghost use Rattle.reader.specs.Flow.{StandsAt};
-ghost use Rattle.reader.specs.Numbers.{NumberGoes, admissible, halted_at, numeral_at, numeral_on, value_by};
+ghost use Rattle.reader.specs.Numbers.{NumberGoes, admissible, numeral_on, value_by};
 
-use crate::flow::{is_next, pass};
+use crate::flow::is_next;
 use crate::texts::{CLOSE, OPEN};
 use exchange::texts::OPEN_MINUS;
-use tokens::{Followed, NumberRead};
+use tokens::Halted;
 
-// Where a reading came to behind a number, and the number; 0 where it was halted.
-#[derive(Drop)]
+// A number, and the place behind it.
+#[derive(Clone, Copy, Debug, PartialEq, Eq)]
 pub struct Told {
-    pub to: Followed,
     pub value: i32,
+    pub at: usize,
 }
 
 // Which numbers may stand there: up to a size, and 0 too or not.
-#[derive(Drop)]
+#[derive(Clone, Copy, Debug, PartialEq, Eq)]
 pub struct Asked {
     pub largest: u64,
     pub blank: bool,
@@ -44,63 +44,39 @@ fn signed(value: u64, below: bool) -> i32
     value as i32
 }
 
-fn halted(place: usize) -> Told
-    ensures { result ≡ halted_at place }
-{
-    Told {
-        to: Followed::Halted(place),
-        value: 0,
-    }
-}
-
 // The numeral at `at`.
-fn numeral_at(text: &[u8], at: usize, below: bool, asked: Asked) -> Told
+#[tactic(auto, using(tokens::proofs::Laws::Places::token_ends))]
+fn numeral(text: &[u8], at: usize, below: bool, asked: Asked) -> Result<Told, Halted>
     requires { asked.largest ≤ largest_limit }
-    ensures { result ≡ numeral_at text.now at below asked }
+    ensures { result ≡ numeral_on text.now (Ok at) below asked }
 {
     if text.len() <= at {
-        return halted(at);
+        return Err(Halted { place: at });
     }
     let end = tokens::stop(text, at);
-    let found = tokens::numeral(text, at, end);
-    match found {
-        NumberRead::Nothing => halted(at),
-        NumberRead::Number(value) => {
-            if !is_admissible(value, below, asked) {
-                return halted(at);
-            }
-            Told {
-                to: Followed::Reached(tokens::start(text, end)),
-                value: signed(value, below),
-            }
-        }
+    let value = tokens::numeral(&text[at..end]).ok_or(Halted { place: at })?;
+    if !is_admissible(value, below, asked) {
+        return Err(Halted { place: at });
     }
+    Ok(Told {
+        value: signed(value, below),
+        at: tokens::start(text, end),
+    })
 }
 
-// The next numeral.
-fn numeral_on(text: &[u8], so: Followed, below: bool, asked: Asked) -> Told
-    requires { asked.largest ≤ largest_limit }
-    ensures { result ≡ numeral_on text.now so below asked }
+// The number at `at`.
+pub fn number(text: &[u8], at: usize, asked: Asked) -> Result<Told, Halted>
+    requires { StandsAt text.now (Ok at) × (asked.largest ≤ largest_limit) }
+    ensures { NumberGoes text.now (Ok at) asked result }
 {
-    match so {
-        Followed::Reached(at) => numeral_at(text, at, below, asked),
-        Followed::Halted(place) => halted(place),
+    if !is_next(text, at, &OPEN) {
+        return numeral(text, at, false, asked);
     }
-}
-
-// The next number.
-pub fn number_on(text: &[u8], so: Followed, asked: Asked) -> Told
-    requires { StandsAt text.now so × (asked.largest ≤ largest_limit) }
-    ensures { NumberGoes text.now so asked result }
-{
-    if !is_next(text, so, &OPEN) {
-        return numeral_on(text, so, false, asked);
-    }
-    let opened = pass(text, so, &OPEN_MINUS);
-    let told = numeral_on(text, opened, true, asked);
-    let to = told.to;
-    Told {
-        to: pass(text, to, &CLOSE),
+    let opened = tokens::follow(text, at, &OPEN_MINUS)?;
+    let told = numeral(text, opened, true, asked)?;
+    let closed = tokens::follow(text, told.at, &CLOSE)?;
+    Ok(Told {
         value: told.value,
-    }
+        at: closed,
+    })
 }

@@ -1,103 +1,98 @@
 // Declarations: how many columns and rows there are.
-ghost use Rattle.std.specs.Prelude.{◌&&◌, true, ◌∷◌, ◌≡◌, ◌+◌, suc, eqb, ltb};
+ghost use Rattle.std.specs.Prelude.{◌&&◌, true, ◌∷◌, ◌≡◌, ◌+◌, suc, eqb, ltb, Ok, IfOk, MatchResult};
 ghost use Rattle.rules.specs.Sizes.{most_columns, most_rows};
 ghost use Rattle.rules.specs.Program.Text.{digits};
 ghost use Rattle.rules.specs.Exchange.Script.{column_name, of_real};
 ghost use Rattle.rules.specs.Exchange.Tokens.{token_bytes};
-ghost use Rattle.reader.specs.Course.{DeclaredAt, SizedAt};
+ghost use Rattle.reader.specs.Course.{DeclaredAt, Refused, SizedAt};
 ghost use Rattle.reader.specs.Flow.{StandsAt, declare_token, followed_on, next_is, skip_if};
 
-use crate::flow::{is_next, is_next_name, pass, pass_name};
+use crate::flow::{is_next, is_next_name, pass_name};
 use crate::texts::DECLARE;
 use exchange::texts::{DECLARE_CONST, OF_REAL, SET_LOGIC};
-use tokens::Followed;
+use tokens::Halted;
 
-// Where a reading came to, and how many columns and rows were declared.
-#[derive(Drop)]
+// How many columns and rows were declared, and the place behind that.
+#[derive(Clone, Copy, Debug, PartialEq, Eq)]
 pub struct Shape {
-    pub to: Followed,
     pub columns: usize,
     pub rows: usize,
+    pub at: usize,
 }
 
 // Whether another declaration stands there.
-fn is_declaration(text: &[u8], so: Followed, rows: usize) -> bool
-    ensures { result ≡ (next_is text.now so declare_token && ltb rows most_rows) }
+fn is_declaration(text: &[u8], shape: Shape) -> bool
+    ensures { result ≡ (next_is text.now (Ok shape.at) declare_token && ltb shape.rows most_rows) }
 {
-    is_next(text, so, &DECLARE) & (rows < rules::MOST_ROWS)
+    is_next(text, shape.at, &DECLARE) & (shape.rows < rules::MOST_ROWS)
 }
 
-// Whether a column is declared.
-fn is_column(text: &[u8], so: Followed, columns: usize, rows: usize) -> bool
+// Whether a column is declared, and not a row.
+fn is_column(text: &[u8], at: usize, columns: usize, rows: usize) -> bool
     ensures { result ≡ (eqb rows 0 && ltb columns most_columns
-        && next_is text.now so (column_name columns)) }
+        && next_is text.now (Ok at) (column_name columns)) }
 {
-    (rows == 0) & (columns < rules::MOST_COLUMNS) & is_next_name(text, so, b'x', columns)
+    (rows == 0) & (columns < rules::MOST_COLUMNS) & is_next_name(text, at, b'x', columns)
 }
 
 // A name and its sort, up to the next parenthesis that opens.
-fn named_real(text: &[u8], so: Followed, letter: u8, number: usize) -> Followed
-    requires { StandsAt text.now so }
+fn named_real(text: &[u8], at: usize, letter: u8, number: usize) -> Result<usize, Halted>
+    requires { StandsAt text.now (Ok at) }
     ensures { result ≡ followed_on text.now
-        (skip_if text.now so (next_is text.now so (letter ∷ digits number)))
+        (skip_if text.now (Ok at) (next_is text.now (Ok at) (letter ∷ digits number)))
         (token_bytes of_real) }
 {
-    let named = pass_name(text, so, letter, number);
-    pass(text, named, &OF_REAL)
+    let named = pass_name(text, at, letter, number)?;
+    tokens::follow(text, named, &OF_REAL)
 }
 
 // One declaration.
-fn declaration(text: &[u8], so: Followed, columns: usize, rows: usize) -> Shape
-    requires { DeclaredAt text.now columns rows so
-        × ((next_is text.now so declare_token && ltb rows most_rows) ≡ true) }
-    ensures declared { DeclaredAt text.now result.columns result.rows result.to }
-    ensures more { result.columns + result.rows ≡ suc (columns + rows) }
+fn declaration(text: &[u8], shape: Shape) -> Result<Shape, Halted>
+    requires { DeclaredAt text.now shape.columns shape.rows (Ok shape.at)
+        × ((next_is text.now (Ok shape.at) declare_token && ltb shape.rows most_rows) ≡ true) }
+    ensures declared { MatchResult result (λ s. DeclaredAt text.now s.columns s.rows (Ok s.at))
+        (Refused text.now) }
+    ensures more { IfOk result (λ s. s.columns + s.rows ≡ suc (shape.columns + shape.rows)) }
 {
-    let opened = pass(text, so, &DECLARE_CONST);
-    if is_column(text, opened, columns, rows) {
-        return Shape {
-            to: named_real(text, opened, b'x', columns),
-            columns: columns + 1,
-            rows,
-        };
+    let opened = tokens::follow(text, shape.at, &DECLARE_CONST)?;
+    if is_column(text, opened, shape.columns, shape.rows) {
+        let at = named_real(text, opened, b'x', shape.columns)?;
+        return Ok(Shape {
+            columns: shape.columns + 1,
+            rows: shape.rows,
+            at,
+        });
     }
-    Shape {
-        to: named_real(text, opened, b'r', rows),
-        columns,
-        rows: rows + 1,
-    }
+    let at = named_real(text, opened, b'r', shape.rows)?;
+    Ok(Shape {
+        columns: shape.columns,
+        rows: shape.rows + 1,
+        at,
+    })
 }
 
 // All declarations, behind that of the first column.
-fn declarations(text: &[u8], so: Followed) -> Shape
-    requires { DeclaredAt text.now 1 0 so }
-    ensures { SizedAt text.now result.columns result.rows result.to }
+fn declarations(text: &[u8], at: usize) -> Result<Shape, Halted>
+    requires { DeclaredAt text.now 1 0 (Ok at) }
+    ensures { MatchResult result (λ s. SizedAt text.now s.columns s.rows (Ok s.at)) (Refused text.now) }
 {
-    let mut next = so;
-    let mut columns = 1;
-    let mut rows = 0;
-    loop {
-        if !is_declaration(text, next, rows) {
-            return Shape {
-                to: next,
-                columns,
-                rows,
-            };
-        }
-        let one = declaration(text, next, columns, rows);
-        next = one.to;
-        columns = one.columns;
-        rows = one.rows;
+    let mut shape = Shape {
+        columns: 1,
+        rows: 0,
+        at,
+    };
+    while is_declaration(text, shape) {
+        shape = declaration(text, shape)?;
     }
+    Ok(shape)
 }
 
 // The text up to its first row or limit, or its end.
-pub fn sizes(text: &[u8]) -> Shape
-    ensures { SizedAt text.now result.columns result.rows result.to }
+pub fn sizes(text: &[u8]) -> Result<Shape, Halted>
+    ensures { MatchResult result (λ s. SizedAt text.now s.columns s.rows (Ok s.at)) (Refused text.now) }
 {
-    let first = Followed::Reached(tokens::start(text, 0));
-    let logic = pass(text, first, &SET_LOGIC);
-    let opened = pass(text, logic, &DECLARE_CONST);
-    let so = named_real(text, opened, b'x', 0);
-    declarations(text, so)
+    let logic = tokens::follow(text, tokens::start(text, 0), &SET_LOGIC)?;
+    let opened = tokens::follow(text, logic, &DECLARE_CONST)?;
+    let at = named_real(text, opened, b'x', 0)?;
+    declarations(text, at)
 }

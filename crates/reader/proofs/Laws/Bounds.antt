@@ -1,8 +1,7 @@
 -- Limits: from one to the next, and the end.
 --   variable-found, variable-none, variable-least      the variable that is named
 --   words-fit, limits-start                            no limit is read yet
---   limit-related, limit-named, limit-stopped, bound-goes   one limit
---   left-due, left-stopped, left-falls                 what is left to do
+--   limit-related, limit-named, bound-goes   one limit
 --   limits-ended                                       the end
 use mathlib.Core.Bool.{Bool, true, false, ◌&&◌}
 use mathlib.Core.List.{List, [], ◌∷◌, ◌++◌, append_assoc, append-nil, flatten}
@@ -12,35 +11,34 @@ use Prim.Native.Nat.{ℕ, zero, suc, ◌+◌, ◌-◌, ◌*◌, ◌/◌, ◌%◌
 use native.Mathlib.Decide.{dec_lt}
 use native.Mathlib.Nat.{mul-le-mul}
 use native.Mathlib.Omega.{arith}
-use borrow.Author.Tests.{le-leb, le-ltb, leb-true, lt-leb}
+use borrow.Author.Tests.{le-leb, leb-true, lt-leb}
 use lib.Dec.{leb, ltb}
 use lib.IntN.{ℤ, pos}
 use lib.ListN.{length, length-append, length-replicate, replicate, replicate-append-replicate}
 use Rattle.whole.specs.Below.{lowest}
 use Rattle.whole.specs.Tables.{table_from}
-use Rattle.whole.proofs.Bools.{true-false}
 use Rattle.whole.proofs.Lists.Below.{lowest-passes, none_passes}
 use Rattle.rules.specs.Limit.{Limit}
 use Rattle.rules.specs.Sizes.{largest_limit, most_words}
 use Rattle.rules.specs.Exchange.Tokens.{token_bytes}
 use Rattle.rules.specs.Exchange.Script.{assert_limit, check_sat, end_assert, name_of}
-use Rattle.rules.specs.Exchange.Reader.{Pieces, ReaderState, bounding, ended, limit, limit_word, limit_words, limiting}
+use Rattle.rules.specs.Exchange.Reader.{Pieces, bounding, ended, limit, limit_word, limit_words, limiting}
 use Rattle.rules.specs.Exchange.Reader.{marks, number, on, pieces, pieces_words, plain_number, relating, slot_at, taken}
 use Rattle.rules.specs.Exchange.Reader.{with_limit}
 use Rattle.rules.proofs.Exchange.Reader.Limits.{with-length}
 use Rattle.rules.proofs.Exchange.Reader.Rows.{going-limits}
-use Rattle.tokens.specs.declared.Followed.{Followed}
-use Rattle.tokens.specs.declared.Followed.TheVariants.{Halted, Reached}
+use Rattle.tokens.specs.Followed.{Followed}
+use Rattle.std.specs.Prelude.{Ok}
 use Rattle.tokens.specs.Placed.{read_behind}
 use Rattle.reader.specs.declared.limits.Related.{Related}
 use Rattle.reader.specs.declared.numbers.Told.{Told}
 use Rattle.reader.specs.Course.{EndedAt, FewSizes, LimitsAt, Reads, RowsAt, pushed}
-use Rattle.reader.specs.Flow.{assert_token, followed_on, next_is, next_token, skip_if, token_is}
-use Rattle.reader.specs.Limits.{RelationGoes, left_of, limit_set, name_test, or_most, side_number, variable_from}
+use Rattle.reader.specs.Flow.{assert_token, followed_on, next_is, skip_if}
+use Rattle.reader.specs.Limits.{RelationGoes, read_related, limit_set, name_test, or_most, side_number, variable_from}
 use Rattle.reader.specs.Numbers.{NumberGoes}
 use Rattle.reader.proofs.Laws.Course.{on-as, on-passed, on_same}
 use Rattle.reader.proofs.Laws.Decisions.{bound-found, limit-due, limit-over}
-use Rattle.reader.proofs.Laws.Flow.{skip-not, stands-skip}
+use Rattle.reader.proofs.Laws.Flow.{stands-skip}
 use Rattle.reader.proofs.Laws.Numbers.{limit-asks}
 use Rattle.reader.proofs.Laws.Puts.{pieces-set}
 
@@ -129,14 +127,6 @@ module _ {t : List ℕ} {n m : ℕ} {ws : List ℤ} {so : Followed} where
 
 -- ---- one limit
 
--- a reading that was stopped is read the same in any state
-stopped : (t : List ℕ) (S T : ReaderState) (so : Followed) →
-    read_behind t S (skip_if t so false) ≡ read_behind t T (skip_if t so false)
-unfolding skip_if read_behind
-stopped t S T (Halted p) = refl
-stopped t S T (Reached at) =
-    ap (read_behind t S) (skip-not t at) ∙ sym (ap (read_behind t T) (skip-not t at))
-
 module _ {t : List ℕ} {n m count : ℕ} {ws : List ℤ} {so : Followed} (r : LimitsAt t n m count ws so) where
   abbrev P : Pieces
   P = pieces n m r.held.rows r.held.limits
@@ -151,11 +141,12 @@ module _ {t : List ℕ} {n m count : ℕ} {ws : List ℤ} {so : Followed} (r : L
       (subst (λ k. (next_is t so assert_token && ltb k (2 * (n + m))) ≡ true) (sym r.held.numbered) e))))
 
   pub limit-related : {opened : Followed} → Reads t (on [] (relating P)) opened → (told : Related) →
-      RelationGoes t opened count (2 * (n + m)) told →
-      Reads t (on [] (bounding P (side_number told.upper) told.strict)) told.to
+      RelationGoes t opened count (2 * (n + m)) (Ok told) →
+      Reads t (on [] (bounding P (side_number told.upper) told.strict)) (Ok told.at)
+  unfolding read_related read_behind
   limit-related o told g = record {
     reads = o.reads ∙ g.goes P r.held.numbered refl;
-    stands = g.stands;
+    stands = g.stands told refl;
   }
 
   module _ (upper strict : Bool) {related : Followed}
@@ -192,33 +183,15 @@ module _ {t : List ℕ} {n m count : ℕ} {ws : List ℤ} {so : Followed} (r : L
       stands = stands-skip t related (ltb v (n + m)) b.stands;
     }
 
-    pub limit-stopped : n + m ≤ v → LimitsAt t n m count ws (skip_if t related (ltb v (n + m)))
-    limit-stopped h = record {
-      held = r.held;
-      on-course = record {
-        reads = limit-named.reads ∙ subst goal (sym (le-ltb v (n + m) h)) (stopped t S T related);
-        stands = limit-named.stands;
-      };
-    }
-      where
-        S : ReaderState
-        S = on [] (number (limit P (2 * v + side_number upper) strict))
-
-        T : ReaderState
-        T = on [] (limiting P)
-
-        goal : Bool → Type 0
-        goal may = read_behind t S (skip_if t related may) ≡ read_behind t T (skip_if t related may)
-
     pub limit-behind : v < n + m → count ≤ 2 * v + side_number upper
     limit-behind h =
         omega (arith, variable-least t related n ((count + 1 - side_number upper) / 2) (n + m) h, side-small upper)
 
     pub bound-goes : v < n + m → {to : Followed} →
         Reads t (on [] (number (limit P (2 * v + side_number upper) strict))) to →
-        (told : Told) → NumberGoes t to (record { largest = largest_limit; blank = false }) told →
+        (told : Told) → NumberGoes t to (record { largest = largest_limit; blank = false }) (Ok told) →
         LimitsAt t n m (2 * v + side_number upper + 1)
-        (limit_set ws (2 + m * n + 3 * v) upper strict told.value) (followed_on t told.to (token_bytes end_assert))
+        (limit_set ws (2 + m * n + 3 * v) upper strict told.value) (followed_on t (Ok told.at) (token_bytes end_assert))
     unfolding taken with_limit
     bound-goes h o told g = record {
       held = record {
@@ -245,7 +218,7 @@ module _ {t : List ℕ} {n m count : ℕ} {ws : List ℤ} {so : Followed} (r : L
         behind : length P.limits ≤ 2 * v + side_number upper
         behind = omega (arith, limit-behind h, r.held.numbered)
 
-        reading : Reads t (on (token_bytes end_assert) (limiting (with_limit P (2 * v + side_number upper) l))) told.to
+        reading : Reads t (on (token_bytes end_assert) (limiting (with_limit P (2 * v + side_number upper) l))) (Ok told.at)
         reading = record {
           reads = o.reads ∙ g.goes (limit P (2 * v + side_number upper) strict)
               (limit-asks P (2 * v + side_number upper) strict);
@@ -264,22 +237,3 @@ module _ {t : List ℕ} {n m count : ℕ} {ws : List ℤ} {so : Followed} (r : L
         (limit-over t so r.on-course.stands P
         (subst (λ k. (next_is t so assert_token && ltb k (2 * (n + m))) ≡ false) (sym r.held.numbered) e))));
   }
-
--- ---- what is left to do
-
-pub left-due : (t : List ℕ) (so : Followed) (w : List ℕ) (b : Bool) (count most : ℕ) → (next_is t so w && b) ≡ true →
-    left_of so count most ≡ suc (most - count)
-unfolding left_of next_is next_token token_is
-left-due t (Reached at) w b count most e = refl
-left-due t (Halted p) w b count most e = true-false e refl
-
-pub left-stopped : (t : List ℕ) (so : Followed) (count most : ℕ) → left_of (skip_if t so false) count most ≡ 0
-unfolding left_of skip_if
-left-stopped t (Halted p) count most = refl
-left-stopped t (Reached at) count most = ap (λ f. left_of f count most) (skip-not t at)
-
-pub left-falls : (so : Followed) (count next most : ℕ) → count < next → next ≤ most →
-    left_of so next most < suc (most - count)
-unfolding left_of
-left-falls (Halted p) count next most h k = omega arith
-left-falls (Reached at) count next most h k = omega arith

@@ -1,7 +1,8 @@
 -- From one place of a reading to the next.
 --   on-passed, on-name, on_same, on-as        a reading goes on: behind tokens, a name, in an equal state
+--   refused-at, reached                        or it is halted
 --   declared-start, declared-column, declared-row, declared-all   the declarations
---   course-rows, row_opened, terms-more, row-closed               the rows
+--   course-rows, row_opened, terms-more, terms-refused, row-closed   the rows
 use mathlib.Core.Bool.{Bool, true, false, cond, ◌&&◌}
 use mathlib.Core.List.{List, [], ◌∷◌, ◌++◌, append_assoc, append-nil, flatten}
 use mathlib.Core.Path.{◌≡◌, refl, sym, ◌∙◌, ap, subst}
@@ -22,14 +23,15 @@ use Rattle.rules.specs.Exchange.Reader.{coefficient}
 use Rattle.rules.specs.Exchange.Reader.{declaring, going, naming, number, on, opens, outset, pieces}
 use Rattle.rules.specs.Exchange.Reader.{row_head, with_row}
 use Rattle.rules.proofs.Exchange.Reader.Rows.{zero-then}
-use Rattle.tokens.specs.declared.Followed.{Followed}
-use Rattle.tokens.specs.declared.Followed.TheVariants.{Reached}
+use Rattle.tokens.specs.Followed.{Followed}
+use Rattle.std.specs.Prelude.{Ok, Err, MatchResult}
+use Rattle.tokens.specs.declared.Halted.{Halted}
 use Rattle.tokens.specs.Gaps.{start_at}
 use Rattle.tokens.specs.Placed.{read_behind}
 use Rattle.tokens.proofs.Laws.Placed.{read-placed}
 use Rattle.tokens.proofs.Laws.Places.{start-again, start-most}
 use Rattle.reader.specs.declared.numbers.Told.{Told}
-use Rattle.reader.specs.Course.{DeclaredAt, FewSizes, Reads, RowsAt, SizedAt, TermGoes, TermsAt, pushed}
+use Rattle.reader.specs.Course.{DeclaredAt, FewSizes, Reads, Refused, RowsAt, SizedAt, TermGoes, TermsAt, pushed}
 use Rattle.reader.specs.Flow.{declare_token, followed_on, next_is, skip_if, sum_on}
 use Rattle.reader.proofs.Laws.Decisions.{column-due, declare-due, declare-over, row-due}
 use Rattle.reader.proofs.Laws.Flow.{name-passed, passed, stands-followed, stands-reached, stands-skip}
@@ -52,6 +54,17 @@ module _ {t : List ℕ} where
     stands = stands-skip t so (next_is t so w) r.stands;
   }
 
+  -- where it is halted the text is refused
+  pub refused-at : {S : ReaderState} {so : Followed} {e : Halted} → Reads t S so → so ≡ Err e → Refused t e
+  unfolding read_behind
+  refused-at {S = S} r q = r.reads ∙ ap (read_behind t S) q
+
+  -- what holds where a reading goes on, of one that may be halted
+  pub reached : (P : Followed → Type 0) {S : ReaderState} (so : Followed) → P so → Reads t S so →
+      MatchResult so (λ at. P (Ok at)) (Refused t)
+  reached P (Ok at) p r = p
+  reached P (Err e) p r = refused-at r refl
+
   -- in a state that reads the same there
   pub on_same : {S T : ReaderState} {so : Followed} → Reads t S so → read_behind t S so ≡ read_behind t T so →
       Reads t T so
@@ -73,7 +86,7 @@ module _ {t : List ℕ} where
 
   -- ---- declarations
 
-  pub course-start : Reads t outset (Reached (start_at t 0))
+  pub course-start : Reads t outset (Ok (start_at t 0))
   unfolding read_behind
   course-start = record {
     reads = read-placed t;
@@ -209,8 +222,21 @@ module _ {t : List ℕ} {n m : ℕ} where
     place-fits : 2 + i * n + j < most_words
     place-fits = let z = cell-place i m j n l h r.few.n-most r.few.m-most in omega arith
 
-    pub terms-more : (told : Told) → TermGoes t so j (eqb (suc j) n && blank) told →
-        TermsAt t n m i (suc j) (set ws (2 + i * n + j) told.value) (blank && eq_z told.value (pos 0)) told.to
+    due : behind_term Q r.row ≡ on (token_bytes open_term) (number (coefficient Q r.row))
+    unfolding behind_term
+    due = term-due r.row (omega (arith, r.size))
+      where
+        term-due : (row : List ℤ) → length row < n →
+            behind_term Q row ≡ on (token_bytes open_term) (number (coefficient Q row))
+        term-due row k = ap (λ b. cond b (on (token_bytes open_term) (number (coefficient Q row)))
+            (ahead (closes n ++ token_bytes end_assert) (going (with_row Q row)))) (lt-ltb (length row) n k)
+
+    pub terms-refused : {x : Halted} → TermGoes t so j (eqb (suc j) n && blank) (Err x) → Refused t x
+    unfolding read_behind
+    terms-refused g = (on-as due r.on-course).reads ∙ g.goes Q r.row r.size (ap (λ b. eqb (suc j) n && b) r.blanks)
+
+    pub terms-more : (told : Told) → TermGoes t so j (eqb (suc j) n && blank) (Ok told) →
+        TermsAt t n m i (suc j) (set ws (2 + i * n + j) told.value) (blank && eq_z told.value (pos 0)) (Ok told.at)
     unfolding all_zero behind_term
     terms-more told g = record {
       few = r.few;
@@ -236,14 +262,6 @@ module _ {t : List ℕ} {n m : ℕ} where
         last : (b : Bool) → b ≡ (b && true)
         last true = refl
         last false = refl
-
-        due : behind_term Q r.row ≡ on (token_bytes open_term) (number (coefficient Q r.row))
-        due = term-due r.row (omega (arith, r.size))
-          where
-            term-due : (row : List ℤ) → length row < n →
-                behind_term Q row ≡ on (token_bytes open_term) (number (coefficient Q row))
-            term-due row k = ap (λ b. cond b (on (token_bytes open_term) (number (coefficient Q row)))
-                (ahead (closes n ++ token_bytes end_assert) (going (with_row Q row)))) (lt-ltb (length row) n k)
 
   -- the end of a row
   module _ {i : ℕ} {ws : List ℤ} {blank : Bool} {so : Followed} (r : TermsAt t n m i n ws blank so) where

@@ -29,7 +29,7 @@ use Rattle.rules.specs.Exchange.Reader.{coefficient, number, on, pieces, relatin
 use Rattle.rules.specs.Exchange.Reader.{row_head}
 use Rattle.rules.specs.Exchange.Reader.{same_bytes, size, stuck, token_step, limit}
 use Rattle.rules.proofs.Exchange.Reader.Openings.{assert_word, declare_word, open_word, openings}
-use Rattle.tokens.specs.declared.Followed.{Followed}
+use Rattle.tokens.specs.Followed.{Followed}
 use Rattle.tokens.specs.Placed.{read_behind}
 use Rattle.reader.specs.Flow.{StandsAt, assert_token, declare_token, next_is, next_token, skip_if}
 use Rattle.reader.specs.Limits.{name_test, or_most, variable_from}

@@ -2,9 +2,10 @@
 --   words-start                sizes are set, and all other words are 0
 --   sizes-few                  how many words there can be
 --   ended-length, whole-at     the whole problem is read
+--   more-refused               something follows
 --   array-length               how long the array is then
---   halted-answer, more-answer   the answer, and the slice afterwards: halted, or with more behind the end
---   short-answer, fit-answer     .. all is read, and the slice is too short or not
+--   refused-answer             the answer, and the slice afterwards, where the reading was halted
+--   short-answer, fit-answer   .. all is read, and the slice is too short or not
 --   taken-length                the slice keeps its length
 use mathlib.Core.Bool.{true, false}
 use mathlib.Core.List.{List, [], ◌∷◌, ◌++◌}
@@ -20,11 +21,12 @@ use lib.ListN.{drop, length, length-append, length-drop, replicate, set, take}
 use Rattle.rules.specs.Sizes.{most_cells, most_words}
 use Rattle.rules.specs.Exchange.Reader.{ReaderState, decided, ended, finish, on, pieces, pieces_words, read_text}
 use Rattle.rules.specs.Exchange.Reader.{TextOutcome, refused_at, token_step, words}
-use Rattle.tokens.specs.declared.Followed.{Followed}
-use Rattle.tokens.specs.declared.Followed.TheVariants.{Halted, Reached}
+use Rattle.tokens.specs.Followed.{Followed}
+use Rattle.std.specs.Prelude.{Ok}
+use Rattle.tokens.specs.declared.Halted.{Halted}
 use Rattle.tokens.specs.Placed.{ended_at, read_behind, read_from}
 use Rattle.tokens.proofs.Laws.Placed.{from_end, from-refused}
-use Rattle.reader.specs.Course.{EndedAt, FewSizes, WholeAt, pushed}
+use Rattle.reader.specs.Course.{EndedAt, FewSizes, Refused, WholeAt, pushed}
 use Rattle.reader.specs.Taken.{fitting_by, kept_by, taken_by, taken_output}
 use Rattle.reader.proofs.Laws.Pushed.{push-length, push-more, push-start, push-take}
 use Rattle.reader.proofs.Laws.Puts.{pieces-length}
@@ -52,14 +54,28 @@ module _ {t : List ℕ} {n m : ℕ} {ws : List ℤ} {so : Followed} (e : EndedAt
       ap length e.held.words
       ∙ push-length (pieces_words (pieces n m e.held.rows e.held.limits)) (omega (arith, size, room))
 
-  pub whole-at : (k : ℕ) → k ≡ 2 + m * n + 3 * (n + m) → WholeAt t ws k so
-  whole-at k z = record {
-    P = pieces n m e.held.rows e.held.limits;
-    size = size ∙ sym z;
-    room = omega (arith, room);
-    words = e.held.words;
-    on-course = e.on-course;
-  }
+  abbrev final : ReaderState
+  final = on [] (ended (pieces n m e.held.rows e.held.limits))
+
+  module _ (at : ℕ) (q : so ≡ Ok at) where
+    -- nothing may follow
+    pub more-refused : at < length t → Refused t (record { place = at })
+    unfolding read_behind token_step decided
+    more-refused h =
+        e.on-course.reads ∙ ap (read_behind t final) q
+        ∙ from-refused t final at h (e.on-course.stands.starts at q) refl
+
+    pub whole-at : length t ≤ at → (k : ℕ) → k ≡ 2 + m * n + 3 * (n + m) → WholeAt t ws k
+    unfolding read_behind ended_at finish
+    whole-at h k y = record {
+      own = pieces_words (pieces n m e.held.rows e.held.limits);
+      size = size ∙ sym y;
+      room = omega (arith, room);
+      front = e.held.words;
+      reads =
+          let z : at ≡ length t = omega (arith, e.on-course.stands.inside at q) in
+          e.on-course.reads ∙ ap (read_behind t final) q ∙ ap (read_from t final) z ∙ from_end t final;
+    }
 
 -- ---- what is told
 
@@ -77,64 +93,37 @@ taken-length (words ws) before = go (dec_lt (length before) (length ws))
         ∙ length-append ws (drop (length ws) before)
         ∙ ap (λ k. length ws + k) (length-drop (length ws) before) ∙ (omega arith)
 
-refused-answer : (t : List ℕ) (p : ℕ) → read_text t ≡ refused_at p → (out : List ℤ) →
-    (record { refused = 60; count = p } ≡ taken_by (read_text t) (length out)) × (out ≡ taken_output (read_text t) out)
+pub refused-answer : (t : List ℕ) (e : Halted) → Refused t e → (out : List ℤ) →
+    (record { refused = 60; count = e.place } ≡ taken_by (read_text t) (length out))
+    × (out ≡ taken_output (read_text t) out)
 unfolding taken_by taken_output
-refused-answer t p e out = (sym (ap (λ o. taken_by o (length out)) e), sym (ap (λ o. taken_output o out) e))
+refused-answer t e r out = (sym (ap (λ o. taken_by o (length out)) r), sym (ap (λ o. taken_output o out) r))
 
-module _ {t : List ℕ} {ws : List ℤ} {count : ℕ} {so : Followed} (w : WholeAt t ws count so) where
-  abbrev final : ReaderState
-  final = on [] (ended w.P)
-
+module _ {t : List ℕ} {ws : List ℤ} {count : ℕ} (w : WholeAt t ws count) where
   pub array-length : length ws ≡ most_words
-  array-length = ap length w.words ∙ push-length (pieces_words w.P) (omega (arith, w.size, w.room))
+  array-length = ap length w.front ∙ push-length w.own (omega (arith, w.size, w.room))
 
-  pub halted-answer : (p : ℕ) → so ≡ Halted p → (out : List ℤ) →
-      (record { refused = 60; count = p } ≡ taken_by (read_text t) (length out))
+  pub short-answer : (out : List ℤ) → length out < count →
+      (record { refused = 7; count = 0 } ≡ taken_by (read_text t) (length out))
       × (out ≡ taken_output (read_text t) out)
-  unfolding read_behind
-  halted-answer p e = refused-answer t p (w.on-course.reads ∙ ap (read_behind t final) e)
+  unfolding taken_by taken_output fitting_by kept_by
+  short-answer out l =
+      let few : ltb (length out) (length w.own) ≡ true = lt-ltb (length out) (length w.own) (omega (arith, w.size)) in (
+        sym (ap (λ o. taken_by o (length out)) w.reads ∙ ap (fitting_by w.own) few),
+        sym (ap (λ o. taken_output o out) w.reads ∙ ap (λ b. kept_by w.own b out) few),
+      )
 
-  module _ (at : ℕ) (e : so ≡ Reached at) where
-    pub more-answer : at < length t → (out : List ℤ) →
-        (record { refused = 60; count = at } ≡ taken_by (read_text t) (length out))
-        × (out ≡ taken_output (read_text t) out)
-    unfolding read_behind token_step decided
-    more-answer h =
-        refused-answer t at
-        (w.on-course.reads ∙ ap (read_behind t final) e
-        ∙ from-refused t final at h (w.on-course.stands.starts at e) refl)
-
-    module _ (h : length t ≤ at) where
-      end-outcome : read_text t ≡ words (pieces_words w.P)
-      unfolding read_behind ended_at finish
-      end-outcome =
-          let z : at ≡ length t = omega (arith, w.on-course.stands.inside at e) in
-          w.on-course.reads ∙ ap (read_behind t final) e ∙ ap (read_from t final) z ∙ from_end t final
-
-      pub short-answer : (out : List ℤ) → length out < count →
-          (record { refused = 7; count = 0 } ≡ taken_by (read_text t) (length out))
-          × (out ≡ taken_output (read_text t) out)
-      unfolding taken_by taken_output fitting_by kept_by
-      short-answer out l =
-          let few : ltb (length out) (length (pieces_words w.P)) ≡ true =
-          lt-ltb (length out) (length (pieces_words w.P)) (omega (arith, w.size)) in (
-            sym (ap (λ o. taken_by o (length out)) end-outcome ∙ ap (fitting_by (pieces_words w.P)) few),
-            sym (ap (λ o. taken_output o out) end-outcome ∙ ap (λ b. kept_by (pieces_words w.P) b out) few),
-          )
-
-      pub fit-answer : (out after : List ℤ) → count ≤ length out → after ≡ take count ws ++ drop count out →
-          (record { refused = 0; count = count } ≡ taken_by (read_text t) (length out))
-          × (after ≡ taken_output (read_text t) out)
-      unfolding taken_by taken_output fitting_by kept_by
-      fit-answer out after l q =
-          let room : ltb (length out) (length (pieces_words w.P)) ≡ false =
-          le-ltb (length out) (length (pieces_words w.P)) (omega (arith, w.size)) in (
-            ap (λ (k : ℕ). record { refused = 0; count = k }) (sym w.size)
-                ∙ sym (ap (λ o. taken_by o (length out)) end-outcome ∙ ap (fitting_by (pieces_words w.P)) room),
-            q
-                ∙ ap (λ k. take k ws ++ drop k out) (sym w.size)
-                ∙ ap (λ l. take (length (pieces_words w.P)) l ++ drop (length (pieces_words w.P)) out) w.words
-                ∙ ap (λ l. l ++ drop (length (pieces_words w.P)) out) (push-take (pieces_words w.P))
-                ∙ sym (ap (λ o. taken_output o out) end-outcome ∙ ap (λ b. kept_by (pieces_words w.P) b out) room),
-          )
+  pub fit-answer : (out after : List ℤ) → count ≤ length out → after ≡ take count ws ++ drop count out →
+      (record { refused = 0; count = count } ≡ taken_by (read_text t) (length out))
+      × (after ≡ taken_output (read_text t) out)
+  unfolding taken_by taken_output fitting_by kept_by
+  fit-answer out after l q =
+      let room : ltb (length out) (length w.own) ≡ false = le-ltb (length out) (length w.own) (omega (arith, w.size)) in (
+        ap (λ (k : ℕ). record { refused = 0; count = k }) (sym w.size)
+            ∙ sym (ap (λ o. taken_by o (length out)) w.reads ∙ ap (fitting_by w.own) room),
+        q
+            ∙ ap (λ k. take k ws ++ drop k out) (sym w.size)
+            ∙ ap (λ l. take (length w.own) l ++ drop (length w.own) out) w.front
+            ∙ ap (λ l. l ++ drop (length w.own) out) (push-take w.own)
+            ∙ sym (ap (λ o. taken_output o out) w.reads ∙ ap (λ b. kept_by w.own b out) room),
+      )

@@ -2,6 +2,7 @@
 --   stands-reached, stands-halted, stands-followed, stands-skip   where a reading stands
 --   passed           behind tokens that must follow
 --   token-in, token-out                the token at a place
+--   token-is-word, token-is-out        .. compared with a word
 --   alike, chosen    states that the next token takes alike; and a state that it leads to, or not
 --   name-passed      one token that must follow
 use mathlib.Core.Bool.{Bool, true, false, cond, ◌&&◌}
@@ -15,16 +16,17 @@ use borrow.Author.Tests.{eq-eqb, le-ltb, lt-ltb, ne_eqb}
 use lib.Dec.{eqb}
 use lib.ListN.{drop, get_or, length, take}
 use lib.Seq.{drop-cons}
-use Rattle.whole.proofs.Bools.{zero_one}
 use Rattle.rules.specs.Exchange.Reader.{Bytes, ReaderState, Stage, ahead, finish, matched, on, refused_at, same_bytes}
 use Rattle.rules.specs.Exchange.Reader.{stuck, token_step}
-use Rattle.tokens.specs.declared.Followed.{Followed}
-use Rattle.tokens.specs.declared.Followed.TheVariants.{Halted, Reached}
-use Rattle.tokens.specs.Followed.{followed}
+use Rattle.std.specs.Prelude.{Ok, Err}
+use Rattle.tokens.specs.declared.Halted.{Halted}
+use Rattle.tokens.specs.Followed.{Followed, followed, halted}
 use Rattle.tokens.specs.Gaps.{bytes_at, part, start_at, stop_at, width}
 use Rattle.tokens.specs.Placed.{ended_at, read_behind, read_from}
 use Rattle.tokens.proofs.Laws.Behind.{read-followed}
-use Rattle.tokens.proofs.Laws.Follows.{more-follow, other-follow, short-follow}
+use Rattle.tokens.proofs.Laws.Follows.{more-follow, other-follow, short-follow, token-due}
+use Rattle.tokens.proofs.Laws.Parts.{same-each}
+use lib.Pointwise.{pointwise}
 use Rattle.tokens.proofs.Laws.Placed.{from_end, from-refused, from-taken}
 use Rattle.tokens.proofs.Laws.Places.{start-again, start-most, stop-ends}
 use Rattle.reader.specs.Flow.{StandsAt, followed_on, next_is, next_token, skip_at, skip_by, skip_if, sum_on, token_is}
@@ -32,30 +34,20 @@ use Rattle.reader.specs.Flow.{token_of}
 
 -- ---- where a reading stands
 
-place_in : Followed → ℕ
-place_in (Reached at) = at
-place_in (Halted at) = at
-
-going_on : Followed → ℕ
-going_on (Reached at) = 1
-going_on (Halted at) = 0
-
 module _ (t : List ℕ) where
-  pub stands-halted : (p : ℕ) → StandsAt t (Halted p)
-  unfolding going_on
-  stands-halted p = record {
-    inside = λ at e. zero_one (ap going_on e);
-    starts = λ at e. zero_one (ap going_on e);
+  pub stands-halted : (e : Halted) → StandsAt t (Err e)
+  stands-halted e = record {
+    inside = λ at q. cc;
+    starts = λ at q. cc;
   }
 
-  pub stands-reached : (p : ℕ) → p ≤ length t → start_at t p ≡ p → StandsAt t (Reached p)
-  unfolding place_in
+  pub stands-reached : (p : ℕ) → p ≤ length t → start_at t p ≡ p → StandsAt t (Ok p)
   stands-reached p h e = record {
-    inside = λ at q. let z : p ≡ at = ap place_in q in subst (λ k. k ≤ length t) z h;
-    starts = λ at q. let z : p ≡ at = ap place_in q in subst (λ k. start_at t k ≡ k) z e;
+    inside = λ at q. let z : p ≡ at = cc in subst (λ k. k ≤ length t) z h;
+    starts = λ at q. let z : p ≡ at = cc in subst (λ k. start_at t k ≡ k) z e;
   }
 
-  behind-token : (at : ℕ) → at < length t → StandsAt t (Reached (start_at t (stop_at t at)))
+  behind-token : (at : ℕ) → at < length t → StandsAt t (Ok (start_at t (stop_at t at)))
   behind-token at l =
       stands-reached (start_at t (stop_at t at)) (start-most t (stop_at t at) (stop-ends t at l).1)
       (start-again t (stop_at t at))
@@ -70,16 +62,15 @@ module _ (t : List ℕ) where
           (start_at t (stop_at t at) ≤ length t → start_at t (start_at t (stop_at t at)) ≡ start_at t (stop_at t at) →
           StandsAt t (followed t (start_at t (stop_at t at)) ws)) →
           StandsAt t (followed t at (w ∷ ws))
-      go (no n) b q rest = subst (StandsAt t) (sym (short-follow t at w ws (omega arith))) (stands-halted at)
+      go (no n) b q rest = subst (StandsAt t) (sym (short-follow t at w ws (omega arith))) (stands-halted (record { place = at }))
       go (yes l) true q rest =
           subst (StandsAt t) (sym (more-follow t at w ws l q))
           (rest (start-most t (stop_at t at) (stop-ends t at l).1) (start-again t (stop_at t at)))
-      go (yes l) false q rest = subst (StandsAt t) (sym (other-follow t at w ws l q)) (stands-halted at)
+      go (yes l) false q rest = subst (StandsAt t) (sym (other-follow t at w ws l q)) (stands-halted (record { place = at }))
 
   pub stands-followed : (so : Followed) (ws : List Bytes) → StandsAt t so → StandsAt t (followed_on t so ws)
-  unfolding followed_on
-  stands-followed (Reached at) ws s = stands_from ws at (s.inside at refl) (s.starts at refl)
-  stands-followed (Halted p) ws s = stands-halted p
+  stands-followed (Ok at) ws s = stands_from ws at (s.inside at refl) (s.starts at refl)
+  stands-followed (Err p) ws s = stands-halted p
 
   -- ---- the token at a place
 
@@ -91,39 +82,50 @@ module _ (t : List ℕ) where
   unfolding token_of
   token-out at h = rw (le-ltb at (length t) h, token_of) refl
 
-  pub skip-out : (at : ℕ) (may : Bool) → length t ≤ at → skip_at t at may ≡ Halted at
+  -- .. compared with a word
+  pub token-is-word : (at : ℕ) (w : List ℕ) {end : ℕ} → at < length t → end ≡ stop_at t at →
+      pointwise eqb w (take (end - at) (drop at t)) ≡ next_is t (Ok at) w
+  unfolding next_is next_token token_is
+  token-is-word at w h e =
+      same-each w _ ∙ ap (same_bytes w) (sym (token-due t at e)) ∙ ap (token_is w) (sym (token-in at h))
+
+  pub token-is-out : (at : ℕ) (w : List ℕ) → length t ≤ at → next_is t (Ok at) w ≡ false
+  unfolding next_is next_token token_is
+  token-is-out at w h = ap (token_is w) (token-out at h)
+
+  pub skip-out : (at : ℕ) (may : Bool) → length t ≤ at → skip_at t at may ≡ halted at
   unfolding skip_at skip_by
   skip-out at may h = ap (λ o. skip_by t at o may) (token-out at h)
 
-  pub skip-not : (at : ℕ) → skip_at t at false ≡ Halted at
+  pub skip-not : (at : ℕ) → skip_at t at false ≡ halted at
   unfolding skip_at skip_by
   skip-not at = go (token_of t at)
     where
-      go : (o : Option Bytes) → skip_by t at o false ≡ Halted at
+      go : (o : Option Bytes) → skip_by t at o false ≡ halted at
       go none = refl
       go (some w) = refl
 
-  pub skip-in : (at : ℕ) → at < length t → skip_at t at true ≡ Reached (start_at t (stop_at t at))
+  pub skip-in : (at : ℕ) → at < length t → skip_at t at true ≡ Ok (start_at t (stop_at t at))
   unfolding skip_at skip_by
   skip-in at h = ap (λ o. skip_by t at o true) (token-in at h)
 
   pub stands-skip : (so : Followed) (may : Bool) → StandsAt t so → StandsAt t (skip_if t so may)
   unfolding skip_if
-  stands-skip (Halted p) may s = stands-halted p
-  stands-skip (Reached at) false s = subst (StandsAt t) (sym (skip-not at)) (stands-halted at)
-  stands-skip (Reached at) true s = go (dec_lt at (length t))
+  stands-skip (Err p) may s = stands-halted p
+  stands-skip (Ok at) false s = subst (StandsAt t) (sym (skip-not at)) (stands-halted (record { place = at }))
+  stands-skip (Ok at) true s = go (dec_lt at (length t))
     where
       go : Dec (at < length t) → StandsAt t (skip_at t at true)
       go (yes l) = subst (StandsAt t) (sym (skip-in at l)) (behind-token at l)
-      go (no n) = subst (StandsAt t) (sym (skip-out at true (omega arith))) (stands-halted at)
+      go (no n) = subst (StandsAt t) (sym (skip-out at true (omega arith))) (stands-halted (record { place = at }))
 
   -- ---- tokens that must follow
 
   pub passed : (ws us : List Bytes) (st : Stage) (so : Followed) → StandsAt t so →
       read_behind t (on (ws ++ us) st) so ≡ read_behind t (on us st) (followed_on t so ws)
-  unfolding read_behind followed_on
-  passed ws us st (Reached at) s = read-followed t us st ws at (s.inside at refl) (s.starts at refl)
-  passed ws us st (Halted p) s = refl
+  unfolding read_behind
+  passed ws us st (Ok at) s = read-followed t us st ws at (s.inside at refl) (s.starts at refl)
+  passed ws us st (Err p) s = refl
 
   -- all that must follow; and tokens before a state
   pub passed-all : (ws : List Bytes) (st : Stage) (so : Followed) → StandsAt t so →
@@ -149,8 +151,8 @@ module _ (t : List ℕ) where
       ((w : Bytes) → next_token t so ≡ some w → token_step S.todo S.stage w ≡ token_step T.todo T.stage w) →
       read_behind t S so ≡ read_behind t T so
   unfolding read_behind next_token
-  alike S T (Halted p) s e f h = refl
-  alike S T (Reached at) s e f h = go (dec_lt at (length t))
+  alike S T (Err p) s e f h = refl
+  alike S T (Ok at) s e f h = go (dec_lt at (length t))
     where
       go : Dec (at < length t) → read_from t S at ≡ read_from t T at
       go (no n) = at-end S at (s.inside at refl) n e ∙ sym (at-end T at (s.inside at refl) n f)
@@ -173,8 +175,8 @@ module _ (t : List ℕ) where
       ((w : Bytes) → next_token t so ≡ some w → token_step S.todo S.stage w ≡ cond may (some T) none) →
       read_behind t S so ≡ read_behind t T (skip_if t so may)
   unfolding read_behind next_token skip_if
-  chosen S T (Halted p) may s e h = refl
-  chosen S T (Reached at) may s e h = go (dec_lt at (length t)) may refl
+  chosen S T (Err p) may s e h = refl
+  chosen S T (Ok at) may s e h = go (dec_lt at (length t)) may refl
     where
       go : Dec (at < length t) → (b : Bool) → may ≡ b → read_from t S at ≡ read_behind t T (skip_at t at may)
       go (no n) b q =
@@ -214,16 +216,16 @@ module _ (t : List ℕ) where
       (ap (λ k. drop k t) (let z : suc at ≡ at + 1 = omega arith in z))
 
   module _ (at : ℕ) (h : at < length t) (letter : ℕ) (ds : List ℕ) where
-    pub name-not : (get_or t at 0 ≡ letter → ⊥) → token_is (letter ∷ ds) (token_of t at) ≡ false
-    unfolding token_is same_bytes
+    pub name-not : (get_or t at 0 ≡ letter → ⊥) → next_is t (Ok at) (letter ∷ ds) ≡ false
+    unfolding next_is next_token token_is same_bytes
     name-not n =
         ap (token_is (letter ∷ ds)) (token-in at h ∙ ap some (bytes-first at h))
         ∙ ap (λ b. b && same_bytes ds (part t (at + 1) (stop_at t at)))
         (ne_eqb letter (get_or t at 0) (λ e. n (sym e)))
 
     pub name-is : get_or t at 0 ≡ letter →
-        token_is (letter ∷ ds) (token_of t at) ≡ same_bytes ds (part t (at + 1) (stop_at t at))
-    unfolding token_is same_bytes
+        next_is t (Ok at) (letter ∷ ds) ≡ same_bytes ds (part t (at + 1) (stop_at t at))
+    unfolding next_is next_token token_is same_bytes
     name-is e =
         ap (token_is (letter ∷ ds)) (token-in at h ∙ ap some (bytes-first at h))
         ∙ ap (λ b. b && same_bytes ds (part t (at + 1) (stop_at t at))) (eq-eqb letter (get_or t at 0) (sym e))
@@ -237,6 +239,14 @@ module _ (t : List ℕ) where
   pub sum-several : (so : Followed) (n : ℕ) (ws : List Bytes) → (n ≡ 1 → ⊥) → sum_on t so n ws ≡ followed_on t so ws
   unfolding sum_on
   sum-several so n ws e = rw (ne_eqb n 1 e, sum_on) refl
+
+  pub sum-halted : (e : Halted) (n : ℕ) (ws : List Bytes) → sum_on t (Err e) n ws ≡ Err e
+  unfolding sum_on
+  sum-halted e n ws = go (eqb n 1)
+    where
+      go : (b : Bool) → ◌≡◌ {A = Followed} (elim b [ true ↦ Err e | false ↦ followed_on t (Err e) ws ]) (Err e)
+      go true = refl
+      go false = refl
 
   pub stands-sum : (so : Followed) (n : ℕ) (ws : List Bytes) → StandsAt t so → StandsAt t (sum_on t so n ws)
   unfolding sum_on

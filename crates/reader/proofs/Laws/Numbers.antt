@@ -1,6 +1,6 @@
 -- A number by its tokens.
 --   coefficient-asks, limit-asks   what is asked of a coefficient, and of a limit
---   numeral-out, numeral-in        no byte is left; a numeral is there
+--   numeral-out, numeral-told, numeral-nothing   no byte is left; a numeral is there, or no number
 --   numeral-goes, size-goes        a numeral is read, and the size of a number below 0
 --   stands-numeral                 where the reading stands then
 use mathlib.Core.Bool.{Bool, true, false, cond, not, ◌&&◌, ◌||◌}
@@ -15,7 +15,7 @@ use lib.Dec.{eqb, leb, ltb}
 use lib.IntN.{ℤ, nat_abs, negsuc, pos}
 use lib.ListN.{length}
 use Rattle.whole.specs.Numbers.{eq_z, within}
-use Rattle.whole.proofs.Bools.{true-false, zero_one}
+use Rattle.whole.proofs.Bools.{true-false}
 use Rattle.rules.specs.Exchange.Tokens.{token_bytes}
 use Rattle.rules.specs.Exchange.Script.{close}
 use Rattle.rules.specs.Exchange.Reader.{Bytes, Pieces, ReaderState, Spot, admitted, ahead, all_zero, coefficient}
@@ -24,18 +24,20 @@ use Rattle.rules.specs.Exchange.Reader.{finish, fits, is, limit, number, numeral
 use Rattle.rules.specs.Exchange.Reader.{taken, token_step, with_sign}
 use Rattle.rules.specs.Sizes.{largest_coefficient, largest_limit}
 use Rattle.rules.proofs.Exchange.Reader.Openings.{open_word, openings}
-use Rattle.tokens.specs.declared.Followed.{Followed}
-use Rattle.tokens.specs.declared.Followed.TheVariants.{Halted, Reached}
-use Rattle.tokens.specs.declared.NumberRead.{NumberRead}
-use Rattle.tokens.specs.declared.NumberRead.TheVariants.{Nothing, Number}
-use Rattle.tokens.specs.Gaps.{bytes_at}
+use Rattle.tokens.specs.Followed.{Followed}
+use Rattle.std.specs.Prelude.{Ok, Err, Result, Some, None, ok_or, take, drop, ◌-◌}
+use Rattle.tokens.proofs.Laws.Follows.{token-due}
+use Rattle.std.specs.Prelude.{Option as Found}
+use Rattle.tokens.specs.Followed.{halted}
+use Rattle.tokens.specs.declared.Halted.{Halted}
+use Rattle.tokens.specs.Gaps.{bytes_at, stop_at}
 use Rattle.tokens.specs.Numeral.{numeral_of, short_numeral}
 use Rattle.tokens.specs.Placed.{read_behind}
 use Rattle.tokens.proofs.Laws.Numerals.{long-refused}
 use Rattle.reader.specs.declared.numbers.Asked.{Asked}
 use Rattle.reader.specs.declared.numbers.Told.{Told}
 use Rattle.reader.specs.Flow.{StandsAt, next_is, next_token, skip_if}
-use Rattle.reader.specs.Numbers.{Asks, admissible, halted_at, numeral_at, numeral_by, numeral_fit, numeral_on}
+use Rattle.reader.specs.Numbers.{Asks, admissible, place_of, value_of, numeral_at, numeral_by, numeral_fit, numeral_on}
 use Rattle.reader.specs.Numbers.{value_by}
 use Rattle.reader.proofs.Laws.Flow.{chosen, token-same, skip-in, skip-not, stands-halted, stands-skip}
 use Rattle.reader.proofs.Laws.Flow.{token-in, token-out}
@@ -67,16 +69,8 @@ coefficient-asks P row blank e = record {
 
 -- ---- a numeral
 
-value_in : NumberRead → ℕ
-value_in Nothing = 0
-value_in (Number k) = k
-
-is_number : NumberRead → ℕ
-is_number Nothing = 0
-is_number (Number k) = 1
-
 module _ (t : List ℕ) (at : ℕ) (below : Bool) (a : Asked) where
-  pub numeral-out : length t ≤ at → numeral_at t at below a ≡ halted_at at
+  pub numeral-out : length t ≤ at → numeral_at t at below a ≡ halted at
   unfolding numeral_at
   numeral-out h = rw (le-ltb at (length t) h, numeral_at) refl
 
@@ -84,16 +78,33 @@ module _ (t : List ℕ) (at : ℕ) (below : Bool) (a : Asked) where
   unfolding numeral_at
   numeral-in h = rw (lt-ltb at (length t) h, numeral_at) refl
 
-  -- a token that is a number, or not
-  module _ (l : at < length t) where
-    pub numeral-told : (k : ℕ) → short_numeral (bytes_at t at) ≡ Number k →
-        numeral_at t at below a ≡ numeral_fit t at below k (admissible k below a)
-    unfolding numeral_by
-    numeral-told k e = numeral-in l ∙ ap (numeral_by t at below a) e
+  -- .. by its bytes
+  module _ (l : at < length t) (o : Found ℕ) {end : ℕ} (s : end ≡ stop_at t at)
+      (n : o ≡ short_numeral (take (end - at) (drop at t))) where
+    numeral-found : numeral_on t (Ok at) below a ≡ numeral_by t at below a o
+    unfolding numeral_on
+    numeral-found =
+        numeral-in l ∙ ap (λ w. numeral_by t at below a (short_numeral w)) (token-due t at s)
+        ∙ ap (numeral_by t at below a) (sym n)
 
-    pub numeral-nothing : short_numeral (bytes_at t at) ≡ Nothing → numeral_at t at below a ≡ halted_at at
+    pub numeral-told : {k : ℕ} → ok_or {E = Halted} o (record { place = at }) ≡ Ok k →
+        numeral_fit t at below k (admissible k below a) ≡ numeral_on t (Ok at) below a
     unfolding numeral_by
-    numeral-nothing e = numeral-in l ∙ ap (numeral_by t at below a) e
+    numeral-told {k} q = go o q ∙ sym numeral-found
+      where
+        go : (x : Found ℕ) → ok_or {E = Halted} x (record { place = at }) ≡ Ok k →
+            numeral_fit t at below k (admissible k below a) ≡ numeral_by t at below a x
+        go None e = cc
+        go (Some j) e = let z : j ≡ k = cc in ap (λ i. numeral_fit t at below i (admissible i below a)) (sym z)
+
+    pub numeral-nothing : {e : Halted} → ok_or o (record { place = at }) ≡ Err e →
+        Err e ≡ numeral_on t (Ok at) below a
+    unfolding numeral_by
+    numeral-nothing {e} q = go o q ∙ sym numeral-found
+      where
+        go : (x : Found ℕ) → ok_or x (record { place = at }) ≡ Err e → Err e ≡ numeral_by t at below a x
+        go None f = let z : record { place = at } ≡ e = cc in ap (λ (h : Halted). Err h) (sym z)
+        go (Some j) f = cc
 
 module _ (k : ℕ) (below : Bool) (a : Asked) where
   pub admissible-over : a.largest < k → admissible k below a ≡ false
@@ -165,18 +176,18 @@ module _ (c : Spot) (a : Asked) (A : Asks c a) (before : List Bytes) where
       (by_size (suc k) (negsuc k) true (size-test (negsuc k) (suc k) refl)
       (and_none a.blank ∙ sym (ap (λ b. not (b && (true || a.blank))) (ne_eqb (suc k) 0 (λ e. omega arith)))))
 
-  short-is : (w : Bytes) (k : ℕ) → short_numeral w ≡ Number k → numeral w ≡ some k
-  unfolding short_numeral numeral_of value_in is_number
+  short-is : (w : Bytes) (k : ℕ) → short_numeral w ≡ Some k → numeral w ≡ some k
+  unfolding short_numeral numeral_of
   short-is w k e = go (ltb 5 (length w)) (numeral w) refl e
     where
-      go : (b : Bool) (o : Option ℕ) → numeral w ≡ o → cond b Nothing (numeral_of o) ≡ Number k → numeral w ≡ some k
-      go true o q f = zero_one (ap is_number f)
-      go false none q f = zero_one (ap is_number f)
-      go false (some j) q f = q ∙ ap some (ap value_in f)
+      go : (b : Bool) (o : Option ℕ) → numeral w ≡ o → cond b None (numeral_of o) ≡ Some k → numeral w ≡ some k
+      go true o q f = cc
+      go false none q f = cc
+      go false (some j) q f = q ∙ (let z : some j ≡ some k = cc in z)
 
-  admitted-not : (below : Bool) (w : Bytes) → short_numeral w ≡ Nothing →
+  admitted-not : (below : Bool) (w : Bytes) → short_numeral w ≡ None →
       admitted c before (with_sign below (numeral w)) ≡ none
-  unfolding short_numeral numeral_of admitted with_sign value_in is_number
+  unfolding short_numeral numeral_of admitted with_sign
   admitted-not below w e = go (dec_lt 5 (length w)) (numeral w) refl
     where
       nothing : (b : Bool) → admitted c before (with_sign b none) ≡ none
@@ -187,8 +198,10 @@ module _ (c : Spot) (a : Asked) (A : Asks c a) (before : List Bytes) where
       go (yes l) o q = long-refused c before below w l
       go (no n) none q = ap (λ o. admitted c before (with_sign below o)) q ∙ nothing below
       go (no n) (some k) q =
-          zero_one (sym (ap is_number e) ∙ ap is_number (ap (λ b. cond b Nothing (numeral_of (numeral w)))
-          (le-ltb 5 (length w) (omega arith)) ∙ ap numeral_of q))
+          let z : None ≡ Some k =
+          sym e ∙ ap (λ b. cond b None (numeral_of (numeral w))) (le-ltb 5 (length w) (omega arith))
+          ∙ ap numeral_of q in
+          cc
 
   -- a state that the next token leaves as a numeral
   numeral-leads : (t : List ℕ) (S : ReaderState) (below : Bool) (so : Followed) → StandsAt t so →
@@ -196,23 +209,23 @@ module _ (c : Spot) (a : Asked) (A : Asks c a) (before : List Bytes) where
       ((w : Bytes) → next_token t so ≡ some w →
       token_step S.todo S.stage w ≡ admitted c before (with_sign below (numeral w))) →
       read_behind t S so
-      ≡ read_behind t (ahead before (taken c (numeral_on t so below a).value)) (numeral_on t so below a).to
-  unfolding numeral_on skip_if halted_at numeral_by numeral_fit next_token read_behind
-  numeral-leads t S below (Halted p) s e h = refl
-  numeral-leads t S below (Reached at) s e h = go (dec_lt at (length t))
+      ≡ read_behind t (ahead before (taken c (value_of (numeral_on t so below a)))) (place_of (numeral_on t so below a))
+  unfolding numeral_on skip_if numeral_by numeral_fit next_token read_behind
+  numeral-leads t S below (Err p) s e h = refl
+  numeral-leads t S below (Ok at) s e h = go (dec_lt at (length t))
     where
-      goal : Told → Type 0
-      goal r = read_behind t S (Reached at) ≡ read_behind t (ahead before (taken c r.value)) r.to
+      goal : Result Told Halted → Type 0
+      goal r = read_behind t S (Ok at) ≡ read_behind t (ahead before (taken c (value_of r))) (place_of r)
 
       -- halted there, for any state
       stopped : (may : Bool) (T : ReaderState) → may ≡ false →
-          ((w : Bytes) → next_token t (Reached at) ≡ some w → token_step S.todo S.stage w ≡ none) →
-          read_behind t S (Reached at) ≡ read_behind t T (Halted at)
+          ((w : Bytes) → next_token t (Ok at) ≡ some w → token_step S.todo S.stage w ≡ none) →
+          read_behind t S (Ok at) ≡ read_behind t T (halted at)
       stopped may T q none-taken =
-          chosen t S T (Reached at) false s e none-taken ∙ ap (read_behind t T) (skip-not t at)
+          chosen t S T (Ok at) false s e none-taken ∙ ap (read_behind t T) (skip-not t at)
 
-      halted-goal : ((w : Bytes) → next_token t (Reached at) ≡ some w → token_step S.todo S.stage w ≡ none) →
-          goal (halted_at at)
+      halted-goal : ((w : Bytes) → next_token t (Ok at) ≡ some w → token_step S.todo S.stage w ≡ none) →
+          goal (halted at)
       halted-goal f = stopped false (ahead before (taken c (pos 0))) refl f
 
       go : Dec (at < length t) → goal (numeral_at t at below a)
@@ -222,19 +235,19 @@ module _ (c : Spot) (a : Asked) (A : Asks c a) (before : List Bytes) where
       go (yes l) =
           subst goal (sym (numeral-in t at below a l)) (by (short_numeral (bytes_at t at)) refl)
         where
-          taken-there : (w : Bytes) → next_token t (Reached at) ≡ some w → bytes_at t at ≡ w
+          taken-there : (w : Bytes) → next_token t (Ok at) ≡ some w → bytes_at t at ≡ w
           taken-there w q = some_same (sym (token-in t at l) ∙ q)
             where
               some_same : ◌≡◌ {A = Option Bytes} (some (bytes_at t at)) (some w) → bytes_at t at ≡ w
               some_same f = cc
 
-          by : (r : NumberRead) → short_numeral (bytes_at t at) ≡ r → goal (numeral_by t at below a r)
-          by Nothing q = halted-goal (λ w f. h w f
+          by : (r : Found ℕ) → short_numeral (bytes_at t at) ≡ r → goal (numeral_by t at below a r)
+          by None q = halted-goal (λ w f. h w f
               ∙ ap (λ v. admitted c before (with_sign below (numeral v))) (sym (taken-there w f))
               ∙ admitted-not below (bytes_at t at) q)
-          by (Number k) q = fit (admissible k below a) refl
+          by (Some k) q = fit (admissible k below a) refl
             where
-              step : (w : Bytes) → next_token t (Reached at) ≡ some w →
+              step : (w : Bytes) → next_token t (Ok at) ≡ some w →
                   token_step S.todo S.stage w ≡ fitted (admissible k below a) (value_by below k)
               step w f = h w f
                   ∙ ap (λ v. admitted c before (with_sign below (numeral v))) (sym (taken-there w f))
@@ -244,7 +257,7 @@ module _ (c : Spot) (a : Asked) (A : Asks c a) (before : List Bytes) where
               fit : (b : Bool) → admissible k below a ≡ b → goal (numeral_fit t at below k b)
               fit false f = halted-goal (λ w g. step w g ∙ ap (λ b. fitted b (value_by below k)) f)
               fit true f =
-                  chosen t S (ahead before (taken c (value_by below k))) (Reached at) true s e
+                  chosen t S (ahead before (taken c (value_by below k))) (Ok at) true s e
                   (λ w g. step w g ∙ ap (λ b. fitted b (value_by below k)) f)
                   ∙ ap (read_behind t (ahead before (taken c (value_by below k)))) (skip-in t at l)
 
@@ -253,7 +266,7 @@ module _ (c : Spot) (a : Asked) (A : Asks c a) (before : List Bytes) where
 module _ (t : List ℕ) (so : Followed) (s : StandsAt t so) (c : Spot) (a : Asked) (A : Asks c a) where
   pub numeral-goes : next_is t so open_word ≡ false →
       read_behind t (on [] (number c)) so
-      ≡ read_behind t (taken c (numeral_on t so false a).value) (numeral_on t so false a).to
+      ≡ read_behind t (taken c (value_of (numeral_on t so false a))) (place_of (numeral_on t so false a))
   unfolding ahead decided is finish token_step
   numeral-goes e = numeral-leads c a A [] t (on [] (number c)) false so s refl
       (λ w q. step w (sym (token-same t so open_word w q) ∙ e))
@@ -263,26 +276,27 @@ module _ (t : List ℕ) (so : Followed) (s : StandsAt t so) (c : Spot) (a : Aske
       step w q = rw (openings.minus_is, q) refl
 
   pub size-goes : read_behind t (on [] (size c)) so
-      ≡ read_behind t (ahead (token_bytes close) (taken c (numeral_on t so true a).value)) (numeral_on t so true a).to
+      ≡ read_behind t (ahead (token_bytes close) (taken c (value_of (numeral_on t so true a))))
+      (place_of (numeral_on t so true a))
   unfolding decided finish token_step
   size-goes = numeral-leads c a A (token_bytes close) t (on [] (size c)) true so s refl (λ w q. refl)
 
 -- where the reading stands then
 pub stands-numeral : (t : List ℕ) (so : Followed) (below : Bool) (a : Asked) → StandsAt t so →
-    StandsAt t (numeral_on t so below a).to
-unfolding numeral_on numeral_fit halted_at numeral_by skip_if
-stands-numeral t (Halted p) below a s = stands-halted t p
-stands-numeral t (Reached at) below a s = go (dec_lt at (length t))
+    StandsAt t (place_of (numeral_on t so below a))
+unfolding numeral_on numeral_fit numeral_by skip_if
+stands-numeral t (Err p) below a s = stands-halted t p
+stands-numeral t (Ok at) below a s = go (dec_lt at (length t))
   where
-    go : Dec (at < length t) → StandsAt t (numeral_at t at below a).to
-    go (no n) = subst (λ r. StandsAt t r.to) (sym (numeral-out t at below a (omega arith))) (stands-halted t at)
+    go : Dec (at < length t) → StandsAt t (place_of (numeral_at t at below a))
+    go (no n) = subst (λ r. StandsAt t (place_of r)) (sym (numeral-out t at below a (omega arith))) (stands-halted t (record { place = at }))
     go (yes l) =
-        subst (λ r. StandsAt t r.to) (sym (numeral-in t at below a l)) (by (short_numeral (bytes_at t at)))
+        subst (λ r. StandsAt t (place_of r)) (sym (numeral-in t at below a l)) (by (short_numeral (bytes_at t at)))
       where
-        fit : (k : ℕ) (b : Bool) → StandsAt t (numeral_fit t at below k b).to
-        fit k false = stands-halted t at
-        fit k true = subst (StandsAt t) (skip-in t at l) (stands-skip t (Reached at) true s)
+        fit : (k : ℕ) (b : Bool) → StandsAt t (place_of (numeral_fit t at below k b))
+        fit k false = stands-halted t (record { place = at })
+        fit k true = subst (StandsAt t) (skip-in t at l) (stands-skip t (Ok at) true s)
 
-        by : (r : NumberRead) → StandsAt t (numeral_by t at below a r).to
-        by Nothing = stands-halted t at
-        by (Number k) = fit k (admissible k below a)
+        by : (r : Found ℕ) → StandsAt t (place_of (numeral_by t at below a r))
+        by None = stands-halted t (record { place = at })
+        by (Some k) = fit k (admissible k below a)

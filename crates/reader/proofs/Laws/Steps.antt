@@ -1,8 +1,8 @@
 -- What the code has at hand, by the results of its calls: each is named, with what its function says of it.
---   first-declared                       the text up to its first declaration
---   declare-stands, one-column, one-row  one declaration
+--   logic-reads, opened-reads, first-declared   the text up to its first declaration
+--   name-reads, one-column, one-row      one declaration
 --   row-stands, row-begun                a row up to its first term
---   term-next                            one term more
+--   term-next, term-refused              one term more, or none that may stand there
 --   sum-stands, row_done                 the end of a row
 --   rows-length, terms-length            how long the array is
 use mathlib.Core.Bool.{Bool, true, false, ◌&&◌}
@@ -23,15 +23,16 @@ use Rattle.rules.specs.Exchange.Script.{assert_row, close, column_name, declare_
 use Rattle.rules.specs.Exchange.Script.{row_name}
 use Rattle.rules.specs.Exchange.Script.{set_logic}
 use Rattle.rules.specs.Exchange.Reader.{declaring, naming, on, outset}
-use Rattle.tokens.specs.declared.Followed.{Followed}
-use Rattle.tokens.specs.declared.Followed.TheVariants.{Reached}
+use Rattle.tokens.specs.Followed.{Followed}
+use Rattle.std.specs.Prelude.{Ok, Err}
 use Rattle.tokens.specs.Gaps.{start_at}
 use Rattle.reader.specs.declared.numbers.Told.{Told}
-use Rattle.reader.specs.Course.{DeclaredAt, FewSizes, Reads, RowsAt, TermGoes, TermsAt, TermsDone}
+use Rattle.reader.specs.Course.{DeclaredAt, FewSizes, Reads, Refused, RowsAt, TermGoes, TermsAt, TermsDone}
 use Rattle.reader.specs.Flow.{StandsAt, declare_token, followed_on, next_is, skip_if, sum_on}
 use Rattle.reader.proofs.Laws.Course.{course-start, declared-column, declared-opened, declared-row}
 use Rattle.reader.proofs.Laws.Course.{declared-start}
-use Rattle.reader.proofs.Laws.Course.{on-as, on-passed, row-closed, row_opened, terms-more}
+use Rattle.reader.proofs.Laws.Course.{on-as, on-passed, row-closed, row_opened, terms-more, terms-refused}
+use Rattle.tokens.specs.declared.Halted.{Halted}
 use Rattle.reader.proofs.Laws.Flow.{stands-followed, stands-skip, stands-sum}
 use Rattle.reader.proofs.Laws.Pushed.{push-length}
 
@@ -43,12 +44,12 @@ unfolding outset
 outset-is = ap (λ l. on l (declaring 1 0)) (simp append_assoc refl)
 
 module _ (t : List ℕ) (first : ℕ) (f : first ≡ start_at t 0) where
-  pub first_reads : Reads t outset (Reached first)
-  first_reads = subst (λ k. Reads t outset (Reached k)) (sym f) course-start
+  pub first_reads : Reads t outset (Ok first)
+  first_reads = subst (λ k. Reads t outset (Ok k)) (sym f) course-start
 
-  module _ (logic opened : Followed) (l : logic ≡ followed_on t (Reached first) (token_bytes set_logic))
+  module _ (logic opened : Followed) (l : logic ≡ followed_on t (Ok first) (token_bytes set_logic))
       (o : opened ≡ followed_on t logic (token_bytes declare_const)) where
-    logic-reads :
+    pub logic-reads :
         Reads t (on (token_bytes declare_const ++ (column_name 0 ∷ token_bytes of_real)) (declaring 1 0)) logic
     logic-reads =
         subst (Reads t _) (sym l)
@@ -56,16 +57,10 @@ module _ (t : List ℕ) (first : ℕ) (f : first ≡ start_at t 0) where
         (declaring 1 0)
         (on-as outset-is first_reads))
 
-    opened-reads : Reads t (on (column_name 0 ∷ token_bytes of_real) (declaring 1 0)) opened
+    pub opened-reads : Reads t (on (column_name 0 ∷ token_bytes of_real) (declaring 1 0)) opened
     opened-reads =
         subst (Reads t _) (sym o)
         (on-passed (token_bytes declare_const) (column_name 0 ∷ token_bytes of_real) (declaring 1 0) logic-reads)
-
-    pub logic-stands : StandsAt t logic
-    logic-stands = logic-reads.stands
-
-    pub opened-stands : StandsAt t opened
-    opened-stands = opened-reads.stands
 
     pub first-declared : (so : Followed) →
         so ≡ followed_on t (skip_if t opened (next_is t opened (column_name 0))) (token_bytes of_real) →
@@ -75,11 +70,8 @@ module _ (t : List ℕ) (first : ℕ) (f : first ≡ start_at t 0) where
 module _ {t : List ℕ} {n m : ℕ} {so : Followed} (d : DeclaredAt t n m so)
     (due : (next_is t so declare_token && ltb m most_rows) ≡ true) (opened : Followed)
     (o : opened ≡ followed_on t so (token_bytes declare_const)) where
-  name-reads : Reads t (on [] (naming n m)) opened
+  pub name-reads : Reads t (on [] (naming n m)) opened
   name-reads = subst (Reads t (on [] (naming n m))) (sym o) (declared-opened d due)
-
-  pub declare-stands : StandsAt t opened
-  declare-stands = name-reads.stands
 
   pub one-column : (eqb m 0 && ltb n most_columns && next_is t opened (column_name n)) ≡ true → (to : Followed) →
       to ≡ followed_on t (skip_if t opened (next_is t opened (column_name n))) (token_bytes of_real) →
@@ -142,16 +134,20 @@ module _ {t : List ℕ} {n m i j : ℕ} {ws : List ℤ} {blank : Bool} {so : Fol
       (omega (arith, length-append (flatten r.rows) r.row, r.flat, r.size))
 
   pub term-next : (h : j < n) (from : ℕ) → from ≡ 2 + i * n → (last : Bool) → last ≡ (eqb (suc j) n && blank) →
-      (told : Told) → TermGoes t so j last told → (z : ℤ) → z ≡ told.value →
+      (told : Told) → TermGoes t so j last (Ok told) → (z : ℤ) → z ≡ told.value →
       (b : Bool) → b ≡ (blank && eq_z told.value (pos 0)) → (k : ℕ) → k ≡ suc j →
-      TermsAt t n m i k (set ws (from + j) z) b told.to
+      TermsAt t n m i k (set ws (from + j) z) b (Ok told.at)
   term-next h from f last q told g z v b e k y =
       let blank-then = blank && eq_z told.value (pos 0) in
-      subst (λ x. TermsAt t n m i x (set ws (from + j) z) b told.to) (sym y)
-      (subst (λ x. TermsAt t n m i (suc j) (set ws (from + j) z) x told.to) (sym e)
-      (subst (λ x. TermsAt t n m i (suc j) (set ws (from + j) x) blank-then told.to) (sym v)
-      (subst (λ x. TermsAt t n m i (suc j) (set ws (x + j) told.value) blank-then told.to) (sym f)
-      (terms-more r h l told (subst (λ x. TermGoes t so j x told) q g)))))
+      subst (λ x. TermsAt t n m i x (set ws (from + j) z) b (Ok told.at)) (sym y)
+      (subst (λ x. TermsAt t n m i (suc j) (set ws (from + j) z) x (Ok told.at)) (sym e)
+      (subst (λ x. TermsAt t n m i (suc j) (set ws (from + j) x) blank-then (Ok told.at)) (sym v)
+      (subst (λ x. TermsAt t n m i (suc j) (set ws (x + j) told.value) blank-then (Ok told.at)) (sym f)
+      (terms-more r h l told (subst (λ x. TermGoes t so j x (Ok told)) q g)))))
+
+  pub term-refused : j < n → (last : Bool) → last ≡ (eqb (suc j) n && blank) → {x : Halted} →
+      TermGoes t so j last (Err x) → Refused t x
+  term-refused h last q {x} g = terms-refused r h l (subst (λ b. TermGoes t so j b (Err x)) q g)
 
 module _ {t : List ℕ} {n m i : ℕ} {ws : List ℤ} {so : Followed} (d : TermsDone t n m i ws so) (closed : Followed)
     (e : closed ≡ sum_on t so n (token_bytes close)) where

@@ -7,7 +7,7 @@
 --   no-less-goes, more-goes, no-more-goes, less-goes   a relation
 use mathlib.Core.Bool.{Bool, true, false, ◌&&◌, cond}
 use mathlib.Core.List.{List, [], ◌∷◌, ◌++◌}
-use mathlib.Core.Path.{◌≡◌, sym, ◌∙◌, ap, subst}
+use mathlib.Core.Path.{◌≡◌, refl, sym, ◌∙◌, ap, subst}
 use Prim.Native.Nat.{ℕ, suc, ◌+◌, ◌-◌, ◌*◌, ◌≤◌, ◌<◌}
 use lib.Dec.{eqb, ltb}
 use lib.IntN.{ℤ}
@@ -17,15 +17,18 @@ use Rattle.rules.specs.Exchange.Script.{close, column_name, open_minus, open_ter
 use Rattle.rules.specs.Exchange.Script.{no_more}
 use Rattle.rules.specs.Exchange.Script.{row_name}
 use Rattle.rules.specs.Exchange.Reader.{ahead, all_zero, behind_term, coefficient, number, on, size, taken, Pieces}
+use Rattle.rules.specs.Exchange.Reader.{ReaderState, relating, bounding}
 use Rattle.rules.proofs.Exchange.Reader.Openings.{open_word}
-use Rattle.tokens.specs.declared.Followed.{Followed}
+use Rattle.std.specs.Prelude.{Result, Ok, Err}
+use Rattle.tokens.specs.declared.Halted.{Halted}
+use Rattle.tokens.specs.Followed.{Followed}
 use Rattle.tokens.specs.Placed.{read_behind}
 use Rattle.reader.specs.declared.numbers.Asked.{Asked}
 use Rattle.reader.specs.declared.numbers.Told.{Told}
 use Rattle.reader.specs.Course.{TermGoes}
 use Rattle.reader.specs.Flow.{StandsAt, followed_on, next_is, skip_if}
-use Rattle.reader.specs.Numbers.{NumberGoes, numeral_on}
-use Rattle.reader.proofs.Laws.Flow.{ahead-passed, name-passed, passed, passed-all, stands-followed, stands-skip}
+use Rattle.reader.specs.Numbers.{NumberGoes, numeral_on, place_of, value_of}
+use Rattle.reader.proofs.Laws.Flow.{ahead-passed, name-passed, passed, passed-all, stands-followed, stands-halted, stands-skip}
 use Rattle.reader.proofs.Laws.Decisions.{minus-due, less-related, more-related, no-less-related, no-more-related}
 use Rattle.reader.proofs.Laws.Numbers.{coefficient-asks, numeral-goes, size-goes, stands-numeral}
 use native.Mathlib.Decide.{dec_lt}
@@ -33,12 +36,25 @@ use native.Mathlib.Omega.{arith}
 use borrow.Author.Tests.{le-ltb, lt-ltb}
 use lib.ListN.{length}
 use Rattle.rules.specs.Program.Text.{ascii, digits}
-use Rattle.reader.specs.Limits.{RelationGoes, related_by, side_number}
+use Rattle.reader.specs.declared.limits.Related.{Related}
+use Rattle.reader.specs.Limits.{RelationGoes, read_related, related, related_by, side_number}
+
+-- a value counts where the reading goes on
+with-value : (t : List ℕ) (S : ℤ → ReaderState) (z : ℤ) (r : Result Told Halted) →
+    ((p : ℕ) → place_of r ≡ Ok p → value_of r ≡ z) →
+    read_behind t (S z) (place_of r) ≡ read_behind t (S (value_of r)) (place_of r)
+unfolding read_behind
+with-value t S z (Ok r) v = ap (λ x. read_behind t (S x) (Ok r.at)) (sym (v r.at refl))
+with-value t S z (Err e) v = refl
 
 -- ---- a number
 
+pub number-halted : (t : List ℕ) (e : Halted) (a : Asked) → NumberGoes t (Err e) a (Err e)
+unfolding read_behind
+number-halted t e a = record { goes = λ c A. refl; stands = stands-halted t e }
+
 module _ (t : List ℕ) (so : Followed) (s : StandsAt t so) (a : Asked) where
-  pub number-plain : (told : Told) → told ≡ numeral_on t so false a → next_is t so open_word ≡ false →
+  pub number-plain : (told : Result Told Halted) → told ≡ numeral_on t so false a → next_is t so open_word ≡ false →
       NumberGoes t so a told
   number-plain told q e = subst (NumberGoes t so a) (sym q)
       (record {
@@ -46,27 +62,29 @@ module _ (t : List ℕ) (so : Followed) (s : StandsAt t so) (a : Asked) where
         stands = stands-numeral t so false a s;
       })
 
-  module _ (opened : Followed) (told : Told) (o : opened ≡ followed_on t so (token_bytes open_minus))
+  module _ (opened : Followed) (told : Result Told Halted) (o : opened ≡ followed_on t so (token_bytes open_minus))
       (q : told ≡ numeral_on t opened true a) where
     size-opened : StandsAt t opened
     size-opened = subst (StandsAt t) (sym o) (stands-followed t so (token_bytes open_minus) s)
 
-    pub size-stands : StandsAt t told.to
-    size-stands = subst (λ r. StandsAt t r.to) (sym q) (stands-numeral t opened true a size-opened)
+    pub size-stands : StandsAt t (place_of told)
+    size-stands = subst (λ r. StandsAt t (place_of r)) (sym q) (stands-numeral t opened true a size-opened)
 
-    pub number-minus : (closed : Followed) → closed ≡ followed_on t told.to (token_bytes close) →
-        next_is t so open_word ≡ true → (z : ℤ) → z ≡ told.value → NumberGoes t so a (record { to = closed; value = z })
-    number-minus closed d e z v = subst (λ y. NumberGoes t so a (record { to = closed; value = y })) (sym v) (record {
+    pub number-minus : (r : Result Told Halted) → place_of r ≡ followed_on t (place_of told) (token_bytes close) →
+        ((p : ℕ) → place_of r ≡ Ok p → value_of r ≡ value_of told) → next_is t so open_word ≡ true →
+        NumberGoes t so a r
+    number-minus r d v e = record {
       goes = λ c A.
           minus-due t so s c e
           ∙ passed-all t (token_bytes open_minus) (size c) so s
           ∙ ap (read_behind t (on [] (size c))) (sym o)
           ∙ size-goes t opened size-opened c a A
-          ∙ ap (λ r. read_behind t (ahead (token_bytes close) (taken c r.value)) r.to) (sym q)
-          ∙ ahead-passed t (token_bytes close) (taken c told.value) told.to size-stands
-          ∙ ap (read_behind t (taken c told.value)) (sym d);
-      stands = subst (StandsAt t) (sym d) (stands-followed t told.to (token_bytes close) size-stands);
-    })
+          ∙ ap (λ r. read_behind t (ahead (token_bytes close) (taken c (value_of r))) (place_of r)) (sym q)
+          ∙ ahead-passed t (token_bytes close) (taken c (value_of told)) (place_of told) size-stands
+          ∙ ap (read_behind t (taken c (value_of told))) (sym d)
+          ∙ with-value t (taken c) (value_of told) r v;
+      stands = subst (StandsAt t) (sym d) (stands-followed t (place_of told) (token_bytes close) size-stands);
+    }
 
 -- ---- a term
 
@@ -75,28 +93,29 @@ module _ (t : List ℕ) (so : Followed) (s : StandsAt t so) (j : ℕ) (blank : B
   pub term-opened : StandsAt t opened
   term-opened = subst (StandsAt t) (sym o) (stands-followed t so (token_bytes open_term) s)
 
-  module _ (told : Told) (g : NumberGoes t opened (record { largest = largest_coefficient; blank = blank }) told)
-      (named : Followed) (e : named ≡ skip_if t told.to (next_is t told.to (column_name j))) where
+  module _ (told : Result Told Halted) (g : NumberGoes t opened (record { largest = largest_coefficient; blank = blank }) told)
+      (named : Followed) (e : named ≡ skip_if t (place_of told) (next_is t (place_of told) (column_name j))) where
     pub term-named : StandsAt t named
-    term-named = subst (StandsAt t) (sym e) (stands-skip t told.to (next_is t told.to (column_name j)) g.stands)
+    term-named = subst (StandsAt t) (sym e) (stands-skip t (place_of told) (next_is t (place_of told) (column_name j)) g.stands)
 
-    pub term_told : (closed : Followed) → closed ≡ followed_on t named (token_bytes close) → (z : ℤ) → z ≡ told.value →
-        TermGoes t so j blank (record { to = closed; value = z })
+    pub term_told : (r : Result Told Halted) → place_of r ≡ followed_on t named (token_bytes close) →
+        ((p : ℕ) → place_of r ≡ Ok p → value_of r ≡ value_of told) → TermGoes t so j blank r
     unfolding taken ahead
-    term_told closed d z v = subst (λ y. TermGoes t so j blank (record { to = closed; value = y })) (sym v) (record {
+    term_told r d v = record {
       goes = λ P row q b.
-          let S = behind_term P (row ++ (told.value ∷ [])) in
+          let S = behind_term P (row ++ (value_of told ∷ [])) in
           passed-all t (token_bytes open_term) (number (coefficient P row)) so s
           ∙ ap (read_behind t (on [] (number (coefficient P row)))) (sym o)
           ∙ g.goes (coefficient P row)
           (coefficient-asks P row blank (b ∙ ap (λ k. eqb (suc k) P.n && all_zero row) (sym q)))
-          ∙ ap (λ k. read_behind t (on (column_name k ∷ (token_bytes close ++ S.todo)) S.stage) told.to) q
-          ∙ name-passed t (column_name j) (token_bytes close ++ S.todo) S.stage told.to g.stands
+          ∙ ap (λ k. read_behind t (on (column_name k ∷ (token_bytes close ++ S.todo)) S.stage) (place_of told)) q
+          ∙ name-passed t (column_name j) (token_bytes close ++ S.todo) S.stage (place_of told) g.stands
           ∙ ap (read_behind t (on (token_bytes close ++ S.todo) S.stage)) (sym e)
           ∙ passed t (token_bytes close) S.todo S.stage named term-named
-          ∙ ap (read_behind t S) (sym d);
+          ∙ ap (read_behind t S) (sym d)
+          ∙ with-value t (λ z. behind_term P (row ++ (z ∷ []))) (value_of told) r v;
       stands = subst (StandsAt t) (sym d) (stands-followed t named (token_bytes close) term-named);
-    })
+    }
 
 -- ---- the name of a variable
 
@@ -123,35 +142,46 @@ module _ (t : List ℕ) (so : Followed) (s : StandsAt t so) (count most : ℕ) (
           le-ltb (length P.limits) (2 * (P.n + P.m) + 0 - 1) (omega arith)
           ∙ sym (le-ltb (count + 1) most (omega arith))
 
+  -- a relation that is read
+  went : (left upper strict : Bool) →
+      ((P : Pieces) → length P.limits ≡ count → 2 * (P.n + P.m) ≡ most →
+      read_behind t (on [] (relating P)) so
+      ≡ read_behind t (on [] (bounding P (side_number upper) strict)) (skip_if t so left)) →
+      RelationGoes t so count most (related_by t so left upper strict)
+  unfolding related_by related read_related read_behind
+  went left upper strict h = go (skip_if t so left) (stands-skip t so left s) h
+    where
+      go : (f : Followed) → StandsAt t f →
+          ((P : Pieces) → length P.limits ≡ count → 2 * (P.n + P.m) ≡ most →
+          read_behind t (on [] (relating P)) so ≡ read_behind t (on [] (bounding P (side_number upper) strict)) f) →
+          RelationGoes t so count most (related f upper strict)
+      go (Ok at) g k = record {
+        goes = k;
+        stands = λ r e.
+            let z : record { upper = upper; strict = strict; at = at } ≡ r = cc in
+            subst (λ (p : Related). StandsAt t (Ok p.at)) z g;
+      }
+      go (Err e) g k = record { goes = k; stands = λ r o. cc }
+
   pub no-less-goes : next_is t so no_less ≡ true →
       RelationGoes t so count most (related_by t so (ltb (count + 1) most) false false)
-  unfolding related_by side_number
-  no-less-goes a = record {
-    goes = λ P e f. no-less-related t so s P (ltb (count + 1) most) (same_left P e f) a;
-    stands = stands-skip t so (ltb (count + 1) most) s;
-  }
+  unfolding side_number
+  no-less-goes a = went (ltb (count + 1) most) false false
+      (λ P e f. no-less-related t so s P (ltb (count + 1) most) (same_left P e f) a)
 
   module _ (a : next_is t so no_less ≡ false) where
     pub more-goes : next_is t so more ≡ true →
         RelationGoes t so count most (related_by t so (ltb (count + 1) most) false true)
-    unfolding related_by side_number
-    more-goes b = record {
-      goes = λ P e f. more-related t so s P a (ltb (count + 1) most) (same_left P e f) b;
-      stands = stands-skip t so (ltb (count + 1) most) s;
-    }
+    unfolding side_number
+    more-goes b = went (ltb (count + 1) most) false true
+        (λ P e f. more-related t so s P a (ltb (count + 1) most) (same_left P e f) b)
 
     module _ (b : next_is t so more ≡ false) where
       pub no-more-goes : next_is t so no_more ≡ true → RelationGoes t so count most (related_by t so true true false)
-      unfolding related_by side_number
-      no-more-goes d = record {
-        goes = λ P e f. no-more-related t so s P a b (omega arith) d;
-        stands = stands-skip t so true s;
-      }
+      unfolding side_number
+      no-more-goes d = went true true false (λ P e f. no-more-related t so s P a b (omega arith) d)
 
       pub less-goes : next_is t so no_more ≡ false →
           RelationGoes t so count most (related_by t so (next_is t so less) true true)
-      unfolding related_by side_number
-      less-goes d = record {
-        goes = λ P e f. less-related t so s P a b (omega arith) d;
-        stands = stands-skip t so (next_is t so less) s;
-      }
+      unfolding side_number
+      less-goes d = went (next_is t so less) true true (λ P e f. less-related t so s P a b (omega arith) d)

@@ -1,16 +1,10 @@
--- `reader::flow::is_next` meets its contract. Assumes nothing.
-use mathlib.Core.Path.{ap, sym, ◌∙◌}
-use Rattle.reader.specs.Flow.{next_is, next_token, token_is}
+-- `reader::flow::is_next` meets its contract: there is no token at the end. Assumes nothing.
+use Rattle.std.proofs.Common.{sym, ◌∙◌}
+use Rattle.reader.proofs.Laws.Flow.{token-is-out, token-is-word}
 use Rattle.reader.proofs.flow.is_next.Goals as goal
 
-pub returns-in-Reached : goal.returns-in-Reached
-unfolding next_is next_token
-returns-in-Reached c =
-    let a = c.args in
-    c.is_word.ensures ∙ sym (ap (λ f. next_is a.text.now f a.word.now) c.in-Reached.is)
+pub returns-then-text-at : goal.returns-then-text-at
+returns-then-text-at c = sym (token-is-out c.args.text.now c.args.at c.args.word.now c.if-text-at.true)
 
-pub returns-in-Halted : goal.returns-in-Halted
-unfolding next_is next_token token_is
-returns-in-Halted c =
-    let a = c.args in
-    sym (ap (λ f. next_is a.text.now f a.word.now) c.in-Halted.is)
+pub returns : goal.returns
+returns c = c.eq.ensures ∙ token-is-word c.args.text.now c.args.at c.args.word.now c.if-text-at.false c.stop-end.ensures

@@ -1,17 +1,19 @@
--- `reader::limits::all_limits` meets its contract. The invariant of its loop: the limits before `count` are read. The
--- measure is what is left to do, nothing where the reading was halted. Assumes nothing.
-use mathlib.Core.Path.{refl, subst, sym, ◌∙◌}
+-- `reader::limits::all_limits` meets its contract. The invariant of its loop: the limits before `held.count` are read.
+-- The measure is how many more there can be. Assumes nothing.
+use Rattle.std.proofs.Common.{refl, sym, ◌∙◌, subst}
 use Rattle.rules.specs.Program.Text.{ascii}
 use Rattle.rules.specs.Exchange.Script.{check_sat}
 use Rattle.reader.specs.Course.{EndedAt}
 use Rattle.reader.proofs.Laws.Bounds.{limits-ended, limits-start}
+use Rattle.reader.proofs.Laws.Course.{reached}
 use Rattle.reader.proofs.limits.all_limits.Goals as goal
 
 pub loop-counts-init : goal.loop-counts-init
 loop-counts-init c = (refl, limits-start c.requires)
 
-pub returns-then-not-is_limit : goal.returns-then-not-is_limit
+pub returns : goal.returns
 unfolding check_sat ascii
-returns-then-not-is_limit c =
-    subst (EndedAt _ _ _ _) (sym c.pass.ensures)
-    (limits-ended c.loop-counts.invariant.1 (sym c.is_limit.ensures ∙ c.if-not-is_limit.true))
+returns c =
+    let r = subst (EndedAt _ _ _ _) (sym c.follow.ensures)
+    (limits-ended c.loop-counts.invariant.1 (sym c.is_limit.ensures ∙ c.loop-counts-test.false)) in
+    reached (EndedAt _ _ _ _) c.follow.result r r.on-course

@@ -9,4 +9,4 @@ use Rattle.reader.proofs.limits.is_limit.Goals as goal
 pub returns : goal.returns
 unfolding assert_token ascii
 returns c =
-    let a = c.args in ap (λ b. b && ltb a.count a.most) c.is_next.ensures
+    let a = c.args in ap (λ b. b && ltb a.held.count a.most) c.is_next.ensures

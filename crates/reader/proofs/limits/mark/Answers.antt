@@ -1,6 +1,5 @@
 -- `reader::limits::mark` meets its contract. Assumes nothing.
-use mathlib.Core.Path.{sym, ap}
-use lib.IntN.{pos}
+use Rattle.std.proofs.Common.{sym, ap, pos}
 use Rattle.reader.specs.Limits.{mark_of}
 use Rattle.reader.proofs.limits.mark.Goals as goal
 
@@ -8,6 +7,6 @@ pub returns-then-strict : goal.returns-then-strict
 unfolding mark_of
 returns-then-strict c = sym (ap (λ b. pos (mark_of b)) c.if-strict.true)
 
-pub returns : goal.returns
+pub returns-else-strict : goal.returns-else-strict
 unfolding mark_of
-returns c = sym (ap (λ b. pos (mark_of b)) c.if-strict.false)
+returns-else-strict c = sym (ap (λ b. pos (mark_of b)) c.if-strict.false)

@@ -1,15 +1,16 @@
 -- `reader::limits::relate` meets its contract. Assumes nothing.
-use mathlib.Core.Bool.{Bool}
-use mathlib.Core.Path.{ap}
-use Rattle.tokens.specs.declared.Followed.{Followed}
-use Rattle.reader.specs.declared.limits.Related.{Related}
-use Rattle.reader.specs.Limits.{related_by}
+use Rattle.std.proofs.Common.{sym, ◌∙◌, ap}
+use Rattle.std.proofs.lemmas.Result.{err_from_is_err_and}
+use Rattle.reader.specs.Limits.{related, related_by}
 use Rattle.reader.proofs.limits.relate.Goals as goal
 
-abbrev related_to : Followed → Bool → Bool → Related
-related_to so upper strict = record { to = so; upper = upper; strict = strict }
+pub returns-in_err-behind : goal.returns-in_err-behind
+unfolding related_by related
+returns-in_err-behind c =
+    let p = err_from_is_err_and c.from_residual.result c.from_residual.ensures.1 in
+    rw (p.1, p.2)
+    (ap (λ f. related f c.args.upper c.args.strict) (sym c.in_err-behind.was ∙ c.skip_if.ensures))
 
 pub returns : goal.returns
-unfolding related_by
-returns c =
-    let a = c.args in ap (λ so. related_to so a.upper a.strict) c.skip_if.ensures
+unfolding related_by related
+returns c = ap (λ f. related f c.args.upper c.args.strict) (sym c.in_ok-behind.was ∙ c.skip_if.ensures)

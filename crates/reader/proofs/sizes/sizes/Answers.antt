@@ -1,24 +1,64 @@
 -- `reader::sizes::sizes` meets its contract. Assumes nothing.
-use mathlib.Core.Path.{refl}
+use Rattle.std.proofs.Common.{sym, ◌∙◌, refl, Ok, Err}
+use Rattle.std.proofs.lemmas.Result.{err_from_is_err_and}
 use Rattle.rules.specs.Program.Text.{ascii}
 use Rattle.rules.specs.Exchange.Script.{column_name, declare_const, set_logic}
-use Rattle.reader.proofs.Laws.Steps.{first-declared, first_reads, logic-stands, opened-stands}
+use Rattle.reader.proofs.Laws.Course.{refused-at}
+use Rattle.reader.proofs.Laws.Steps.{first-declared, first_reads, logic-reads, opened-reads}
 use Rattle.reader.proofs.sizes.sizes.Goals as goal
 
-pub pass-logic-requires : goal.pass-logic-requires
-pass-logic-requires c = (first_reads _ _ c.start.ensures).stands
+pub follow-requires : goal.follow-requires
+follow-requires c =
+    let s = (first_reads c.args.text.now _ c.start.ensures).stands in
+    (s.inside _ refl, s.starts _ refl)
 
-pub pass-opened-requires : goal.pass-opened-requires
-unfolding set_logic declare_const ascii
-pass-opened-requires c =
-    logic-stands _ _ c.start.ensures _ _ c.pass-logic.ensures refl
+pub returns-in_err-logic : goal.returns-in_err-logic
+unfolding set_logic ascii
+returns-in_err-logic c =
+    let x = c.in_err-logic.field-0.0 in
+    let p = err_from_is_err_and c.from_residual.result c.from_residual.ensures.1 in
+    rw (p.1, p.2)
+    (refused-at
+    (logic-reads c.args.text.now _ c.start.ensures (Err x) (Err x) (sym c.in_err-logic.was ∙ c.follow.ensures) refl)
+    refl)
 
-pub named_real-so-requires : goal.named_real-so-requires
+pub follow-requires-2 : goal.follow-requires-2
 unfolding set_logic declare_const ascii
-named_real-so-requires c =
-    opened-stands _ _ c.start.ensures _ _ c.pass-logic.ensures c.pass-opened.ensures
+follow-requires-2 c =
+    let s = (logic-reads c.args.text.now _ c.start.ensures (Ok c.in_ok-logic.logic) _
+    (sym c.in_ok-logic.was ∙ c.follow.ensures) refl).stands in
+    (s.inside _ refl, s.starts _ refl)
+
+pub returns-in_err-opened : goal.returns-in_err-opened
+unfolding set_logic declare_const ascii
+returns-in_err-opened c =
+    let x = c.in_err-opened.field-0.0 in
+    let p = err_from_is_err_and c.from_residual-in_err-opened.result c.from_residual-in_err-opened.ensures.1 in
+    rw (p.1, p.2)
+    (refused-at
+    (opened-reads c.args.text.now _ c.start.ensures (Ok c.in_ok-logic.logic) (Err x)
+    (sym c.in_ok-logic.was ∙ c.follow.ensures) (sym c.in_err-opened.was ∙ c.follow-2.ensures)) refl)
+
+pub named_real-requires : goal.named_real-requires
+unfolding set_logic declare_const ascii
+named_real-requires c =
+    (opened-reads c.args.text.now _ c.start.ensures (Ok c.in_ok-logic.logic) (Ok c.in_ok-opened.opened)
+    (sym c.in_ok-logic.was ∙ c.follow.ensures) (sym c.in_ok-opened.was ∙ c.follow-2.ensures)).stands
+
+pub returns-in_err-at : goal.returns-in_err-at
+unfolding set_logic declare_const column_name ascii
+returns-in_err-at c =
+    let x = c.in_err-at.field-0.0 in
+    let p = err_from_is_err_and c.from_residual-in_err-at.result c.from_residual-in_err-at.ensures.1 in
+    rw (p.1, p.2)
+    (refused-at
+    (first-declared c.args.text.now _ c.start.ensures (Ok c.in_ok-logic.logic) (Ok c.in_ok-opened.opened)
+    (sym c.in_ok-logic.was ∙ c.follow.ensures) (sym c.in_ok-opened.was ∙ c.follow-2.ensures) (Err x)
+    (sym c.in_err-at.was ∙ c.named_real.ensures)).on-course refl)
 
 pub declarations-requires : goal.declarations-requires
 unfolding set_logic declare_const column_name ascii
 declarations-requires c =
-    first-declared _ _ c.start.ensures _ _ c.pass-logic.ensures c.pass-opened.ensures _ c.named_real-so.ensures
+    first-declared c.args.text.now _ c.start.ensures (Ok c.in_ok-logic.logic) (Ok c.in_ok-opened.opened)
+    (sym c.in_ok-logic.was ∙ c.follow.ensures) (sym c.in_ok-opened.was ∙ c.follow-2.ensures) (Ok c.in_ok-at.at)
+    (sym c.in_ok-at.was ∙ c.named_real.ensures)
