@@ -1,6 +1,6 @@
 -- A divisor that is tried: quotients that are multiplied back, one column, all columns.
 use Rattle.std.specs.Prelude.{ℕ, ◌+◌, ◌*◌, ◌≤◌, ◌<◌, ◌≡◌, Bool, true, false, List, ◌⊎◌, T, ltb, ℤ, pos, nat_abs, ◌*ℤ◌}
-use Rattle.std.specs.Prelude.{length, get_or}
+use Rattle.std.specs.Prelude.{length, get_or, Result, Ok, Err}
 use Rattle.std.specs.Int.{◌∣◌}
 use Rattle.whole.specs.Below.{fold_below, some_below}
 use Rattle.whole.specs.Divisors.{gcd}
@@ -10,8 +10,6 @@ use Rattle.rules.specs.Sizes.{most_rows, largest_number}
 use Rattle.pivot.specs.declared.asked.Asked.{Asked}
 use Rattle.pivot.specs.declared.border.Border.{Border}
 use Rattle.pivot.specs.declared.column.Column.{Column}
-use Rattle.pivot.specs.declared.settle.Tried.{Tried}
-use Rattle.pivot.specs.declared.settle.Tried.TheVariants as tries
 use Rattle.pivot.specs.declared.settle.Settled.{Settled}
 use Rattle.pivot.specs.declared.settle.Settled.TheVariants as ends
 use Rattle.pivot.specs.Asked.{entries_for, fits_for}
@@ -59,9 +57,9 @@ unfoldable pub some_above : List ℤ → List ℤ → Column → ℕ → ℕ →
 some_above l besides c k limit = some_below k (λ i. ltb limit (nat_abs (difference_in l besides c i)))
 
 -- what a trial of all columns tells: every quotient is right, or which column has one that is not
-abbrev pub TriedAs : List ℤ → Border → ℤ → Tried → List ℤ → Type 0
-TriedAs l b z tries.Exact out = (k : ℕ) → k < in_border b → Quotient z (difference_at l b k) (get_or out k (pos 0))
-TriedAs l b z (tries.Wrong j) out = j < b.columns
+abbrev pub TriedAs : List ℤ → Border → ℤ → Result (Unit {0}) ℕ → List ℤ → Type 0
+TriedAs l b z (Ok _) out = (k : ℕ) → k < in_border b → Quotient z (difference_at l b k) (get_or out k (pos 0))
+TriedAs l b z (Err j) out = j < b.columns
 
 -- the divisor z of a number and all cells is found, and the quotients by it are written over old ones
 pub record DivisorFound (l : List ℤ) (b : Border) (from : ℤ) (old : List ℤ) (z : ℤ) (out : List ℤ) : Type 0 where

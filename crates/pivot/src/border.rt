@@ -82,9 +82,9 @@ fn part_of(numbers: &[i32], start: u64) -> u64
 }
 
 // The greatest common divisor of the pivot, the common number and the border.
-pub fn border_divisor(border: Border, common: i32) -> u64
-    requires { (border.rows ≤ most_rows) × (border.columns ≤ most_columns) }
-    ensures { result ≡ border_divisor border common }
+pub fn border_divisor(border: &Border, common: i32) -> u64
+    requires { (border.now.rows ≤ most_rows) × (border.now.columns ≤ most_columns) }
+    ensures { result ≡ border_divisor border.now common }
 {
     let both = divisor::common_of(
         u64::from(border.pivot.unsigned_abs()),

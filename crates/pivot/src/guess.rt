@@ -8,6 +8,7 @@ pub struct Divider {
     pub by: i32,
     pub twos: u32,
     pub factor: u32,
+    ghost few: { twos < 64 },
 }
 
 // The low half of a number.
@@ -32,7 +33,7 @@ fn nearer(odd: u32, x: u32) -> u32 {
 }
 
 pub fn divider_of(by: i32) -> Divider
-    ensures { (result.by ≡ by) × (result.twos < 64) }
+    ensures { result.by ≡ by }
 {
     let twos = u32::trailing_zeros(low(by as i64));
     let odd = low(by as i64 >> twos);
@@ -46,8 +47,6 @@ pub fn divider_of(by: i32) -> Divider
 }
 
 // What a number over the divisor is, if it is whole and fits.
-pub fn guess(raw: i64, divider: Divider) -> i32
-    requires { divider.twos < 64 }
-{
+pub fn guess(raw: i64, divider: Divider) -> i32 {
     signed_half(low_product(low(raw >> divider.twos), divider.factor))
 }

@@ -7,8 +7,8 @@ ghost use Rattle.layout.specs.Layout.{most_entries};
 ghost use Rattle.pivot.specs.Trials.{EndsAs};
 
 use crate::asked::Asked;
-use crate::settle::Settled;
-use crate::{border, numbers, settle};
+use crate::settle::{Settled, Trials};
+use crate::{border, numbers};
 use layout::MOST_ENTRIES;
 
 // Whether two sizes together are within the largest number.
@@ -31,10 +31,14 @@ pub fn quick(entries: &[i32; MOST_ENTRIES], asked: Asked, out: &mut [i32; MOST_E
     }
     let border = border::border_of(entries, asked);
     let first = u64::from(asked.common.unsigned_abs())
-        * border::border_divisor(border, asked.common);
+        * border::border_divisor(&border, asked.common);
     if first > rules::LARGEST_NUMBER as u64 {
         return Settled::Open;
     }
     let from = divisor::signed(numbers::product_of(entries, asked), first) as i32;
-    settle::settle(entries, border, from, out)
+    Trials {
+        entries,
+        border: &border,
+    }
+    .settle(from, out)
 }

@@ -7,7 +7,7 @@ use Rattle.pivot.proofs.border.border_divisor.Goals as goal
 
 pub returns : goal.returns
 returns c =
-    let b = c.args.border in
+    let b = c.args.border.now in
     let rows : b.rows ≤ length b.besides = omega arith in
     let columns : b.columns ≤ length b.aboves = omega arith in
     let pivot : FitsSigned w32 b.pivot = search rules in
