@@ -1,5 +1,5 @@
 -- The text of a file, body after body.
---   put-more        a text that is short is within a larger bound
+--   put-within      a text that is short is within a larger bound
 --   body-reply      a body's own text is what the program prints for its words with the rows of its edition
 --   day-refused-by  the text of a file that is refused
 use mathlib.Core.List.{List}
@@ -16,11 +16,12 @@ use Rattle.rules.specs.Program.Text.{refusal_text}
 use Rattle.rules.specs.Bundle.File.{file_refusal, rows_in}
 use Rattle.rules.specs.Bundle.Day.{body_refusal, body_text, day_after, day_text}
 use Rattle.put.specs.Put.{PutShort}
+use Rattle.put.specs.declared.Writer.{Writer}
 use Rattle.rules.proofs.Bundle.Places.{edition-rows}
 
 -- a text that is short is within a larger bound
-pub put-more : {l s m : List ℕ} {a b i j : ℕ} → a ≤ b → PutShort a l i s m j → PutShort b l i s m j
-put-more h p = record { put = p.put; short = omega (arith, p.short) }
+pub put-within : {v w : Writer} {s : List ℕ} {a b : ℕ} → a ≤ b → PutShort a v s w → PutShort b v s w
+put-within h p = record { put = p.put; short = omega (arith, p.short) }
 
 -- no edition has more rows than a problem
 pub body-reply : (e rows : ℕ) → rows ≡ rows_in e → (body : List ℤ) →

@@ -10,53 +10,50 @@ ghost use Rattle.put.specs.Put.{PutShort};
 ghost use Rattle.bundle.specs.Opened.{Opened};
 
 use bundle::body::{part_of, rows_of};
-use bundle::judge::file_refusal;
 use lines::respond::{MOST_TEXT, put_refusal, put_reply};
 use lines::write_text;
+use put::Writer;
 use words::count_at;
 
 // No text of a day has more bytes.
 pub const MOST_DAY_TEXT: usize = rules::MOST_BODIES * MOST_TEXT;
 
-// The text of body `i`, with the rows of the file's edition, put at a place.
-fn put_body(out: &mut [u8], at: usize, rows: u32, words: &[i32], i: usize) -> usize
-    requires { Opened words.now × (i < count_in words.now) × (at + most_text < 2 ^ 64)
+// The text of body `i`, with the rows of the file's edition.
+fn put_body(out: &mut Writer, rows: u32, words: &[i32], i: usize)
+    requires { Opened words.now × (i < count_in words.now) × (out.old.at + most_text < 2 ^ 64)
         × (rows ≡ rows_in (edition_in words.now)) }
-    ensures { PutShort most_text out.old at
-        (body_text (edition_in words.now) (body_in words.now i)) out.new result }
+    ensures { PutShort most_text out.old (body_text (edition_in words.now) (body_in words.now i)) out.new }
 {
     let part = part_of(words, i);
-    let first = part.first;
-    let end = part.end;
-    put_reply(out, at, rows, &words[first..end])
+    put_reply(out, rows, &words[part.first..part.end]);
 }
 
-// The texts of all bodies, at the front.
-fn put_bodies(out: &mut [u8], words: &[i32]) -> usize
-    requires { Opened words.now }
-    ensures { PutShort most_day_text out.old 0 (lines_below (count_in words.now)
-        (λ i. body_text (edition_in words.now) (body_in words.now i))) out.new result }
+// The texts of all bodies.
+fn put_bodies(out: &mut Writer, words: &[i32])
+    requires { Opened words.now × (out.old.at + most_day_text < 2 ^ 64) }
+    ensures { PutShort most_day_text out.old (lines_below (count_in words.now)
+        (λ i. body_text (edition_in words.now) (body_in words.now i))) out.new }
 {
     let rows = rows_of(words);
     let bodies = count_at(words, 1);
-    let mut next = 0usize;
     for i in 0..bodies {
-        next = put_body(out, next, rows, words, i);
+        put_body(out, rows, words, i);
     }
-    next
 }
 
-// The text of a file, at the front.
-fn put_day(out: &mut [u8], file: &[u8]) -> usize
-    ensures { PutShort most_day_text out.old 0 (day_text file.now) out.new result }
+// The text of a file.
+fn put_day(out: &mut Writer, file: &[u8])
+    requires { out.old.at + most_day_text < 2 ^ 64 }
+    ensures { PutShort most_day_text out.old (day_text file.now) out.new }
 {
-    let refused = file_refusal(file);
-    if refused != 0 {
-        return put_refusal(out, 0, refused);
+    match bundle::judge::judge(file) {
+        Err(refusal) => put_refusal(out, refusal.number()),
+        Ok(()) => {
+            let mut words = [0i32; rules::MOST_FILE_WORDS];
+            let count = wire::words_of(file, &mut words);
+            put_bodies(out, &words[..count]);
+        }
     }
-    let mut words = [0i32; rules::MOST_FILE_WORDS];
-    let count = wire::words_of(file, &mut words);
-    put_bodies(out, &words[..count])
 }
 
 // Prints a file, and answers how long its text is; a slice that is too short for all of it is kept.
@@ -66,7 +63,9 @@ pub fn day(file: &[u8], out: &mut [u8]) -> usize
     ensures output { out.new ≡ printed (day_text file.now) out.old }
 {
     let mut text = [0u8; MOST_DAY_TEXT];
-    let size = put_day(&mut text, file);
+    let mut writer = Writer::new(&mut text);
+    put_day(&mut writer, file);
+    let size = writer.place();
     write_text(&text[..size], out);
     size
 }

@@ -7,6 +7,7 @@
 --   words-few, words-front              how many words there are, and where they stand
 --   put_as                              a text that is another is put as it
 --   vars-few                            as many variables as the writer takes
+--   front-words, front-long             words that were made of bytes stand at the front
 use mathlib.Core.List.{List, [], ◌∷◌, ◌++◌}
 use mathlib.Core.Logic.{◌≢◌}
 use mathlib.Core.Path.{◌≡◌, ap, refl, sym, ◌∙◌}
@@ -107,3 +108,12 @@ module _ (bs : List ℕ) where
       take-append-all [] t (suc i) q = let z : ⊥ = omega arith in absurd z
       take-append-all (a ∷ s) t zero q = let z : ⊥ = omega arith in absurd z
       take-append-all (a ∷ s) t (suc i) q = ap (λ l. a ∷ l) (take-append-all s t i (omega arith))
+
+-- words that were made of bytes stand at the front
+module _ (bytes : List ℕ) (rest : List ℤ) {k : ℕ} {words : List ℤ} (count : k ≡ length bytes / 4)
+    (content : words ≡ words_from bytes ++ rest) where
+  pub front-words : take k words ≡ words_from bytes
+  front-words = ap (take k) content ∙ words-front bytes rest k count
+
+  pub front-long : k ≡ length (take k words)
+  front-long = count ∙ sym (ap length front-words ∙ words-length bytes)

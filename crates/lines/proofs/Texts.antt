@@ -1,6 +1,6 @@
 -- Lines put one behind the other, and whole texts.
 --   text-lines-start, -room, -more   the lines of the variables below a number: none, room for one more, one more
---   printed-none, -all, -as, -same, -only   a whole text in a slice, or none of it; bytes_fit, that it is there
+--   printed-none, -all, -as, -only   a whole text in a slice, or none of it; bytes_fit, that it is there
 --   front-size, printed-from         a text that is put into another slice first, and is written from there
 --   short-clash                 a slice of as many bytes as the longest text has is not too short
 use mathlib.Core.Path.{◌≡◌, refl, sym, ◌∙◌, ap}
@@ -65,10 +65,6 @@ module _ {text before : List ℕ} where
 printed-as : {text other before after : List ℕ} {n : ℕ} {r : Option ℕ} (most : ℕ) → text ≡ other →
     length other ≤ most → Printed n text before after r → Printed most other before after r
 printed-as most e h p = record { short = h; answer = rw (← e) p.answer; bytes = rw (← e) p.bytes }
-
-pub printed-same : {text other before after : List ℕ} {most : ℕ} {r : Option ℕ} → text ≡ other →
-    Printed most text before after r → Printed most other before after r
-printed-same {most} e p = printed-as most e (rw (← e) p.short) p
 
 -- a text that was put into a slice with room for it, and is written from there
 module _ {text : List ℕ} {most : ℕ} {v w : Writer} (p : PutShort most v text w) (z : v.at ≡ 0)

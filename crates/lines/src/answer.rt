@@ -46,7 +46,8 @@ fn put_head(out: &mut Writer, verdict: &[u8], answer: &[i64])
 
 // Verdict 1.
 fn put_can(out: &mut Writer, answer: &[i64], variables: usize)
-    requires { (variables ≤ most_variables) × (3 + 2 * variables ≤ length answer.now) × (out.old.at + most_text < 2 ^ 64) }
+    requires { (variables ≤ most_variables) × (3 + 2 * variables ≤ length answer.now)
+        × (out.old.at + most_text < 2 ^ 64) }
     ensures { PutShort most_text out.old (can_text answer.now variables) out.new }
 {
     put_head(out, b"can\n", answer);
@@ -56,7 +57,8 @@ fn put_can(out: &mut Writer, answer: &[i64], variables: usize)
 
 // Verdict 2.
 fn put_cannot(out: &mut Writer, answer: &[i64], variables: usize)
-    requires { (variables ≤ most_variables) × (3 + 2 * variables ≤ length answer.now) × (out.old.at + most_text < 2 ^ 64) }
+    requires { (variables ≤ most_variables) × (3 + 2 * variables ≤ length answer.now)
+        × (out.old.at + most_text < 2 ^ 64) }
     ensures { PutShort most_text out.old (cannot_text answer.now variables) out.new }
 {
     put_head(out, b"cannot\n", answer);
@@ -65,7 +67,8 @@ fn put_cannot(out: &mut Writer, answer: &[i64], variables: usize)
 
 // The text that the verdict asks for.
 pub fn put_answer(out: &mut Writer, answer: &[i64], variables: usize)
-    requires { (variables ≤ most_variables) × (3 + 2 * variables ≤ length answer.now) × (out.old.at + most_text < 2 ^ 64) }
+    requires { (variables ≤ most_variables) × (3 + 2 * variables ≤ length answer.now)
+        × (out.old.at + most_text < 2 ^ 64) }
     ensures { PutShort most_text out.old (answer_text answer.now variables) out.new }
 {
     let verdict = answer[0];

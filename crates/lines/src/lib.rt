@@ -8,8 +8,8 @@ pub mod respond;
 ghost use Rattle.std.specs.Prelude.{length};
 ghost use Rattle.lines.specs.Printed.{Printed};
 
-// A text at the front of a slice, where all of it fits: so many bytes. `None` where the slice is too short for it, and as
-// it was.
+// A text at the front of a slice, where all of it fits: so many bytes. `None` where the slice is too short for it,
+// and as it was.
 pub fn write_text(text: &[u8], out: &mut [u8]) -> Option<usize>
     ensures { Printed (length text.now) text.now out.old out.new result }
 {

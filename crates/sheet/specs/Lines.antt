@@ -1,10 +1,9 @@
 -- The lines of a sheet, from the struct: those of rules/specs/Sheet/Text with its counts.
-use Rattle.std.specs.Prelude.{List, ◌++◌, ℕ, pos, get_or}
+use Rattle.std.specs.Prelude.{List, None, Option, Some, ◌++◌, ℕ, pos, get_or}
 use Rattle.std.proofs.Math.Option as math
 use Rattle.rules.specs.Program.Text.{ascii, line, lines_below}
 use Rattle.rules.specs.Sheet.Text.{largest_line, named_line, refused_lines}
 use Rattle.rules.specs.Sizes.{most_variables}
-use Rattle.std.specs.Prelude.{Some, None}
 use Rattle.tally.specs.declared.Totals.{Totals}
 
 abbrev pub count_at : List ℕ → ℕ → ℕ

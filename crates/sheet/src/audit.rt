@@ -15,12 +15,13 @@ fn audited(totals: Totals, most: u32, words: &[i32], body: usize) -> Totals
     ensures { result ≡ audited_at (rows_within most) totals words.now body }
 {
     let mut answer = [0i64; rules::MOST_ANSWER];
-    let number = solver::solve_within(most, words, &mut answer);
-    if number != 0 {
-        return tally::refused(totals, number);
+    match solver::solve_within(most, words, &mut answer) {
+        Err(refusal) => tally::refused(totals, refusal.number()),
+        Ok(()) => {
+            let variables = count_at(words, 0) + count_at(words, 1);
+            tally::counted(totals, &answer, variables, body)
+        }
     }
-    let variables = count_at(words, 0) + count_at(words, 1);
-    tally::counted(totals, &answer, variables, body)
 }
 
 // All bodies, in their order, with the rows of the file's edition.
@@ -33,9 +34,7 @@ pub fn totals(words: &[i32]) -> Totals
     let mut sums = tally::nothing();
     for i in 0..bodies {
         let part = part_of(words, i);
-        let first = part.first;
-        let end = part.end;
-        sums = audited(sums, rows, &words[first..end], i);
+        sums = audited(sums, rows, &words[part.first..part.end], i);
     }
     sums
 }

@@ -1,124 +1,115 @@
-// The lines of a sheet, put at a place of a lent slice.
+// The lines of a sheet, put by a writer.
 ghost use Rattle.std.specs.Prelude.{◌+◌, pos};
 ghost use Rattle.rules.specs.Program.Text.{line};
 ghost use Rattle.rules.specs.Sheet.Text.{body_name, largest_line, named_line, refused_line, refused_lines};
 ghost use Rattle.put.specs.Put.{Put, Room};
 ghost use Rattle.sheet.specs.Lines.{count_at, count_lines, reached_name, named_lines, sheet_of};
 
-use put::{put_byte, put_digits, put_text};
-use tally::{Reached, Totals};
+use put::Writer;
+use tally::Totals;
 
 // A name and a count.
-fn put_count(out: &mut [u8], at: usize, name: &[u8], count: u64) -> usize
-    requires { Room at (line name.now (pos count)) }
-    ensures { Put out.old at (line name.now (pos count)) out.new result }
+fn put_count(out: &mut Writer, name: &[u8], count: u64)
+    requires { Room out.old (line name.now (pos count)) }
+    ensures { Put out.old (line name.now (pos count)) out.new }
 {
-    let named = put_text(out, at, name);
-    let told = put_digits(out, named, count);
-    put_byte(out, told, b'\n')
+    out.text(name);
+    out.digits(count);
+    out.byte(b'\n');
 }
 
 // The bodies, and those of each verdict.
-fn put_counts(out: &mut [u8], at: usize, totals: Totals) -> usize
-    requires { Room at (count_lines totals) }
-    ensures { Put out.old at (count_lines totals) out.new result }
+fn put_counts(out: &mut Writer, totals: Totals)
+    requires { Room out.old (count_lines totals) }
+    ensures { Put out.old (count_lines totals) out.new }
 {
-    let bodies = put_count(out, at, b"bodies ", totals.bodies);
-    let can = put_count(out, bodies, b"can ", totals.can);
-    let cannot = put_count(out, can, b"cannot ", totals.cannot);
-    put_count(out, cannot, b"range ", totals.range)
+    put_count(out, b"bodies ", totals.bodies);
+    put_count(out, b"can ", totals.can);
+    put_count(out, b"cannot ", totals.cannot);
+    put_count(out, b"range ", totals.range);
 }
 
 // A refusal, and how often it came.
-fn put_refused(out: &mut [u8], at: usize, number: u64, count: u64) -> usize
-    requires { Room at (refused_line number count) }
-    ensures { Put out.old at (refused_line number count) out.new result }
+fn put_refused(out: &mut Writer, number: u64, count: u64)
+    requires { Room out.old (refused_line number count) }
+    ensures { Put out.old (refused_line number count) out.new }
 {
-    let named = put_text(out, at, b"refused ");
-    let told = put_digits(out, named, number);
-    put_count(out, told, b" ", count)
+    out.text(b"refused ");
+    out.digits(number);
+    put_count(out, b" ", count);
 }
 
 // Refusals 1 to 6, then 10.
-fn put_refusals(out: &mut [u8], at: usize, refused: [u64; tally::REFUSALS]) -> usize
-    requires { Room at (refused_lines (count_at refused)) }
-    ensures { Put out.old at (refused_lines (count_at refused)) out.new result }
+fn put_refusals(out: &mut Writer, refused: [u64; tally::REFUSALS])
+    requires { Room out.old (refused_lines (count_at refused)) }
+    ensures { Put out.old (refused_lines (count_at refused)) out.new }
 {
-    let mut next = at;
     for j in 0..6usize {
         let k = j + 1;
-        let count = refused[k];
-        next = put_refused(out, next, k as u64, count);
+        put_refused(out, k as u64, refused[k]);
     }
-    let last = refused[10];
-    put_refused(out, next, 10, last)
+    put_refused(out, 10, refused[10]);
 }
 
 // The body that reached the largest, or `none`.
-fn put_reached(out: &mut [u8], at: usize, reached: Reached) -> usize
-    requires { Room at (body_name (reached_name reached)) }
-    ensures { Put out.old at (body_name (reached_name reached)) out.new result }
+fn put_reached(out: &mut Writer, reached: Option<usize>)
+    requires { Room out.old (body_name (reached_name reached)) }
+    ensures { Put out.old (body_name (reached_name reached)) out.new }
 {
     match reached {
-        Reached::Nobody => put_text(out, at, b"none"),
-        Reached::Body(body) => put_digits(out, at, body as u64),
+        None => out.text(b"none"),
+        Some(body) => out.digits(body as u64),
     }
 }
 
 // The most pivots, and who reached them.
-fn put_largest(out: &mut [u8], at: usize, largest: u64, reached: Reached) -> usize
-    requires { Room at (largest_line largest (reached_name reached)) }
-    ensures { Put out.old at (largest_line largest (reached_name reached)) out.new result }
+fn put_largest(out: &mut Writer, largest: u64, reached: Option<usize>)
+    requires { Room out.old (largest_line largest (reached_name reached)) }
+    ensures { Put out.old (largest_line largest (reached_name reached)) out.new }
 {
-    let named = put_text(out, at, b"largest ");
-    let told = put_digits(out, named, largest);
-    let by = put_text(out, told, b" body ");
-    let end = put_reached(out, by, reached);
-    put_byte(out, end, b'\n')
+    out.text(b"largest ");
+    out.digits(largest);
+    out.text(b" body ");
+    put_reached(out, reached);
+    out.byte(b'\n');
 }
 
 // A variable, and how often its limits were named.
-fn put_named(out: &mut [u8], at: usize, variable: u64, lower: u64, upper: u64) -> usize
-    requires { Room at (named_line variable lower upper) }
-    ensures { Put out.old at (named_line variable lower upper) out.new result }
+fn put_named(out: &mut Writer, variable: u64, lower: u64, upper: u64)
+    requires { Room out.old (named_line variable lower upper) }
+    ensures { Put out.old (named_line variable lower upper) out.new }
 {
-    let named = put_digits(out, at, variable);
-    let next = put_text(out, named, b" lower ");
-    let told = put_digits(out, next, lower);
-    put_count(out, told, b" upper ", upper)
+    out.digits(variable);
+    out.text(b" lower ");
+    out.digits(lower);
+    put_count(out, b" upper ", upper);
 }
 
 // All variables.
 fn put_names(
-    out: &mut [u8],
-    at: usize,
+    out: &mut Writer,
     lower: [u64; rules::MOST_VARIABLES],
     upper: [u64; rules::MOST_VARIABLES],
-) -> usize
-    requires { Room at (named_lines lower upper) }
-    ensures { Put out.old at (named_lines lower upper) out.new result }
+)
+    requires { Room out.old (named_lines lower upper) }
+    ensures { Put out.old (named_lines lower upper) out.new }
 {
-    let mut next = at;
     for v in 0..rules::MOST_VARIABLES {
-        let below = lower[v];
-        let above = upper[v];
-        next = put_named(out, next, v as u64, below, above);
+        put_named(out, v as u64, lower[v], upper[v]);
     }
-    next
 }
 
 // The whole sheet.
-pub fn put_sheet(out: &mut [u8], at: usize, totals: Totals) -> usize
-    requires { Room at (sheet_of totals) }
-    ensures { Put out.old at (sheet_of totals) out.new result }
+pub fn put_sheet(out: &mut Writer, totals: Totals)
+    requires { Room out.old (sheet_of totals) }
+    ensures { Put out.old (sheet_of totals) out.new }
 {
     let refused = totals.refused;
     let lower = totals.lower;
     let upper = totals.upper;
-    let reached = totals.reached;
-    let counts = put_counts(out, at, totals);
-    let refusals = put_refusals(out, counts, refused);
-    let pivots = put_count(out, refusals, b"pivots ", totals.pivots);
-    let largest = put_largest(out, pivots, totals.largest, reached);
-    put_names(out, largest, lower, upper)
+    put_counts(out, totals);
+    put_refusals(out, refused);
+    put_count(out, b"pivots ", totals.pivots);
+    put_largest(out, totals.largest, totals.reached);
+    put_names(out, lower, upper);
 }

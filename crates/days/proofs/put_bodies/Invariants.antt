@@ -16,7 +16,7 @@ text_of words i = body_text (edition_in words) (body_in words i)
 
 abbrev pub invariant-loop-i : goal.invariant-loop-i
 invariant-loop-i l =
-    (l.i ≤ l.bodies) × PutShort (most_text * l.i) l.initial.out 0 (lines_below l.i (text_of l.words)) l.out l.next
+    (l.i ≤ l.bodies) × PutShort (most_text * l.i) l.initial.out (lines_below l.i (text_of l.words)) l.out
 
 abbrev pub decreases-loop-i : goal.decreases-loop-i
 decreases-loop-i l = l.bodies - l.i

@@ -6,7 +6,7 @@ use mathlib.Core.List.{List, ◌++◌}
 use mathlib.Core.Option.{Option, none, some}
 use mathlib.Core.Logic.{◌≢◌}
 use mathlib.Core.Path.{ap, ap₂, refl, sym, ◌∙◌, ◌≡◌}
-use Prim.Native.Nat.{suc, zero, ℕ, ◌+◌, ◌<◌}
+use Prim.Native.Nat.{suc, zero, ℕ, ◌+◌, ◌^◌, ◌<◌}
 use native.Mathlib.Omega.{arith}
 use lib.IntN.{pos, ℤ}
 use Rattle.whole.proofs.Lists.Tables.{table_at}
@@ -21,6 +21,7 @@ use Rattle.rules.specs.Sizes.{most_sheet, most_text, most_variables}
 use Rattle.rules.proofs.Bundle.Bodies.{bodies-many}
 use Rattle.rules.proofs.Sheet.File.{file-sheet-short, sheet-is, sheet-refused}
 use Rattle.put.specs.Put.{Put, PutShort, Room}
+use Rattle.put.specs.declared.Writer.{Writer}
 use Rattle.whole.specs.Tables.{table}
 use Rattle.sheet.specs.Lines.{count_at, count_lines, reached_name, named_lines, sheet_of}
 use Rattle.tally.specs.Sums.{reached_by, totals_in, totals_of}
@@ -87,16 +88,15 @@ module _ (bs : List ℕ) (fine : file_refusal bs ≡ 0) {t : Totals} (is : t ≡
       ∙ ap (λ k. sheet_lines (rows_in (edition_in ws)) k (body_at (bodies_in ws))) (sym (bodies-many ws))
       ∙ sym (sheet-is bs fine)
 
-  pub sheet-room : Room 0 (sheet_of t)
-  sheet-room = let h = file-sheet-short bs in rw text-is (record { room = omega (arith, h) })
+  pub sheet-room : {w : Writer} → w.at + most_sheet < 2 ^ 64 → Room w (sheet_of t)
+  sheet-room l = let h = file-sheet-short bs in rw text-is (record { room = omega (arith, h, l) })
 
-  pub sheet-put : {before after : List ℕ} {n : ℕ} → Put before 0 (sheet_of t) after n →
-      PutShort most_sheet before 0 (file_sheet bs) after n
+  pub sheet-put : {v w : Writer} → Put v (sheet_of t) w → PutShort most_sheet v (file_sheet bs) w
   sheet-put p = record { put = rw text-is at p; short = file-sheet-short bs }
 
 -- a file that is refused has the line of its refusal
-pub refused-put : (bs : List ℕ) (k : ℕ) → k ≡ file_refusal bs → k ≢ 0 → {before after : List ℕ} {n : ℕ} →
-    PutShort most_text before 0 (refusal_text k) after n → PutShort most_sheet before 0 (file_sheet bs) after n
+pub refused-put : (bs : List ℕ) (k : ℕ) → k ≡ file_refusal bs → k ≢ 0 → {v w : Writer} →
+    PutShort most_text v (refusal_text k) w → PutShort most_sheet v (file_sheet bs) w
 refused-put bs zero e n p = absurd (n refl)
 refused-put bs (suc k) e n p =
     record { put = rw (sym (sheet-refused bs k (sym e))) at p.put; short = file-sheet-short bs }

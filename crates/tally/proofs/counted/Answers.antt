@@ -36,9 +36,12 @@ returns c =
     let p : SFits w64 (word a 1) = search rules in
     let named = c.naming-named.ensures ∙ ap (λ z. naming_of z c.args.variables) (to_z-of_z q) in
     made-same refl
-    (ap (λ n. t.can + n) (c.from.ensures ∙ byte-cond _ ∙ ap (λ b. cond b 1 0) (bits-eq w64 {a = word a 0} {b = pos 1} q (sfits_lit tt))))
-    (ap (λ n. t.cannot + n) (c.from-2.ensures ∙ byte-cond _ ∙ ap (λ b. cond b 1 0) (bits-eq w64 {a = word a 0} {b = pos 2} q (sfits_lit tt))))
-    (ap (λ n. t.range + n) (c.from-3.ensures ∙ byte-cond _ ∙ ap (λ b. cond b 1 0) (bits-eq w64 {a = word a 0} {b = pos 3} q (sfits_lit tt))))
+    (ap (λ n. t.can + n) (c.from.ensures ∙ byte-cond _ ∙ ap (λ b. cond b 1 0) (bits-eq w64 {a = word a 0} {b =
+    pos 1} q (sfits_lit tt))))
+    (ap (λ n. t.cannot + n) (c.from-2.ensures ∙ byte-cond _ ∙ ap (λ b. cond b 1 0) (bits-eq w64 {a = word a 0} {b =
+    pos 2} q (sfits_lit tt))))
+    (ap (λ n. t.range + n) (c.from-3.ensures ∙ byte-cond _ ∙ ap (λ b. cond b 1 0) (bits-eq w64 {a = word a 0} {b =
+    pos 3} q (sfits_lit tt))))
     refl
     (ap (λ z. t.pivots + nat_abs z) (to_z-of_z p))
     (c.max.ensures ∙ ap (λ z. max t.largest (nat_abs z)) (to_z-of_z p))

@@ -23,7 +23,8 @@ told : (counts now : List ℕ) {n : ℕ} {b : Bool} (answer : List ℤ) (at v : 
     now ≡ table v (one_more counts answer at) ++ drop v counts → n ≡ cond (not b) 1 0 →
     b ≡ eq_z (word answer (at + v)) (pos 0) →
     get_or now v 0 + n ≡ one_more counts answer at v
-told counts now answer at v e d f = ap₂ (λ a b. a + b) (as_it_was counts now answer at v e) (d ∙ ap (λ b. cond (not b) 1 0) f)
+told counts now answer at v e d f =
+    ap₂ (λ a b. a + b) (as_it_was counts now answer at v e) (d ∙ ap (λ b. cond (not b) 1 0) f)
 
 pub loop-v-init : goal.loop-v-init
 unfolding table_from

@@ -6,17 +6,22 @@ use Rattle.lines.proofs.Texts.{lines-room, text-lines-more, text-lines-start}
 use Rattle.lines.proofs.answer.put_evidence.Goals as goal
 
 pub loop-v-init : goal.loop-v-init
-loop-v-init c = (omega arith, text-lines-start (multiplier_lines c.args.answer.now c.args.variables) most_multiplier_lines c.args.out.now)
+loop-v-init c = (
+  omega arith,
+  text-lines-start (multiplier_lines c.args.answer.now c.args.variables) most_multiplier_lines c.args.out.now,
+)
 
 pub put_multipliers-requires : goal.put_multipliers-requires
 put_multipliers-requires c =
-    let room = lines-room (multiplier_lines c.args.answer.now c.args.variables) most_multiplier_lines c.loop-v.v most_variables
+    let room = lines-room
+    (multiplier_lines c.args.answer.now c.args.variables) most_multiplier_lines c.loop-v.v most_variables
     c.loop-v.invariant.1 (omega (arith, c.requires.0)) c.requires.2 in
     (omega (arith, c.requires.1), omega (arith, c.requires.0), room)
 
 pub loop-v-preserved : goal.loop-v-preserved
 loop-v-preserved c = (
   omega arith,
-  text-lines-more (multiplier_lines c.args.answer.now c.args.variables) most_multiplier_lines c.loop-v.v c.loop-v.invariant.1
+  text-lines-more (multiplier_lines c.args.answer.now c.args.variables) most_multiplier_lines c.loop-v.v
+      c.loop-v.invariant.1
       c.put_multipliers.ensures,
 )

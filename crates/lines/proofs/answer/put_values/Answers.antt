@@ -6,7 +6,10 @@ use Rattle.lines.proofs.Texts.{lines-room, text-lines-more, text-lines-start}
 use Rattle.lines.proofs.answer.put_values.Goals as goal
 
 pub loop-v-init : goal.loop-v-init
-loop-v-init c = (omega arith, text-lines-start (value_line c.args.answer.now c.args.variables) most_value_line c.args.out.now)
+loop-v-init c = (
+  omega arith,
+  text-lines-start (value_line c.args.answer.now c.args.variables) most_value_line c.args.out.now,
+)
 
 pub put_value-requires : goal.put_value-requires
 put_value-requires c =

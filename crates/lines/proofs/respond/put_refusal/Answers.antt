@@ -14,7 +14,10 @@ pub put_line-requires : goal.put_line-requires
 unfolding refusal_text ascii
 put_line-requires c =
     let short = refusal-text-short c.args.number (fits c.ranges.number) in
-    rw (to_z_pos w64 {n = c.args.number} (omega (arith, c.ranges.number.fits))) (record { room = omega (arith, short, c.requires) })
+    rw (to_z_pos w64 {n = c.args.number} (omega (arith, c.ranges.number.fits))) (record {
+      room =
+          omega (arith, short, c.requires);
+    })
 
 pub returns : goal.returns
 unfolding refusal_text ascii

@@ -58,8 +58,11 @@ overflow_add-variables c =
 pub put_answer-requires : goal.put_answer-requires
 put_answer-requires c =
     let e = ap₂ (λ (a b : ℕ). a + b) c.count_at.ensures c.count_at-in-Ok.ensures in
-    let told = c.in-Ok.ensures in
-    (few c.args.most c.args.words.now told.number e, long c.args.most c.args.words.now told.number e told.output, c.requires)
+    let told = c.in-Ok.ensures in (
+      few c.args.most c.args.words.now told.number e,
+      long c.args.most c.args.words.now told.number e told.output,
+      c.requires,
+    )
 
 pub returns-in-Err : goal.returns-in-Err
 returns-in-Err c =

@@ -5,17 +5,8 @@ use Rattle.rules.specs.Program.Bytes.{words_from}
 use Rattle.rules.specs.Program.Reply.{reply_to}
 use Rattle.rules.specs.Refusal.{problem_refusal}
 use Rattle.rules.proofs.Program.Words.{words-length}
-use Rattle.lines.proofs.Replies.{program-refused, program-replied, put_as, words-few, words-front}
+use Rattle.lines.proofs.Replies.{front-long, front-words, program-refused, program-replied, put_as, words-few}
 use Rattle.lines.proofs.respond.put_response.Goals as goal
-
--- the words of the bytes stand at the front
-module _ (bytes : List ℕ) (rest : List ℤ) {k : ℕ} {words : List ℤ} (count : k ≡ length bytes / 4)
-    (content : words ≡ words_from bytes ++ rest) where
-  front : take k words ≡ words_from bytes
-  front = ap (take k) content ∙ words-front bytes rest k count
-
-  taken : k ≡ length (take k words)
-  taken = count ∙ sym (ap length front ∙ words-length bytes)
 
 pub words_of-count-requires : goal.words_of-count-requires
 words_of-count-requires c = words-few c.args.input.now (sym c.in-Ok.ensures)
@@ -23,12 +14,12 @@ words_of-count-requires c = words-few c.args.input.now (sym c.in-Ok.ensures)
 pub slice_bounds-words-end : goal.slice_bounds-words-end
 slice_bounds-words-end c =
     let w = c.words_of-count in
-    let h = taken c.args.input.now _ w.ensures.count w.ensures.content in
+    let h = front-long c.args.input.now _ w.ensures.count w.ensures.content in
     omega (arith, h, length-take w.result w.new.words)
 
 pub slice_bounds-put_reply-end : goal.slice_bounds-put_reply-end
 slice_bounds-put_reply-end c =
-    taken c.args.input.now _ c.words_of-count.ensures.count c.words_of-count.ensures.content
+    front-long c.args.input.now _ c.words_of-count.ensures.count c.words_of-count.ensures.content
 
 pub returns-in-Err : goal.returns-in-Err
 returns-in-Err c =
@@ -39,5 +30,5 @@ pub returns-in-Ok : goal.returns-in-Ok
 unfolding problem_refusal
 returns-in-Ok c =
     let w = c.words_of-count.ensures in
-    put_as (ap (λ (ws : List ℤ). reply_to (problem_refusal ws) ws) (front c.args.input.now _ w.count w.content)
+    put_as (ap (λ (ws : List ℤ). reply_to (problem_refusal ws) ws) (front-words c.args.input.now _ w.count w.content)
     ∙ program-replied c.args.input.now (sym c.in-Ok.ensures)) c.put_reply.ensures

@@ -1,4 +1,5 @@
--- `lines::respond::respond`: the text has room in a slice of the most bytes, and is written from there. Assumes nothing.
+-- `lines::respond::respond`: the text has room in a slice of the most bytes, and is written from there. Assumes
+-- nothing.
 use Rattle.std.proofs.Common.{ap, arith, length, sym, ◌∙◌}
 use Rattle.lines.proofs.Texts.{printed-from}
 use Rattle.lines.proofs.respond.respond.Goals as goal

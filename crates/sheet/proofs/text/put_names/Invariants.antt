@@ -15,7 +15,7 @@ entry lower upper v = named_line v (count_at lower v) (count_at upper v)
 
 abbrev pub invariant-loop-v : goal.invariant-loop-v
 invariant-loop-v l =
-    (l.v ≤ most_variables) × Put l.initial.out l.at (lines_below l.v (entry l.lower l.upper)) l.out l.next
+    (l.v ≤ most_variables) × Put l.initial.out (lines_below l.v (entry l.lower l.upper)) l.out
 
 abbrev pub decreases-loop-v : goal.decreases-loop-v
 decreases-loop-v l = most_variables - l.v

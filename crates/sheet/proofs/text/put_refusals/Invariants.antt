@@ -13,7 +13,7 @@ abbrev pub entry : List ℕ → ℕ → List ℕ
 entry counts j = refused_line (j + 1) (count_at counts (j + 1))
 
 abbrev pub invariant-loop-j : goal.invariant-loop-j
-invariant-loop-j l = (l.j ≤ 6) × Put l.initial.out l.at (lines_below l.j (entry l.refused)) l.out l.next
+invariant-loop-j l = (l.j ≤ 6) × Put l.initial.out (lines_below l.j (entry l.refused)) l.out
 
 abbrev pub decreases-loop-j : goal.decreases-loop-j
 decreases-loop-j l = 6 - l.j
