@@ -2,9 +2,12 @@
 #![tactic(auto)]
 
 ghost use Rattle.std.specs.Prelude.{◌≡◌, length};
+ghost use Rattle.rules.specs.Problem.{problem};
+ghost use Rattle.rules.specs.Refusal.{problem_refusal};
+ghost use Rattle.tableau.specs.Start.{start_tableau};
 ghost use Rattle.slices.specs.Slices.{SliceStanding, StartsAs, GoesOnAs, begun_at, slice_output_at, went_on_at};
 
-use answers::TOO_SHORT;
+use refusals::Refusal;
 use solver::spend;
 use tableau::Tableau;
 
@@ -42,23 +45,30 @@ pub fn start(words: &[i32]) -> Begun
     ensures exact { result ≡ begun_at words.now }
     ensures meaning { StartsAs words.now result }
 {
-    let refused = judge::judge(words);
-    if refused != 0 {
-        let idle = IDLE;
-        let tableau = Tableau::new(&idle);
-        return Begun {
-            refused,
-            slice: Slice { count: 0, tableau },
-        };
-    }
-    let tableau = Tableau::new(words);
-    Begun {
-        refused,
-        slice: Slice { count: 0, tableau },
+    match judge::judge(words) {
+        Ok(()) => Begun {
+            refused: 0,
+            slice: Slice::first(words),
+        },
+        Err(refusal) => Begun {
+            refused: refusal.number(),
+            slice: Slice::first(&IDLE),
+        },
     }
 }
 
 impl Slice {
+    // The first state of the run.
+    fn first(words: &[i32]) -> Slice
+        requires { problem_refusal words.now ≡ 0 }
+        ensures { result ≡ record { count = 0; tableau = start_tableau (problem words.now) } }
+    {
+        Slice {
+            count: 0,
+            tableau: Tableau::new(words),
+        }
+    }
+
     // Completes so many pivots, or all that are left, and writes the answer where the run is over.
     pub fn go_on(self, pivots: usize, out: &mut [i64]) -> Continued
         requires { SliceStanding self }
@@ -70,19 +80,18 @@ impl Slice {
         let variables = tableau.rows + tableau.columns;
         if answers::is_short(out.len(), variables) {
             return Continued {
-                refused: TOO_SHORT,
+                refused: Refusal::ShortRoom.number(),
                 answered: false,
                 slice: self,
             };
         }
         let spent = spend::spend(tableau, self.count, pivots, true, out);
-        let tableau = spent.tableau;
         Continued {
             refused: 0,
             answered: spent.answered,
             slice: Slice {
                 count: spent.count,
-                tableau,
+                tableau: spent.tableau,
             },
         }
     }

@@ -1,19 +1,29 @@
 -- `slices::start` meets its contract: the refusal of the problem with the state of case H, or 0 with the first state of
 -- the run. Assumes nothing.
+use mathlib.Core.Path.{ap, refl, sym, ◌∙◌}
+use Rattle.rules.specs.Problem.{problem}
+use Rattle.tableau.specs.Start.{start_tableau}
+use Rattle.refusals.proofs.Refused.{number-some}
+use Rattle.slices.specs.declared.Slice.{Slice}
+use Rattle.slices.specs.Slices.{idle}
 use Rattle.slices.proofs.Laws.Stands.Start.{begun-refused, begun-fine, idle-fine, starts-as}
 use Rattle.slices.proofs.start.Goals as goal
 
-pub new-tableau-requires : goal.new-tableau-requires
-new-tableau-requires c = idle-fine
+pub first-requires : goal.first-requires
+first-requires c = sym c.in-Ok.ensures
 
-pub returns-then-refused-ne0 : goal.returns-then-refused-ne0
-returns-then-refused-ne0 c = let o = c in let ws = o.args.words.now in
-    let e = begun-refused ws o.judge-refused.result o.judge-refused.ensures c.if-refused-ne0.true c.new-tableau.result
-    c.new-tableau.ensures in
+pub returns-in-Ok : goal.returns-in-Ok
+returns-in-Ok c = let ws = c.args.words.now in
+    let e = ap (λ (s : Slice). record { refused = 0; slice = s }) c.first.ensures
+    ∙ begun-fine ws 0 c.in-Ok.ensures refl (start_tableau (problem ws)) refl in
     record { exact = e; meaning = starts-as ws _ e }
 
-pub returns : goal.returns
-returns c = let o = c in let ws = o.args.words.now in
-    let e = begun-fine ws o.judge-refused.result o.judge-refused.ensures c.if-refused-ne0.false c.new-tableau-2.result
-    c.new-tableau-2.ensures in
+pub first-requires-in-Err : goal.first-requires-in-Err
+first-requires-in-Err c = idle-fine
+
+pub returns-in-Err : goal.returns-in-Err
+returns-in-Err c = let ws = c.args.words.now in let k = c.number.ensures in
+    let e = ap (λ (s : Slice). record { refused = c.number.result; slice = s }) c.first-in-Err.ensures
+    ∙ begun-refused ws c.number.result (k ∙ c.in-Err.ensures) (λ z. number-some c.in-Err.refusal (sym k ∙ z))
+    (start_tableau (problem idle)) refl in
     record { exact = e; meaning = starts-as ws _ e }

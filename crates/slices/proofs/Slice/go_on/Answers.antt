@@ -1,5 +1,6 @@
 -- `slices::Slice::go_on` meets its contract: 7 where there is no room for an answer, else what spending the pivots
 -- comes to. Assumes nothing.
+use mathlib.Core.Bool.{false}
 use mathlib.Core.Path.{ap, sym, ◌∙◌}
 use borrow.Author.Tests.{ltb-false}
 use Rattle.slices.specs.Slices.{went_on_by}
@@ -9,7 +10,8 @@ use Rattle.slices.proofs.Slice.go_on.Goals as goal
 pub returns-then-is_short : goal.returns-then-is_short
 returns-then-is_short c = let a = c.args in
     let e = slice-short a.self a.pivots a.out.now (sym c.is_short.ensures ∙ c.if-is_short.true) in
-    record { exact = e.0; output = e.1; meaning = goes-on-as a.self a.pivots a.out.now c.requires e.0 e.1 }
+    let r = ap (λ k. record { refused = k; answered = false; slice = a.self }) c.number.ensures ∙ e.0 in
+    record { exact = r; output = e.1; meaning = goes-on-as a.self a.pivots a.out.now c.requires r e.1 }
 
 -- there is room
 pub spend-spent-requires : goal.spend-spent-requires
