@@ -7,7 +7,7 @@ ghost use Rattle.session.specs.Sessions.{ChecksAs, OpensAs, SessionStanding, Swi
 ghost use Rattle.session.specs.Sessions.{check_output_at};
 ghost use Rattle.session.specs.Sessions.{switched_at};
 
-use answers::TOO_SHORT;
+use refusals::Refusal;
 use solver::spend;
 use tableau::{Tableau, Variable};
 
@@ -45,20 +45,17 @@ pub struct Checked {
     pub session: Session,
 }
 
-// The refusal of a variable that the problem does not have.
-const NO_VARIABLE: u32 = 41;
-
 // Judges the words, and opens the problem that they are.
 pub fn open(words: &[i32]) -> Opened
     ensures exact { result ≡ opened_at words.now }
     ensures meaning { OpensAs words.now result }
 {
     let begun = slices::start(words);
-    let slice = begun.slice;
-    let tableau = switching::quiet(slice.tableau);
     Opened {
         refused: begun.refused,
-        session: Session { tableau },
+        session: Session {
+            tableau: switching::quiet(begun.slice.tableau),
+        },
     }
 }
 
@@ -70,26 +67,24 @@ impl Session {
         ensures meaning { SwitchesAs self variable upper on result }
     {
         let tableau = self.tableau;
-        let variables = tableau.rows + tableau.columns;
-        if variable as usize >= variables {
+        if variable as usize >= tableau.rows + tableau.columns {
             return Switched {
-                refused: NO_VARIABLE,
+                refused: Refusal::NoVariable.number(),
                 session: self,
             };
         }
         let v = Variable(variable as u8);
-        let limits = tableau.limits;
-        let refused = switching::refusal_of(switching::limit_at(limits, upper, v), on);
-        if refused != 0 {
-            return Switched {
-                refused,
+        match switching::judge(switching::limit_at(tableau.limits, upper, v), on) {
+            Ok(()) => Switched {
+                refused: 0,
+                session: Session {
+                    tableau: switching::turned(tableau, v, upper, on),
+                },
+            },
+            Err(refusal) => Switched {
+                refused: refusal.number(),
                 session: self,
-            };
-        }
-        let tableau = switching::turned(tableau, v, upper, on);
-        Switched {
-            refused,
-            session: Session { tableau },
+            },
         }
     }
 
@@ -104,15 +99,16 @@ impl Session {
         let variables = tableau.rows + tableau.columns;
         if answers::is_short(out.len(), variables) {
             return Checked {
-                refused: TOO_SHORT,
+                refused: Refusal::ShortRoom.number(),
                 session: self,
             };
         }
         let spent = spend::spend(tableau, 0, usize::MAX, true, out);
-        let tableau = spent.tableau;
         Checked {
             refused: 0,
-            session: Session { tableau },
+            session: Session {
+                tableau: spent.tableau,
+            },
         }
     }
 }

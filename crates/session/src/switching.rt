@@ -5,70 +5,40 @@ ghost use Rattle.rules.specs.Limit.{lower_pair, upper_pair};
 ghost use Rattle.rules.specs.Problem.{mapped};
 ghost use Rattle.rules.specs.Runs.Session.{inside};
 ghost use Rattle.rules.specs.Sizes.{most_variables};
+ghost use Rattle.refusals.specs.Numbers.{told};
 ghost use Rattle.amounts.specs.Amounts.{limit_in, pair_in, value_of};
 ghost use Rattle.session.specs.Switching.{Settleable, all_off, flagged_at, given_at, limit_refusal, quiet_at};
-ghost use Rattle.session.specs.Switching.{settled_at, switched_to, turned_at};
+ghost use Rattle.session.specs.Switching.{settled_at, turned_at};
 
 use amounts::{Given, Value};
 use answers::conflict;
+use refusals::Refusal;
 use tableau::{Limits, Tableau, Variable};
-
-// The refusals of a limit that was not given, of one that is on already, and of one that is off already.
-const MISSING: u32 = 42;
-
-const ON_ALREADY: u32 = 43;
-
-const OFF_ALREADY: u32 = 44;
-
-// A limit, on or off.
-fn switched(limit: Given, on: bool) -> Given
-    ensures { result ≡ switched_to limit on }
-{
-    Given {
-        given: limit.given,
-        on,
-        strict: limit.strict,
-        plain: limit.plain,
-    }
-}
 
 // All limits of one side, off.
 fn all_off(limits: [Given; Tableau::MOST_VARIABLES]) -> [Given; Tableau::MOST_VARIABLES]
     ensures { result ≡ all_off limits }
 {
-    let missing = Given {
-        given: false,
-        on: false,
-        strict: false,
-        plain: 0,
-    };
-    let mut off = [missing; Tableau::MOST_VARIABLES];
-    for v in 0..Tableau::MOST_VARIABLES {
-        let limit = switched(limits[v], false);
-        off[v] = limit;
-    }
-    off
+    limits.map(|limit| Given { on: false, ..limit })
 }
 
 // The tableau with every limit off and every value 0.
-pub fn quiet(mut tableau: Tableau) -> Tableau
+pub fn quiet(tableau: Tableau) -> Tableau
     ensures { result ≡ quiet_at tableau }
 {
     let limits = tableau.limits;
-    let lowers = limits.lower;
-    let uppers = limits.upper;
-    let lower = all_off(lowers);
-    let upper = all_off(uppers);
-    let off = Limits {
-        lower,
-        upper,
-        strict: limits.strict,
-    };
-    let zeros = [0i32; Tableau::MOST_COLUMNS];
-    tableau.values = zeros;
-    tableau.smalls = zeros;
-    tableau.limits = off;
-    tableau
+    let lower = all_off(limits.lower);
+    let upper = all_off(limits.upper);
+    Tableau {
+        values: [0; Tableau::MOST_COLUMNS],
+        smalls: [0; Tableau::MOST_COLUMNS],
+        limits: Limits {
+            lower,
+            upper,
+            strict: limits.strict,
+        },
+        ..tableau
+    }
 }
 
 // The limit of a variable on one side.
@@ -78,25 +48,26 @@ pub fn limit_at(limits: Limits, upper: bool, variable: Variable) -> Given
 {
     let v = variable.0 as usize;
     if upper {
-        return limits.upper[v];
+        limits.upper[v]
+    } else {
+        limits.lower[v]
     }
-    limits.lower[v]
 }
 
-// Why a limit is not switched, or 0.
-pub fn refusal_of(limit: Given, on: bool) -> u32
-    ensures { result ≡ limit_refusal limit on }
+// Whether a limit may be switched, or why not.
+pub fn judge(limit: Given, on: bool) -> Result<(), Refusal>
+    ensures { told result ≡ limit_refusal limit on }
 {
     if !limit.given {
-        return MISSING;
+        return Err(Refusal::NoLimit);
     }
     if on & limit.on {
-        return ON_ALREADY;
+        return Err(Refusal::OnAlready);
     }
     if !on & !limit.on {
-        return OFF_ALREADY;
+        return Err(Refusal::OffAlready);
     }
-    0
+    Ok(())
 }
 
 // The limits with that one on or off.
@@ -104,7 +75,10 @@ fn flagged(mut limits: Limits, upper: bool, variable: Variable, on: bool) -> Lim
     requires { variable.0 < most_variables }
     ensures { result ≡ flagged_at upper limits variable.0 on }
 {
-    let limit = switched(limit_at(limits, upper, variable), on);
+    let limit = Given {
+        on,
+        ..limit_at(limits, upper, variable)
+    };
     let v = variable.0 as usize;
     if upper {
         limits.upper[v] = limit;
@@ -121,9 +95,10 @@ fn moved(lower: Given, upper: Given, value: Value) -> Value
         (pair_in value)) }
 {
     if conflict::is_crossed(lower, upper) {
-        return value;
+        value
+    } else {
+        amounts::put_inside(lower, upper, value)
     }
-    amounts::put_inside(lower, upper, value)
 }
 
 // The tableau with the value of one variable by the limits that are on. A basic one has no value of its own.
@@ -136,27 +111,23 @@ fn settled(mut tableau: Tableau, variable: Variable) -> Tableau
     if seat.basic {
         return tableau;
     }
-    let column = seat.column;
-    let j = column.0 as usize;
+    let j = seat.column.0 as usize;
     let limits = tableau.limits;
     let value = Value {
         plain: tableau.values[j],
         small: tableau.smalls[j],
     };
     let value = moved(limits.lower[v], limits.upper[v], value);
-    let plain = value.plain;
-    let small = value.small;
-    tableau.values[j] = plain;
-    tableau.smalls[j] = small;
+    tableau.values[j] = value.plain;
+    tableau.smalls[j] = value.small;
     tableau
 }
 
 // The tableau after a switch that is not refused.
-pub fn turned(mut tableau: Tableau, variable: Variable, upper: bool, on: bool) -> Tableau
+pub fn turned(tableau: Tableau, variable: Variable, upper: bool, on: bool) -> Tableau
     requires { Settleable tableau variable.0 }
     ensures { result ≡ turned_at tableau variable.0 upper on }
 {
     let limits = flagged(tableau.limits, upper, variable, on);
-    tableau.limits = limits;
-    settled(tableau, variable)
+    settled(Tableau { limits, ..tableau }, variable)
 }

@@ -9,17 +9,17 @@ use Rattle.session.specs.Sessions.{opened_at}
 use Rattle.session.specs.Switching.{quiet_at}
 use Rattle.session.proofs.Laws.Stands.Open.{opens_as}
 use Rattle.session.proofs.open.Goals as goal
-use Rattle.session.proofs.open.Goals.{After-quiet-tableau}
+use Rattle.session.proofs.open.Goals.{After-quiet}
 
 -- what is handed back, by what the start of a run hands back
 abbrev opened-by : Begun → Tableau → Opened
 opened-by r t = record { refused = r.refused; session = record { tableau = t } }
 
-opened-is : (c : After-quiet-tableau) →
-    opened-by c.start-begun.result c.quiet-tableau.result
+opened-is : (c : After-quiet) →
+    opened-by c.start-begun.result c.quiet.result
     ≡ opened_at c.args.words.now
 unfolding begun_at opened_at
-opened-is c = ap (opened-by c.start-begun.result) c.quiet-tableau.ensures
+opened-is c = ap (opened-by c.start-begun.result) c.quiet.ensures
     ∙ ap (λ (r : Begun). opened-by r (quiet_at r.slice.tableau)) c.start-begun.ensures.exact
 
 pub returns : goal.returns

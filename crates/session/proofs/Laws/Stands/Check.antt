@@ -32,8 +32,8 @@ use Rattle.search.specs.declared.Choice.{Choice}
 use Rattle.search.specs.declared.Next.{Next}
 use Rattle.search.specs.declared.Next.TheVariants as nexts
 use Rattle.search.specs.Search.{next_laid}
-use Rattle.answers.specs.declared.conflict.Crossed.{Crossed}
-use Rattle.answers.specs.declared.conflict.Crossed.TheVariants as crossings
+use Rattle.std.proofs.Common.{Option, Some, None}
+use Rattle.tableau.specs.declared.Variable.{Variable}
 use Rattle.answers.specs.Answer.{is_short}
 use Rattle.answers.specs.Conflict.{conflict_at}
 use Rattle.steps.specs.Step.{Course, admit_at, fits_by_laid, moved_laid, on, over, step_laid, stepped_at, stepped_laid}
@@ -75,9 +75,9 @@ spent-limits : (t : Tableau) (k b : ℕ) → (spent_at t k b).tableau.limits ≡
 unfolding spent_as
 spent-limits t k b = go (conflict_at t.limits (many_of t))
   where
-    go : (c : Crossed) → (spent_where c true t k b).tableau.limits ≡ t.limits
-    go (crossings.At v) = refl
-    go crossings.Nowhere = ran-limits b t
+    go : (c : Option Variable) → (spent_where c true t k b).tableau.limits ≡ t.limits
+    go (Some v) = refl
+    go None = ran-limits b t
 
 -- ---- a session is a state from which a run may start
 

@@ -9,7 +9,8 @@ use Rattle.session.proofs.Session.check.Goals as goal
 pub returns-then-is_short : goal.returns-then-is_short
 returns-then-is_short c = let a = c.args in
     let e = check-short a.self a.out.now (sym c.is_short.ensures ∙ c.if-is_short.true) in
-    record { exact = e.0; output = e.1; meaning = checks-as a.self a.out.now c.requires e.0 e.1 }
+    let r = ap (λ k. record { refused = k; session = a.self }) c.number.ensures ∙ e.0 in
+    record { exact = r; output = e.1; meaning = checks-as a.self a.out.now c.requires r e.1 }
 
 -- there is room
 pub spend-spent-requires : goal.spend-spent-requires

@@ -9,8 +9,8 @@ pub returns-then-is_crossed : goal.returns-then-is_crossed
 returns-then-is_crossed c = let o = c in let a = o.args in
     ap value_of (inside-by a.lower a.upper (pair_in a.value) true (sym o.is_crossed.ensures ∙ c.if-is_crossed.true))
 
-pub returns : goal.returns
-returns c = let o = c in let a = o.args in
+pub returns-else-is_crossed : goal.returns-else-is_crossed
+returns-else-is_crossed c = let o = c in let a = o.args in
     c.put_inside.ensures
     ∙ ap value_of (inside-by a.lower a.upper (pair_in a.value) false
     (sym o.is_crossed.ensures ∙ c.if-is_crossed.false))

@@ -1,11 +1,11 @@
--- `session::switching::refusal_of` meets its contract: the tests in their order. Assumes nothing.
+-- `session::switching::judge` meets its contract: the tests in their order. Assumes nothing.
 use mathlib.Core.Bool.{Bool, false, not, ◌&&◌}
 use mathlib.Core.Path.{◌≡◌, refl, sym, ◌∙◌}
 use Rattle.rules.specs.Refusal.{first}
 use Rattle.rules.proofs.Refusal.First.{first-hit, first-skip}
 use Rattle.amounts.specs.declared.Given.{Given}
 use Rattle.session.specs.Switching.{limit_refusal, limit_tests}
-use Rattle.session.proofs.switching.refusal_of.Goals as goal
+use Rattle.session.proofs.switching.judge.Goals as goal
 
 pub returns-then-not-limit : goal.returns-then-not-limit
 unfolding limit_tests
