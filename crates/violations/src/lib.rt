@@ -16,7 +16,7 @@ use tableau::{Tableau, Variable};
 // A refusal, or 0; whether a basic variable is outside its limits; and if so the lowest-numbered one, whether it has to
 // rise, and its shortfall over the denominator: plain part and small part. Where none is, and refused, all else is 0.
 #[repr(C)]
-#[derive(Drop)]
+#[derive(Clone, Copy, Debug, Default, PartialEq, Eq)]
 pub struct Violation {
     pub refused: u32,
     pub variable: u32,
@@ -32,12 +32,7 @@ fn nothing(refused: u32) -> Violation
 {
     Violation {
         refused,
-        variable: 0,
-        violated: false,
-        rises: false,
-        denominator: 0,
-        shortfall: 0,
-        small: 0,
+        ..Violation::default()
     }
 }
 
@@ -46,49 +41,33 @@ fn shown(basic: [Variable; Tableau::MOST_ROWS], common: i32, found: Blocked) -> 
     requires { found.row.0 < most_rows }
     ensures { result ≡ shown_at basic common found }
 {
-    let row = found.row;
-    let i = row.0 as usize;
-    let leaving = basic[i];
-    let shortfall = found.shortfall;
+    let leaving = basic[found.row.0 as usize];
     Violation {
         refused: 0,
-        variable: leaving.0 as u32,
+        variable: u32::from(leaving.0),
         violated: true,
         rises: found.rises,
-        denominator: common as i64,
-        shortfall: shortfall.plain,
-        small: shortfall.small,
+        denominator: i64::from(common),
+        shortfall: found.shortfall.plain,
+        small: found.shortfall.small,
     }
 }
 
 // What the search finds in a tableau.
-fn outside(t: Tableau) -> Violation
-    requires { Held t }
-    ensures { result ≡ violation_at t }
+fn outside(t: &Tableau) -> Violation
+    requires { Held t.now }
+    ensures { result ≡ violation_at t.now }
 {
-    let view = View {
-        rows: t.rows,
-        columns: t.columns,
-        common: t.common,
-        values: t.values,
-        smalls: t.smalls,
-        basic: t.basic,
-        seats: t.seats,
-    };
-    let basic = t.basic;
-    let next = search::next_step(&t.entries, view, t.limits);
-    match next {
+    match search::next_step(&t.entries, View::of(t), t.limits) {
         Next::Within => nothing(0),
-        Next::Stuck(blocked) => shown(basic, t.common, blocked),
+        Next::Stuck(blocked) => shown(t.basic, t.common, blocked),
         Next::Pivot(choice) => {
-            let row = choice.row;
-            let shortfall = choice.shortfall;
             let found = Blocked {
-                row,
+                row: choice.row,
                 rises: choice.rises,
-                shortfall,
+                shortfall: choice.shortfall,
             };
-            shown(basic, t.common, found)
+            shown(t.basic, t.common, found)
         }
     }
 }
@@ -97,12 +76,10 @@ fn outside(t: Tableau) -> Violation
 pub fn first(words: &[i32]) -> Violation
     ensures { result ≡ shown_as (first_violation words.now) }
 {
-    let begun = slices::start(words);
-    if begun.refused != 0 {
-        return nothing(begun.refused);
+    match judge::judge(words) {
+        Ok(()) => outside(&Tableau::new(words)),
+        Err(refusal) => nothing(refusal.number()),
     }
-    let slice = begun.slice;
-    outside(slice.tableau)
 }
 
 // Shows the first violation of a session as it stands.
@@ -111,5 +88,5 @@ pub fn standing(session: Session) -> Violation
     ensures exact { result ≡ violation_at session.tableau }
     ensures meaning { ShowsAs session result }
 {
-    outside(session.tableau)
+    outside(&session.tableau)
 }

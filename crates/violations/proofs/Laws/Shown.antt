@@ -3,7 +3,7 @@
 --   violation-is     by variable
 --   row-stuck, row-chosen    the row that is found is a place
 --   start-held, start-shown, start-refused    the start of accepted words, what is shown of it; words that are refused
---   standing-held, shows-as    of a session
+--   shows-as    of a session
 use mathlib.Core.Bool.{true}
 use mathlib.Core.List.{List}
 use mathlib.Core.Logic.{◌≢◌}
@@ -28,6 +28,7 @@ use Rattle.rules.specs.Step.{Leaving, Side, State, above, below, entering, leavi
 use Rattle.tableau.specs.declared.Tableau.{Tableau}
 use Rattle.tableau.specs.Parts.{row_of}
 use Rattle.tableau.specs.Stands.{HasRow, Stands}
+use Rattle.tableau.specs.Start.{start_tableau}
 use Rattle.search.specs.declared.Blocked.{Blocked}
 use Rattle.search.specs.declared.Choice.{Choice}
 use Rattle.search.specs.declared.Next.{Next}
@@ -36,10 +37,9 @@ use Rattle.search.specs.Search.{blocked_at, next_at}
 use Rattle.search.proofs.Laws.Stands.{leaving-is, next-blocked, next-chosen, next-none}
 use Rattle.sides.specs.Sides.{rising}
 use Rattle.steps.specs.Step.{Held}
-use Rattle.slices.specs.declared.Begun.{Begun}
-use Rattle.slices.specs.Slices.{SliceHolds, StartsAs, started_words}
+use Rattle.solver.specs.Spend.{Holds}
+use Rattle.solver.proofs.Laws.Refusals.{holds-start}
 use Rattle.session.specs.declared.Session.{Session}
-use Rattle.session.specs.Sessions.{SessionStanding}
 use Rattle.violations.specs.declared.Violation.{Violation}
 use Rattle.violations.specs.Violations.{ShowsAs, nothing_at, shown_at, shown_next, shown_as, violation_at}
 
@@ -124,51 +124,39 @@ module _ {t : Tableau} (H : Held t) where
 
 -- ---- of words
 
-module _ (ws : List ℤ) (r : Begun) (A : StartsAs ws r) where
-  start-problem : r.refused ≡ 0 → started_words (problem_refusal ws) ws ≡ ws
-  start-problem z = ap (λ k. started_words k ws) (sym A.number ∙ z)
+module _ (ws : List ℤ) where
+  module _ (t : Tableau) (e : t ≡ start_tableau (problem ws)) (f : problem_refusal ws ≡ 0) where
+    abbrev holds : Holds (begun pairs (inner (problem ws))) t 0
+    holds = holds-start ws t e f
 
-  starts : r.refused ≡ 0 → SliceHolds (begun pairs (inner (problem ws))) r.slice
-  starts z = subst (λ l. SliceHolds (begun pairs (inner (problem l))) r.slice) (start-problem z) A.state
+    pub start-held : Held t
+    unfolding begun
+    start-held = record {
+      problem = inner (problem ws);
+      state = start pairs (inner (problem ws));
+      stands = holds.stands;
+      rowed = on-way-rowed (begun pairs (inner (problem ws))) holds.on-way;
+      ranged = holds.ranged;
+    }
 
-  pub start-held : r.refused ≡ 0 → Held r.slice.tableau
-  unfolding begun
-  start-held z = let h = starts z in record {
-    problem = inner (problem ws);
-    state = start pairs (inner (problem ws));
-    stands = h.stands;
-    rowed = on-way-rowed (begun pairs (inner (problem ws))) h.on-way;
-    ranged = h.ranged;
-  }
+    pub start-shown : violation_at t ≡ shown_as (first_violation ws)
+    unfolding begun first_violation
+    start-shown = violation-is (inner (problem ws)) t (start pairs (inner (problem ws))) holds.stands
+        (on-way-rowed (begun pairs (inner (problem ws))) holds.on-way)
+        ∙ ap shown_as (by_number (problem_refusal ws) f)
+      where
+        by_number : (k : ℕ) → k ≡ 0 → violation_of (inner (problem ws)) (start pairs (inner (problem ws)))
+            ≡ start_shown k ws
+        by_number zero e = refl
+        by_number (suc k) e = let y : ⊥ = omega arith in absurd y
 
-  pub start-shown : r.refused ≡ 0 → violation_at r.slice.tableau ≡ shown_as (first_violation ws)
-  unfolding begun first_violation
-  start-shown z = let h = starts z in
-      violation-is (inner (problem ws)) r.slice.tableau (start pairs (inner (problem ws))) h.stands
-      (on-way-rowed (begun pairs (inner (problem ws))) h.on-way)
-      ∙ ap shown_as (by_number (problem_refusal ws) (sym A.number ∙ z))
-    where
-      by_number : (k : ℕ) → k ≡ 0 → violation_of (inner (problem ws)) (start pairs (inner (problem ws)))
-          ≡ start_shown k ws
-      by_number zero e = refl
-      by_number (suc k) e = let y : ⊥ = omega arith in absurd y
-
-  pub start-refused : (k : ℕ) → r.refused ≡ k → k ≢ 0 → nothing_at k ≡ shown_as (first_violation ws)
+  pub start-refused : (k : ℕ) → k ≡ problem_refusal ws → k ≢ 0 → nothing_at k ≡ shown_as (first_violation ws)
   unfolding first_violation
   start-refused zero e n = absurd (n refl)
-  start-refused (suc k) e n = ap (λ k. shown_as (start_shown k ws)) (sym e ∙ A.number)
+  start-refused (suc k) e n = ap (λ k. shown_as (start_shown k ws)) e
 
 -- ---- of a session
 
 module _ (s : Session) where
-  pub standing-held : SessionStanding s → Held s.tableau
-  standing-held T = record {
-    problem = live_of T.session;
-    state = T.session.state;
-    stands = T.holds.stands;
-    rowed = T.holds.fair.rowed;
-    ranged = T.holds.ranged;
-  }
-
   pub shows-as : (r : Violation) → r ≡ violation_at s.tableau → ShowsAs s r
   shows-as r e A H = e ∙ violation-is (live_of A) s.tableau A.state H.stands H.fair.rowed
