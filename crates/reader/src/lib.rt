@@ -18,7 +18,7 @@ ghost use Rattle.reader.specs.Taken.{taken_by, taken_output};
 
 use limits::all_limits;
 use refusals::Refusal;
-use rows::{Counts, all_rows};
+use rows::all_rows;
 use sizes::sizes;
 use tokens::Halted;
 
@@ -37,10 +37,7 @@ fn read_words(text: &[u8], words: &mut [i32]) -> Result<usize, Halted>
     ensures { MatchResult result (WholeAt text.now words.new) (Refused text.now) }
 {
     let shape = sizes(text)?;
-    let counts = Counts {
-        columns: shape.columns,
-        rows: shape.rows,
-    };
+    let counts = shape.counts;
     words[0] = counts.columns as i32;
     words[1] = counts.rows as i32;
     let summed = all_rows(text, shape.at, counts, words)?;

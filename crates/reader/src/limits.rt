@@ -9,7 +9,7 @@ ghost use Rattle.reader.specs.Limits.{variable_from};
 
 use crate::flow::{is_next, is_next_name, skip_if};
 use crate::numbers::{Asked, number};
-use crate::rows::Counts;
+use crate::sizes::Counts;
 use crate::texts::ASSERT;
 use exchange::texts::{ASSERT_LIMIT, CHECK_SAT, END_ASSERT, LESS, MORE, NO_LESS, NO_MORE};
 use tokens::Halted;

@@ -24,13 +24,11 @@ pub struct Asked {
 }
 
 // Whether a numeral may stand there; `below` says that it is a size, which is not 0.
+#[tactic(auto, unfolding(crate::specs::Numbers::admissible))]
 fn is_admissible(value: u64, below: bool, asked: Asked) -> bool
     ensures { result ≡ admissible value below asked }
 {
-    if asked.largest < value {
-        return false;
-    }
-    !((value == 0) & (below | asked.blank))
+    value <= asked.largest && !(value == 0 && (below || asked.blank))
 }
 
 // A number by its size.
@@ -38,10 +36,7 @@ fn signed(value: u64, below: bool) -> i32
     requires { value ≤ largest_limit }
     ensures { result ≡ value_by below value }
 {
-    if below {
-        return -(value as i32);
-    }
-    value as i32
+    if below { -(value as i32) } else { value as i32 }
 }
 
 // The numeral at `at`.

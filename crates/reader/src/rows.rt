@@ -6,16 +6,10 @@ ghost use Rattle.reader.specs.Flow.{StandsAt, sum_on};
 
 use crate::flow::pass_name;
 use crate::numbers::{Asked, Told, number};
+use crate::sizes::Counts;
 use crate::texts::CLOSE;
 use exchange::texts::{ASSERT_ROW, END_ASSERT, OPEN_SUM, OPEN_TERM};
 use tokens::Halted;
-
-// How many columns and rows there are.
-#[derive(Clone, Copy, Debug, PartialEq, Eq)]
-pub struct Counts {
-    pub columns: usize,
-    pub rows: usize,
-}
 
 // The term of a column; `blank` says that its coefficient may not be 0.
 fn term(text: &[u8], at: usize, column: usize, blank: bool) -> Result<Told, Halted>

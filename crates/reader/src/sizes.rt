@@ -12,27 +12,35 @@ use crate::texts::DECLARE;
 use exchange::texts::{DECLARE_CONST, OF_REAL, SET_LOGIC};
 use tokens::Halted;
 
-// How many columns and rows were declared, and the place behind that.
+// How many columns and rows there are.
 #[derive(Clone, Copy, Debug, PartialEq, Eq)]
-pub struct Shape {
+pub struct Counts {
     pub columns: usize,
     pub rows: usize,
+}
+
+// How many columns and rows are declared, and the place behind that.
+#[derive(Clone, Copy, Debug, PartialEq, Eq)]
+pub struct Shape {
+    pub counts: Counts,
     pub at: usize,
 }
 
 // Whether another declaration stands there.
 fn is_declaration(text: &[u8], shape: Shape) -> bool
-    ensures { result ≡ (next_is text.now (Ok shape.at) declare_token && ltb shape.rows most_rows) }
+    ensures { result ≡ (next_is text.now (Ok shape.at) declare_token && ltb shape.counts.rows most_rows) }
 {
-    is_next(text, shape.at, &DECLARE) & (shape.rows < rules::MOST_ROWS)
+    is_next(text, shape.at, &DECLARE) & (shape.counts.rows < rules::MOST_ROWS)
 }
 
 // Whether a column is declared, and not a row.
-fn is_column(text: &[u8], at: usize, columns: usize, rows: usize) -> bool
-    ensures { result ≡ (eqb rows 0 && ltb columns most_columns
-        && next_is text.now (Ok at) (column_name columns)) }
+fn is_column(text: &[u8], at: usize, counts: Counts) -> bool
+    ensures { result ≡ (eqb counts.rows 0 && ltb counts.columns most_columns
+        && next_is text.now (Ok at) (column_name counts.columns)) }
 {
-    (rows == 0) & (columns < rules::MOST_COLUMNS) & is_next_name(text, at, b'x', columns)
+    (counts.rows == 0)
+        & (counts.columns < rules::MOST_COLUMNS)
+        & is_next_name(text, at, b'x', counts.columns)
 }
 
 // A name and its sort, up to the next parenthesis that opens.
@@ -48,39 +56,41 @@ fn named_real(text: &[u8], at: usize, letter: u8, number: usize) -> Result<usize
 
 // One declaration.
 fn declaration(text: &[u8], shape: Shape) -> Result<Shape, Halted>
-    requires { DeclaredAt text.now shape.columns shape.rows (Ok shape.at)
-        × ((next_is text.now (Ok shape.at) declare_token && ltb shape.rows most_rows) ≡ true) }
-    ensures declared { MatchResult result (λ s. DeclaredAt text.now s.columns s.rows (Ok s.at))
+    requires { DeclaredAt text.now shape.counts.columns shape.counts.rows (Ok shape.at)
+        × ((next_is text.now (Ok shape.at) declare_token && ltb shape.counts.rows most_rows) ≡ true) }
+    ensures declared { MatchResult result (λ s. DeclaredAt text.now s.counts.columns s.counts.rows (Ok s.at))
         (Refused text.now) }
-    ensures more { IfOk result (λ s. s.columns + s.rows ≡ suc (shape.columns + shape.rows)) }
+    ensures more { IfOk result (λ s. s.counts.columns + s.counts.rows
+        ≡ suc (shape.counts.columns + shape.counts.rows)) }
 {
+    let Counts { columns, rows } = shape.counts;
     let opened = tokens::follow(text, shape.at, &DECLARE_CONST)?;
-    if is_column(text, opened, shape.columns, shape.rows) {
-        let at = named_real(text, opened, b'x', shape.columns)?;
-        return Ok(Shape {
-            columns: shape.columns + 1,
-            rows: shape.rows,
-            at,
-        });
+    if is_column(text, opened, shape.counts) {
+        let at = named_real(text, opened, b'x', columns)?;
+        let counts = Counts {
+            columns: columns + 1,
+            rows,
+        };
+        return Ok(Shape { counts, at });
     }
-    let at = named_real(text, opened, b'r', shape.rows)?;
-    Ok(Shape {
-        columns: shape.columns,
-        rows: shape.rows + 1,
-        at,
-    })
+    let at = named_real(text, opened, b'r', rows)?;
+    let counts = Counts {
+        columns,
+        rows: rows + 1,
+    };
+    Ok(Shape { counts, at })
 }
 
 // All declarations, behind that of the first column.
 fn declarations(text: &[u8], at: usize) -> Result<Shape, Halted>
     requires { DeclaredAt text.now 1 0 (Ok at) }
-    ensures { MatchResult result (λ s. SizedAt text.now s.columns s.rows (Ok s.at)) (Refused text.now) }
+    ensures { MatchResult result (λ s. SizedAt text.now s.counts.columns s.counts.rows (Ok s.at)) (Refused text.now) }
 {
-    let mut shape = Shape {
+    let counts = Counts {
         columns: 1,
         rows: 0,
-        at,
     };
+    let mut shape = Shape { counts, at };
     while is_declaration(text, shape) {
         shape = declaration(text, shape)?;
     }
@@ -89,7 +99,7 @@ fn declarations(text: &[u8], at: usize) -> Result<Shape, Halted>
 
 // The text up to its first row or limit, or its end.
 pub fn sizes(text: &[u8]) -> Result<Shape, Halted>
-    ensures { MatchResult result (λ s. SizedAt text.now s.columns s.rows (Ok s.at)) (Refused text.now) }
+    ensures { MatchResult result (λ s. SizedAt text.now s.counts.columns s.counts.rows (Ok s.at)) (Refused text.now) }
 {
     let logic = tokens::follow(text, tokens::start(text, 0), &SET_LOGIC)?;
     let opened = tokens::follow(text, logic, &DECLARE_CONST)?;

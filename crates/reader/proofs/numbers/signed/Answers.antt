@@ -1,16 +1,11 @@
 -- `reader::numbers::signed` meets its contract: numbers of limits fit. Assumes nothing.
-use mathlib.Core.Path.{◌≡◌, ap, refl, subst, sym, ◌∙◌}
-use Prim.Native.Nat.{ℕ, zero, suc, ◌-◌, ◌≤◌}
-use mathlib.Core.Bool.{true, cond}
+use Rattle.std.proofs.Common.{◌≡◌, ℕ, zero, suc, ◌-◌, ◌≤◌, cond, ap, refl, subst, sym, ◌∙◌, arith, pos, negsuc, ◌-ℤ◌}
+use Rattle.std.proofs.Common.{true, w32}
 use borrow.Author.Tests.{lt-ltb}
-use lib.IntN.{negsuc, pos, ◌-ℤ◌}
 use mir.Facts.{to_z-of_z, to_z_pos}
-use mir.Syntax.{w32}
 use mir.Val.{SFits, to_z}
 use Rattle.reader.specs.Numbers.{value_by}
-use native.Mathlib.Omega.{arith}
 use Rattle.reader.proofs.numbers.signed.Goals as goal
-use Rattle.reader.proofs.numbers.signed.Goals.{Start}
 
 minus_is : (k : ℕ) → pos 0 -ℤ pos k ≡ value_by true k
 unfolding value_by
@@ -27,14 +22,15 @@ minus-fits k h = subst (SFits w32) (sym (minus_is k)) (go k h)
     go zero l = record { sfits = omega arith }
     go (suc j) l = record { sfits = omega arith }
 
-value-is : (s : Start) → to_z w32 s.args.value ≡ pos s.args.value
-value-is s = to_z_pos w32 (omega (arith, s.requires))
+value-is : (k : ℕ) → k ≤ 30000 → to_z w32 k ≡ pos k
+value-is k h = to_z_pos w32 (omega arith)
 
 pub returns-then-below : goal.returns-then-below
 unfolding value_by
-returns-then-below c = rw (value-is c.before, to_z-of_z (minus-fits c.args.value c.requires), c.if-below.true)
+returns-then-below c =
+    rw (value-is c.args.value c.requires, to_z-of_z (minus-fits c.args.value c.requires), c.if-below.true)
     (minus_is c.args.value)
 
-pub returns : goal.returns
+pub returns-else-below : goal.returns-else-below
 unfolding value_by
-returns c = rw c.if-below.false (value-is c.before)
+returns-else-below c = rw c.if-below.false (value-is c.args.value c.requires)

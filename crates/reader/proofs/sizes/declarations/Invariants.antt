@@ -6,7 +6,7 @@ use Rattle.reader.specs.Course.{DeclaredAt}
 use Rattle.reader.proofs.sizes.declarations.Given as goal
 
 abbrev pub invariant-loop-shape : goal.invariant-loop-shape
-invariant-loop-shape l = DeclaredAt l.text l.shape.columns l.shape.rows (Ok l.shape.at)
+invariant-loop-shape l = DeclaredAt l.text l.shape.counts.columns l.shape.counts.rows (Ok l.shape.at)
 
 abbrev pub decreases-loop-shape : goal.decreases-loop-shape
-decreases-loop-shape l = suc most_variables - (l.shape.columns + l.shape.rows)
+decreases-loop-shape l = suc most_variables - (l.shape.counts.columns + l.shape.counts.rows)

@@ -11,4 +11,4 @@ pub returns : goal.returns
 unfolding column_name ascii
 returns c =
     let a = c.args in
-    ap (λ b. eqb a.rows 0 && ltb a.columns most_columns && b) c.is_next_name.ensures
+    ap (λ b. eqb a.counts.rows 0 && ltb a.counts.columns most_columns && b) c.is_next_name.ensures

@@ -9,4 +9,4 @@ use Rattle.reader.proofs.sizes.is_declaration.Goals as goal
 
 pub returns : goal.returns
 unfolding declare_token ascii
-returns c = ap (λ b. b && ltb c.args.shape.rows most_rows) c.is_next.ensures
+returns c = ap (λ b. b && ltb c.args.shape.counts.rows most_rows) c.is_next.ensures
