@@ -109,9 +109,8 @@ pub fn put_all_limits(out: &mut Writer, words: &[i32], columns: usize, rows: usi
     requires room { Room out.old (lines_below (columns + rows) (limits_text words.now)) }
     ensures { Put out.old (lines_below (columns + rows) (limits_text words.now)) out.new }
 {
-    let start = 2 + rows * columns;
-    for variable in 0..columns + rows {
-        let from = start + 3 * variable;
-        put_limits(out, Name::of(columns, variable), &words[from..from + 3]);
+    let all = &words[2 + rows * columns..];
+    for (variable, limits) in all.chunks_exact(3).enumerate() {
+        put_limits(out, Name::of(columns, variable), limits);
     }
 }

@@ -80,11 +80,12 @@ fn put_row(out: &mut Writer, row: usize, coefficients: &[i32])
 // Every row is.
 pub fn put_rows(out: &mut Writer, words: &[i32], columns: usize, rows: usize)
     requires framed { Framed words.now columns rows }
+    requires some_columns { 0 < columns }
     requires room { Room out.old (lines_below rows (row_text words.now)) }
     ensures { Put out.old (lines_below rows (row_text words.now)) out.new }
 {
-    for row in 0..rows {
-        let from = 2 + row * columns;
-        put_row(out, row, &words[from..from + columns]);
+    let all = &words[2..2 + rows * columns];
+    for (row, coefficients) in all.chunks_exact(columns).enumerate() {
+        put_row(out, row, coefficients);
     }
 }

@@ -1,4 +1,6 @@
 -- The pieces of specs/Pieces are those of the rules' text, where n and m are at hand.
+--   chunk-part, chunk-rest, chunk-inside    the next words of a part, and what is left of it
+--   row-behind, row-next, rows-end    the place behind a row; while a row is left, and when none is
 --   row-part, limits-part      a row from its coefficients among the words, the limits of a variable from their words
 --   row_inside, limits-inside  .. which are all there
 --   sum-alone, sum-joined      one term, or more
@@ -10,14 +12,16 @@ use mathlib.Core.List.{List, ◌++◌}
 use mathlib.Core.Logic.{◌≢◌}
 use mathlib.Core.Path.{◌≡◌, refl, sym, ◌∙◌, ap, ap₂}
 use Prim.Native.Nat.{ℕ, suc, ◌+◌, ◌-◌, ◌*◌, ◌≤◌, ◌<◌}
-use native.Mathlib.Nat.{add-zero, le_refl, mul-le-mul, suc-mul}
+use native.Mathlib.Nat.{add-mul, add-zero, le_refl, mul-le-mul, one-mul, suc-mul}
+use native.Mathlib.Decide.{dec_lt}
 use native.Mathlib.Omega.{arith}
 use borrow.Author.Tests.{ne_eqb}
 use lib.Dec.{ltb}
 use lib.IntN.{ℤ, pos}
 use lib.ListN.{drop, length, take, length-drop}
-use lib.Seq.{get_or-drop, get_or-take, length-take-le}
-use Rattle.std.proofs.Common.{None, Some}
+use lib.Seq.{drop-append_seam, get_or-drop, get_or-take, length-take-le, take-append_seam}
+use Rattle.std.proofs.Common.{None, Some, add-one, drop-drop, length-append, min}
+use Rattle.std.proofs.lemmas.List.{drop-take, length-take, take-take}
 use Rattle.rules.specs.Limit.{has_lower, has_upper, strict_lower, strict_upper}
 use Rattle.rules.specs.Problem.{word}
 use Rattle.rules.specs.Program.Text.{lines_below}
@@ -88,6 +92,30 @@ part-word : (ws : List ℤ) (a k j : ℕ) → j < k → word (words_part ws a k)
 part-word ws a k j h =
     get_or-take (a + k - a) (drop a ws) j (pos 0) (omega arith) ∙ get_or-drop a ws j (pos 0)
 
+-- of the words from place a up to place b the next k, and what is left
+module _ (ws : List ℤ) (a b k : ℕ) {rest : List ℤ} (chunk more : List ℤ) (r : rest ≡ take (b - a) (drop a ws))
+    (e : rest ≡ chunk ++ more) (l : length chunk ≡ k) where
+  no_more : k ≤ b - a
+  no_more =
+      let z : length rest ≡ length chunk + length more = ap length e ∙ length-append chunk more in
+      let y : length rest ≡ min (b - a) (length (drop a ws)) = ap length r ∙ length-take (b - a) (drop a ws) in
+      omega (arith, z, y, l)
+
+  pub chunk-inside : 0 < k → a + k ≤ b
+  chunk-inside h = omega (arith, no_more)
+
+  pub chunk-part : chunk ≡ words_part ws a k
+  chunk-part =
+      let z : length chunk ≡ a + k - a = omega (arith, l) in
+      sym (take-append_seam chunk more) ∙ ap₂ take z (sym e ∙ r)
+      ∙ take-take (a + k - a) (b - a) (drop a ws) (omega (arith, no_more))
+
+  pub chunk-rest : more ≡ take (b - (a + k)) (drop (a + k) ws)
+  chunk-rest =
+      let z : b - a ≡ k + (b - (a + k)) = omega (arith, no_more) in
+      sym (drop-append_seam chunk more) ∙ ap₂ drop l (sym e ∙ r) ∙ ap (λ i. drop k (take i (drop a ws))) z
+      ∙ drop-take k (b - (a + k)) (drop a ws) ∙ ap (take (b - (a + k))) (drop-drop k a ws)
+
 module _ {ws : List ℤ} {n m : ℕ} (F : Framed ws n m) where
   -- ---- rows
 
@@ -149,6 +177,40 @@ module _ {ws : List ℤ} {n m : ℕ} (F : Framed ws n m) where
       ++ lines_below (n + m) (limits_text ws) ++ check_sat
   unfolding exchange_text
   script-at = rw (F.columns-are, F.rows_are) refl
+
+-- ---- how many rows are left
+
+pub row-behind : (n v : ℕ) → 2 + v * n + n ≡ 2 + (v + 1) * n
+row-behind n v = let z : (v + 1) * n ≡ v * n + n = rw add-one (suc-mul v n) in omega (arith, z)
+
+module _ (n m v : ℕ) (some : 0 < n) where
+  pub row-next : 2 + v * n + n ≤ 2 + m * n → v < m
+  row-next h = elim (dec_lt v m) [
+    | yes s ↦ s
+    | no s ↦ let z : m * n ≤ v * n = mul-le-mul (omega arith) (le_refl n) in absurd (omega (arith, z))
+  ]
+
+  pub rows-end :
+      (ws : List ℤ) → 2 + m * n ≤ length ws → v ≤ m →
+      length (take (2 + m * n - (2 + v * n)) (drop (2 + v * n) ws)) < n → v ≡ m
+  rows-end ws h l f =
+      let all : m * n ≡ v * n + (m - v) * n =
+      ap (λ k. k * n) (let e : m ≡ v + (m - v) = omega (arith, l) in e) ∙ add-mul v (m - v) n in
+      elim (dec_lt v m) [
+        | yes s ↦
+            let z : 1 * n ≤ (m - v) * n = mul-le-mul (omega arith) (le_refl n) in
+            absurd (omega (
+              arith,
+              f,
+              z,
+              all,
+              one-mul n,
+              length-take (2 + m * n - (2 + v * n)) (drop (2 + v * n) ws),
+              length-drop (2 + v * n) ws,
+              h,
+            ))
+        | no s ↦ omega arith
+      ]
 
 -- ---- by a test
 

@@ -24,9 +24,13 @@ returns-then-text-size-clause-bytes c =
 
 pub returns-clause-refused : goal.returns-clause-refused
 returns-clause-refused c =
-    (text-put c.args.words.now c.args.text.now (sym c.in_ok-judge.ensures) (omega arith) c.new.ensures.bytes c.new.ensures.place c.put_script.ensures).0
+    let start = c.new.ensures in
+    let sent = text-put c.args.words.now c.args.text.now (sym c.in_ok-judge.ensures) (omega arith) in
+    (sent start.bytes start.place c.put_script.ensures).0
 
 pub returns-clause-bytes : goal.returns-clause-bytes
 returns-clause-bytes c =
-    let put = (text-put c.args.words.now c.args.text.now (sym c.in_ok-judge.ensures) (omega arith) c.new.ensures.bytes c.new.ensures.place c.put_script.ensures).1 in
+    let start = c.new.ensures in
+    let sent = text-put c.args.words.now c.args.text.now (sym c.in_ok-judge.ensures) (omega arith) in
+    let put = (sent start.bytes start.place c.put_script.ensures).1 in
     search (rules, put)

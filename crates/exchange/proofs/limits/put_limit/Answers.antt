@@ -1,4 +1,5 @@
--- `exchange::limits::put_limit` meets its contract: relation, name and number between two fixed texts, or nothing. Assumes nothing.
+-- `exchange::limits::put_limit` meets its contract: relation, name and number between two fixed texts, or nothing.
+-- Assumes nothing.
 use Rattle.std.proofs.Common.{rules, arith, length-append, w32}
 use mir.Facts.{to_z-of_z}
 use mir.Val.{SFits}
