@@ -54,20 +54,24 @@ pub fn breach_of(common: i32, value: Amount, limits: LimitPair) -> Option<Breach
     ensures { result ≡ breach_of common (pair_of value) limits }
 {
     let least = amounts::times(common, amounts::lower_value(limits.lower));
-    if limits.lower.on & (value < least) {
-        return Some(Breach {
+    let most = amounts::times(common, amounts::upper_value(limits.upper));
+    // both limits are tested before the one branch, which is seldom taken
+    let low = limits.lower.on & (value < least);
+    let high = limits.upper.on & (most < value);
+    if !(low | high) {
+        return None;
+    }
+    if low {
+        Some(Breach {
             rises: true,
             shortfall: gap(least, value),
-        });
-    }
-    let most = amounts::times(common, amounts::upper_value(limits.upper));
-    if limits.upper.on & (most < value) {
-        return Some(Breach {
+        })
+    } else {
+        Some(Breach {
             rises: false,
             shortfall: gap(value, most),
-        });
+        })
     }
-    None
 }
 
 // A nonbasic variable may increase, and may decrease.
