@@ -8,18 +8,12 @@ ghost use Rattle.masks.specs.Masks.{gone_from, seats_mask, went_from};
 
 use tableau::{Seat, Tableau};
 
-// How many bits a mask has.
-const BITS: u32 = 32;
-
 // The mask with variable v added, if it is in. No variable from v on is in yet.
 fn with_bit(mask: u32, v: u32, is_in: bool) -> u32
     requires { (v < 32) × (mask < 2 ^ v) }
     ensures { result ≡ mask + bit_at v is_in }
 {
-    if is_in {
-        return mask | 1u32 << v;
-    }
-    mask
+    if is_in { mask | 1 << v } else { mask }
 }
 
 // The basic ones of the first variables.
@@ -27,10 +21,9 @@ pub fn mask_of(seats: [Seat; Tableau::MOST_VARIABLES], variables: usize) -> u32
     requires { variables ≤ most_variables }
     ensures { result ≡ seats_mask seats variables }
 {
-    let mut mask = 0u32;
+    let mut mask = 0;
     for v in 0..variables {
-        let seat = seats[v];
-        mask = with_bit(mask, v as u32, seat.basic);
+        mask = with_bit(mask, v as u32, seats[v].basic);
     }
     mask
 }
@@ -39,10 +32,7 @@ pub fn mask_of(seats: [Seat; Tableau::MOST_VARIABLES], variables: usize) -> u32
 fn has(mask: u32, v: u32) -> bool
     ensures { result ≡ bit_in mask v }
 {
-    if v < BITS {
-        return (mask >> v) % 2 == 1;
-    }
-    false
+    v < u32::BITS && (mask >> v) % 2 == 1
 }
 
 // Whether variable v is in the first set and not in the second.
@@ -57,10 +47,9 @@ pub fn gone(from: u32, to: u32, variables: usize) -> u32
     requires { variables ≤ most_variables }
     ensures { result ≡ gone_from from to variables }
 {
-    for v in 0..variables {
-        let number = v as u32;
-        if went(from, to, number) {
-            return number;
+    for v in 0..variables as u32 {
+        if went(from, to, v) {
+            return v;
         }
     }
     0
