@@ -1,4 +1,3 @@
 -- Laws that the proofs share. Assumes nothing.
 pub mod Chains
 pub mod Only
-mod Ranges

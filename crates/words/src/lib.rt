@@ -7,38 +7,37 @@ ghost use Rattle.whole.specs.Numbers.{within};
 ghost use Rattle.rules.specs.Problem.{word};
 ghost use Rattle.words.specs.Sizes.{sizes_outside};
 
-// Below `low` or above `high`.
+/// Below `low` or above `high`.
 pub fn is_outside(z: i64, low: i64, high: i64) -> bool
     ensures { result ≡ (lt_z z low || lt_z high z) }
 {
-    (z < low) | (high < z)
+    !(low..=high).contains(&z)
 }
 
-// Whether the size of a word is at most `largest`.
+/// Whether the size of a word is at most `largest`.
+#[tactic(auto, unfolding(whole::specs::Numbers::within))]
 pub fn is_within(word: i32, largest: i32) -> bool
     requires { pos 0 ≤ℤ largest }
     ensures { result ≡ within (nat_abs largest) word }
 {
-    if word < -largest {
-        return false;
-    }
-    word <= largest
+    word.unsigned_abs() <= largest.unsigned_abs()
 }
 
-// A word that is not below 0, as a count.
+/// A word that is not below 0, as a count.
 pub fn count_at(words: &[i32], at: usize) -> usize
     requires { (at < length words.now) × (pos 0 ≤ℤ word words.now at) }
     ensures { result ≡ nat_abs (word words.now at) }
 {
-    words[at] as u32 as usize
+    words[at].unsigned_abs() as usize
 }
 
-// Whether n, word 0, is not from 1 to `first`, or m, word 1, not from 0 to `second`.
+/// Whether n, word 0, is not from 1 to `first`, or m, word 1, not from 0 to `second`.
+#[tactic(auto, unfolding(whole::specs::Numbers::outside))]
 pub fn is_bad_size(words: &[i32], first: u32, second: u32) -> bool
     requires { 2 ≤ length words.now }
     ensures { result ≡ sizes_outside first second words.now }
 {
-    let n = words[0] as i64;
-    let m = words[1] as i64;
-    is_outside(n, 1, first as i64) | is_outside(m, 0, second as i64)
+    let n = i64::from(words[0]);
+    let m = i64::from(words[1]);
+    is_outside(n, 1, i64::from(first)) | is_outside(m, 0, i64::from(second))
 }
