@@ -1,18 +1,18 @@
 -- `put::Writer::number` meets its contract: below 0 a minus sign, and then the digits of the size. Assumes nothing.
-use lib.IntN.{nat_abs}
+use Rattle.std.proofs.Common.{arith}
 use mir.Facts.{to_z-of_z, sfits_lit}
 use mir.Syntax.{w64}
 use Rattle.whole.proofs.Numbers.Tests.{test-lt, test-nlt}
-use Rattle.rules.specs.Program.Text.{digits}
 use Rattle.rules.proofs.Program.Numbers.{decimal-below, decimal-above}
-use Rattle.put.proofs.Texts.{put_then, room-left, room-right}
+use Rattle.put.proofs.Texts.{put_then}
 use Rattle.put.proofs.Writer.number.Goals.{then-n-lt0, else-n-lt0}
 use Rattle.put.proofs.Writer.number.Goals as goal
 
 pub byte-requires : goal.byte-requires
 byte-requires c =
-    room-left (digits (nat_abs c.args.n))
-    (rw (decimal-below c.args.n (test-lt w64 c.ranges.n (sfits_lit tt) c.if-n-lt0.true)) at c.requires)
+    let below = decimal-below c.args.n (test-lt w64 c.ranges.n (sfits_lit tt) c.if-n-lt0.true) in
+    let room = rw below at c.requires in
+    grind (arith, room)
 
 pub digits-requires : goal.digits-requires
 digits-requires c =
@@ -20,7 +20,8 @@ digits-requires c =
     (elim c.if-n-lt0.branch [
       | then-n-lt0 w ↦
           let below = decimal-below c.args.n (test-lt w64 c.ranges.n (sfits_lit tt) w.if-n-lt0.true) in
-          rw w.self-is (room-right w.byte.ensures (rw below at c.requires))
+          let room = rw below at c.requires in
+          rw w.self-is (grind (arith, room))
       | else-n-lt0 w ↦
           let above = decimal-above c.args.n (test-nlt w64 c.ranges.n (sfits_lit tt) w.if-n-lt0.false) in
           rw w.self-is (rw above at c.requires)
