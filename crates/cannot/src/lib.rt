@@ -12,7 +12,8 @@ ghost use Rattle.parts.specs.Reads.{multipliers_fair, columns_cancel, surplus_of
 
 use amounts::Given;
 use layout::{ColumnPlace, RowPlace};
-use tableau::{Limits, Tableau, Variable};
+use parts::Case;
+use tableau::{Tableau, Variable};
 use words::is_outside;
 
 // A multiplier is in its range, and 0 where its limit is missing.
@@ -22,84 +23,69 @@ fn fair(limit: Given, k: i64) -> bool
     (limit.on & !is_outside(k, 0, Tableau::LARGEST_NUMBER)) | (k == 0)
 }
 
-fn multipliers_fair(limits: Limits, answer: &[i64], variables: usize) -> bool
-    requires { (variables ≤ most_variables) × (3 + 2 * variables ≤ length answer.now) }
-    ensures { result ≡ multipliers_fair limits answer.now variables }
+fn multipliers_fair(case: &Case<'_>) -> bool
+    requires { 3 + 2 * (case.now.columns + case.now.rows) ≤ length case.now.answer.now }
+    ensures { result ≡ multipliers_fair case.now.limits case.now.answer.now (case.now.columns + case.now.rows) }
 {
+    let variables = case.columns + case.rows;
     let mut fine = true;
+    // Kept: two limits and two words are read at each number, here and below, and a zip of four lists is no plainer.
     for v in 0..variables {
-        let low = 3 + v;
-        let high = 3 + variables + v;
-        let first = fair(limits.lower[v], answer[low]);
-        let second = fair(limits.upper[v], answer[high]);
+        let first = fair(case.limits.lower[v], case.answer[3 + v]);
+        let second = fair(case.limits.upper[v], case.answer[3 + variables + v]);
         fine = fine & (first & second);
     }
     fine
 }
 
 // The lower less the upper multiplier of a variable.
-fn balance(answer: &[i64], variables: usize, variable: Variable) -> i64
-    requires variable_lt_variables { (variable.0 < variables) × (variables ≤ most_variables)
-        × (3 + 2 * variables ≤ length answer.now) }
-    requires multiplied { Multiplied answer.now variables }
-    ensures { result ≡ balance_at answer.now variables variable.0 }
+fn balance(case: &Case<'_>, variable: Variable) -> i64
+    requires variable_lt_variables { variable.0 < case.now.columns + case.now.rows }
+    requires long { 3 + 2 * (case.now.columns + case.now.rows) ≤ length case.now.answer.now }
+    requires multiplied { Multiplied case.now.answer.now (case.now.columns + case.now.rows) }
+    ensures { result ≡ balance_at case.now.answer.now (case.now.columns + case.now.rows) variable.0 }
 {
+    let variables = case.columns + case.rows;
     let v = variable.0 as usize;
-    let low = 3 + v;
-    let high = 3 + variables + v;
-    answer[low] - answer[high]
+    case.answer[3 + v] - case.answer[3 + variables + v]
 }
 
 // .. of a column's own variable. Variable j of a problem starts in column j: this is where the one becomes the other.
-fn own_balance(answer: &[i64], variables: usize, column: ColumnPlace) -> i64
-    requires column_lt_variables { (column.0 < variables) × (variables ≤ most_variables)
-        × (3 + 2 * variables ≤ length answer.now) }
-    requires multiplied { Multiplied answer.now variables }
-    ensures { result ≡ balance_at answer.now variables column.0 }
+fn own_balance(case: &Case<'_>, column: ColumnPlace) -> i64
+    requires column_lt_variables { column.0 < case.now.columns + case.now.rows }
+    requires long { 3 + 2 * (case.now.columns + case.now.rows) ≤ length case.now.answer.now }
+    requires multiplied { Multiplied case.now.answer.now (case.now.columns + case.now.rows) }
+    ensures { result ≡ balance_at case.now.answer.now (case.now.columns + case.now.rows) column.0 }
 {
-    balance(answer, variables, Variable(column.0))
+    balance(case, Variable(column.0))
 }
 
 // A column of the multipliers put through the rows.
-fn column_sum(
-    entries: &[i32; Tableau::MOST_ENTRIES],
-    answer: &[i64],
-    rows: usize,
-    columns: usize,
-    column: ColumnPlace,
-) -> i64
-    requires rows_le_most_rows { (rows ≤ most_rows) × (columns ≤ most_columns) × (column.0 < columns)
-        × (3 + 2 * (columns + rows) ≤ length answer.now) }
-    requires all_within { AllWithin entries.now largest_coefficient }
-    requires multiplied { Multiplied answer.now (columns + rows) }
-    ensures { result ≡ column_at_entries entries.now answer.now rows columns column.0 }
+fn column_sum(case: &Case<'_>, column: ColumnPlace) -> i64
+    requires column_lt_columns { column.0 < case.now.columns }
+    requires long { 3 + 2 * (case.now.columns + case.now.rows) ≤ length case.now.answer.now }
+    requires multiplied { Multiplied case.now.answer.now (case.now.columns + case.now.rows) }
+    ensures { result
+        ≡ column_at_entries case.now.entries case.now.answer.now case.now.rows case.now.columns column.0 }
 {
-    let variables = columns + rows;
-    let mut sum = own_balance(answer, variables, column);
-    for i in 0..rows {
-        let k = layout::place(rows, columns, RowPlace(i as u8), column);
-        let e = entries[k];
-        sum = sum + e as i64 * balance(answer, variables, Variable((columns + i) as u8));
+    let mut sum = own_balance(case, column);
+    for i in 0..case.rows {
+        let k = layout::place(case.rows, case.columns, RowPlace(i as u8), column);
+        let e = case.entries[k];
+        sum += e as i64 * balance(case, Variable((case.columns + i) as u8));
     }
     sum
 }
 
 // Every column cancels.
-fn columns_cancel(
-    entries: &[i32; Tableau::MOST_ENTRIES],
-    answer: &[i64],
-    rows: usize,
-    columns: usize,
-) -> bool
-    requires rows_le_most_rows { (rows ≤ most_rows) × (columns ≤ most_columns)
-        × (3 + 2 * (columns + rows) ≤ length answer.now) }
-    requires all_within { AllWithin entries.now largest_coefficient }
-    requires multiplied { Multiplied answer.now (columns + rows) }
-    ensures { result ≡ columns_cancel entries.now answer.now rows columns }
+fn columns_cancel(case: &Case<'_>) -> bool
+    requires long { 3 + 2 * (case.now.columns + case.now.rows) ≤ length case.now.answer.now }
+    requires multiplied { Multiplied case.now.answer.now (case.now.columns + case.now.rows) }
+    ensures { result ≡ columns_cancel case.now.entries case.now.answer.now case.now.rows case.now.columns }
 {
     let mut fine = true;
-    for j in 0..columns {
-        fine = fine & (column_sum(entries, answer, rows, columns, ColumnPlace(j as u8)) == 0);
+    for j in 0..case.columns {
+        fine = fine & (column_sum(case, ColumnPlace(j as u8)) == 0);
     }
     fine
 }
@@ -116,19 +102,17 @@ fn weighed(limit: Given, k: i64) -> i64
 }
 
 // What the multipliers make of the numbers of the limits: those of lower ones added, those of upper ones taken away.
-fn surplus(limits: Limits, answer: &[i64], variables: usize) -> i64
-    requires variables_le_most_variables { (variables ≤ most_variables) × (3 + 2 * variables ≤ length answer.now) }
-    requires multiplied { Multiplied answer.now variables }
-    requires limited { Limited limits }
-    ensures { result ≡ surplus_of limits answer.now variables }
+fn surplus(case: &Case<'_>) -> i64
+    requires long { 3 + 2 * (case.now.columns + case.now.rows) ≤ length case.now.answer.now }
+    requires multiplied { Multiplied case.now.answer.now (case.now.columns + case.now.rows) }
+    ensures { result ≡ surplus_of case.now.limits case.now.answer.now (case.now.columns + case.now.rows) }
 {
-    let mut sum = 0i64;
+    let variables = case.columns + case.rows;
+    let mut sum = 0;
     for v in 0..variables {
-        let low = 3 + v;
-        let high = 3 + variables + v;
-        let gain = weighed(limits.lower[v], answer[low]);
-        let loss = weighed(limits.upper[v], answer[high]);
-        sum = sum + (gain - loss);
+        let gain = weighed(case.limits.lower[v], case.answer[3 + v]);
+        let loss = weighed(case.limits.upper[v], case.answer[3 + variables + v]);
+        sum += gain - loss;
     }
     sum
 }
@@ -137,52 +121,42 @@ fn surplus(limits: Limits, answer: &[i64], variables: usize) -> i64
 fn strict_named(limit: Given, k: i64) -> bool
     ensures { result ≡ strict_named (limit_in limit) k }
 {
-    limit.on & (limit.strict & !(k == 0))
+    limit.on & (limit.strict & (k != 0))
 }
 
 // Some strict limit has.
-fn some_named(limits: Limits, answer: &[i64], variables: usize) -> bool
-    requires { (variables ≤ most_variables) × (3 + 2 * variables ≤ length answer.now) }
-    ensures { result ≡ some_named limits answer.now variables }
+fn some_named(case: &Case<'_>) -> bool
+    requires { 3 + 2 * (case.now.columns + case.now.rows) ≤ length case.now.answer.now }
+    ensures { result ≡ some_named case.now.limits case.now.answer.now (case.now.columns + case.now.rows) }
 {
+    let variables = case.columns + case.rows;
     let mut found = false;
     for v in 0..variables {
-        let low = 3 + v;
-        let high = 3 + variables + v;
-        let first = strict_named(limits.lower[v], answer[low]);
-        let second = strict_named(limits.upper[v], answer[high]);
+        let first = strict_named(case.limits.lower[v], case.answer[3 + v]);
+        let second = strict_named(case.limits.upper[v], case.answer[3 + variables + v]);
         found = found | (first | second);
     }
     found
 }
 
-// The words are right and within the ranges for verdict 2.
-pub fn shows_cannot(
-    entries: &[i32; Tableau::MOST_ENTRIES],
-    limits: Limits,
-    rows: usize,
-    columns: usize,
-    answer: &[i64],
-) -> bool
-    requires { Readable entries.now limits rows columns answer.now }
-    ensures { result ≡ shows_cannot (problem_of entries.now limits rows columns) answer.now }
+/// The words are right and within the ranges for verdict 2.
+pub fn shows_cannot(case: &Case<'_>) -> bool
+    requires { 3 + 2 * (case.now.columns + case.now.rows) ≤ length case.now.answer.now }
+    ensures { result ≡ shows_cannot (problem_of case.now.entries case.now.limits case.now.rows case.now.columns)
+        case.now.answer.now }
 {
-    let variables = columns + rows;
-    if answer[2] != 0 {
+    if case.answer[2] != 0 {
         return false;
     }
-    if !multipliers_fair(limits, answer, variables) {
+    if !multipliers_fair(case) {
         return false;
     }
-    if !columns_cancel(entries, answer, rows, columns) {
+    if !columns_cancel(case) {
         return false;
     }
-    let total = surplus(limits, answer, variables);
+    let total = surplus(case);
     if total != 0 {
         return 0 < total;
     }
-    if !limits.strict {
-        return false;
-    }
-    some_named(limits, answer, variables)
+    case.limits.strict && some_named(case)
 }

@@ -1,16 +1,19 @@
 -- The problem that a tableau's entries and limits hold at its start, and the checker's sums and tests over them.
 use Rattle.std.specs.Prelude.{◌≡◌, Bool, false, ◌&&◌, ◌||◌, List, ℕ, ◌+◌, ◌*◌, ◌≤◌, ◌<◌, ℤ, pos, ◌+ℤ◌, ◌-ℤ◌, ◌*ℤ◌}
-use Rattle.std.specs.Prelude.{length}
+use Rattle.std.specs.Prelude.{◌∷◌, [], ◌++◌, length, ltb}
 use Rattle.std.proofs.Math.Option.{Option}
 use Rattle.whole.specs.Below.{all_below, some_below}
 use Rattle.whole.specs.Numbers.{Within, AllWithin, within, eq_z}
 use Rattle.whole.specs.Sums.{sum}
 use Rattle.rules.specs.Sizes.{most_rows, most_columns, largest_coefficient, largest_limit, largest_number}
 use Rattle.rules.specs.Limit.{Limit}
-use Rattle.rules.specs.Problem.{Problem}
+use Rattle.rules.specs.Problem.{Problem, problem, vars_of}
+use Rattle.rules.specs.Refusal.{Accepted, first, problem_tests}
 use Rattle.rules.specs.Evidence.{lower_part, upper_part, pair_part, at_least, at_most, fair, plain_of, strict_named}
 use Rattle.layout.specs.Layout.{entry_in}
 use Rattle.tableau.specs.declared.Limits.{Limits}
+use Rattle.judge.specs.Words.{Framed}
+use Rattle.tableau.specs.Start.{limits_for, start_entries}
 use Rattle.tableau.specs.Parts.{lower_given, upper_given, lower_of, upper_of}
 
 -- ---- the problem: at the start the entries are the coefficients
@@ -45,6 +48,22 @@ pub record Readable (entries : List ℤ) (limits : Limits) (rows columns : ℕ) 
   pub long : 3 + 2 * (columns + rows) ≤ length a
   pub entries-within : AllWithin entries largest_coefficient
   pub limited : Limited limits
+
+-- ---- the problem of words and an answer beside it
+
+-- what refuses them, with room for an answer that has `head` words and `each` more for each variable
+abbrev pub case_refusal : List ℤ → ℕ → ℕ → ℕ → ℕ
+case_refusal ws room head each = first (problem_tests most_rows ws ++ ((ltb room (head + each * vars_of ws), 7) ∷ []))
+
+-- what was read from words that are accepted, and an answer that is long enough
+pub record CaseOf (ws a : List ℤ) (head each : ℕ) (entries : List ℤ) (limits : Limits) (rows columns : ℕ)
+    (answer : List ℤ) : Type 0 where
+  pub framed : Framed ws columns rows
+  pub accepted : Accepted most_rows ws
+  pub entries-are : entries ≡ start_entries (problem ws)
+  pub limits-are : limits ≡ limits_for (problem ws)
+  pub answer-is : answer ≡ a
+  pub long : head + each * (columns + rows) ≤ length a
 
 -- ---- verdict 1: a half of the answer is a list that has its numbers where the answer has the numerators
 

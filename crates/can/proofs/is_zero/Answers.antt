@@ -1,48 +1,25 @@
--- `can::is_zero` meets its contract. The invariant: whether the numbers passed are 0. The measure is how
--- many are left. Assumes nothing.
-use mathlib.Core.Path.{◌≡◌, sym}
-use Prim.Native.Nat.{ℕ}
-use native.Mathlib.Omega.{arith}
-use borrow.Author.Rules.{sfits_of}
+-- `can::is_zero` meets its contract. Assumes nothing.
+use Rattle.std.proofs.Common.{ap, sym, ◌∙◌, ◌+◌, ◌-◌, ℤ, pos, rules, arith, w64, take, drop}
 use lib.Dec.{lit<}
-use lib.IntN.{ℤ, pos}
-use mir.Syntax.{w64}
 use mir.Val.{SFits}
 use Rattle.whole.proofs.Lists.Below.{all_start}
 use Rattle.whole.proofs.Tells.{bits-eq}
-use Rattle.rules.specs.Evidence.{lower_part}
+use Rattle.whole.specs.Numbers.{eq_z}
+use Rattle.rules.specs.Problem.{word}
 use Rattle.rules.proofs.Evidence.Joined.{tests-more}
+use Rattle.parts.proofs.Laws.Halves.{window}
 use Rattle.can.proofs.is_zero.Goals as goal
-use Rattle.can.proofs.is_zero.Goals.{After-fine-1, After-loop-v, Start}
 
-pub loop-v-init : goal.loop-v-init
-loop-v-init c = (omega arith, sym (all_start _))
+pub loop-x-init : goal.loop-x-init
+loop-x-init c = (omega arith, sym (all_start _))
 
--- the word; a test of its bits for 0 is one of the number
-module _ (c : After-fine-1) where
-  abbrev start : Start
-  start = c.before.before.before
-
-  abbrev place : ℕ
-  place = c.loop-v.v
-
-  abbrev number : ℤ
-  number = lower_part start.args.half.now place
-
-  fit : SFits w64 number
-  fit = sfits_of c.fine-1.given
-
-  zero-fits : SFits w64 (pos 0)
-  zero-fits = record { sfits = lit< tt }
-
-pub loop-v-preserved : goal.loop-v-preserved
-loop-v-preserved c = (
-  omega arith,
-  tests-more (place c) _ c.loop-v.invariant.1 (bits-eq w64 (fit c) (zero-fits c)),
-)
-
-all : (c : After-loop-v) → c.loop-v.v ≡ c.args.variables
-all c = omega arith
-
-pub returns : goal.returns
-returns c = rw (all c) at c.loop-v.invariant.1
+-- a test of a word's bits for 0 is one of the number
+pub loop-x-preserved : goal.loop-x-preserved
+loop-x-preserved c =
+    let half = c.args.half.now in
+    let i = c.loop-x.x-index in
+    let fit : SFits w64 (word (take (3 + c.args.variables - 3) (drop 3 half)) i) = search rules in (
+      omega arith,
+      tests-more i _ c.loop-x.invariant.1 (bits-eq w64 fit (record { sfits = lit< tt })
+          ∙ ap (λ (z : ℤ). eq_z z (pos 0)) (window half 3 c.args.variables i (omega arith))),
+    )

@@ -1,13 +1,10 @@
--- `can::limits_hold` meets its contract. The invariant: whether the limits of the variables passed hold. The
--- measure is how many are left. Assumes nothing.
-use mathlib.Core.Path.{◌≡◌}
-use Prim.Native.Nat.{◌-◌, ◌≤◌}
+-- `can::limits_hold` meets its contract. The invariant: whether the limits of the variables passed hold. Assumes
+-- nothing.
+use Rattle.std.proofs.Common.{◌≡◌, ◌≤◌}
 use Rattle.parts.specs.Reads.{limits_up_to}
 use Rattle.can.proofs.limits_hold.Given as goal
 
 abbrev pub invariant-loop-v : goal.invariant-loop-v
 invariant-loop-v l =
-    (l.v ≤ l.variables) × (l.fine ≡ limits_up_to l.limits l.answer l.variables l.denominator l.v)
-
-abbrev pub decreases-loop-v : goal.decreases-loop-v
-decreases-loop-v l = l.variables - l.v
+    (l.v ≤ l.variables)
+    × (l.fine ≡ limits_up_to l.case.limits l.case.answer.now l.variables l.denominator l.v)

@@ -1,61 +1,37 @@
--- `can::numerators_fit` meets its contract. The invariant: whether the numerators passed are in range. The
--- measure is how many are left. Assumes nothing.
-use mathlib.Core.Path.{◌≡◌, ap, sym, ◌∙◌}
-use mathlib.Core.Bool.{not}
-use Prim.Native.Nat.{ℕ}
-use native.Mathlib.Omega.{arith}
-use borrow.Author.Rules.{sfits_of}
-use lib.IntN.{ℤ, nat_abs, neg_ℤ, +ℤ_idl}
+-- `can::numerators_fit` meets its contract. Assumes nothing.
+use Rattle.std.proofs.Common.{◌≡◌, subst, ap, sym, ◌∙◌, ◌+◌, ◌-◌, neg_ℤ, nat_abs, not, rules, arith, w64, take, drop}
+use lib.IntN.{+ℤ_idl}
 use mir.Facts.{to_z-of_z}
-use mir.Syntax.{w64}
 use mir.Val.{SFits}
 use Rattle.whole.specs.Numbers.{within}
 use Rattle.whole.proofs.Lists.Below.{all_start}
 use Rattle.whole.proofs.Numbers.Sizes.{fits-by, within-neg}
 use Rattle.rules.specs.Evidence.{lower_part}
-use Rattle.parts.proofs.Laws.Tests.{not-not, outside-largest}
+use Rattle.rules.specs.Problem.{word}
 use Rattle.rules.proofs.Evidence.Joined.{tests-more}
+use Rattle.parts.proofs.Laws.Halves.{window}
+use Rattle.parts.proofs.Laws.Tests.{not-not, outside-largest}
 use Rattle.can.proofs.numerators_fit.Goals as goal
-use Rattle.can.proofs.numerators_fit.Goals.{After-is_outside, After-loop-v, Start}
 
-pub loop-v-init : goal.loop-v-init
-loop-v-init c = (omega arith, sym (all_start _))
+pub loop-x-init : goal.loop-x-init
+loop-x-init c = (omega arith, sym (all_start _))
 
-negated : (s : Start) → SFits w64 (neg_ℤ s.args.largest)
-negated s = fits-by (within-neg s.requires.pos_bound.1) tt
-
-pub overflow_sub-largest : goal.overflow_sub-largest
-overflow_sub-largest c = simp (to_z-of_z c.ranges.largest, +ℤ_idl) (negated c.before.before.before)
-
--- the numerator, and what the call says of it
-module _ (c : After-is_outside) where
-  abbrev start : Start
-  start = c.before.before.before.before
-
-  abbrev place : ℕ
-  place = c.loop-v.v
-
-  abbrev number : ℤ
-  number = lower_part start.args.half.now place
-
-  fit : SFits w64 number
-  fit = sfits_of c.is_outside-arg-1.given
-
-  told : not c.is_outside.result ≡ within (nat_abs start.args.largest) number
-  told = ap not ((simp (to_z-of_z fit, to_z-of_z start.ranges.largest, +ℤ_idl, to_z-of_z (negated start))
-      at c.is_outside.ensures) ∙ outside-largest start.args.largest number start.requires.pos_bound.0)
-      ∙ not-not (within (nat_abs start.args.largest) number)
-
-pub loop-v-preserved : goal.loop-v-preserved
-loop-v-preserved c = let f = (start c).ranges.largest in (
-  omega arith,
-  simp (to_z-of_z f) (tests-more (place c) (λ v. within (nat_abs (start c).args.largest)
-      (lower_part (start c).args.half.now v))
-      (simp (to_z-of_z f) at c.loop-v.invariant.1) (told c)),
-)
-
-all : (c : After-loop-v) → c.loop-v.v ≡ c.args.variables
-all c = omega arith
-
-pub returns : goal.returns
-returns c = simp (to_z-of_z c.ranges.largest) at (rw (all c) at c.loop-v.invariant.1)
+pub loop-x-preserved : goal.loop-x-preserved
+loop-x-preserved c =
+    let half = c.args.half.now in
+    let largest = c.args.largest in
+    let i = c.loop-x.x-index in
+    let f : SFits w64 largest = c.ranges.largest in
+    let back : SFits w64 (neg_ℤ largest) = fits-by (within-neg c.requires.pos_bound.1) tt in
+    let read : word (take (3 + c.args.variables - 3) (drop 3 half)) i ≡ lower_part half i =
+    window half 3 c.args.variables i (omega arith) in
+    let given : SFits w64 (word (take (3 + c.args.variables - 3) (drop 3 half)) i) = search rules in
+    let fit : SFits w64 (lower_part half i) = subst (λ z. SFits w64 z) read given in
+    let told : not c.is_outside.result ≡ within (nat_abs largest) (lower_part half i) =
+    ap not (simp (read, to_z-of_z fit, to_z-of_z f, +ℤ_idl, to_z-of_z back) at c.is_outside.ensures
+    ∙ outside-largest largest (lower_part half i) c.requires.pos_bound.0)
+    ∙ not-not (within (nat_abs largest) (lower_part half i)) in (
+      omega arith,
+      simp (to_z-of_z f) (tests-more i (λ v. within (nat_abs largest) (lower_part half v))
+          (simp (to_z-of_z f) at c.loop-x.invariant.1) told),
+    )

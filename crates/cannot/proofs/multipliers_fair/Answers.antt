@@ -1,12 +1,6 @@
--- `cannot::multipliers_fair` meets its contract. The invariant: whether the multipliers of the variables
--- passed are fair. The measure is how many are left. Assumes nothing.
-use mathlib.Core.Path.{◌≡◌, ap₂, sym}
-use mathlib.Core.Bool.{Bool, ◌&&◌}
-use Prim.Native.Nat.{ℕ}
-use native.Mathlib.Omega.{arith}
-use borrow.Author.Rules.{sfits_of}
+-- `cannot::multipliers_fair` meets its contract. Assumes nothing.
+use Rattle.std.proofs.Common.{◌≡◌, ap₂, sym, Bool, ◌&&◌, ◌+◌, rules, arith, w64}
 use mir.Facts.{to_z-of_z}
-use mir.Syntax.{w64}
 use mir.Val.{SFits}
 use Rattle.whole.proofs.Lists.Below.{all_start}
 use Rattle.rules.specs.Evidence.{fair, lower_part, upper_part}
@@ -14,43 +8,25 @@ use Rattle.tableau.specs.Parts.{lower_of, upper_of}
 use Rattle.parts.specs.Reads.{multipliers_fair}
 use Rattle.rules.proofs.Evidence.Joined.{tests-more}
 use Rattle.cannot.proofs.multipliers_fair.Goals as goal
-use Rattle.cannot.proofs.multipliers_fair.Goals.{After-fair-second, After-loop-v, At-loop-v, Start}
+use Rattle.cannot.proofs.multipliers_fair.Goals.{After-loop-v}
 
 pub loop-v-init : goal.loop-v-init
 loop-v-init c = (omega arith, sym (all_start _))
 
--- the two multipliers, and what the calls say of them
-module _ (c : After-fair-second) where
-  abbrev turn : At-loop-v
-  turn = c.before.before.before.before.before.before.before
-
-  abbrev start : Start
-  start = turn.before
-
-  abbrev place : ℕ
-  place = turn.loop-v.v
-
-  fit_low : SFits w64 (lower_part start.args.answer.now place)
-  fit_low = sfits_of c.fair-arg-in-loop-v-1.given
-
-  fit-high : SFits w64 (upper_part start.args.variables start.args.answer.now place)
-  fit-high = sfits_of c.fair-arg-in-loop-v-3-1.given
-
-  first : c.fair-first.result
-      ≡ fair (lower_of start.args.limits place) (lower_part start.args.answer.now place)
-  first = simp (to_z-of_z fit_low) at c.fair-first.ensures
-
-  second : c.fair-second.result ≡ fair (upper_of start.args.limits place)
-      (upper_part start.args.variables start.args.answer.now place)
-  second = simp (to_z-of_z fit-high) at c.fair-second.ensures
-
 pub loop-v-preserved : goal.loop-v-preserved
-loop-v-preserved c = (
-  omega arith,
-  tests-more (place c) _ (turn c).loop-v.invariant.1 (ap₂ (λ (a b : Bool). a && b) (first c) (second c)),
-)
+loop-v-preserved c =
+    let case = c.args.case.now in
+    let variables = case.columns + case.rows in
+    let v = c.loop-v.v in
+    let fit-low : SFits w64 (lower_part case.answer.now v) = search rules in
+    let fit-high : SFits w64 (upper_part variables case.answer.now v) = search rules in
+    let first : c.fair-first.result ≡ fair (lower_of case.limits v) (lower_part case.answer.now v) =
+    simp (to_z-of_z fit-low) at c.fair-first.ensures in
+    let second : c.fair-second.result ≡ fair (upper_of case.limits v) (upper_part variables case.answer.now v) =
+    simp (to_z-of_z fit-high) at c.fair-second.ensures in
+    (omega arith, tests-more v _ c.loop-v.invariant.1 (ap₂ (λ (a b : Bool). a && b) first second))
 
-all : (c : After-loop-v) → c.loop-v.v ≡ c.args.variables
+all : (c : After-loop-v) → c.loop-v.v ≡ c.args.case.now.columns + c.args.case.now.rows
 all c = omega arith
 
 pub returns : goal.returns

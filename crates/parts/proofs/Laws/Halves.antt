@@ -1,5 +1,6 @@
 -- The two halves of an answer.
 --   second-half    past one word for each variable, the small parts stand where the answer has the numerators
+--   window         a number of a part of an answer
 --   lent-half      the part of the answer that is lent for it
 --   zeros-hold     zeros are within any range, and the rows hold of them
 use mathlib.Core.Path.{◌≡◌, ap, fun_ext, sym, ◌∙◌}
@@ -10,6 +11,7 @@ use native.Mathlib.Omega.{arith}
 use lib.IntN.{ℤ, *ℤ-zero, pos, ◌*ℤ◌}
 use lib.ListN.{drop, length, length-drop, take}
 use lib.Seq.{get_or-drop, take_all}
+use Rattle.std.proofs.lemmas.List.{get_or-take}
 use Rattle.whole.proofs.Lists.Below.{all-each, all_of}
 use Rattle.whole.proofs.Bools.{and-of}
 use Rattle.whole.proofs.Numbers.Sums.{sum-zero}
@@ -25,6 +27,12 @@ second-half a variables = fun_ext (λ v. get_or-drop variables a (3 + v) (pos 0)
 
 pub lent-half : (a : List ℤ) (variables : ℕ) → take (length a - variables) (drop variables a) ≡ drop variables a
 lent-half a variables = take_all (length a - variables) (drop variables a) (simp length-drop (omega arith))
+
+-- a number of a part of so many words
+pub window : (xs : List ℤ) (from n i : ℕ) → i < n →
+    word (take (from + n - from) (drop from xs)) i ≡ word xs (from + i)
+window xs from n i h = get_or-take (from + n - from) (drop from xs) i (pos 0) (omega arith)
+    ∙ get_or-drop from xs i (pos 0)
 
 module _ (entries a : List ℤ) (rows columns : ℕ) (z : is_zero a (columns + rows) ≡ true) where
   each-zero : (v : ℕ) → v < columns + rows → lower_part a v ≡ pos 0

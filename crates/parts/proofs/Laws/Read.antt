@@ -1,5 +1,6 @@
 -- Entries and limits that were read from a problem hold that problem: what is right over what was read is right of the
 -- problem.
+--   readable-of                              what is in its ranges, with an answer that is long enough
 --   ReadFrom                                 entries, limits and sizes that were read from a problem
 --   right-can-same, right-cannot-same        what is right, over any numbers
 --   words-held, right-can-read, right-cannot-read    the same of accepted words
@@ -7,7 +8,7 @@
 use mathlib.Core.Path.{◌≡◌, ap, ap₂, sym, ◌∙◌}
 use mathlib.Core.Bool.{Bool, true, ◌&&◌, ◌||◌}
 use mathlib.Core.List.{List}
-use Prim.Native.Nat.{ℕ, ◌+◌, ◌<◌, ◌≤◌}
+use Prim.Native.Nat.{ℕ, ◌+◌, ◌*◌, ◌<◌, ◌≤◌}
 use lib.IntN.{ℤ, pos, ◌+ℤ◌, ◌-ℤ◌, ◌*ℤ◌}
 use lib.ListN.{length}
 use Rattle.whole.specs.Below.{all_below, some_below}
@@ -31,6 +32,16 @@ use Rattle.tableau.proofs.Laws.Fits.{Fitting, coefficient-start, coefficients-st
 use Rattle.tableau.proofs.Laws.Fits.{serves-start}
 use Rattle.tableau.proofs.Laws.Read.{lower_of_lem, upper_of_lem}
 use Rattle.parts.specs.Reads.{InRanges, problem_of, Readable, meets_both}
+
+pub readable-of : {entries : List ℤ} {limits : Limits} {rows columns : ℕ} {a : List ℤ} →
+    InRanges entries limits rows columns → 3 + 2 * (columns + rows) ≤ length a → Readable entries limits rows columns a
+readable-of I long = record {
+  few-rows = I.few-rows;
+  few-columns = I.few-columns;
+  long = long;
+  entries-within = I.entries-within;
+  limited = I.limited;
+}
 
 record ReadFrom (P : Problem Limit) (entries : List ℤ) (limits : Limits) (rows columns : ℕ) : Type 0 where
   entries-are : entries ≡ start_entries P
