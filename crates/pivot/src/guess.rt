@@ -13,29 +13,18 @@ pub struct Divider {
 
 // The low half of a number.
 fn low(a: i64) -> u32 {
-    ((a % 4294967296 + 4294967296) % 4294967296) as u32
-}
-
-// The low half of a product.
-fn low_product(a: u32, b: u32) -> u32 {
-    (a as u64 * b as u64 % 4294967296) as u32
-}
-
-// A low half as a number that may be below 0.
-fn signed_half(a: u32) -> i32 {
-    ((a as i64 + 2147483648) % 4294967296 - 2147483648) as i32
+    (a.cast_unsigned() & 0xffff_ffff) as u32
 }
 
 // One step of Newton's: twice as many low bits are right.
 fn nearer(odd: u32, x: u32) -> u32 {
-    let less = (4294967298 - low_product(odd, x) as u64) % 4294967296;
-    low_product(x, less as u32)
+    x.wrapping_mul(2u32.wrapping_sub(odd.wrapping_mul(x)))
 }
 
 pub fn divider_of(by: i32) -> Divider
     ensures { result.by ≡ by }
 {
-    let twos = u32::trailing_zeros(low(by as i64));
+    let twos = by.trailing_zeros();
     let odd = low(by as i64 >> twos);
     let once = nearer(odd, odd);
     let twice = nearer(odd, nearer(odd, once));
@@ -48,5 +37,7 @@ pub fn divider_of(by: i32) -> Divider
 
 // What a number over the divisor is, if it is whole and fits.
 pub fn guess(raw: i64, divider: Divider) -> i32 {
-    signed_half(low_product(low(raw >> divider.twos), divider.factor))
+    low(raw >> divider.twos)
+        .wrapping_mul(divider.factor)
+        .cast_signed()
 }

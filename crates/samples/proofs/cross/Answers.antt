@@ -1,18 +1,15 @@
 -- `samples::cross` meets its contract: each product is within the square of the largest number, and the difference
 -- within twice that. Assumes nothing.
-use borrow.Author.Rules.{rules}
-use lib.IntN.{ℤ, ◌*ℤ◌, ◌-ℤ◌}
-use mir.Syntax.{w64}
-use mir.Val.{SFits}
+use Rattle.std.proofs.Common.{rules, ℤ, ◌*ℤ◌, ◌-ℤ◌, FitsSigned, w64}
 use Rattle.whole.specs.Numbers.{Within}
 use Rattle.whole.proofs.Numbers.Sizes.{within-*, within--, fits-by}
 use Rattle.samples.proofs.cross.Goals as goal
 
-product : {a b : ℤ} → Within a 2147483647 → Within b 2147483647 → SFits w64 (a *ℤ b)
+product : {a b : ℤ} → Within a 2147483647 → Within b 2147483647 → FitsSigned w64 (a *ℤ b)
 product h k = fits-by (within-* h k) tt
 
 difference : {a b c d : ℤ} → Within a 2147483647 → Within b 2147483647 → Within c 2147483647 → Within d 2147483647 →
-    SFits w64 (a *ℤ b -ℤ c *ℤ d)
+    FitsSigned w64 (a *ℤ b -ℤ c *ℤ d)
 difference h k l m = fits-by (within-- (within-* h k) (within-* l m)) tt
 
 pub overflow_mul-result : goal.overflow_mul-result
