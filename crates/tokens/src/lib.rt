@@ -82,9 +82,9 @@ pub struct Halted {
     pub place: usize,
 }
 
-/// Behind the token at `at` where it is `word`, or halted at it.
+// Behind the token at `at` where it is `word`, or halted at it.
 #[tactic(auto, using(crate::proofs::Laws::Places::token_ends))]
-pub fn pass(text: &[u8], at: usize, word: &[u8]) -> Result<usize, Halted>
+fn pass(text: &[u8], at: usize, word: &[u8]) -> Result<usize, Halted>
     ensures { result ≡ followed text.now at (word.now ∷ []) }
 {
     if text.len() <= at {

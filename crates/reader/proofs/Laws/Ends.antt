@@ -1,9 +1,8 @@
 -- The array before the first row, and behind the last limit.
 --   words-start                sizes are set, and all other words are 0
 --   sizes-few                  how many words there can be
---   ended-length, whole-at     the whole problem is read
+--   whole-at                   the whole problem is read
 --   more-refused               something follows
---   array-length               how long the array is then
 --   refused-answer             the answer, and the slice afterwards, where the reading was halted
 --   short-answer, fit-answer   .. all is read, and the slice is too short or not
 --   taken-length                the slice keeps its length
@@ -48,11 +47,6 @@ module _ {t : List ℕ} {n m : ℕ} {ws : List ℤ} {so : Followed} (e : EndedAt
 
   room : 2 + m * n + 3 * (n + m) ≤ most_words
   room = let f = e.held.few in omega (arith, sizes-few n m f, f.n-most, f.m-most)
-
-  pub ended-length : length ws ≡ most_words
-  ended-length =
-      ap length e.held.words
-      ∙ push-length (pieces_words (pieces n m e.held.rows e.held.limits)) (omega (arith, size, room))
 
   abbrev final : ReaderState
   final = on [] (ended (pieces n m e.held.rows e.held.limits))
@@ -100,9 +94,6 @@ unfolding taken_by taken_output
 refused-answer t e r out = (sym (ap (λ o. taken_by o (length out)) r), sym (ap (λ o. taken_output o out) r))
 
 module _ {t : List ℕ} {ws : List ℤ} {count : ℕ} (w : WholeAt t ws count) where
-  pub array-length : length ws ≡ most_words
-  array-length = ap length w.front ∙ push-length w.own (omega (arith, w.size, w.room))
-
   pub short-answer : (out : List ℤ) → length out < count →
       (record { refused = 7; count = 0 } ≡ taken_by (read_text t) (length out))
       × (out ≡ taken_output (read_text t) out)

@@ -57,7 +57,7 @@ module _ {t : List ℕ} {n m count : ℕ} {ws : List ℤ} {so : Followed} (r : L
     limit-left =
         ltb-true count (2 * (n + m)) (and-true (next_is t so assert_token) (ltb count (2 * (n + m))) due).1
 
-    module _ (opened : Followed) (e : opened ≡ followed_on t so (token_bytes assert_limit)) where
+    module _ {opened : Followed} (e : opened ≡ followed_on t so (token_bytes assert_limit)) where
       pub opened-on : Reads t (on [] (relating H)) opened
       opened-on = subst (Reads t (on [] (relating H))) (sym e) (limit-opened r due)
 
@@ -65,7 +65,7 @@ module _ {t : List ℕ} {n m count : ℕ} {ws : List ℤ} {so : Followed} (r : L
       unfolding read_related
       relation-refused g = opened-on.reads ∙ g.goes H r.held.numbered refl
 
-      module _ (told : Related) (g : RelationGoes t opened count (2 * (n + m)) (Ok told)) (side : ℕ)
+      module _ {told : Related} (g : RelationGoes t opened count (2 * (n + m)) (Ok told)) {side : ℕ}
           (f : side ≡ side_number told.upper) where
         bounds : Reads t (on [] (bounding H (side_number told.upper) told.strict)) (Ok told.at)
         bounds = limit-related r opened-on told g
@@ -87,8 +87,8 @@ module _ {t : List ℕ} {n m count : ℕ} {ws : List ℤ} {so : Followed} (r : L
             refused-at name-reads
             (ap (skip_if t (Ok told.at)) (le-ltb U (n + m) (omega (arith, q, same-from))) ∙ skip-not t told.at)
 
-        module _ (v : ℕ) (h : v < n + m) (q : v ≡ variable_from t (Ok told.at) n ((count + 1 - side) / 2) (n + m))
-            (named : Followed) (s : named ≡ skip_if t (Ok told.at) true) where
+        module _ {v : ℕ} (h : v < n + m) (q : v ≡ variable_from t (Ok told.at) n ((count + 1 - side) / 2) (n + m))
+            {named : Followed} (s : named ≡ skip_if t (Ok told.at) true) where
           same : v ≡ U
           same = q ∙ same-from
 
@@ -129,7 +129,7 @@ module _ {t : List ℕ} {n m count : ℕ} {ws : List ℤ} {so : Followed} (r : L
           pub limited-more : count < 2 * v + side + 1
           limited-more = omega (arith, same, f, behind)
 
-          module _ (bound : Told) (d : NumberGoes t named (record { largest = largest_limit; blank = false }) (Ok bound))
+          module _ {bound : Told} (d : NumberGoes t named (record { largest = largest_limit; blank = false }) (Ok bound))
               (z : ℤ) (i : z ≡ bound.value) (last : Followed)
               (j : last ≡ followed_on t (Ok bound.at) (token_bytes end_assert)) (new : List ℤ)
               (k : new ≡ limit_set ws (2 + m * n + 3 * v) told.upper told.strict z) (next : ℕ)

@@ -107,13 +107,9 @@ module _ (t : List ℕ) (at : ℕ) (below : Bool) (a : Asked) where
         go (Some j) f = cc
 
 module _ (k : ℕ) (below : Bool) (a : Asked) where
-  pub admissible-over : a.largest < k → admissible k below a ≡ false
+  admissible-over : a.largest < k → admissible k below a ≡ false
   unfolding admissible
   admissible-over h = rw (lt-ltb a.largest k h, admissible) refl
-
-  pub admissible-in : k ≤ a.largest → admissible k below a ≡ not (eqb k 0 && (below || a.blank))
-  unfolding admissible
-  admissible-in h = rw (le-ltb a.largest k h, admissible) refl
 
   pub admissible-most : admissible k below a ≡ true → k ≤ a.largest
   admissible-most e = go (dec_lt a.largest k)

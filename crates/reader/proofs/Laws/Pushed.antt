@@ -1,7 +1,6 @@
 -- Words one behind the other, at the front of an array of zeros.
 --   push-start, push-more     nothing is there yet; one word more
 --   push-length, push-take    how long the array is; the words again
---   copy_more, copy-length    one word more is copied; the list keeps its length
 use mathlib.Core.List.{List, [], ◌∷◌, ◌++◌, append_assoc}
 use mathlib.Core.Path.{◌≡◌, refl, sym, ◌∙◌, ap}
 use Prim.Native.Nat.{ℕ, zero, suc, ◌+◌, ◌-◌, ◌≤◌, ◌<◌}
@@ -36,23 +35,3 @@ module _ (ws : List ℤ) where
   pub push-take : take (length ws) (pushed ws) ≡ ws
   unfolding pushed
   push-take = take-append_seam ws (replicate (most_words - length ws) (pos 0))
-
--- ---- words that are copied to the front of a list, one by one
-
-copy-suc : (s t : List ℤ) (i : ℕ) → i < length s → i < length t →
-    set (take i s ++ drop i t) i (get_or s i (pos 0)) ≡ take (suc i) s ++ drop (suc i) t
-copy-suc [] t i h k = absurd (omega arith)
-copy-suc (a ∷ s) [] i h k = absurd (omega arith)
-copy-suc (a ∷ s) (b ∷ t) zero h k = refl
-copy-suc (a ∷ s) (b ∷ t) (suc i) h k = ap (λ l. a ∷ l) (copy-suc s t i (omega arith) (omega arith))
-
-pub copy_more : (s t : List ℤ) (i : ℕ) → i < length s → i < length t →
-    set (take i s ++ drop i t) i (get_or s i (pos 0)) ≡ take (i + 1) s ++ drop (i + 1) t
-copy_more s t i h k = rw add-one (copy-suc s t i h k)
-
-pub copy-length : (s t : List ℤ) (i : ℕ) → i ≤ length s → i ≤ length t →
-    length (take i s ++ drop i t) ≡ length t
-copy-length s t zero h k = refl
-copy-length [] t (suc i) h k = absurd (omega arith)
-copy-length (a ∷ s) [] (suc i) h k = absurd (omega arith)
-copy-length (a ∷ s) (b ∷ t) (suc i) h k = ap suc (copy-length s t i (omega arith) (omega arith))

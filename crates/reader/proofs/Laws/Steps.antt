@@ -4,7 +4,7 @@
 --   row-stands, row-begun                a row up to its first term
 --   term-next, term-refused              one term more, or none that may stand there
 --   sum-stands, row_done                 the end of a row
---   rows-length, terms-length            how long the array is
+--   terms-length                         how long the array is
 use mathlib.Core.Bool.{Bool, true, false, ◌&&◌}
 use mathlib.Core.List.{List, [], ◌∷◌, ◌++◌, append_assoc, flatten}
 use mathlib.Core.Path.{◌≡◌, refl, sym, ◌∙◌, ap, subst}
@@ -102,12 +102,6 @@ cells-few i m n h f =
     omega arith
 
 module _ {t : List ℕ} {n m i : ℕ} {ws : List ℤ} {so : Followed} (r : RowsAt t n m i ws so) where
-  pub rows-length : i ≤ m → length ws ≡ most_words
-  rows-length h =
-      let b : i * n ≤ 24 * 8 = mul-le-mul (let z : i ≤ 24 = omega (arith, r.few.m-most) in z) r.few.n-most in
-      ap length r.words
-      ∙ push-length (pos n ∷ pos m ∷ flatten r.rows) (omega (arith, r.flat))
-
   module _ (h : i < m) (opened named : Followed) (o : opened ≡ followed_on t so (token_bytes assert_row))
       (e : named ≡ skip_if t opened (next_is t opened (row_name i))) where
     pub row-stands : StandsAt t named
