@@ -27,7 +27,7 @@ use Rattle.tokens.specs.Placed.{ended_at, read_behind, read_from}
 use Rattle.tokens.proofs.Laws.Placed.{from_end, from-refused}
 use Rattle.reader.specs.Course.{EndedAt, FewSizes, Refused, WholeAt, pushed}
 use Rattle.reader.specs.Taken.{fitting_by, kept_by, taken_by, taken_output}
-use Rattle.reader.proofs.Laws.Pushed.{push-length, push-more, push-start, push-take}
+use Rattle.reader.proofs.Laws.Pushed.{push-more, push-start, push-take}
 use Rattle.reader.proofs.Laws.Puts.{pieces-length}
 
 pub words-start : (ws : List ℤ) (n m : ℕ) (y z : ℤ) → ws ≡ replicate most_words (pos 0) → y ≡ pos n → z ≡ pos m →

@@ -3,11 +3,10 @@
 --   push-length, push-take    how long the array is; the words again
 use mathlib.Core.List.{List, [], ◌∷◌, ◌++◌, append_assoc}
 use mathlib.Core.Path.{◌≡◌, refl, sym, ◌∙◌, ap}
-use Prim.Native.Nat.{ℕ, zero, suc, ◌+◌, ◌-◌, ◌≤◌, ◌<◌}
-use native.Mathlib.Numerals.{add-one}
+use Prim.Native.Nat.{ℕ, suc, ◌+◌, ◌-◌, ◌≤◌, ◌<◌}
 use native.Mathlib.Omega.{arith}
 use lib.IntN.{ℤ, pos}
-use lib.ListN.{drop, get_or, length, length-append, length-replicate, replicate, set, take}
+use lib.ListN.{length, length-append, length-replicate, replicate, set, take}
 use lib.Seq.{set-append_seam, take-append_seam}
 use Rattle.rules.specs.Sizes.{most_words}
 use Rattle.reader.specs.Course.{pushed}

@@ -43,11 +43,11 @@ outset-is : outset
 unfolding outset
 outset-is = ap (λ l. on l (declaring 1 0)) (simp append_assoc refl)
 
-module _ (t : List ℕ) (first : ℕ) (f : first ≡ start_at t 0) where
+module _ {t : List ℕ} {first : ℕ} (f : first ≡ start_at t 0) where
   pub first_reads : Reads t outset (Ok first)
   first_reads = subst (λ k. Reads t outset (Ok k)) (sym f) course-start
 
-  module _ (logic opened : Followed) (l : logic ≡ followed_on t (Ok first) (token_bytes set_logic))
+  module _ {logic opened : Followed} (l : logic ≡ followed_on t (Ok first) (token_bytes set_logic))
       (o : opened ≡ followed_on t logic (token_bytes declare_const)) where
     pub logic-reads :
         Reads t (on (token_bytes declare_const ++ (column_name 0 ∷ token_bytes of_real)) (declaring 1 0)) logic
@@ -62,33 +62,33 @@ module _ (t : List ℕ) (first : ℕ) (f : first ≡ start_at t 0) where
         subst (Reads t _) (sym o)
         (on-passed (token_bytes declare_const) (column_name 0 ∷ token_bytes of_real) (declaring 1 0) logic-reads)
 
-    pub first-declared : (so : Followed) →
+    pub first-declared : {so : Followed} →
         so ≡ followed_on t (skip_if t opened (next_is t opened (column_name 0))) (token_bytes of_real) →
         DeclaredAt t 1 0 so
-    first-declared so e = subst (DeclaredAt t 1 0) (sym e) (declared-start opened-reads)
+    first-declared e = subst (DeclaredAt t 1 0) (sym e) (declared-start opened-reads)
 
 module _ {t : List ℕ} {n m : ℕ} {so : Followed} (d : DeclaredAt t n m so)
-    (due : (next_is t so declare_token && ltb m most_rows) ≡ true) (opened : Followed)
+    (due : (next_is t so declare_token && ltb m most_rows) ≡ true) {opened : Followed}
     (o : opened ≡ followed_on t so (token_bytes declare_const)) where
   pub name-reads : Reads t (on [] (naming n m)) opened
   name-reads = subst (Reads t (on [] (naming n m))) (sym o) (declared-opened d due)
 
-  pub one-column : (eqb m 0 && ltb n most_columns && next_is t opened (column_name n)) ≡ true → (to : Followed) →
+  pub one-column : (eqb m 0 && ltb n most_columns && next_is t opened (column_name n)) ≡ true → {to : Followed} →
       to ≡ followed_on t (skip_if t opened (next_is t opened (column_name n))) (token_bytes of_real) →
       (k : ℕ) → k ≡ suc n →
       DeclaredAt t k m to
-  one-column e to q k z =
+  one-column e {to} q k z =
       let p = (and-true (eqb m 0 && ltb n most_columns) (next_is t opened (column_name n)) e).0 in
       let r = and-true (eqb m 0) (ltb n most_columns) p in
       subst (λ j. DeclaredAt t j m to) (sym z)
       (subst (DeclaredAt t (suc n) m) (sym q)
       (declared-column d.few name-reads e (ltb-true n most_columns r.1) (eqb-true m 0 r.0)))
 
-  pub one-row : (eqb m 0 && ltb n most_columns && next_is t opened (column_name n)) ≡ false → (to : Followed) →
+  pub one-row : (eqb m 0 && ltb n most_columns && next_is t opened (column_name n)) ≡ false → {to : Followed} →
       to ≡ followed_on t (skip_if t opened (next_is t opened (row_name m))) (token_bytes of_real) →
       (k : ℕ) → k ≡ suc m →
       DeclaredAt t n k to
-  one-row e to q k z =
+  one-row e {to} q k z =
       subst (λ j. DeclaredAt t n j to) (sym z)
       (subst (DeclaredAt t n (suc m)) (sym q)
       (declared-row d.few name-reads e
@@ -102,7 +102,7 @@ cells-few i m n h f =
     omega arith
 
 module _ {t : List ℕ} {n m i : ℕ} {ws : List ℤ} {so : Followed} (r : RowsAt t n m i ws so) where
-  module _ (h : i < m) (opened named : Followed) (o : opened ≡ followed_on t so (token_bytes assert_row))
+  module _ (h : i < m) {opened named : Followed} (o : opened ≡ followed_on t so (token_bytes assert_row))
       (e : named ≡ skip_if t opened (next_is t opened (row_name i))) where
     pub row-stands : StandsAt t named
     row-stands =
@@ -110,9 +110,9 @@ module _ {t : List ℕ} {n m i : ℕ} {ws : List ℤ} {so : Followed} (r : RowsA
         (stands-skip t opened (next_is t opened (row_name i))
         (subst (StandsAt t) (sym o) (stands-followed t so (token_bytes assert_row) r.on-course.stands)))
 
-    pub row-begun : (summed : Followed) → summed ≡ sum_on t named n (token_bytes open_sum) →
+    pub row-begun : {summed : Followed} → summed ≡ sum_on t named n (token_bytes open_sum) →
         TermsAt t n m i 0 ws true summed
-    row-begun summed q =
+    row-begun q =
         subst (TermsAt t n m i 0 ws true)
         (sym (q ∙ ap (λ f. sum_on t f n (token_bytes open_sum))
         (e ∙ ap (λ f. skip_if t f (next_is t f (row_name i))) o)))
@@ -143,12 +143,12 @@ module _ {t : List ℕ} {n m i j : ℕ} {ws : List ℤ} {blank : Bool} {so : Fol
       TermGoes t so j last (Err x) → Refused t x
   term-refused h last q {x} g = terms-refused r h l (subst (λ b. TermGoes t so j b (Err x)) q g)
 
-module _ {t : List ℕ} {n m i : ℕ} {ws : List ℤ} {so : Followed} (d : TermsDone t n m i ws so) (closed : Followed)
+module _ {t : List ℕ} {n m i : ℕ} {ws : List ℤ} {so : Followed} (d : TermsDone t n m i ws so) {closed : Followed}
     (e : closed ≡ sum_on t so n (token_bytes close)) where
   pub sum-stands : StandsAt t closed
   sum-stands = subst (StandsAt t) (sym e) (stands-sum t so n (token_bytes close) d.terms.on-course.stands)
 
-  pub row_done : (last : Followed) → last ≡ followed_on t closed (token_bytes end_assert) → RowsAt t n m (suc i) ws last
-  row_done last q =
+  pub row_done : {last : Followed} → last ≡ followed_on t closed (token_bytes end_assert) → RowsAt t n m (suc i) ws last
+  row_done q =
       subst (RowsAt t n m (suc i) ws) (sym (q ∙ ap (λ f. followed_on t f (token_bytes end_assert)) e))
       (row-closed d.terms)

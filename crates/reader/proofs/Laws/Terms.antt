@@ -53,16 +53,16 @@ pub number-halted : (t : List ℕ) (e : Halted) (a : Asked) → NumberGoes t (Er
 unfolding read_behind
 number-halted t e a = record { goes = λ c A. refl; stands = stands-halted t e }
 
-module _ (t : List ℕ) (so : Followed) (s : StandsAt t so) (a : Asked) where
-  pub number-plain : (told : Result Told Halted) → told ≡ numeral_on t so false a → next_is t so open_word ≡ false →
+module _ {t : List ℕ} {so : Followed} (s : StandsAt t so) (a : Asked) where
+  pub number-plain : {told : Result Told Halted} → told ≡ numeral_on t so false a → next_is t so open_word ≡ false →
       NumberGoes t so a told
-  number-plain told q e = subst (NumberGoes t so a) (sym q)
+  number-plain q e = subst (NumberGoes t so a) (sym q)
       (record {
         goes = λ c A. numeral-goes t so s c a A e;
         stands = stands-numeral t so false a s;
       })
 
-  module _ (opened : Followed) (told : Result Told Halted) (o : opened ≡ followed_on t so (token_bytes open_minus))
+  module _ {opened : Followed} {told : Result Told Halted} (o : opened ≡ followed_on t so (token_bytes open_minus))
       (q : told ≡ numeral_on t opened true a) where
     size-opened : StandsAt t opened
     size-opened = subst (StandsAt t) (sym o) (stands-followed t so (token_bytes open_minus) s)
@@ -88,13 +88,13 @@ module _ (t : List ℕ) (so : Followed) (s : StandsAt t so) (a : Asked) where
 
 -- ---- a term
 
-module _ (t : List ℕ) (so : Followed) (s : StandsAt t so) (j : ℕ) (blank : Bool) (opened : Followed)
+module _ {t : List ℕ} {so : Followed} (s : StandsAt t so) (j : ℕ) (blank : Bool) {opened : Followed}
     (o : opened ≡ followed_on t so (token_bytes open_term)) where
   pub term-opened : StandsAt t opened
   term-opened = subst (StandsAt t) (sym o) (stands-followed t so (token_bytes open_term) s)
 
-  module _ (told : Result Told Halted) (g : NumberGoes t opened (record { largest = largest_coefficient; blank = blank }) told)
-      (named : Followed) (e : named ≡ skip_if t (place_of told) (next_is t (place_of told) (column_name j))) where
+  module _ {told : Result Told Halted} (g : NumberGoes t opened (record { largest = largest_coefficient; blank = blank }) told)
+      {named : Followed} (e : named ≡ skip_if t (place_of told) (next_is t (place_of told) (column_name j))) where
     pub term-named : StandsAt t named
     term-named = subst (StandsAt t) (sym e) (stands-skip t (place_of told) (next_is t (place_of told) (column_name j)) g.stands)
 

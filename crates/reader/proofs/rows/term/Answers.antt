@@ -1,5 +1,5 @@
 -- `reader::rows::term` meets its contract. Assumes nothing.
-use Rattle.std.proofs.Common.{sym, ◌∙◌, refl, rules, Ok, Err, w32, arith}
+use Rattle.std.proofs.Common.{sym, ◌∙◌, refl, rules, Err, w32, arith}
 use Rattle.std.proofs.lemmas.Result.{err_from_is_err_and}
 use mir.Facts.{to_z-of_z}
 use mir.Val.{SFits}
@@ -15,13 +15,13 @@ returns-in_err-opened c =
     let p = err_from_is_err_and c.from_residual.result c.from_residual.ensures.1 in
     let x = c.in_err-opened.field-0.0 in
     rw (p.1, p.2)
-    (term_told c.args.text.now (Ok c.args.at) c.requires c.args.column c.args.blank (Err x)
-    (sym c.in_err-opened.was ∙ c.follow.ensures) (Err x) (number-halted _ x _) (Err x) refl (Err x) refl (λ k q. refl))
+    (term_told c.requires c.args.column c.args.blank
+    (sym c.in_err-opened.was ∙ c.follow.ensures) (number-halted _ x _) {named = Err x} refl (Err x) refl (λ k q. refl))
 
 pub number-requires : goal.number-requires
 unfolding open_term ascii
 number-requires c = (
-  term-opened c.args.text.now (Ok c.args.at) c.requires c.args.column c.args.blank (Ok c.in_ok-opened.opened)
+  term-opened c.requires c.args.column c.args.blank
       (sym c.in_ok-opened.was ∙ c.follow.ensures),
   omega arith,
 )
@@ -32,8 +32,8 @@ returns-in_err-told c =
     let p = err_from_is_err_and c.from_residual-in_err-told.result c.from_residual-in_err-told.ensures.1 in
     let x = c.in_err-told.field-0.0 in
     rw (p.1, p.2)
-    (term_told c.args.text.now (Ok c.args.at) c.requires c.args.column c.args.blank (Ok c.in_ok-opened.opened)
-    (sym c.in_ok-opened.was ∙ c.follow.ensures) (Err x) c.in_err-told.ensures (Err x) refl (Err x) refl
+    (term_told c.requires c.args.column c.args.blank
+    (sym c.in_ok-opened.was ∙ c.follow.ensures) c.in_err-told.ensures {named = Err x} refl (Err x) refl
     (λ k q. refl))
 
 pub returns-in_err-named : goal.returns-in_err-named
@@ -42,16 +42,15 @@ returns-in_err-named c =
     let p = err_from_is_err_and c.from_residual-in_err-named.result c.from_residual-in_err-named.ensures.1 in
     let x = c.in_err-named.field-0.0 in
     rw (p.1, p.2)
-    (term_told c.args.text.now (Ok c.args.at) c.requires c.args.column c.args.blank (Ok c.in_ok-opened.opened)
-    (sym c.in_ok-opened.was ∙ c.follow.ensures) (Ok c.in_ok-told.told) c.in_ok-told.ensures (Err x)
+    (term_told c.requires c.args.column c.args.blank
+    (sym c.in_ok-opened.was ∙ c.follow.ensures) c.in_ok-told.ensures
     (sym c.in_err-named.was ∙ c.pass_name.ensures) (Err x) refl (λ k q. cc))
 
 pub follow-requires-2 : goal.follow-requires-2
 unfolding open_term column_name ascii
 follow-requires-2 c =
-    let s = term-named c.args.text.now (Ok c.args.at) c.requires c.args.column c.args.blank (Ok c.in_ok-opened.opened)
-    (sym c.in_ok-opened.was ∙ c.follow.ensures) (Ok c.in_ok-told.told) c.in_ok-told.ensures
-    (Ok c.in_ok-named.named) (sym c.in_ok-named.was ∙ c.pass_name.ensures) in
+    let s = term-named c.requires c.args.column c.args.blank
+    (sym c.in_ok-opened.was ∙ c.follow.ensures) c.in_ok-told.ensures (sym c.in_ok-named.was ∙ c.pass_name.ensures) in
     (s.inside _ refl, s.starts _ refl)
 
 pub returns-in_err-closed : goal.returns-in_err-closed
@@ -60,15 +59,15 @@ returns-in_err-closed c =
     let p = err_from_is_err_and c.from_residual-in_err-closed.result c.from_residual-in_err-closed.ensures.1 in
     let x = c.in_err-closed.field-0.0 in
     rw (p.1, p.2)
-    (term_told c.args.text.now (Ok c.args.at) c.requires c.args.column c.args.blank (Ok c.in_ok-opened.opened)
-    (sym c.in_ok-opened.was ∙ c.follow.ensures) (Ok c.in_ok-told.told) c.in_ok-told.ensures (Ok c.in_ok-named.named)
+    (term_told c.requires c.args.column c.args.blank
+    (sym c.in_ok-opened.was ∙ c.follow.ensures) c.in_ok-told.ensures
     (sym c.in_ok-named.was ∙ c.pass_name.ensures) (Err x) (sym c.in_err-closed.was ∙ c.follow-2.ensures) (λ k q. cc))
 
 pub returns : goal.returns
 unfolding open_term column_name close ascii
 returns c =
     let fit : SFits w32 c.in_ok-told.told.value = search rules in
-    term_told c.args.text.now (Ok c.args.at) c.requires c.args.column c.args.blank (Ok c.in_ok-opened.opened)
-    (sym c.in_ok-opened.was ∙ c.follow.ensures) (Ok c.in_ok-told.told) c.in_ok-told.ensures (Ok c.in_ok-named.named)
+    term_told c.requires c.args.column c.args.blank
+    (sym c.in_ok-opened.was ∙ c.follow.ensures) c.in_ok-told.ensures
     (sym c.in_ok-named.was ∙ c.pass_name.ensures) _ (sym c.in_ok-closed.was ∙ c.follow-2.ensures)
     (λ k q. to_z-of_z fit)
