@@ -4,21 +4,25 @@
 //   answer    the answer's words: distances as times, or the rows of a cycle
 #![tactic(auto)]
 
-ghost use Rattle.std.specs.Prelude.{◌≡◌, nat_abs, neg_ℤ, ◌+ℤ◌};
-ghost use Rattle.std.specs.Int.Signed.{lt_z};
+ghost use Rattle.std.specs.Prelude.{◌≡◌, neg_ℤ, ◌+ℤ◌};
 ghost use Rattle.whole.specs.Numbers.{Within};
 ghost use Rattle.rules.specs.Sizes.{largest_length};
-ghost use Rattle.lengths.specs.Lengths.{length_of, key_of, ModestLength, Passed, plain_part, small_part};
+ghost use Rattle.lengths.specs.Lengths.{length_of, key_of, ModestLength, plain_part, small_part};
+
+use std::ops::Add;
 
 pub mod answer;
 
 pub const MOST_VERTICES: usize = 64;
 
-#[derive(Clone, Copy)]
-pub struct Length(pub i64);
+#[derive(Clone, Copy, Debug, PartialEq, Eq, PartialOrd, Ord)]
+pub struct Length(i64);
 
 impl Length {
     pub const LARGEST: i32 = 30000;
+
+    // The length of no rows.
+    pub const NONE: Length = Length(0);
 
     // Small amounts to a minute.
     const UNIT: i64 = 65536;
@@ -28,46 +32,32 @@ impl Length {
         requires { (Within c largest_length) × (Within strict 1) }
         ensures { length_of result ≡ key_of (c, neg_ℤ strict) }
     {
-        let read = Length::UNIT * (c as i64) - (strict as i64);
+        let read = Length::UNIT * i64::from(c) - i64::from(strict);
         Length(read)
     }
 
-    pub fn plus(self, other: Length) -> Length
-        requires { (ModestLength self) × (ModestLength other) }
-        ensures { length_of result ≡ length_of self +ℤ length_of other }
-    {
-        let sum = self.0 + other.0;
-        Length(sum)
-    }
-
-    pub fn less(self, other: Length) -> bool
-        ensures { result ≡ lt_z (length_of self) (length_of other) }
-    {
-        self.0 < other.0
-    }
-
-    // The time of a vertex at this distance, which is not above 0.
-    fn time(self) -> u64
-        requires { Passed self }
-        ensures { result ≡ nat_abs (length_of self) }
-    {
-        -self.0 as u64
-    }
-
-    // .. its minutes, and its small amounts.
+    // The time of a vertex at this distance is minus it: its minutes, and its small amounts.
     fn plain_time(self) -> i64
-        requires { Passed self }
         ensures { result ≡ plain_part self }
     {
-        let time = self.time();
-        (time / (Length::UNIT as u64)) as i64
+        (self.0.unsigned_abs() / Length::UNIT.unsigned_abs()) as i64
     }
 
     fn small_time(self) -> i64
-        requires { Passed self }
         ensures { result ≡ small_part self }
     {
-        let time = self.time();
-        (time % (Length::UNIT as u64)) as i64
+        (self.0.unsigned_abs() % Length::UNIT.unsigned_abs()) as i64
+    }
+}
+
+impl Add for Length {
+    type Output = Length;
+
+    ghost can_add = { λ a b. ModestLength a × ModestLength b };
+
+    ghost add_gives = { λ a b sum. length_of sum ≡ length_of a +ℤ length_of b };
+
+    fn add(self, other: Length) -> Length {
+        Length(self.0 + other.0)
     }
 }

@@ -4,8 +4,7 @@ use mathlib.Core.Path.{◌≡◌, sym, ◌∙◌, ap, ap₂}
 use Rattle.lengths.specs.declared.Length.{Length}
 use Rattle.lengths.specs.declared.answer.Halves.{Halves}
 use Rattle.lengths.proofs.Length.of.Reads as of
-use Rattle.lengths.proofs.Length.plus.Reads as plus
-use Rattle.lengths.proofs.Length.less.Reads as less
+use Rattle.lengths.proofs.LengthAdd.add.Reads as add
 use Rattle.lengths.proofs.answer.times_of.Reads as times-of
 use Rattle.lengths.proofs.answer.gathered.Reads as gathered
 use Rattle.lengths.proofs.answer.write.Reads as write
@@ -20,11 +19,8 @@ halves-only e f = ap₂ (λ p s. record { plain = p; small = s }) e f
 pub of-only : (κs : _) (x : _) (a b : _) (e : _) → of.Post κs x a e → of.Post κs x b e → a ≡ b
 of-only κs x a b e h k = length-only (h ∙ sym k)
 
-pub plus-only : (κs : _) (x : _) (a b : _) (e : _) → plus.Post κs x a e → plus.Post κs x b e → a ≡ b
-plus-only κs x a b e h k = length-only (h ∙ sym k)
-
-pub less-only : (κs : _) (x : _) (a b : _) (e : _) → less.Post κs x a e → less.Post κs x b e → a ≡ b
-less-only κs x a b e h k = h ∙ sym k
+pub add-only : (κs : _) (x : _) (a b : _) (e : _) → add.Post κs x a e → add.Post κs x b e → a ≡ b
+add-only κs x a b e h k = length-only (h ∙ sym k)
 
 pub times-of-only : (κs : _) (x : _) (a b : _) (e : _) → times-of.Post κs x a e → times-of.Post κs x b e → a ≡ b
 times-of-only κs x a b e h k = halves-only (h.0 ∙ sym k.0) (h.1 ∙ sym k.1)

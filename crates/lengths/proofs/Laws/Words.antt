@@ -1,6 +1,8 @@
 -- The answer's words, written from the front.
+--   all-parts                            a half of the times, by the parts of the distances
 --   words_more, words-all, words_take    the rows of a cycle: one more, all, and the first n words
 --   words-twice                          .. and zeros for as many words more
+--   put-half                             a half, copied into the output
 --   two-halves                           the output: two words, then two halves
 use mathlib.Core.Path.{◌≡◌, refl, sym, ◌∙◌, ap}
 use mathlib.Core.List.{List, [], ◌∷◌, ◌++◌, map, append_assoc}
@@ -9,8 +11,13 @@ use native.Mathlib.Omega.{arith}
 use lib.IntN.{ℤ, pos}
 use lib.ListN.{length, get_or, set, take, drop, replicate, length-map, length-replicate, get_or-map}
 use lib.Seq.{length-take-le, paste, take_at, take-append-add, drop-append-add, drop-drop}
+use borrow.Rule.Slice.PartMut.{put_mid}
+use Rattle.std.proofs.lemmas.List.{take-take, ext_get_or}
+use Rattle.std.proofs.lemmas.Slice.{put_mid-paste}
 use Rattle.whole.proofs.Lists.Prefix.{set-prefix, prefix-all}
 use Rattle.rules.specs.Sizes.{most_vertices}
+use Rattle.lengths.specs.declared.Length.{Length}
+use Rattle.lengths.specs.Lengths.{no_rows}
 use Rattle.rules.specs.Times.Answer.{cycle_words}
 
 drop-replicate : {A : Type 0} (k n : ℕ) (a : A) → drop k (replicate n a) ≡ replicate (n - k) a
@@ -72,6 +79,12 @@ words-twice rows n h =
 
 -- ---- the output
 
+pub put-half : (d s p : List ℤ) (at k n : ℕ) → p ≡ take n s → k ≡ n → n ≤ length s →
+    put_mid at k d p ≡ paste d at s n
+put-half d s p at k n e f h =
+    put_mid-paste at k d p (take n s) n e (sym f) (sym (length-take-le n s h))
+    ∙ ap (λ l. take at d ++ l ++ drop (at + n) d) (take-take n n s (omega arith))
+
 two-words : (d s : List ℤ) (a b : ℤ) (n : ℕ) → 2 ≤ length d →
     paste (set (set d 0 a) 1 b) 2 s n ≡ a ∷ b ∷ take n s ++ drop (2 + n) d
 two-words [] s a b n h = absurd (omega arith)
@@ -104,3 +117,11 @@ two-halves d p s a b n h k =
 
     past : drop n rest ≡ drop (2 + 2 * n) d
     past = drop-drop n (2 + n) d ∙ ap (λ k. drop k d) (let z : (2 + n) + n ≡ 2 + 2 * n = omega arith in z)
+
+-- ---- the times
+
+pub all-parts : (part : Length → ℤ) (best : List Length) (words : List ℤ) → length best ≡ most_vertices →
+    length words ≡ most_vertices →
+    ((i : ℕ) → i < most_vertices → get_or words i (part no_rows) ≡ part (get_or best i no_rows)) → words ≡ map part best
+all-parts part best words a b e = ext_get_or (part no_rows) words (map part best) (b ∙ sym (length-map best part ∙ a))
+    (λ i h. e i (omega arith) ∙ sym (get_or-map part best i no_rows))
