@@ -1,9 +1,0 @@
--- `timerows::rows::head` meets its contract. Assumes nothing.
-use native.Mathlib.Omega.{arith}
-use Rattle.timerows.proofs.rows.head.Goals as goal
-
-pub count_at-requires : goal.count_at-requires
-count_at-requires c = (omega (arith, c.requires.0.exact), c.requires.0.to-least c.args.i c.requires.1)
-
-pub returns : goal.returns
-returns c = c.count_at.ensures
