@@ -1,5 +1,6 @@
 -- What passes and the way back ask and promise. Each is stated over the edges of the words, through what
 -- the arrays stand for.
+use Rattle.std.specs.Prelude.{Result, Ok, Err}
 use Rattle.std.specs.Prelude.{◌≡◌, ◌≢◌, Bool, true, false, List, ℕ, suc, ◌+◌, ◌*◌, ◌≤◌, ◌<◌, ℤ, ◌+ℤ◌, length, get_or}
 use Rattle.std.specs.Int.Signed.{lt_z}
 use Rattle.whole.specs.Values.{pairs}
@@ -15,21 +16,10 @@ use Rattle.lengths.specs.Answer.{AllPassed, rows_of}
 use Rattle.lengths.specs.Lengths.{length_at, key_at, key_of, looks_made, Near, ModestLength}
 use Rattle.timerows.specs.Judged.{Fine}
 
--- accepted words, with n and m at hand
-pub record Solvable (ws : List ℤ) (n m : ℕ) : Type 0 where
-  pub fine : Fine ws
-  pub n-is : n ≡ n_of ws
-  pub m-is : m ≡ m_of ws
-
 -- ---- looks
 
 abbrev pub AllModest : List Length → Type 0
 AllModest best = (v : ℕ) → ModestLength (length_at best v)
-
--- what a look at any row asks
-pub record Looking (ws : List ℤ) (best : List Length) : Type 0 where
-  pub fine : Fine ws
-  pub modest : AllModest best
 
 -- whether row i betters its head, in the code's numbers
 abbrev pub is_less : List ℤ → List Length → ℕ → Bool
@@ -100,20 +90,24 @@ pub record Closed (ws : List ℤ) (w : Way) : Type 0 where
   pub in_path : w.to ≤ most_vertices
   pub bad : BadCycle pairs (time_edges ws) (rows_of w)
 
--- the way has closed a bad cycle; or it has some places left, and no more than n passes leave to be made
-pub record Went (ws : List ℤ) (passes : ℕ) (w : Way) : Type 0 where
-  pub round : w.from < w.to → Closed ws w
-  pub some : w.to ≤ w.from → 0 < w.from
-  pub few : w.to ≤ w.from → w.from + suc passes ≤ n_of ws
+-- some places are left, and no more than n passes leave to be made
+pub record Spare (ws : List ℤ) (passes left : ℕ) : Type 0 where
+  pub some : 0 < left
+  pub few : left + suc passes ≤ n_of ws
+
+-- the way has closed a bad cycle, or has ended
+abbrev pub Went : List ℤ → ℕ → Result Way ℕ → Type 0
+Went ws passes (Ok way) = Closed ws way
+Went ws passes (Err left) = Spare ws passes left
 
 -- some number of passes was made; and whatever it is, the way back has gone so
 abbrev pub Tried : List ℤ → List ℕ → ℕ → Type 0
 Tried ws last v = (passes : ℕ) × Closing ws last passes v
 
-abbrev pub Back : List ℤ → List ℕ → ℕ → Way → Type 0
-Back ws last v w = (passes : ℕ) → Closing ws last passes v → Went ws passes w
+abbrev pub Back : List ℤ → List ℕ → ℕ → Result Way ℕ → Type 0
+Back ws last v went = (passes : ℕ) → Closing ws last passes v → Went ws passes went
 
 -- what the passes come to
-abbrev pub Settling : List ℤ → Bool → List Length → Way → Type 0
-Settling ws true best way = Settled ws best
-Settling ws false best way = Closed ws way
+abbrev pub Settling : List ℤ → Result (List Length) Way → Type 0
+Settling ws (Ok best) = Settled ws best
+Settling ws (Err way) = Closed ws way

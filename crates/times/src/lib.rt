@@ -7,10 +7,12 @@
 ghost use Rattle.std.specs.Prelude.{length};
 ghost use Rattle.rules.specs.Times.Words.{AcceptedTimes};
 ghost use Rattle.rules.specs.Times.Answer.{Timed};
+ghost use Rattle.refusals.specs.Numbers.{told};
 
 use lengths::answer;
+use refusals::Refusal;
 use timerows::judge;
-use words::count_at;
+use timerows::rows::TimeRows;
 
 mod cycle;
 mod passes;
@@ -19,30 +21,23 @@ mod passes;
 const NO_ROW: u32 = 256;
 
 // The times where the passes settle; else the cycle that the way back closed.
-fn solve(rows: &[i32], out: &mut [i64])
-    requires { AcceptedTimes rows.now (length out.old) }
-    ensures { Timed rows.now out.old 0 out.new }
+fn solve(words: &[i32], out: &mut [i64])
+    requires { AcceptedTimes words.now (length out.old) }
+    ensures { Timed words.now out.old 0 out.new }
 {
-    let n = count_at(rows, 0);
-    let m = count_at(rows, 1);
-    let s = passes::settle(rows, n, m);
-    if s.met {
-        let best = s.best;
-        answer::write(1, n, answer::times_of(best), n, out);
-        return;
+    let rows = TimeRows { words };
+    let n = rows.n();
+    match passes::settle(&rows) {
+        Ok(best) => answer::write(1, n, answer::times_of(best), n, out),
+        Err(way) => answer::write(2, way.to - way.from, answer::gathered(way), n, out),
     }
-    let way = s.way;
-    answer::write(2, way.to - way.from, answer::gathered(way), n, out);
 }
 
-// Times that meet all rows, or a cycle that cannot be met. Returns 0, or the number of the refusal that applies.
-pub fn times(rows: &[i32], out: &mut [i64]) -> u32
-    ensures { Timed rows.now out.old result out.new }
+/// Times that meet all rows, or a cycle that cannot be met.
+pub fn times(rows: &[i32], out: &mut [i64]) -> Result<(), Refusal>
+    ensures { Timed rows.now out.old (told result) out.new }
 {
-    let refusal = judge::judge(rows, out.len());
-    if refusal != 0 {
-        return refusal;
-    }
+    judge::judge(rows, out.len())?;
     solve(rows, out);
-    0
+    Ok(())
 }

@@ -29,7 +29,7 @@ use Rattle.lengths.specs.declared.Length.{Length}
 use Rattle.lengths.specs.Answer.{Gathering, rows_of, output}
 use Rattle.lengths.specs.Lengths.{plain_part, small_part}
 use Rattle.lengths.proofs.Laws.Words.{words_take, words-twice, take-replicate}
-use Rattle.timerows.specs.Judged.{Fine}
+use Rattle.timerows.proofs.Laws.Fine.{fine_of}
 use Rattle.times.specs.Steps.{Settled, Closed}
 use Rattle.times.proofs.Laws.Parts.{plain-times-are, small-times-are}
 
@@ -39,25 +39,6 @@ pub timed-refused : (ws before : List ℤ) (r : ℕ) → r ≡ time_refusal ws (
 unfolding times_written
 timed-refused ws before zero e n = absurd (n refl)
 timed-refused ws before (suc r) e n = record { refused = e; rows = []; written = refl; named = λ z. absurd (n z) }
-
--- the steps ask for accepted words, whatever the room
-pub fine_of : {ws : List ℤ} {room : ℕ} → AcceptedTimes ws room → Fine ws
-fine_of A = record {
-  enough = A.enough;
-  n-least = A.n-least;
-  n-most = A.n-most;
-  m-least = A.m-least;
-  m-most = A.m-most;
-  exact = A.exact;
-  from-least = A.from-least;
-  from-most = A.from-most;
-  to-least = A.to-least;
-  to-most = A.to-most;
-  strict-least = A.strict-least;
-  strict-most = A.strict-most;
-  lengths = A.lengths;
-  roomy = omega arith;
-}
 
 -- the halves of times, and of a cycle
 abbrev pub halves_of : List Length → Halves

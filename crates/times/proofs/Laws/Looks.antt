@@ -1,17 +1,21 @@
 -- A look at a row, as the code makes it: x and y are the ends of row i that were read.
---   tail-low, head-low    they are below 64
+--   head-low              the head is below 64
 --   test-is               the test of the offer by x against y tells whether the row betters its head
 --   pass-more             one row more of a pass, by the test
+--   quiet-by              what a search for a row that betters its head found
 use mathlib.Core.Path.{◌≡◌, sym, ◌∙◌, ap, ap₂, subst, subst₂}
-use mathlib.Core.Bool.{Bool, true, false, cond}
+use mathlib.Core.Bool.{Bool, true, false, cond, not}
 use mathlib.Core.List.{List}
 use Prim.Native.Nat.{ℕ, suc, ◌+◌, ◌<◌}
 use native.Mathlib.Numerals.{add-one}
 use native.Mathlib.Omega.{arith}
 use lib.IntN.{ℤ, ◌+ℤ◌}
-use lib.ListN.{set}
+use lib.ListN.{get_or, length, set}
 use lib.Seq.{set-get_or}
 use lib.Signed.{lt_z}
+use Rattle.std.specs.Bool.{MatchBool}
+use Rattle.std.proofs.lemmas.List.FromFn.{length-range_with_len, get_or-range_with_len}
+use Rattle.std.specs.List.{AllWithin, HoldsAt, range_with_len}
 use Rattle.rules.specs.Sizes.{most_vertices}
 use Rattle.rules.specs.Problem.{m_of}
 use Rattle.rules.specs.Times.Words.{time_edges}
@@ -19,13 +23,10 @@ use Rattle.rules.proofs.Times.Refused.{vertices-few, accepted-ends}
 use Rattle.lengths.specs.declared.Length.{Length}
 use Rattle.lengths.specs.Lengths.{length_of, key_of, length_at, key_at}
 use Rattle.timerows.specs.Judged.{Fine}
-use Rattle.times.specs.Steps.{last_row, is_less, Pass}
+use Rattle.times.specs.Steps.{last_row, is_less, Pass, Quiet}
 use Rattle.times.proofs.Laws.Passing.{pass-taken, pass_kept}
 
 module _ {ws : List ℤ} (f : Fine ws) {i : ℕ} (h : i < m_of ws) where
-  pub tail-low : {x : ℕ} → x ≡ (time_edges ws).tail i → x < most_vertices
-  tail-low e = omega (arith, e, (accepted-ends f).tail-in i h, vertices-few f)
-
   pub head-low : {y : ℕ} → y ≡ (time_edges ws).head i → y < most_vertices
   head-low e = omega (arith, e, (accepted-ends f).head_in i h, vertices-few f)
 
@@ -56,3 +57,19 @@ module _ {ws : List ℤ} {k : ℕ} {best : List Length} {last : List ℕ} {i row
       rw add-one
       (subst₂ (λ a b. Pass ws k (suc i) a b row) (sym (set-get_or best y _)) (sym (set-get_or last y _))
       (pass_kept P h e))
+
+-- ---- a look at all rows
+
+module _ (ws : List ℤ) (best : List Length) (m : ℕ) (all : m ≡ m_of ws) where
+  pub quiet-by : (r : Bool) → MatchBool r
+      ((k : ℕ) × (k < length (range_with_len 0 m)) × HoldsAt (λ i. is_less ws best i ≡ true) (range_with_len 0 m) k)
+      (AllWithin (λ i. is_less ws best i ≡ false) (range_with_len 0 m) 0 (length (range_with_len 0 m))) →
+      Quiet ws best (not r)
+  quiet-by true (k, h, s) =
+      let low : k < m = omega (arith, length-range_with_len 0 m) in
+      let it : get_or (range_with_len 0 m) k 0 ≡ k = get_or-range_with_len 0 m k 0 low ∙ omega arith in
+      (k, omega arith, rw it at (s 0))
+  quiet-by false f = λ i h.
+      let low : i < m = omega arith in
+      let it : get_or (range_with_len 0 m) i 0 ≡ i = get_or-range_with_len 0 m i 0 low ∙ omega arith in
+      rw it at (f i 0 (omega arith) (omega (arith, length-range_with_len 0 m)))

@@ -3,8 +3,7 @@
 --   tracing-left                     it has places left until it meets a vertex again
 --   tracing-closed                   then it has closed a bad cycle
 --   tracing-ended                    at no row it has no more places left than passes can still be made
---   tracing-here, -high, -mark       the vertex, the place and the vertex's mark are small
---   tracing-listed                   what stands for a row is one
+--   tracing-here, tracing-high       the vertex and the place are small
 use mathlib.Core.Path.{◌≡◌, refl, sym, ◌∙◌, subst}
 use mathlib.Core.List.{List}
 use mathlib.Core.Logic.{◌≢◌}
@@ -24,7 +23,7 @@ use Rattle.rules.specs.Times.Words.{time_edges}
 use Rattle.rules.proofs.Times.Passes.Closed.{trail-cycle}
 use Rattle.rules.proofs.Times.Refused.{vertices-few, time-rows-few, accepted-ends}
 use Rattle.rules.proofs.Times.Passes.Trail.{Trail, trail-start, trail-left, trail-ends, trail_more}
-use Rattle.times.specs.Steps.{last_row, no_row, Looked, Closing, Went}
+use Rattle.times.specs.Steps.{last_row, no_row, Looked, Closed, Closing, Spare}
 
 module _ {ws : List ℤ} {last : List ℕ} {passes v : ℕ} (c : Closing ws last passes v) where
   abbrev l : Looked ws passes (m_of ws) c.best last
@@ -71,13 +70,6 @@ module _ {ws : List ℤ} {last : List ℕ} {passes v : ℕ} (c : Closing ws last
     pub tracing-high : j ≤ most_vertices
     tracing-high = omega (arith, t.trail.most, few)
 
-    pub tracing-mark : row_told seen here ≤ most_vertices
-    tracing-mark = go (row_told seen here) refl
-      where
-        go : (m : ℕ) → row_told seen here ≡ m → row_told seen here ≤ most_vertices
-        go zero e = omega arith
-        go (suc p) e = omega (arith, (t.trail.marks here p e).1, few)
-
     pub tracing-left : row_told seen here ≡ 0 → 0 < j
     tracing-left z =
         trail-left (time_edges ws) ends _ _ l.time l.far (last_row last) l.traced (n_of ws) spare
@@ -85,31 +77,22 @@ module _ {ws : List ℤ} {last : List ℕ} {passes v : ℕ} (c : Closing ws last
 
     -- a vertex met again, its mark m
     pub tracing-closed : (m : ℕ) → row_told seen here ≡ m → (m ≡ 0 → ⊥) →
-        Went ws passes (record { from = j; to = m; path = path })
+        Closed ws (record { from = j; to = m; path = path })
     tracing-closed zero e h = absurd (h refl)
     tracing-closed (suc p) e h = record {
-      round = λ o. record {
-        in_order = omega arith;
-        in_path = omega (arith, (t.trail.marks here p e).1, few);
-        bad = trail-cycle pairs-laws (time_edges ws) l.time l.far (n_of ws) spare path seen here j t.trail p e
-            (omega (arith, t.path-long, few));
-      };
-      some = λ o. let z : ⊥ = omega (arith, (t.trail.marks here p e).0) in absurd z;
-      few = λ o. let z : ⊥ = omega (arith, (t.trail.marks here p e).0) in absurd z;
+      in_order = omega (arith, (t.trail.marks here p e).0);
+      in_path = omega (arith, (t.trail.marks here p e).1, few);
+      bad = trail-cycle pairs-laws (time_edges ws) l.time l.far (n_of ws) spare path seen here j t.trail p e
+          (omega (arith, t.path-long, few));
     }
 
     -- no row leads on
-    pub tracing-ended : row_told seen here ≡ 0 → last_row last here ≡ no_row →
-        Went ws passes (record { from = j; to = j; path = path })
+    pub tracing-ended : row_told seen here ≡ 0 → last_row last here ≡ no_row → Spare ws passes j
     tracing-ended z e =
         let s : j ≤ spare =
         trail-ends (time_edges ws) ends _ _ l.time l.far (last_row last) l.traced (n_of ws) spare
         path seen here j t.trail (unbettered here e) in
-        record {
-          round = λ o. let y : ⊥ = omega arith in absurd y;
-          some = λ o. tracing-left z;
-          few = λ o. omega (arith, tracing-left z);
-        }
+        record { some = tracing-left z; few = omega (arith, tracing-left z) }
 
   module _ (seen path : List ℕ) (here q : ℕ) (t : Tracing seen path here (suc q)) (z : row_told seen here ≡ 0)
       (n : last_row last here ≢ no_row) where
@@ -124,9 +107,6 @@ module _ {ws : List ℤ} {last : List ℕ} {passes v : ℕ} (c : Closing ws last
       path-long = length-set path q (last_row last here) ∙ t.path-long;
       seen-long = length-set seen here (suc q) ∙ t.seen-long;
     }
-
-  pub tracing-listed : (u : ℕ) → u < most_vertices → last_row last u ≢ no_row → last_row last u < m_of ws
-  tracing-listed u h n = (l.traced.bettered u (l.stands u h n)).listed
 
   -- by the place that the code has come to
   module _ (seen path : List ℕ) (here j : ℕ) (t : Tracing seen path here j) (z : row_told seen here ≡ 0)

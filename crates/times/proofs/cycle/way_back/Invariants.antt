@@ -7,7 +7,7 @@ use Rattle.times.proofs.cycle.way_back.Given as goal
 
 abbrev pub invariant-loop-last : goal.invariant-loop-last
 invariant-loop-last l =
-    (passes : ℕ) (c : Closing l.rows l.last passes l.v) → Tracing c l.seen l.path l.here l.j
+    (passes : ℕ) (c : Closing l.rows.words.now l.last passes l.v) → Tracing c l.seen l.path l.here l.left
 
 abbrev pub decreases-loop-last : goal.decreases-loop-last
-decreases-loop-last l = l.j
+decreases-loop-last l = l.left
