@@ -9,11 +9,9 @@ use Rattle.rules.specs.Problem.{m_of, word}
 use Rattle.rules.specs.Sizes.{largest_length, most_vertices}
 use Rattle.rules.specs.Times.Check.{cycle_length, row_named}
 use Rattle.rules.specs.Times.Words.{time_edges}
-use Rattle.timerows.specs.Judged.{Fine}
 
--- accepted rows, and an answer whose first words past word 1 are numbers of rows
+-- an answer whose first words past word 1 are numbers of rows
 pub record Named (ws a : List ℤ) (count : ℕ) : Type 0 where
-  pub fine : Fine ws
   pub few : count ≤ most_vertices
   pub long : 2 + count ≤ length a
   pub least : (k : ℕ) → k < count → pos 0 ≤ℤ word a (2 + k)

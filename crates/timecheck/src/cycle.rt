@@ -1,165 +1,155 @@
 // A bad cycle: word 1 is how many rows, from 1 to n; then come the rows, and zeros.
-ghost use Rattle.std.specs.Prelude.{◌≡◌, ◌||◌, suc, ◌+◌, ◌*◌, ◌-◌, ◌≤◌, ◌<◌, ltb, pos, length};
+ghost use Rattle.std.specs.Prelude.{◌≡◌, not, ◌&&◌, ◌||◌, suc, ◌+◌, ◌*◌, ◌-◌, ◌≤◌, ◌<◌, ltb, pos, length};
 ghost use Rattle.whole.specs.Below.{all_below};
-ghost use Rattle.whole.specs.Numbers.{eq_z};
-ghost use Rattle.rules.specs.Problem.{m_of, n_of, word};
+ghost use Rattle.std.specs.Int.Signed.{lt_z};
+ghost use Rattle.whole.specs.Numbers.{eq_z, is_neg};
+ghost use Rattle.rules.specs.Problem.{word};
 ghost use Rattle.rules.specs.Sizes.{most_vertices};
 ghost use Rattle.rules.specs.Times.Words.{times_length};
-ghost use Rattle.timerows.specs.Judged.{Fine};
 ghost use Rattle.rules.specs.Times.Check.{cycle_shown, row_named};
 ghost use Rattle.timecheck.specs.Walk.{Named, Summable, bad_round, head_named, is_between, linked_at, new_up_to};
 ghost use Rattle.timecheck.specs.Walk.{tail_named, word_sum};
 
-use timerows::rows::{head, tail};
+use timerows::rows::TimeRows;
 use words::is_outside;
 
-// The first so many words past word 1 are numbers of rows.
+// Whether a word is the number of one of so many rows.
+fn is_row(word: i64, most: i64) -> bool
+    ensures { result ≡ (not (is_neg word) && lt_z word most) }
+{
+    (0..most).contains(&word)
+}
+
+// Whether the first so many words past word 1 are numbers of rows.
 fn rows_named(answer: &[i64], count: usize, most: i64) -> bool
     requires { (count ≤ most_vertices) × (2 + count ≤ length answer.now) }
     ensures { result ≡ all_below count (is_between answer.now most) }
 {
-    let mut fine = true;
-    for k in 0..count {
-        let at = 2 + k;
-        let row = answer[at];
-        fine = fine & (!(row < 0) & (row < most));
-    }
-    fine
+    (0..count).all(|k| is_row(answer[2 + k], most))
 }
 
-// A row of the cycle, where it starts and where it leads.
-fn row_at(rows: &[i32], answer: &[i64], count: usize, k: usize) -> usize
-    requires named { Named rows.now answer.now count }
-    requires k_lt_count { k < count }
-    ensures { result ≡ row_named answer.now k }
+// Whether past the rows there are zeros.
+fn zeros_after(answer: &[i64], count: usize, room: usize) -> bool
+    requires { (room ≤ 2 * most_vertices) × (2 + room ≤ length answer.now) }
+    ensures { result ≡ all_below room (λ k. ltb k count || eq_z (word answer.now (2 + k)) (pos 0)) }
 {
-    let at = 2 + k;
-    answer[at] as u64 as usize
+    (0..room).all(|k| k < count || answer[2 + k] == 0)
 }
 
-fn tail_at(rows: &[i32], answer: &[i64], count: usize, k: usize) -> usize
-    requires named { Named rows.now answer.now count }
-    requires k_lt_count { k < count }
-    ensures { result ≡ tail_named rows.now answer.now k }
-{
-    tail(rows, row_at(rows, answer, count, k))
-}
-
-fn head_at(rows: &[i32], answer: &[i64], count: usize, k: usize) -> usize
-    requires named { Named rows.now answer.now count }
-    requires k_lt_count { k < count }
-    ensures { result ≡ head_named rows.now answer.now k }
-{
-    head(rows, row_at(rows, answer, count, k))
-}
-
-// One row leads to where another starts.
-fn is_linked(rows: &[i32], answer: &[i64], count: usize, j: usize, k: usize) -> bool
-    requires named { Named rows.now answer.now count }
-    requires j_lt_count { (j < count) × (k < count) }
-    ensures { result ≡ linked_at rows.now answer.now j k }
-{
-    head_at(rows, answer, count, j) == tail_at(rows, answer, count, k)
-}
-
-// Each of the first rows leads to the next.
-fn all_linked(rows: &[i32], answer: &[i64], count: usize, last: usize) -> bool
-    requires named { Named rows.now answer.now count }
-    requires last_bound { last + 1 ≤ count }
-    ensures { result ≡ all_below last (λ k. linked_at rows.now answer.now k (suc k)) }
-{
-    let mut fine = true;
-    for k in 0..last {
-        fine = fine & is_linked(rows, answer, count, k, k + 1);
-    }
-    fine
-}
-
-// No row before one starts where it does.
-fn is_new(rows: &[i32], answer: &[i64], count: usize, k: usize) -> bool
-    requires named { Named rows.now answer.now count }
-    requires k_lt_count { k < count }
-    ensures { result ≡ new_up_to rows.now answer.now k k }
-{
-    let here = tail_at(rows, answer, count, k);
-    let mut fine = true;
-    for j in 0..k {
-        fine = fine & !(tail_at(rows, answer, count, j) == here);
-    }
-    fine
-}
-
-// No two rows start at one vertex.
-fn all_new(rows: &[i32], answer: &[i64], count: usize) -> bool
-    requires { Named rows.now answer.now count }
-    ensures { result ≡ all_below count (λ k. new_up_to rows.now answer.now k k) }
-{
-    let mut fine = true;
-    for k in 0..count {
-        fine = fine & is_new(rows, answer, count, k);
-    }
-    fine
-}
-
-// A word of each row of the cycle, summed.
-fn word_sum(rows: &[i32], answer: &[i64], count: usize, at: usize) -> i64
-    requires named { Named rows.now answer.now count }
-    requires summable { Summable rows.now at }
-    ensures { result ≡ word_sum rows.now answer.now at count }
-{
-    let mut sum = 0i64;
-    for j in 0..count {
-        let i = at + 4 * row_at(rows, answer, count, j);
-        sum = sum + rows[i] as i64;
-    }
-    sum
-}
-
-// Lengths that sum below 0, or to 0 with a strict row.
+// Whether lengths sum below 0, or to 0 with a strict row.
 fn is_bad(plain: i64, strict: i64) -> bool
     ensures { result ≡ bad_round plain strict }
 {
     (plain < 0) | (!(0 < plain) & (0 < strict))
 }
 
-// Past the rows there are zeros.
-fn zeros_after(answer: &[i64], count: usize, room: usize) -> bool
-    requires { (room ≤ 2 * most_vertices) × (2 + room ≤ length answer.now) }
-    ensures { result ≡ all_below room (λ k. ltb k count || eq_z (word answer.now (2 + k)) (pos 0)) }
-{
-    let mut fine = true;
-    for k in 0..room {
-        let at = 2 + k;
-        fine = fine & ((k < count) | (answer[at] == 0));
-    }
-    fine
+// The rows that an answer names, one after the other.
+#[derive(Clone, Copy)]
+struct Cycle<'a> {
+    rows: &'a TimeRows<'a>,
+    answer: &'a [i64],
+    count: usize,
+    ghost named: { Named rows.now.words.now answer.now count },
 }
 
-pub fn shows_cycle(rows: &[i32], answer: &[i64], n: usize, m: usize) -> bool
-    requires fine { (Fine rows.now) × (m ≡ m_of rows.now) × (n ≡ n_of rows.now) }
-    requires rows_in_bounds { times_length rows.now ≤ length answer.now }
-    ensures { result ≡ cycle_shown rows.now answer.now }
+impl Cycle<'_> {
+    // A row of the cycle, where it starts and where it leads.
+    fn row(&self, k: usize) -> usize
+        requires { k < self.now.count }
+        ensures { result ≡ row_named self.now.answer.now k }
+    {
+        self.answer[2 + k].unsigned_abs() as usize
+    }
+
+    fn tail(&self, k: usize) -> usize
+        requires { k < self.now.count }
+        ensures { result ≡ tail_named self.now.rows.now.words.now self.now.answer.now k }
+    {
+        self.rows.tail(self.row(k))
+    }
+
+    fn head(&self, k: usize) -> usize
+        requires { k < self.now.count }
+        ensures { result ≡ head_named self.now.rows.now.words.now self.now.answer.now k }
+    {
+        self.rows.head(self.row(k))
+    }
+
+    // Whether one row leads to where another starts.
+    fn is_linked(&self, j: usize, k: usize) -> bool
+        requires { (j < self.now.count) × (k < self.now.count) }
+        ensures { result ≡ linked_at self.now.rows.now.words.now self.now.answer.now j k }
+    {
+        self.head(j) == self.tail(k)
+    }
+
+    // Whether each of the first rows leads to the next.
+    fn all_linked(&self, last: usize) -> bool
+        requires { last + 1 ≤ self.now.count }
+        ensures { result ≡ all_below last (λ k. linked_at self.now.rows.now.words.now self.now.answer.now k (suc k)) }
+    {
+        (0..last).all(|k| self.is_linked(k, k + 1))
+    }
+
+    // Whether no row before one starts where it does.
+    fn is_new(&self, k: usize) -> bool
+        requires { k < self.now.count }
+        ensures { result ≡ new_up_to self.now.rows.now.words.now self.now.answer.now k k }
+    {
+        let here = self.tail(k);
+        (0..k).all(|j| self.tail(j) != here)
+    }
+
+    // Whether no two rows start at one vertex.
+    fn all_new(&self) -> bool
+        ensures { result
+            ≡ all_below self.now.count (λ k. new_up_to self.now.rows.now.words.now self.now.answer.now k k) }
+    {
+        (0..self.count).all(|k| self.is_new(k))
+    }
+
+    // A word of each row, summed.
+    fn word_sum(&self, at: usize) -> i64
+        requires { Summable self.now.rows.now.words.now at }
+        ensures { result ≡ word_sum self.now.rows.now.words.now self.now.answer.now at self.now.count }
+    {
+        let mut sum = 0i64;
+        for k in 0..self.count {
+            sum += i64::from(self.rows.words[at + 4 * self.row(k)]);
+        }
+        sum
+    }
+}
+
+pub fn shows_cycle(rows: &TimeRows, answer: &[i64]) -> bool
+    requires { times_length rows.now.words.now ≤ length answer.now }
+    ensures { result ≡ cycle_shown rows.now.words.now answer.now }
 {
-    let named = answer[1];
-    if is_outside(named, 1, n as i64) {
+    let n = rows.n();
+    let told = answer[1];
+    if is_outside(told, 1, n as i64) {
         return false;
     }
-    let count = named as u64 as usize;
-    if !rows_named(answer, count, m as i64) {
+    let count = told.unsigned_abs() as usize;
+    if !rows_named(answer, count, rows.m() as i64) {
         return false;
     }
-    if !all_linked(rows, answer, count, count - 1) {
+    let cycle = Cycle {
+        rows,
+        answer,
+        count,
+    };
+    let last = count - 1;
+    if !cycle.all_linked(last) {
         return false;
     }
-    if !is_linked(rows, answer, count, count - 1, 0) {
+    if !cycle.is_linked(last, 0) {
         return false;
     }
-    if !all_new(rows, answer, count) {
+    if !cycle.all_new() {
         return false;
     }
-    let plain = word_sum(rows, answer, count, 5);
-    let strict = word_sum(rows, answer, count, 4);
-    if !is_bad(plain, strict) {
+    if !is_bad(cycle.word_sum(5), cycle.word_sum(4)) {
         return false;
     }
     zeros_after(answer, count, 2 * n)

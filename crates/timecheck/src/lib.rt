@@ -6,33 +6,25 @@
 
 ghost use Rattle.std.specs.Prelude.{◌≡◌};
 ghost use Rattle.rules.specs.Times.Check.{checked_times};
+ghost use Rattle.refusals.specs.Numbers.{verdict_told};
 
-use words::count_at;
+use refusals::Refusal;
+use timerows::judge;
+use timerows::rows::TimeRows;
 
 mod cycle;
 mod times;
 
-// 11 to 17 by the rows and the answer's length, 8 accepted, 9 not. Nothing is written.
-pub fn check(rows: &[i32], answer: &[i64]) -> u32
-    ensures { result ≡ checked_times rows.now answer.now }
+/// Refusals 11 to 17 by the rows and the answer's length; else whether the answer is evidence.
+pub fn check(words: &[i32], answer: &[i64]) -> Result<bool, Refusal>
+    ensures { verdict_told result ≡ checked_times words.now answer.now }
 {
-    let refusal = timerows::judge::judge(rows, answer.len());
-    if refusal != 0 {
-        return refusal;
-    }
-    let n = count_at(rows, 0);
-    let m = count_at(rows, 1);
+    judge::judge(words, answer.len())?;
+    let rows = TimeRows { words };
     let verdict = answer[0];
-    if verdict == 1 {
-        if times::shows_times(rows, answer, n, m) {
-            return 8;
-        }
-        return 9;
+    match verdict {
+        1 => Ok(times::shows_times(&rows, answer)),
+        2 => Ok(cycle::shows_cycle(&rows, answer)),
+        _ => Ok(false),
     }
-    if verdict == 2 {
-        if cycle::shows_cycle(rows, answer, n, m) {
-            return 8;
-        }
-    }
-    9
 }

@@ -3,7 +3,7 @@
 --   by-outside, by_rows_lem, by_tests_lem      the rule of a cycle, test by test
 --   bad-tests      where all rows are listed and there is one: linked, closed, apart, and a sum below 0
 --   named_by       words that are numbers of rows name them
---   lengths-summed, stricts-summed     the words of accepted rows can be summed
+--   stricts-summed     the strict words of accepted rows can be summed
 use mathlib.Core.Bool.{Bool, false, not, true, ◌&&◌, ◌||◌}
 use mathlib.Core.List.{List, [], ◌∷◌}
 use mathlib.Core.Path.{ap, ap₂, refl, sym, ◌∙◌, ◌≡◌}
@@ -154,10 +154,9 @@ module _ (ws a : List ℤ) where
 
 -- ---- what the code is told
 
-pub named_by : (ws a : List ℤ) → Fine ws → cycle_length a ≤ most_vertices → 2 + cycle_length a ≤ length a →
+pub named_by : (ws a : List ℤ) → cycle_length a ≤ most_vertices → 2 + cycle_length a ≤ length a →
     all_below (cycle_length a) (is_row ws a) ≡ true → Named ws a (cycle_length a)
-named_by ws a F few long rows = record {
-  fine = F;
+named_by ws a few long rows = record {
   few = few;
   long = long;
   least = λ k h. false→le {a = pos 0} {b = word a (2 + k)} (not-true (is_neg (word a (2 + k))) (each k h).0);
@@ -168,9 +167,6 @@ named_by ws a F few long rows = record {
         (not (is_neg (word a (2 + k))) ≡ true) × (lt_z (word a (2 + k)) (pos (m_of ws)) ≡ true)
     each k h = and-true (not (is_neg (word a (2 + k)))) (lt_z (word a (2 + k)) (pos (m_of ws)))
         (all-each (cycle_length a) (is_row ws a) rows k h)
-
-pub lengths-summed : (ws : List ℤ) → Fine ws → Summable ws 5
-lengths-summed ws F = record { low = lit≤ tt; each = F.lengths }
 
 pub stricts-summed : (ws : List ℤ) → Fine ws → Summable ws 4
 stricts-summed ws F = record { low = lit≤ tt; each = λ i h. within-le (strict-within F i h) (lit≤ tt) }

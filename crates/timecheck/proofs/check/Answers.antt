@@ -1,149 +1,84 @@
 -- `timecheck::check` meets its contract: the refusal of the rows, then the rule of the answer's verdict. Assumes
 -- nothing.
-use mathlib.Core.Path.{◌≡◌, refl, ap, ap₂, sym, ◌∙◌}
-use mathlib.Core.Bool.{Bool, cond, false, true}
-use mathlib.Core.List.{List}
-use mathlib.Core.Logic.{◌≢◌}
-use Prim.Native.Nat.{ℕ, zero, suc}
-use native.Mathlib.Omega.{arith}
-use borrow.Author.Rules.{sfits_of}
-use lib.IntN.{ℤ, pos}
-use lib.ListN.{length}
-use lib.Signed.{le_z_yes}
-use mir.Facts.{to_z-of_z}
-use mir.Syntax.{w64}
-use mir.Val.{SFits, of_z, to_z}
-use Rattle.whole.proofs.Numbers.Order.{≤ℤ-trans}
-use Rattle.whole.proofs.Tells.{tells-eq_z, tells-false, tells-true}
+use Rattle.std.proofs.Common.{◌≡◌, ◌≢◌, refl, sym, ◌∙◌, ap, ap₂, Bool, true, false, cond, List, ℕ, zero, suc, ℤ, pos}
+use Rattle.std.proofs.Common.{length, Ok, arith, rules}
+use Rattle.std.proofs.lemmas.Int.{ints}
+use Rattle.std.proofs.lemmas.Result.{err_from_is_err_and}
 use Rattle.whole.specs.Numbers.{eq_z}
+use Rattle.whole.proofs.Tells.{tells-eq_z, tells-false, tells-true}
+use Rattle.refusals.proofs.Refused.{number-some}
+use Rattle.refusals.specs.Numbers.{verdict_told}
 use Rattle.rules.proofs.Times.Refused.{times-accepted-exactly}
 use Rattle.rules.specs.Evidence.{verdict_of}
 use Rattle.rules.specs.Times.Words.{AcceptedTimes, time_refusal}
-use Rattle.timerows.specs.Judged.{Fine}
 use Rattle.rules.specs.Times.Check.{accepted_answer, checked_times, cycle_shown, times_shown}
 use Rattle.rules.proofs.Times.Checked.{times-by-refusal, times-judged}
+use Rattle.timerows.proofs.Laws.Fine.{fine_of}
 use Rattle.timecheck.proofs.check.Goals as goal
-use Rattle.timecheck.proofs.check.Goals.{After-shows_cycle, After-shows_times, After-verdict-1, Else-refusal-ne0}
-use Rattle.timecheck.proofs.check.Goals.{Else-verdict-eq1, Start, Then-verdict-eq1, Then-verdict-eq2}
 
-abbrev words : Start → List ℤ
-words s = s.args.rows.now
+kept : (ws a : List ℤ) (r : ℕ) → r ≡ time_refusal ws (length a) → r ≢ 0 → r ≡ checked_times ws a
+kept ws a zero e n = absurd (n refl)
+kept ws a (suc k) e n = sym (times-by-refusal ws a k (sym e))
 
-abbrev answer : Start → List ℤ
-answer s = s.args.answer.now
-
-pub returns-then-refusal-ne0 : goal.returns-then-refusal-ne0
-returns-then-refusal-ne0 c = let s : Start = c.before.before in let j = c.judge-refusal in
-    kept (words s) (answer s) j.result j.ensures c.if-refusal-ne0.true
-  where
-    kept : (ws a : List ℤ) (r : ℕ) → r ≡ time_refusal ws (length a) → r ≢ 0 → r ≡ checked_times ws a
-    kept ws a zero e n = absurd (n refl)
-    kept ws a (suc k) e n = sym (times-by-refusal ws a k (sym e))
+pub returns-in_err-judge : goal.returns-in_err-judge
+returns-in_err-judge c =
+    let p = err_from_is_err_and c.from_residual.result c.from_residual.ensures.1 in
+    rw (p.1, p.2) (kept _ _ _ c.in_err-judge.ensures (number-some _))
 
 -- ---- the rows are accepted
 
-module _ (c : Else-refusal-ne0) where
-  abbrev start : Start
-  start = c.before.before
+module _ (ws a : List ℤ) (told : 0 ≡ time_refusal ws (length a)) where
+  taken : AcceptedTimes ws (length a)
+  taken = (times-accepted-exactly ws (length a)).0 (sym told)
 
-  not-refused : time_refusal (words start) (length (answer start)) ≡ 0
-  not-refused = sym c.judge-refusal.ensures ∙ c.if-refusal-ne0.false
-
-  taken : AcceptedTimes (words start) (length (answer start))
-  taken = (times-accepted-exactly (words start) (length (answer start))).0 not-refused
-
-  fine : Fine (words start)
-  fine = record {
-    enough = taken.enough;
-    n-least = taken.n-least;
-    n-most = taken.n-most;
-    m-least = taken.m-least;
-    m-most = taken.m-most;
-    exact = taken.exact;
-    from-least = taken.from-least;
-    from-most = taken.from-most;
-    to-least = taken.to-least;
-    to-most = taken.to-most;
-    strict-least = taken.strict-least;
-    strict-most = taken.strict-most;
-    lengths = taken.lengths;
-    roomy = omega arith;
-  }
-
-pub count_at-n-requires : goal.count_at-n-requires
-count_at-n-requires c =
-    let A = taken c in (omega (arith, A.enough), ≤ℤ-trans {b = pos 1} (le_z_yes tt) A.n-least)
-
-pub count_at-m-requires : goal.count_at-m-requires
-count_at-m-requires c = let A = taken c.before in (omega (arith, A.enough), A.m-least)
+  by-verdict : (b d : Bool) → eq_z (verdict_of a) (pos 1) ≡ b → eq_z (verdict_of a) (pos 2) ≡ d →
+      checked_times ws a ≡ cond (cond b (times_shown ws a) (cond d (cycle_shown ws a) false)) 8 9
+  unfolding accepted_answer
+  by-verdict b d p q = times-judged ws a (sym told)
+      ∙ ap₂ (λ (x y : Bool). cond (cond x (times_shown ws a) (cond y (cycle_shown ws a) false)) 8 9) p q
 
 pub bounds-answer-0 : goal.bounds-answer-0
-bounds-answer-0 c = omega (arith, (taken c.before.before).roomy)
+bounds-answer-0 c = let roomy = (taken _ _ c.in_ok-judge.ensures).roomy in omega arith
 
--- ---- the verdict
-
-module _ (c : After-verdict-1) where
-  abbrev accepted : Else-refusal-ne0
-  accepted = c.before.before.before
-
-  abbrev s : Start
-  s = start accepted
-
-  fit : SFits w64 (verdict_of (answer s))
-  fit = sfits_of c.verdict-1.given
-
-  by-verdict : (b d : Bool) → eq_z (verdict_of (answer s)) (pos 1) ≡ b → eq_z (verdict_of (answer s)) (pos 2) ≡ d →
-      checked_times (words s) (answer s)
-      ≡ cond (cond b (times_shown (words s) (answer s)) (cond d (cycle_shown (words s) (answer s)) false)) 8 9
-  unfolding accepted_answer
-  by-verdict b d p q = times-judged (words s) (answer s) (not-refused accepted)
-      ∙ ap₂ (λ (x y : Bool).
-      cond (cond x (times_shown (words s) (answer s)) (cond y (cycle_shown (words s) (answer s)) false)) 8 9) p q
-
-one : (c : Then-verdict-eq1) → eq_z (verdict_of (answer (s c.before))) (pos 1) ≡ true
-one c = tells-true (tells-eq_z (verdict_of (answer (s c.before))) (pos 1))
-    (sym (to_z-of_z (fit c.before)) ∙ ap (to_z w64) c.if-verdict-eq1.true)
-
-not-one : (c : Else-verdict-eq1) → eq_z (verdict_of (answer (s c.before))) (pos 1) ≡ false
-not-one c = tells-false (tells-eq_z (verdict_of (answer (s c.before))) (pos 1))
-    (λ e. c.if-verdict-eq1.false (ap (of_z w64) e))
-
-two : (c : Then-verdict-eq2) → eq_z (verdict_of (answer (s c.before.before))) (pos 2) ≡ true
-two c = tells-true (tells-eq_z (verdict_of (answer (s c.before.before))) (pos 2))
-    (sym (to_z-of_z (fit c.before.before)) ∙ ap (to_z w64) c.if-verdict-eq2.true)
+pub invariant_of-rows : goal.invariant_of-rows
+invariant_of-rows c = record { fine = fine_of (taken _ _ c.in_ok-judge.ensures) }
 
 pub shows_times-requires : goal.shows_times-requires
-shows_times-requires c = let e = accepted c.before in
-    record { fine = (fine e, c.count_at-m.ensures, c.count_at-n.ensures); rows_in_bounds = (taken e).roomy }
+shows_times-requires c = (taken _ _ c.in_ok-judge.ensures).roomy
 
-times-answer : (c : After-shows_times) → let b = s c.before.before in
-    checked_times (words b) (answer b) ≡ cond c.shows_times.result 8 9
-times-answer c =
-    by-verdict c.before.before true _ (one c.before) refl ∙ ap (λ (b : Bool). cond b 8 9) (sym c.shows_times.ensures)
-
-pub returns-then-shows_times : goal.returns-then-shows_times
-returns-then-shows_times c = sym (times-answer c.before ∙ ap (λ (b : Bool). cond b 8 9) c.if-shows_times.true)
-
-pub returns-then-verdict-eq1 : goal.returns-then-verdict-eq1
-returns-then-verdict-eq1 c = sym (times-answer c.before ∙ ap (λ (b : Bool). cond b 8 9) c.if-shows_times.false)
+pub invariant_of-rows-in-2 : goal.invariant_of-rows-in-2
+invariant_of-rows-in-2 c = record { fine = fine_of (taken _ _ c.in_ok-judge.ensures) }
 
 pub shows_cycle-requires : goal.shows_cycle-requires
-shows_cycle-requires c = let e = accepted c.before.before in
-    record { fine = (fine e, c.count_at-m.ensures, c.count_at-n.ensures); rows_in_bounds = (taken e).roomy }
+shows_cycle-requires c = (taken _ _ c.in_ok-judge.ensures).roomy
 
-cycle-answer : (c : After-shows_cycle) → let b = s c.before.before.before in
-    checked_times (words b) (answer b) ≡ cond c.shows_cycle.result 8 9
-cycle-answer c = by-verdict c.before.before.before false true (not-one c.before.before) (two c.before)
-    ∙ ap (λ (b : Bool). cond b 8 9) (sym c.shows_cycle.ensures)
+pos-apart : pos 1 ≡ pos 2 → ⊥
+pos-apart e = cc
 
-pub returns-then-shows_cycle : goal.returns-then-shows_cycle
-returns-then-shows_cycle c = sym (cycle-answer c.before ∙ ap (λ (b : Bool). cond b 8 9) c.if-shows_cycle.true)
+told-either : (b : Bool) → verdict_told (Ok b) ≡ cond b 8 9
+told-either true = refl
+told-either false = refl
 
-pub returns-else-shows_cycle : goal.returns-else-shows_cycle
-returns-else-shows_cycle c = sym (cycle-answer c.before ∙ ap (λ (b : Bool). cond b 8 9) c.if-shows_cycle.false)
+pub returns-in-1 : goal.returns-in-1
+returns-in-1 c =
+    let a = c.args.answer.now in
+    let one : verdict_of a ≡ pos 1 = search rules in
+    told-either c.shows_times.result ∙ ap (λ (b : Bool). cond b 8 9) c.shows_times.ensures
+    ∙ sym (by-verdict _ a c.in_ok-judge.ensures true _ (tells-true (tells-eq_z (verdict_of a) (pos 1)) one) refl)
 
-pub returns-else-verdict-eq2 : goal.returns-else-verdict-eq2
-returns-else-verdict-eq2 c =
-    let here = c.before.before in
-    sym (by-verdict here false false (not-one c.before)
-    (tells-false (tells-eq_z (verdict_of (answer (s here))) (pos 2)) (λ e. c.if-verdict-eq2.false (ap (of_z w64) e))))
+pub returns-in-2 : goal.returns-in-2
+returns-in-2 c =
+    let a = c.args.answer.now in
+    let two : verdict_of a ≡ pos 2 = search rules in
+    let other : verdict_of a ≢ pos 1 = λ e. absurd (pos-apart (sym e ∙ two)) in
+    told-either c.shows_cycle.result ∙ ap (λ (b : Bool). cond b 8 9) c.shows_cycle.ensures
+    ∙ sym (by-verdict _ a c.in_ok-judge.ensures false true (tells-false (tells-eq_z (verdict_of a) (pos 1)) other)
+    (tells-true (tells-eq_z (verdict_of a) (pos 2)) two))
+
+pub returns-in_default : goal.returns-in_default
+returns-in_default c =
+    let a = c.args.answer.now in
+    let one : verdict_of a ≢ pos 1 = λ e. absurd (search rules) in
+    let two : verdict_of a ≢ pos 2 = λ e. absurd (omega (arith, ints)) in
+    sym (by-verdict _ a c.in_ok-judge.ensures false false (tells-false (tells-eq_z (verdict_of a) (pos 1)) one)
+    (tells-false (tells-eq_z (verdict_of a) (pos 2)) two))

@@ -1,38 +1,14 @@
--- `timecheck::cycle::rows_named` meets its contract. The invariant: whether the words passed are from 0 to below
--- `most`. The measure is how many are left. Assumes nothing.
-use mathlib.Core.Path.{◌≡◌, ap, refl, sym, ◌∙◌}
-use Prim.Native.Nat.{ℕ, ◌+◌}
-use native.Mathlib.Omega.{arith}
-use borrow.Author.Rules.{sfits_of}
+-- `timecheck::cycle::rows_named` meets its contract: each of the words is looked at. Assumes nothing.
+use Rattle.std.proofs.Common.{refl, ◌∙◌, rules, tests, arith}
+use Rattle.std.proofs.lemmas.Iterator.{YieldsList-from_range}
+use Rattle.std.proofs.lemmas.Iterator.Search.{all_from_yields_List}
 use mir.Facts.{to_z-of_z}
-use mir.Syntax.{w64}
-use mir.Val.{SFits}
-use Rattle.whole.specs.Below.{all_below}
-use Rattle.whole.proofs.Lists.Below.{all_start}
-use Rattle.rules.specs.Problem.{word}
-use Rattle.rules.proofs.Evidence.Joined.{tests-more}
+use Rattle.timecheck.proofs.Laws.Ranges.{all-range}
 use Rattle.timecheck.specs.Walk.{is_between}
 use Rattle.timecheck.proofs.cycle.rows_named.Goals as goal
-use Rattle.timecheck.proofs.cycle.rows_named.Goals.{After-loop-k, After-row-1}
-
-pub loop-k-init : goal.loop-k-init
-loop-k-init c = (omega arith, sym (all_start _))
-
-fit : (c : After-row-1) →
-    SFits w64 (word c.args.answer.now (2 + c.loop-k.k))
-fit c = sfits_of c.row-1.given
-
-pub loop-k-preserved : goal.loop-k-preserved
-loop-k-preserved c = (
-  omega arith,
-  simp (to_z-of_z (fit c), to_z-of_z c.ranges.most)
-      (tests-more c.loop-k.k (is_between c.args.answer.now c.args.most)
-      (simp (to_z-of_z c.ranges.most) at c.loop-k.invariant.1) refl),
-)
-
-all : (c : After-loop-k) → c.loop-k.k ≡ c.args.count
-all c = omega arith
 
 pub returns : goal.returns
-returns c = simp (to_z-of_z c.ranges.most) at c.loop-k.invariant.1
-    ∙ ap (λ (k : ℕ). all_below k (is_between c.args.answer.now c.args.most)) (all c)
+returns c =
+    all_from_yields_List (is_between c.args.answer.now c.args.most) _ _ c.all.result c.all.ensures.ran
+    (YieldsList-from_range 0 c.args.count c.args.count refl (omega arith)) (λ x b q k. search (rules, tests, to_z-of_z))
+    ∙ all-range (is_between c.args.answer.now c.args.most) c.args.count
