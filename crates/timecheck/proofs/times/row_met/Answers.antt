@@ -54,8 +54,8 @@ returns c =
     let small-fits : SFits w64 c.gap-small.result = search rules in
     let plain = left-read {p = word a (2 + x)} {q = word a (2 + y)} c.gap-plain.ensures (search rules) (search rules)
     span refl refl in
-    let small = left-read {p = word a (2 + n + x)} {q = word a (2 + n + y)} c.gap-small.ensures (search rules) (search rules)
-    turn refl refl in
+    let small = left-read {p = word a (2 + n + x)} {q = word a (2 + n + y)} c.gap-small.ensures (search rules)
+    (search rules) turn refl refl in
     c.at_most.ensures
     ∙ ap₂ (λ (g h : ℤ). clears false (pos 0, pos 0) (g, h)) (to_z-of_z plain-fits ∙ plain)
     (to_z-of_z small-fits ∙ small)

@@ -10,7 +10,8 @@ use Rattle.rules.specs.Problem.{m_of, n_of}
 use Rattle.rules.specs.Refusal.{first, too_few}
 use Rattle.rules.specs.Times.Words.{bad_time_size, no_room, row_tests, time_refusal, time_tests}
 use Rattle.rules.proofs.Refusal.First.{first-hit, first-skip}
-use Rattle.timerows.proofs.Laws.Faults.{first-none, framed, rows-fit, m-least, vertices-fit, n-least, rows-kept, rows-passed}
+use Rattle.timerows.proofs.Laws.Faults.{first-none, framed, m-least, n-least, rows-fit, rows-kept}
+use Rattle.timerows.proofs.Laws.Faults.{rows-passed, vertices-fit}
 use Rattle.timerows.proofs.Laws.Faults.{to-rows, too-long}
 use Rattle.timerows.proofs.judge.judge.Goals as goal
 
