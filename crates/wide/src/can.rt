@@ -1,15 +1,14 @@
 // Verdict 1: numerators and small parts over one denominator that meet every row and every limit. A half of the answer
 // has its numbers from a slot on: from the second, and past one number for each variable.
-ghost use Rattle.std.specs.Prelude.{◌≡◌, ◌+◌, ◌*◌, ◌≤◌, ◌<◌, pos, length};
+ghost use Rattle.std.specs.Prelude.{◌≡◌, ◌+◌, ◌*◌, ◌≤◌, ◌<◌, length};
 ghost use Rattle.whole.specs.Numbers.{Within, AllWithin, eq_z};
 ghost use Rattle.rules.specs.Sizes.{most_rows, most_columns, most_variables, largest_coefficient, largest_limit};
 ghost use Rattle.rules.specs.Sizes.{limb_turn};
-ghost use Rattle.rules.specs.Evidence as evidence;
 ghost use Rattle.rules.specs.Evidence.{at_least, at_most, right_can};
 ghost use Rattle.rules.specs.Wide.{numbers_of, wide_at, wide_denominator, wide_lower, wide_upper};
 ghost use Rattle.amounts.specs.Amounts.{limit_in};
 ghost use Rattle.limbs.specs.Limbs.{LimbsWithin, value};
-ghost use Rattle.parts.specs.Reads.{InRanges, Limited, problem_of};
+ghost use Rattle.parts.specs.Reads.{Limited, problem_of};
 ghost use Rattle.wide.specs.Reads.{AllFormed, limits_met, most_numbers, row_most, row_in, rows_solved};
 ghost use Rattle.limbs.specs.Limbs.{StandsFor};
 
@@ -17,6 +16,7 @@ use crate::numbers::number_at;
 use amounts::Given;
 use layout::{ColumnPlace, RowPlace};
 use limbs::Wide;
+use parts::{Case, clears};
 use tableau::{Limits, Tableau};
 
 // The sum of a row over the numbers of the problem's variables.
@@ -90,16 +90,8 @@ fn rows_hold(
     fine
 }
 
-// By the signs of two differences, whether one number and its small part are at most another and its small part, or
-// strictly below them.
-fn passes(strict: bool, gap: i64, small: i64) -> bool
-    ensures { result ≡ evidence.clears strict (pos 0, pos 0) (gap, small) }
-{
-    let beyond = (strict & (0 < small)) | (!strict & !(small < 0));
-    (0 < gap) | (!(gap < 0) & beyond)
-}
-
-// A numerator and its small part, over a denominator, against a limit that may be missing.
+// A numerator and its small part, over a denominator, against a limit that may be missing: by the signs of two
+// differences.
 fn at_least(common: Wide, x: Wide, small: Wide, limit: Given) -> bool
     requires limbs_within { (LimbsWithin common limb_turn) × (LimbsWithin x limb_turn) × (LimbsWithin small limb_turn) }
     requires within { Within limit.plain largest_limit }
@@ -107,7 +99,7 @@ fn at_least(common: Wide, x: Wide, small: Wide, limit: Given) -> bool
 {
     let least = common.times(limit.plain);
     let gap = x.less(least);
-    !limit.on | passes(limit.strict, gap.sign(), small.sign())
+    !limit.on | clears(limit.strict, (0, 0), (gap.sign(), small.sign()))
 }
 
 fn at_most(common: Wide, x: Wide, small: Wide, limit: Given) -> bool
@@ -118,7 +110,7 @@ fn at_most(common: Wide, x: Wide, small: Wide, limit: Given) -> bool
     let most = common.times(limit.plain);
     let gap = most.less(x);
     let beside = Wide::zero().less(small);
-    !limit.on | passes(limit.strict, gap.sign(), beside.sign())
+    !limit.on | clears(limit.strict, (0, 0), (gap.sign(), beside.sign()))
 }
 
 // Every present limit holds.
@@ -140,31 +132,30 @@ fn limits_hold(limits: Limits, answer: &[i64], variables: usize, common: Wide) -
     fine
 }
 
-// The numbers are right for verdict 1.
-pub fn shows_can(
-    entries: &[i32; Tableau::MOST_ENTRIES],
-    limits: Limits,
-    rows: usize,
-    columns: usize,
-    answer: &[i64],
-) -> bool
-    requires in_ranges { InRanges entries.now limits rows columns }
-    requires rows_in_bounds { 6 + 8 * (columns + rows) ≤ length answer.now }
-    requires all_formed { AllFormed answer.now (numbers_of (columns + rows)) }
-    ensures { result ≡ right_can (problem_of entries.now limits rows columns)
-        (wide_denominator answer.now) (wide_lower answer.now)
-        (wide_upper (columns + rows) answer.now) }
+/// The numbers are right for verdict 1.
+pub fn shows_can(case: &Case<'_>) -> bool
+    requires rows_in_bounds { 6 + 8 * (case.now.columns + case.now.rows) ≤ length case.now.answer.now }
+    requires all_formed { AllFormed case.now.answer.now (numbers_of (case.now.columns + case.now.rows)) }
+    ensures { result ≡ right_can (problem_of case.now.entries case.now.limits case.now.rows case.now.columns)
+        (wide_denominator case.now.answer.now) (wide_lower case.now.answer.now)
+        (wide_upper (case.now.columns + case.now.rows) case.now.answer.now) }
 {
-    let variables = columns + rows;
-    let common = number_at(answer, 0);
+    let variables = case.columns + case.rows;
+    let common = number_at(case.answer, 0);
     if !common.is_above() {
         return false;
     }
-    if !rows_hold(entries, answer, 1, rows, columns) {
+    if !rows_hold(&case.entries, case.answer, 1, case.rows, case.columns) {
         return false;
     }
-    if !rows_hold(entries, answer, 1 + variables, rows, columns) {
+    if !rows_hold(
+        &case.entries,
+        case.answer,
+        1 + variables,
+        case.rows,
+        case.columns,
+    ) {
         return false;
     }
-    limits_hold(limits, answer, variables, common)
+    limits_hold(case.limits, case.answer, variables, common)
 }

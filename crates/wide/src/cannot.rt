@@ -8,7 +8,7 @@ ghost use Rattle.rules.specs.Evidence.{plain_of, right_cannot, strict_named};
 ghost use Rattle.rules.specs.Wide.{numbers_of, wide_denominator, wide_lower, wide_upper};
 ghost use Rattle.amounts.specs.Amounts.{limit_in};
 ghost use Rattle.limbs.specs.Limbs.{LimbsWithin, value};
-ghost use Rattle.parts.specs.Reads.{InRanges, Limited, problem_of};
+ghost use Rattle.parts.specs.Reads.{Limited, problem_of};
 ghost use Rattle.wide.specs.Reads.{AllFormed, balance_in, column_most, column_in, columns_vanish, some_marked};
 ghost use Rattle.limbs.specs.Limbs.{StandsFor};
 ghost use Rattle.wide.specs.Reads.{all_owed, surplus_in, surplus_most, weight_most};
@@ -17,6 +17,7 @@ use crate::numbers::number_at;
 use amounts::Given;
 use layout::{ColumnPlace, RowPlace};
 use limbs::Wide;
+use parts::Case;
 use tableau::{Limits, Tableau};
 
 // A multiplier is at least 0, and 0 where its limit is missing.
@@ -156,38 +157,31 @@ fn some_named(limits: Limits, answer: &[i64], variables: usize) -> bool
     found
 }
 
-// The numbers are right for verdict 2.
-pub fn shows_cannot(
-    entries: &[i32; Tableau::MOST_ENTRIES],
-    limits: Limits,
-    rows: usize,
-    columns: usize,
-    answer: &[i64],
-) -> bool
-    requires in_ranges { InRanges entries.now limits rows columns }
-    requires rows_in_bounds { 6 + 8 * (columns + rows) ≤ length answer.now }
-    requires all_formed { AllFormed answer.now (numbers_of (columns + rows)) }
-    ensures { result ≡ right_cannot (problem_of entries.now limits rows columns)
-        (wide_denominator answer.now) (wide_lower answer.now)
-        (wide_upper (columns + rows) answer.now) }
+/// The numbers are right for verdict 2.
+pub fn shows_cannot(case: &Case<'_>) -> bool
+    requires rows_in_bounds { 6 + 8 * (case.now.columns + case.now.rows) ≤ length case.now.answer.now }
+    requires all_formed { AllFormed case.now.answer.now (numbers_of (case.now.columns + case.now.rows)) }
+    ensures { result ≡ right_cannot (problem_of case.now.entries case.now.limits case.now.rows case.now.columns)
+        (wide_denominator case.now.answer.now) (wide_lower case.now.answer.now)
+        (wide_upper (case.now.columns + case.now.rows) case.now.answer.now) }
 {
-    let variables = columns + rows;
-    let common = number_at(answer, 0);
+    let variables = case.columns + case.rows;
+    let common = number_at(case.answer, 0);
     if !common.is_zero() {
         return false;
     }
-    if !multipliers_owed(limits, answer, variables) {
+    if !multipliers_owed(case.limits, case.answer, variables) {
         return false;
     }
-    if !columns_cancel(entries, answer, rows, columns) {
+    if !columns_cancel(&case.entries, case.answer, case.rows, case.columns) {
         return false;
     }
-    let total = surplus(limits, answer, variables);
+    let total = surplus(case.limits, case.answer, variables);
     if total.is_above() {
         return true;
     }
     if !total.is_zero() {
         return false;
     }
-    some_named(limits, answer, variables)
+    some_named(case.limits, case.answer, variables)
 }

@@ -30,8 +30,8 @@ use Rattle.wide.proofs.can.at_least.Tie as tie
 abbrev After-less : Type 0
 After-less = lts.After-less tie.the-claims reads.Pre reads.Post tie.handed_clauses
 
-abbrev After-passes : Type 0
-After-passes = lts.After-passes tie.the-claims reads.Pre reads.Post tie.handed_clauses
+abbrev After-clears : Type 0
+After-clears = lts.After-clears tie.the-claims reads.Pre reads.Post tie.handed_clauses
 
 abbrev After-sign : Type 0
 After-sign = lts.After-sign tie.the-claims reads.Pre reads.Post tie.handed_clauses
@@ -78,7 +78,7 @@ module _ (c : After-less) where
   gap = stands-is c.less-gap.ensures
       (stands-less (record { number = refl; size = begun.requires.limbs_within.1 }) (scaled c.before))
 
-module _ (c : After-passes) where
+module _ (c : After-clears) where
   abbrev second : After-sign2
   second = c.before
 
@@ -103,9 +103,9 @@ module _ (c : After-passes) where
   alone : (y : ℤ) → y ≡ y -ℤ pos 0
   alone y = ring-at (y ∷ []) (search reify depth 30) refl
 
-  told : c.passes.result ≡ clears l.strict (value s.args.common *ℤ l.plain, pos 0)
+  told : c.clears.result ≡ clears l.strict (value s.args.common *ℤ l.plain, pos 0)
       (value s.args.x, value s.args.small)
-  told = simp (to_z-of_z fit-gap, to_z-of_z fit_small) at c.passes.ensures
+  told = simp (to_z-of_z fit-gap, to_z-of_z fit_small) at c.clears.ensures
       ∙ ap₂ (λ (g h : ℤ). clears l.strict (pos 0, pos 0) (g, h))
       (first.sign.ensures ∙ ap sign_of ((gap differs).number
       ∙ ap (λ (z : ℤ). value s.args.x -ℤ z) (*ℤ_comm l.plain (value s.args.common))))

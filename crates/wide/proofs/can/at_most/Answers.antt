@@ -30,8 +30,8 @@ After-less = lts.After-less tie.the-claims reads.Pre reads.Post tie.handed_claus
 abbrev After-less2 : Type 0
 After-less2 = lts.After-less2 tie.the-claims reads.Pre reads.Post tie.handed_clauses
 
-abbrev After-passes : Type 0
-After-passes = lts.After-passes tie.the-claims reads.Pre reads.Post tie.handed_clauses
+abbrev After-clears : Type 0
+After-clears = lts.After-clears tie.the-claims reads.Pre reads.Post tie.handed_clauses
 
 abbrev After-sign : Type 0
 After-sign = lts.After-sign tie.the-claims reads.Pre reads.Post tie.handed_clauses
@@ -98,7 +98,7 @@ sign-requires c = sized-le (gap c.before.before.before.before).size (lit≤ tt)
 pub sign-requires-2 : goal.sign-requires-2
 sign-requires-2 c = sized-le (beside c.before.before.before).size (lit≤ tt)
 
-module _ (c : After-passes) where
+module _ (c : After-clears) where
   abbrev second : After-sign2
   second = c.before
 
@@ -123,9 +123,9 @@ module _ (c : After-passes) where
   fit_small : SFits w64 second.sign-2.result
   fit_small = search rules
 
-  told : c.passes.result ≡ clears l.strict (value s.args.x, value s.args.small)
+  told : c.clears.result ≡ clears l.strict (value s.args.x, value s.args.small)
       (value s.args.common *ℤ l.plain, pos 0)
-  told = simp (to_z-of_z fit-gap, to_z-of_z fit_small) at c.passes.ensures
+  told = simp (to_z-of_z fit-gap, to_z-of_z fit_small) at c.clears.ensures
       ∙ ap₂ (λ (g h : ℤ). clears l.strict (pos 0, pos 0) (g, h))
       (first.sign.ensures ∙ ap sign_of ((gap differs).number
       ∙ ap (λ (z : ℤ). z -ℤ value s.args.x) (*ℤ_comm l.plain (value s.args.common))))
