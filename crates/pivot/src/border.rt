@@ -8,11 +8,10 @@ ghost use Rattle.std.specs.Prelude.{◌≡◌, true, ◌+◌, ◌≤◌, pos, na
 ghost use Rattle.whole.specs.Numbers.{Within};
 ghost use Rattle.divisor.specs.Cells.{divisor_below};
 ghost use Rattle.rules.specs.Sizes.{most_rows, most_columns, largest_number};
-ghost use Rattle.pivot.specs.Asked.{Able, pivot_for};
+ghost use Rattle.pivot.specs.Asked.{pivot_for};
 ghost use Rattle.pivot.specs.Border.{raised_by, raised_strip, Bears, border_for, border_divisor};
 
-use crate::asked::Asked;
-use crate::numbers;
+use crate::turn::Turn;
 use layout::{MOST_ENTRIES, Strip};
 
 #[derive(Clone, Copy)]
@@ -49,11 +48,11 @@ fn raised_strip(
 }
 
 // The border of a pivot whose size and the common number's are together within the largest number.
-pub fn border_of(entries: &[i32; MOST_ENTRIES], asked: Asked) -> Border
-    requires able { Able entries.now asked }
-    requires common_bound { nat_abs (pivot_for entries.now asked) + nat_abs asked.common ≤ largest_number }
-    ensures { result ≡ border_for entries.now asked }
+pub fn border_of(turn: Turn) -> Border
+    requires { nat_abs (pivot_for turn.entries.now turn.asked) + nat_abs turn.asked.common ≤ largest_number }
+    ensures { result ≡ border_for turn.entry.entries.now turn.entry.asked }
 {
+    let asked = turn.asked;
     let row = asked.spot.row;
     let column = asked.spot.column;
     let down = layout::column_strip(asked.rows, asked.columns, column);
@@ -61,9 +60,9 @@ pub fn border_of(entries: &[i32; MOST_ENTRIES], asked: Asked) -> Border
     Border {
         rows: asked.rows,
         columns: asked.columns,
-        pivot: numbers::pivot_of(entries, asked),
-        besides: raised_strip(entries, down, row.0 as usize, asked.common),
-        aboves: raised_strip(entries, across, column.0 as usize, -asked.common),
+        pivot: turn.pivot(),
+        besides: raised_strip(turn.entries, down, row.0 as usize, asked.common),
+        aboves: raised_strip(turn.entries, across, column.0 as usize, -asked.common),
     }
 }
 

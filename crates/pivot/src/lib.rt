@@ -16,6 +16,7 @@ ghost use Rattle.pivot.specs.Asked.{Able, common_for, entries_for, fits_for};
 use asked::Asked;
 use layout::MOST_ENTRIES;
 use settle::Settled;
+use turn::Turn;
 
 pub mod asked;
 mod border;
@@ -25,6 +26,7 @@ mod numbers;
 mod quick;
 mod range;
 mod settle;
+mod turn;
 mod wide;
 
 // The entries after a pivot, in lowest common form with the common number above 0, are put into `next`, and the new
@@ -42,17 +44,18 @@ pub fn pivot(
     ensures numbers { PutBy (fits_for entries.now asked) (live asked.rows asked.columns)
         (entries_for entries.now asked) next.new }
 {
-    match quick::quick(entries, asked, next) {
+    let turn = Turn { entries, asked };
+    match quick::quick(turn, next) {
         Settled::By(by) => {
             let live = layout::live(asked.rows, asked.columns);
-            let after = numbers::product_of(entries, asked) / by as i64;
+            let after = turn.product() / by as i64;
             if range::halves_in_range(&next[..live]) && after <= rules::LARGEST_NUMBER {
                 return Some(after as i32);
             }
             None
         }
         Settled::Beyond => None,
-        Settled::Open => wide::pivot(entries, asked, next),
+        Settled::Open => wide::pivot(turn, next),
     }
 }
 

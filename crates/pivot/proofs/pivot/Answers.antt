@@ -56,15 +56,15 @@ pub nonzero_div-after : goal.nonzero_div-after
 nonzero_div-after c =
     let t = c.in-By.ensures in
     let z = fit-z _ _ _ _ t in
-    let product : FitsSigned w64 c.product_of.result = search rules in (
+    let product : FitsSigned w64 c.product.result = search rules in (
       simp (to_z-of_z z) (bits-nonzero w64 c.in-By.by (wide z) (λ y. nonzero-by c.requires.able (sym t.by-is ∙ y))),
-      simp (to_z-of_z product, widened z) (fit-made _ _ _ _ t c.requires.able c.product_of.result c.product_of.ensures),
+      simp (to_z-of_z product, widened z) (fit-made _ _ _ _ t c.requires.able c.product.result c.product.ensures),
     )
 
 pub overflow_cast-result : goal.overflow_cast-result
 overflow_cast-result c =
-    let product : FitsSigned w64 c.product_of.result = search rules in
-    let e = made _ _ _ _ c.in-By.ensures c.requires.able c.product_of.result c.product_of.ensures product in
+    let product : FitsSigned w64 c.product.result = search rules in
+    let e = made _ _ _ _ c.in-By.ensures c.requires.able c.product.result c.product.ensures product in
     let low : common_for c.args.entries.now c.args.asked ≤ℤ pos largest_number = grind (arith, ints) in
     let fits = fits-true _ _ _ _ c.in-By.ensures c.requires.able c.live-live.ensures c.quick.array_long
     (sym c.halves_in_range.ensures ∙ c.if-halves_in_range.true) low in
@@ -73,8 +73,8 @@ overflow_cast-result c =
 pub returns-then-after-le-LARGEST_NUMBER-clause-answer : goal.returns-then-after-le-LARGEST_NUMBER-clause-answer
 returns-then-after-le-LARGEST_NUMBER-clause-answer c =
     let after = common_for c.args.entries.now c.args.asked in
-    let product : FitsSigned w64 c.product_of.result = search rules in
-    let e = made _ _ _ _ c.in-By.ensures c.requires.able c.product_of.result c.product_of.ensures product in
+    let product : FitsSigned w64 c.product.result = search rules in
+    let e = made _ _ _ _ c.in-By.ensures c.requires.able c.product.result c.product.ensures product in
     let low : after ≤ℤ pos largest_number = grind (arith, ints) in
     let fits = fits-true _ _ _ _ c.in-By.ensures c.requires.able c.live-live.ensures c.quick.array_long
     (sym c.halves_in_range.ensures ∙ c.if-halves_in_range.true) low in
@@ -85,8 +85,8 @@ pub returns-else-halves_in_range-clause-answer : goal.returns-else-halves_in_ran
 returns-else-halves_in_range-clause-answer c =
     let l = c.args.entries.now in
     let a = c.args.asked in
-    let product : FitsSigned w64 c.product_of.result = search rules in
-    let e = made _ _ _ _ c.in-By.ensures c.requires.able c.product_of.result c.product_of.ensures product in
+    let product : FitsSigned w64 c.product.result = search rules in
+    let e = made _ _ _ _ c.in-By.ensures c.requires.able c.product.result c.product.ensures product in
     let beyond : fits_for l a ≡ false = elim c.else-halves_in_range.branch [
       | else-halves_in_range-via-then-halves_in_range+else-after-le-LARGEST_NUMBER w ↦
           let up = w.if-after-le-LARGEST_NUMBER.false in beyond-up c.requires.able (grind (arith, ints))

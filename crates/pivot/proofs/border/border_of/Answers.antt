@@ -25,13 +25,13 @@ module _ {l : List ℤ} {a : Asked} (h : Able l a) where
       ∙ to_z-of_z {w = w32} (fits-by (within-neg h.common-within) tt)
 
 pub raised_strip-requires : goal.raised_strip-requires
-raised_strip-requires c = let a = c.args.asked in
-    subst (λ (w : Strip). Bears c.args.entries.now w a.spot.row.0 (to_z w32 (of_z w32 a.common)))
+raised_strip-requires c = let a = c.args.turn.asked in
+    subst (λ (w : Strip). Bears c.args.turn.entries.now w a.spot.row.0 (to_z w32 (of_z w32 a.common)))
     (sym c.column_strip-down.ensures)
-    (simp (to_z-of_z (fit-common c.requires.able)) (besides-bear c.requires.able c.requires.common_bound))
+    (simp (to_z-of_z (fit-common c.args.turn.able)) (besides-bear c.args.turn.able c.requires))
 
 pub raised_strip-requires-2 : goal.raised_strip-requires-2
-raised_strip-requires-2 c = let a = c.args.asked in
-    rw (negated c.requires.able)
-    (subst (λ (w : Strip). Bears c.args.entries.now w a.spot.column.0 (neg_ℤ a.common))
-    (sym c.row_strip-across.ensures) (aboves-bear c.requires.able c.requires.common_bound))
+raised_strip-requires-2 c = let a = c.args.turn.asked in
+    rw (negated c.args.turn.able)
+    (subst (λ (w : Strip). Bears c.args.turn.entries.now w a.spot.column.0 (neg_ℤ a.common))
+    (sym c.row_strip-across.ensures) (aboves-bear c.args.turn.able c.requires))

@@ -71,7 +71,7 @@ module _ (l : List ℤ) (a : Asked) (able : Able l a) where
 
 pub overflow_mul-first : goal.overflow_mul-first
 overflow_mul-first c =
-    let able = c.requires.able in
+    let able = c.args.turn.able in
     omega (
       arith,
       first-is _ _ able c.border_of-border.ensures c.unsigned_abs.ensures.value c.from.ensures
@@ -81,46 +81,46 @@ overflow_mul-first c =
 
 pub overflow_cast-from : goal.overflow_cast-from
 overflow_cast-from c =
-    let able = c.requires.able in
+    let able = c.args.turn.able in
     let from : FitsSigned w64 c.signed-from.result = search rules in
     let first = first-is _ _ able c.border_of-border.ensures c.unsigned_abs.ensures.value c.from.ensures
     c.border_divisor.ensures in
-    simp (to_z-of_z from) (from-half _ _ able first c.if-first.false (search rules) c.product_of.ensures
+    simp (to_z-of_z from) (from-half _ _ able first c.if-first.false (search rules) c.product.ensures
     c.signed-from.ensures)
 
 pub invariant_of-settle : goal.invariant_of-settle
 invariant_of-settle c = record {
-  within = c.requires.able.all-within;
-  bordered = fine _ _ c.requires.able (search rules) c.pivot_of.ensures c.are_near.ensures c.if-not-are_near.false
+  within = c.args.turn.able.all-within;
+  bordered = fine _ _ c.args.turn.able (search rules) c.pivot.ensures c.are_near.ensures c.if-not-are_near.false
       c.border_of-border.ensures;
 }
 
 pub settle-requires : goal.settle-requires
 settle-requires c =
-    let able = c.requires.able in
+    let able = c.args.turn.able in
     let from : FitsSigned w64 c.signed-from.result = search rules in
-    let product : FitsSigned w64 c.product_of.result = search rules in
+    let product : FitsSigned w64 c.product.result = search rules in
     let first = first-is _ _ able c.border_of-border.ensures c.unsigned_abs.ensures.value c.from.ensures
     c.border_divisor.ensures in
-    let half = from-half _ _ able first c.if-first.false product c.product_of.ensures c.signed-from.ensures in
+    let half = from-half _ _ able first c.if-first.false product c.product.ensures c.signed-from.ensures in
     simp (to_z-of_z from, to_z-of_z half) (
-      from-nonzero _ _ able first c.if-first.false product c.product_of.ensures c.signed-from.ensures,
-      from-within _ _ able first c.if-first.false product c.product_of.ensures c.signed-from.ensures,
+      from-nonzero _ _ able first c.if-first.false product c.product.ensures c.signed-from.ensures,
+      from-within _ _ able first c.if-first.false product c.product.ensures c.signed-from.ensures,
     )
 
 pub returns : goal.returns
 returns c =
-    let able = c.requires.able in
+    let able = c.args.turn.able in
     let from : FitsSigned w64 c.signed-from.result = search rules in
-    let product : FitsSigned w64 c.product_of.result = search rules in
+    let product : FitsSigned w64 c.product.result = search rules in
     let first = first-is _ _ able c.border_of-border.ensures c.unsigned_abs.ensures.value c.from.ensures
     c.border_divisor.ensures in
-    let half = from-half _ _ able first c.if-first.false product c.product_of.ensures c.signed-from.ensures in
+    let half = from-half _ _ able first c.if-first.false product c.product.ensures c.signed-from.ensures in
     settled-ends able _ (first_above able)
-    (first_small _ _ able first c.if-first.false product c.product_of.ensures c.signed-from.ensures)
-    (first-divides able) (first-multiple able) c.settle.result c.args.out.now c.settle.new.out c.requires.out_len
-    (right c.args.entries.now c.args.out.now c.settle.result c.settle.new.out c.border_of-border.ensures
-    (from-is _ _ able first c.if-first.false product c.product_of.ensures c.signed-from.ensures)
+    (first_small _ _ able first c.if-first.false product c.product.ensures c.signed-from.ensures)
+    (first-divides able) (first-multiple able) c.settle.result c.args.out.now c.settle.new.out c.told-out
+    (right c.args.turn.entries.now c.args.out.now c.settle.result c.settle.new.out c.border_of-border.ensures
+    (from-is _ _ able first c.if-first.false product c.product.ensures c.signed-from.ensures)
     (simp (to_z-of_z from, to_z-of_z half) at c.settle.ensures))
   where
     right : (l k : List ℤ) (w : Settled) (out : List ℤ) {b b' : Border} {y y' : ℤ} →

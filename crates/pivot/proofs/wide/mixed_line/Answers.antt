@@ -1,21 +1,12 @@
 -- `pivot::wide::mixed_line` meets its contract. The invariant: the cells before this step of the line are the
--- definition's, the others 0. The measure is the steps left. Assumes nothing.
-use mathlib.Core.List.{List}
-use mathlib.Core.Path.{◌≡◌, ◌∙◌, ap}
-use Prim.Native.Nat.{ℕ, ◌+◌, ◌<◌}
-use native.Mathlib.Omega.{arith}
-use borrow.Author.Rules.{rules}
-use lib.IntN.{ℤ}
-use mir.Facts.{to_z-of_z}
-use mir.Syntax.{w64}
-use mir.Val.{SFits}
+-- definition's, the others 0. Assumes nothing.
+use Rattle.std.proofs.Common.{rules, arith, ap, ◌∙◌, ◌≡◌, ◌+◌, ◌<◌, List, ℕ, ℤ, FitsSigned, w64, to_z-of_z}
 use Rattle.layout.specs.declared.Spot.{Spot}
-use Rattle.layout.specs.Layout.{OnLine, most_entries, line_at, row_at, column_at}
+use Rattle.layout.specs.Layout.{OnLine, lines, steps, row_at, column_at}
 use Rattle.layout.proofs.Laws.Lines.{line-more, spot_in, step_in}
 use Rattle.pivot.specs.declared.asked.Asked.{Asked}
-use Rattle.pivot.specs.Asked.{cell_for}
+use Rattle.pivot.specs.Asked.{Able, cell_for}
 use Rattle.pivot.proofs.wide.mixed_line.Goals as goal
-use Rattle.pivot.proofs.wide.mixed_line.Goals.{After-mixed_at, After-spot_at-spot, In-loop-step, Start}
 
 -- the cell of a spot
 abbrev at-spot : List ℤ → Asked → Spot → ℤ
@@ -25,63 +16,38 @@ at-spot l a x = cell_for l a x.row.0 x.column.0
 abbrev cell : List ℤ → Asked → ℕ → ℤ
 cell l a k = cell_for l a (row_at a.rows a.columns k) (column_at a.rows a.columns k)
 
--- a step
-module _ (c : In-loop-step) where
-  abbrev start : Start
-  start = c.before.before.before.before
-
-  abbrev asked : Asked
-  asked = start.args.asked
-
-  on_line : OnLine asked.rows asked.columns start.args.line c.loop-step.step
-  on_line = record {
-    few-rows = start.requires.able.few-rows;
-    few-columns = start.requires.able.few-columns;
-    in_lines = start.requires.line_bound;
-    in-steps = rw (← c.steps-steps.ensures) (omega arith);
-  }
-
-  -- its flat place
-  abbrev k : ℕ
-  k = line_at asked.rows asked.columns start.args.line + c.loop-step.step
-
-  abbrev at : ℕ
-  at = c.line_at-start.result + c.loop-step.step
-
-  at-is : at ≡ k
-  at-is = ap (λ b. b + c.loop-step.step) c.line_at-start.ensures
-
-  in_cells : at < most_entries
-  in_cells = rw at-is (step_in on_line)
+-- a step of the line
+on_line : (l : List ℤ) (a : Asked) → Able l a → {line many : ℕ} (step : ℕ) → line < lines a.rows a.columns →
+    many ≡ steps a.rows a.columns → step < many → OnLine a.rows a.columns line step
+on_line l a able step h e b =
+    record { few-rows = able.few-rows; few-columns = able.few-columns; in_lines = h; in-steps = rw (← e) b }
 
 pub overflow_add-at : goal.overflow_add-at
-overflow_add-at c = omega (arith, in_cells c.before)
+overflow_add-at c =
+    let o = on_line _ _ c.args.turn.able c.loop-step.step c.requires.line_bound c.steps-steps.ensures (omega arith) in
+    omega (arith, step_in o, c.line_at-start.ensures)
 
 pub mixed_at-requires : goal.mixed_at-requires
 mixed_at-requires c =
-    record { able = c.requires.able; row_lt_rows = spot_in (on_line c.before) c.spot_at-spot.ensures }
-
--- what the call gives is the definition's number at this place
-module _ (c : After-mixed_at) where
-  abbrev found : After-spot_at-spot
-  found = c.before
-
-  fit : SFits w64 c.mixed_at.result
-  fit = search rules
-
-  right : c.mixed_at.result ≡ cell c.args.entries.now c.args.asked (k found.before)
-  right = c.mixed_at.ensures ∙ ap (at-spot c.args.entries.now c.args.asked) found.spot_at-spot.ensures
+    let o = on_line _ _ c.args.turn.able c.loop-step.step c.requires.line_bound c.steps-steps.ensures (omega arith) in
+    spot_in o c.spot_at-spot.ensures
 
 pub offset_bounds-out-at : goal.offset_bounds-out-at
-offset_bounds-out-at c = omega (arith, in_cells c.before.before)
+offset_bounds-out-at c =
+    let o = on_line _ _ c.args.turn.able c.loop-step.step c.requires.line_bound c.steps-steps.ensures (omega arith) in
+    omega (arith, step_in o, c.line_at-start.ensures)
 
 pub bounds-out-at : goal.bounds-out-at
-bounds-out-at c = in_cells c.before.before
+bounds-out-at c =
+    let o = on_line _ _ c.args.turn.able c.loop-step.step c.requires.line_bound c.steps-steps.ensures (omega arith) in
+    omega (arith, step_in o, c.line_at-start.ensures)
 
 pub loop-step-preserved : goal.loop-step-preserved
-loop-step-preserved c = let a = c.args.asked in (
-  omega arith,
-  simp (to_z-of_z (fit c))
-      (line-more a.rows a.columns (cell c.args.entries.now a) c.args.line (on_line c.before.before)
-      (at-is c.before.before) c.loop-step.invariant.1 (right c)),
-)
+loop-step-preserved c =
+    let l = c.args.turn.entries.now in
+    let a = c.args.turn.asked in
+    let o = on_line l a c.args.turn.able c.loop-step.step c.requires.line_bound c.steps-steps.ensures (omega arith) in
+    let fit : FitsSigned w64 c.mixed_at.result = search rules in
+    simp (to_z-of_z fit)
+    (line-more a.rows a.columns (cell l a) c.args.line o (ap (λ b. b + c.loop-step.step) c.line_at-start.ensures)
+    c.loop-step.invariant (c.mixed_at.ensures ∙ ap (at-spot l a) c.spot_at-spot.ensures))

@@ -89,41 +89,42 @@ module _ {m n : ℕ} {l : List ℤ} {c : ℤ} {p q : ℕ} (h : Pivotable m n l c
             ∙ alike small_below end-is refl refl
 
 pub slice_bounds-cells-end : goal.slice_bounds-cells-end
-slice_bounds-cells-end c = room c.requires c.live-end.ensures c.mixed_entries-cells.ensures c.product_of-product.ensures
+slice_bounds-cells-end c =
+    room c.args.turn.able c.live-end.ensures c.mixed_entries-cells.ensures c.product-product.ensures
 
 pub slice_bounds-live-end : goal.slice_bounds-live-end
 slice_bounds-live-end c = sym (length-take-le c.live-end.result c.mixed_entries-cells.result
-    (room c.requires c.live-end.ensures c.mixed_entries-cells.ensures c.product_of-product.ensures))
+    (room c.args.turn.able c.live-end.ensures c.mixed_entries-cells.ensures c.product-product.ensures))
 
 pub signed-by-requires : goal.signed-by-requires
-signed-by-requires c = rw (divisor-right c.requires c.live-end.ensures c.mixed_entries-cells.ensures
-    c.product_of-product.ensures (search rules) c.divisor_of.ensures) (size-most c.requires)
+signed-by-requires c = rw (divisor-right c.args.turn.able c.live-end.ensures c.mixed_entries-cells.ensures
+    c.product-product.ensures (search rules) c.divisor_of.ensures) (size-most c.args.turn.able)
 
 pub divide-requires : goal.divide-requires
 divide-requires c =
     let by : FitsSigned w64 c.signed-by.result = search rules in
-    let z = by-right c.requires c.live-end.ensures c.mixed_entries-cells.ensures c.product_of-product.ensures
+    let z = by-right c.args.turn.able c.live-end.ensures c.mixed_entries-cells.ensures c.product-product.ensures
     (search rules) c.divisor_of.ensures by c.signed-by.ensures in record {
-      divides = simp (to_z-of_z by) (record { nonzero = rw z (nonzero-by c.requires) });
-      all_within = within-front c.live-end.result (rw c.mixed_entries-cells.ensures (mix-within c.requires));
+      divides = simp (to_z-of_z by) (record { nonzero = rw z (nonzero-by c.args.turn.able) });
+      all_within = within-front c.live-end.result (rw c.mixed_entries-cells.ensures (mix-within c.args.turn.able));
     }
 
 pub nonzero_div-after : goal.nonzero_div-after
 nonzero_div-after c =
-    let new : FitsSigned w64 c.product_of-product.result = search rules in
+    let new : FitsSigned w64 c.product-product.result = search rules in
     let by : FitsSigned w64 c.signed-by.result = search rules in
-    let z = by-right c.requires c.live-end.ensures c.mixed_entries-cells.ensures c.product_of-product.ensures
+    let z = by-right c.args.turn.able c.live-end.ensures c.mixed_entries-cells.ensures c.product-product.ensures
     new c.divisor_of.ensures by c.signed-by.ensures in (
-      bits-nonzero w64 c.signed-by.result by (rw z (nonzero-by c.requires)),
-      simp (to_z-of_z new, to_z-of_z by) (fit-after c.requires c.live-end.ensures c.mixed_entries-cells.ensures
-          c.product_of-product.ensures new c.divisor_of.ensures by c.signed-by.ensures),
+      bits-nonzero w64 c.signed-by.result by (rw z (nonzero-by c.args.turn.able)),
+      simp (to_z-of_z new, to_z-of_z by) (fit-after c.args.turn.able c.live-end.ensures c.mixed_entries-cells.ensures
+          c.product-product.ensures new c.divisor_of.ensures by c.signed-by.ensures),
     )
 
 pub returns-then-not-all_in_range : goal.returns-then-not-all_in_range
 returns-then-not-all_in_range c =
-    let a = c.args.asked in
-    let l = c.args.entries.now in
-    let t = test-right c.requires c.live-end.ensures c.mixed_entries-cells.ensures c.product_of-product.ensures
+    let a = c.args.turn.asked in
+    let l = c.args.turn.entries.now in
+    let t = test-right c.args.turn.able c.live-end.ensures c.mixed_entries-cells.ensures c.product-product.ensures
     (search rules) c.divisor_of.ensures (search rules) c.signed-by.ensures c.divide.ensures c.all_in_range.ensures in
     let e = sym c.if-not-all_in_range.true ∙ t in record {
       answer = ap (λ b. pivoted_by b (common_for l a)) e;
@@ -132,37 +133,37 @@ returns-then-not-all_in_range c =
 
 pub halves_of-requires : goal.halves_of-requires
 halves_of-requires c =
-    let t = test-right c.requires c.live-end.ensures c.mixed_entries-cells.ensures c.product_of-product.ensures
+    let t = test-right c.args.turn.able c.live-end.ensures c.mixed_entries-cells.ensures c.product-product.ensures
     (search rules) c.divisor_of.ensures (search rules) c.signed-by.ensures c.divide.ensures c.all_in_range.ensures in
-    let d = divided-right c.requires c.live-end.ensures c.mixed_entries-cells.ensures c.product_of-product.ensures
+    let d = divided-right c.args.turn.able c.live-end.ensures c.mixed_entries-cells.ensures c.product-product.ensures
     (search rules) c.divisor_of.ensures (search rules) c.signed-by.ensures c.divide.ensures in
     subst (λ (l : List ℤ). AllWithin l largest_number) (sym d)
-    (fits-entries c.requires (sym t ∙ c.if-not-all_in_range.false))
+    (fits-entries c.args.turn.able (sym t ∙ c.if-not-all_in_range.false))
 
 pub overflow_cast-result : goal.overflow_cast-result
 overflow_cast-result c =
-    let t = test-right c.requires c.live-end.ensures c.mixed_entries-cells.ensures c.product_of-product.ensures
+    let t = test-right c.args.turn.able c.live-end.ensures c.mixed_entries-cells.ensures c.product-product.ensures
     (search rules) c.divisor_of.ensures (search rules) c.signed-by.ensures c.divide.ensures c.all_in_range.ensures in
-    let after = after-right c.requires c.live-end.ensures c.mixed_entries-cells.ensures c.product_of-product.ensures
+    let after = after-right c.args.turn.able c.live-end.ensures c.mixed_entries-cells.ensures c.product-product.ensures
     (search rules) c.divisor_of.ensures (search rules) c.signed-by.ensures in
-    rw after (fits-by (fits-common c.requires (sym t ∙ c.if-not-all_in_range.false)) tt)
+    rw after (fits-by (fits-common c.args.turn.able (sym t ∙ c.if-not-all_in_range.false)) tt)
 
 pub returns : goal.returns
 returns c =
-    let a = c.args.asked in
-    let l = c.args.entries.now in
-    let t = test-right c.requires c.live-end.ensures c.mixed_entries-cells.ensures c.product_of-product.ensures
+    let a = c.args.turn.asked in
+    let l = c.args.turn.entries.now in
+    let t = test-right c.args.turn.able c.live-end.ensures c.mixed_entries-cells.ensures c.product-product.ensures
     (search rules) c.divisor_of.ensures (search rules) c.signed-by.ensures c.divide.ensures c.all_in_range.ensures in
-    let d = divided-right c.requires c.live-end.ensures c.mixed_entries-cells.ensures c.product_of-product.ensures
+    let d = divided-right c.args.turn.able c.live-end.ensures c.mixed_entries-cells.ensures c.product-product.ensures
     (search rules) c.divisor_of.ensures (search rules) c.signed-by.ensures c.divide.ensures in
-    let after = after-right c.requires c.live-end.ensures c.mixed_entries-cells.ensures c.product_of-product.ensures
+    let after = after-right c.args.turn.able c.live-end.ensures c.mixed_entries-cells.ensures c.product-product.ensures
     (search rules) c.divisor_of.ensures (search rules) c.signed-by.ensures in
     let e = sym c.if-not-all_in_range.false ∙ t in
-    let half : FitsSigned w32 (common_for l a) = fits-by (fits-common c.requires (sym e)) tt in
+    let half : FitsSigned w32 (common_for l a) = fits-by (fits-common c.args.turn.able (sym e)) tt in
     let put_is = c.halves_of.ensures ∙ d in record {
       answer = rw (after, to_z-of_z half) (ap (λ b. pivoted_by b (common_for l a)) e);
       numbers = subst (λ b. PutBy b (live a.rows a.columns) (entries_for l a) c.halves_of.result) e (record {
-        long = ap length put_is ∙ filled-length most_entries (pos 0) _ _ (end-in c.requires);
+        long = ap length put_is ∙ filled-length most_entries (pos 0) _ _ (end-in c.args.turn.able);
         same = λ i h. ap (λ k. get_or k i (pos 0)) put_is;
       });
     }
