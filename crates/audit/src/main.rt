@@ -2,8 +2,8 @@
 // and writes.
 #![tactic(auto)]
 
-use sheet::sheet;
 use reading::read_full;
+use sheet::sheet;
 use std::io;
 
 // One word more than the longest file has, so that a longer input is seen to be too long and is not read on.

@@ -4,40 +4,18 @@
 
 mod respond;
 
-ghost use Rattle.std.specs.Io.{ReadsAtMost};
-
-use lines::Written;
+use reading::read_full;
 use respond::respond;
 use std::io;
-use std::io::Read;
-
-// Reads until `bytes` is full or the input ends, and answers how many bytes stand at the front.
-fn read_full(input: &mut impl Read, bytes: &mut [u8]) -> io::Result<usize>
-    ensures { ReadsAtMost result bytes.new }
-{
-    let mut done = 0;
-    while done < bytes.len() {
-        let count = input.read(&mut bytes[done..])?;
-        if count == 0 {
-            break;
-        }
-        done += count;
-    }
-    Ok(done)
-}
 
 fn main(rt: HostRuntime) -> io::Result<()> {
     // one byte more than is taken, so that a longer text is seen to be too long and is not read on
     let mut input = [0u8; respond::MOST_INPUT + 1];
     let count = read_full(&mut rt.stdin(), &mut input)?;
     let mut out = [0u8; lines::respond::MOST_TEXT];
-    let written = respond(&input[..count], &mut out);
-    match written {
-        Written::Bytes(length) => {
-            rt.write_all(&out[..length])?;
-        }
+    match respond(&input[..count], &mut out) {
+        Some(length) => rt.write_all(&out[..length]),
         // no run comes here: every text fits
-        Written::TooShort => unreachable!(),
+        None => unreachable!(),
     }
-    Ok(())
 }

@@ -6,11 +6,11 @@ use Rattle.lines.proofs.Texts.{bytes_fit, short-clash}
 use Rattle.lab.proofs.main.Goals as goal
 
 pub slice_bounds-out-end : goal.slice_bounds-out-end
-slice_bounds-out-end c = bytes_fit c.respond-written.ensures c.in-Bytes.is
+slice_bounds-out-end c = bytes_fit c.respond.ensures c.in-Some.is
 
 pub slice_bounds-write_all-end : goal.slice_bounds-write_all-end
-slice_bounds-write_all-end c = let h = bytes_fit c.respond-written.ensures c.in-Bytes.is in
-    omega (arith, length-take c.in-Bytes.length c.respond-written.new.out)
+slice_bounds-write_all-end c = let h = bytes_fit c.respond.ensures c.in-Some.is in
+    omega (arith, length-take c.in-Some.length c.respond.new.out)
 
 pub unreachable-requires : goal.unreachable-requires
-unreachable-requires c = short-clash c.respond-written.ensures (omega arith) c.in-TooShort.is
+unreachable-requires c = short-clash c.respond.ensures (omega arith) c.in-None.is

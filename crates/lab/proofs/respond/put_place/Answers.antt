@@ -1,37 +1,30 @@
--- `lab::respond::put_place` meets its contract: the words, the digits and the newline. Assumes nothing.
-use mathlib.Core.List.{◌++◌}
-use Prim.Native.Nat.{ℕ, ◌^◌, ◌<◌}
-use native.Mathlib.Omega.{arith}
-use Rattle.rules.specs.Program.Text.{ascii, decimal, digits, line}
-use Rattle.put.specs.Put.{Room}
-use Rattle.put.proofs.Texts.{put_then, room-left, room-right}
+-- `lab::respond::put_place`: the words, the digits and the newline. Assumes nothing.
+use Rattle.std.proofs.Common.{arith, rules, ◌+◌, ◌<◌, ◌^◌, ℕ}
 use Rattle.rules.specs.Exchange.Lab.{place_text}
+use Rattle.rules.specs.Program.Text.{ascii, decimal, line}
+use Rattle.rules.specs.Sizes.{most_text}
+use Rattle.put.specs.Put.{Room}
+use Rattle.put.specs.declared.Writer.{Writer}
+use Rattle.put.proofs.Texts.{texts}
 use Rattle.lab.proofs.Laws.{place_short}
 use Rattle.lab.proofs.respond.put_place.Goals as goal
 
-module _ (place : ℕ) (fits : place < 2 ^ 64) where
-  room : Room 0 (ascii "refused at " ++ digits place ++ ascii "\n")
-  unfolding place_text line decimal
-  room = record { room = omega (arith, place_short place fits) }
+-- a writer has room for the line
+room : (w : Writer) (place : ℕ) → place < 2 ^ 64 → w.at + most_text < 2 ^ 64 → Room w (place_text place)
+room w place f h = record { room = let s = place_short place f in omega arith }
 
-  room-front : Room 0 (ascii "refused at " ++ digits place)
-  room-front = room-left (ascii "refused at " ++ digits place) (ascii "\n") room
+pub text-requires : goal.text-requires
+unfolding place_text line decimal ascii
+text-requires c = let r = room c.args.out.now c.args.place c.ranges.place.fits c.requires in search (rules, texts)
 
-pub put_digits-told-requires : goal.put_digits-told-requires
-unfolding ascii
-put_digits-told-requires c =
-    room-right (ascii "refused at ") (digits c.args.place) (room-front c.args.place c.ranges.place.fits)
-    c.put_text-said.ensures
+pub digits-requires : goal.digits-requires
+unfolding place_text line decimal ascii
+digits-requires c = let r = room c.args.out.now c.args.place c.ranges.place.fits c.requires in search (rules, texts)
 
-pub put_byte-requires : goal.put_byte-requires
-unfolding ascii
-put_byte-requires c =
-    room-right (ascii "refused at " ++ digits c.args.place) (ascii "\n") (room c.args.place c.ranges.place.fits)
-    (put_then c.put_text-said.ensures c.put_digits-told.ensures)
+pub byte-requires : goal.byte-requires
+unfolding place_text line decimal ascii
+byte-requires c = let r = room c.args.out.now c.args.place c.ranges.place.fits c.requires in search (rules, texts)
 
 pub returns : goal.returns
 unfolding place_text line decimal ascii
-returns c = record {
-  put = put_then (put_then c.put_text-said.ensures c.put_digits-told.ensures) c.put_byte.ensures;
-  short = omega (arith, place_short c.args.place c.ranges.place.fits);
-}
+returns c = record { put = search (rules, texts); short = omega (arith, place_short c.args.place c.ranges.place.fits) }
