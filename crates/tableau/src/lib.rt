@@ -7,12 +7,12 @@ use layout::{ColumnPlace, RowPlace};
 
 // A variable's number. No place stands for it.
 #[repr(C)]
-#[derive(Clone, Copy)]
+#[derive(Clone, Copy, Debug, PartialEq, Eq, PartialOrd, Ord)]
 pub struct Variable(pub u8);
 
 // Where a variable sits: in a row where it is basic, in a column where it is not.
 #[repr(C)]
-#[derive(Clone, Copy)]
+#[derive(Clone, Copy, Debug, PartialEq, Eq)]
 pub struct Seat {
     pub basic: bool,
     pub row: RowPlace,

@@ -2,7 +2,7 @@
 ghost use Rattle.std.specs.Prelude.{◌≡◌, ◌||◌, ◌+◌, ◌≤◌, ◌<◌};
 ghost use Rattle.whole.specs.Values.{pairs};
 ghost use Rattle.rules.specs.Sizes.{most_columns, most_rows, most_variables};
-ghost use Rattle.rules.specs.Limit.{has_lower, has_upper, lower_pair, strict_lower, strict_upper, upper_pair};
+ghost use Rattle.rules.specs.Limit.{lower_pair, strict_lower, strict_upper, upper_pair};
 ghost use Rattle.rules.specs.Problem.{mapped, problem};
 ghost use Rattle.rules.specs.Refusal.{Accepted, problem_refusal};
 ghost use Rattle.rules.specs.Step.{start_value};
@@ -18,7 +18,7 @@ use layout::{ColumnPlace, RowPlace};
 use words::count_at;
 
 // The values of the problem variables: plain parts and small parts.
-#[derive(Drop)]
+#[derive(Clone, Copy)]
 struct Starts {
     pub values: [i32; Tableau::MOST_COLUMNS],
     pub smalls: [i32; Tableau::MOST_COLUMNS],
@@ -69,8 +69,8 @@ fn start_basic(columns: usize) -> [Variable; Tableau::MOST_ROWS]
     ensures { result ≡ start_basic columns }
 {
     let mut basic = [Variable(0); Tableau::MOST_ROWS];
-    for i in 0..Tableau::MOST_ROWS {
-        basic[i] = Variable((columns + i) as u8);
+    for (i, variable) in basic.iter_mut().enumerate() {
+        *variable = Variable((columns + i) as u8);
     }
     basic
 }
@@ -79,11 +79,7 @@ fn start_basic(columns: usize) -> [Variable; Tableau::MOST_ROWS]
 fn start_nonbasic() -> [Variable; Tableau::MOST_COLUMNS]
     ensures { result ≡ start_nonbasic }
 {
-    let mut nonbasic = [Variable(0); Tableau::MOST_COLUMNS];
-    for j in 0..Tableau::MOST_COLUMNS {
-        nonbasic[j] = Variable(j as u8);
-    }
-    nonbasic
+    std::array::from_fn(|j| Variable(j as u8))
 }
 
 // Where a variable sits.
@@ -91,16 +87,9 @@ fn seat_for(columns: usize, variable: Variable) -> Seat
     ensures { result ≡ seat_for columns variable.0 }
 {
     let v = variable.0 as usize;
-    if v < columns {
-        return Seat {
-            basic: false,
-            row: RowPlace(0),
-            column: ColumnPlace(variable.0),
-        };
-    }
     Seat {
-        basic: true,
-        row: RowPlace((v - columns) as u8),
+        basic: v >= columns,
+        row: RowPlace(v.saturating_sub(columns) as u8),
         column: ColumnPlace(variable.0),
     }
 }
@@ -122,30 +111,15 @@ fn start_seats(columns: usize, variables: usize) -> [Seat; Tableau::MOST_VARIABL
     seats
 }
 
-// A variable's limits, from its kind and the limit's word. What is given is on.
-fn lower_given(kind: i32, word: i32) -> Given
-    ensures { result
-        ≡ record { given = has_lower kind; on = has_lower kind; strict = strict_lower kind; plain = word } }
+// A limit as it is given: on, with its number.
+fn limit_by(given: bool, strict: bool, plain: i32) -> Given
+    ensures { result ≡ record { given = given; on = given; strict = strict; plain = plain } }
 {
-    let given = judge::has_lower(kind);
     Given {
         given,
         on: given,
-        strict: judge::strict_lower(kind),
-        plain: word,
-    }
-}
-
-fn upper_given(kind: i32, word: i32) -> Given
-    ensures { result
-        ≡ record { given = has_upper kind; on = has_upper kind; strict = strict_upper kind; plain = word } }
-{
-    let given = judge::has_upper(kind);
-    Given {
-        given,
-        on: given,
-        strict: judge::strict_upper(kind),
-        plain: word,
+        strict,
+        plain,
     }
 }
 
@@ -170,14 +144,12 @@ fn start_values(limits: Limits, columns: usize) -> Starts
     requires { columns ≤ most_columns }
     ensures { result ≡ starts_for limits columns }
 {
-    let mut values = [0i32; Tableau::MOST_COLUMNS];
-    let mut smalls = [0i32; Tableau::MOST_COLUMNS];
+    let mut values = [0; Tableau::MOST_COLUMNS];
+    let mut smalls = [0; Tableau::MOST_COLUMNS];
     for j in 0..columns {
         let value = start_value(limits.lower[j], limits.upper[j]);
-        let plain = value.plain;
-        let small = value.small;
-        values[j] = plain;
-        smalls[j] = small;
+        values[j] = value.plain;
+        smalls[j] = value.small;
     }
     Starts { values, smalls }
 }
@@ -189,7 +161,7 @@ impl Tableau {
         ensures { result ≡ start_entries (problem words.now) }
     {
         let lines = layout::lines(rows, columns);
-        let mut entries = [0i32; Tableau::MOST_ENTRIES];
+        let mut entries = [0; Tableau::MOST_ENTRIES];
         for line in 0..lines {
             start_line(&mut entries, words, columns, rows, line);
         }
@@ -204,18 +176,23 @@ impl Tableau {
     {
         let from = 2 + rows * columns;
         let end = columns + rows;
-        let missing = lower_given(0, 0);
-        let mut lower = [missing; Tableau::MOST_VARIABLES];
-        let mut upper = [missing; Tableau::MOST_VARIABLES];
+        let mut lower = [Given::default(); Tableau::MOST_VARIABLES];
+        let mut upper = [Given::default(); Tableau::MOST_VARIABLES];
         let mut strict = false;
         for v in 0..end {
             let at = from + 3 * v;
-            let low = at + 1;
-            let high = at + 2;
             let kind = words[at];
-            lower[v] = lower_given(kind, words[low]);
-            upper[v] = upper_given(kind, words[high]);
-            strict = strict | some_strict(kind);
+            lower[v] = limit_by(
+                judge::has_lower(kind),
+                judge::strict_lower(kind),
+                words[at + 1],
+            );
+            upper[v] = limit_by(
+                judge::has_upper(kind),
+                judge::strict_upper(kind),
+                words[at + 2],
+            );
+            strict |= some_strict(kind);
         }
         Limits {
             lower,
@@ -232,9 +209,7 @@ impl Tableau {
         let columns = count_at(words, 0);
         let rows = count_at(words, 1);
         let limits = Tableau::limits_of(words, columns, rows);
-        let starts = start_values(limits, columns);
-        let values = starts.values;
-        let smalls = starts.smalls;
+        let Starts { values, smalls } = start_values(limits, columns);
         Tableau {
             rows,
             columns,

@@ -1,6 +1,6 @@
 -- `tableau::Tableau::limits_of` meets its contract. The invariant: the limits of the variables passed are read, the
--- others are missing. The measure is the variables left. Assumes nothing.
-use Prim.Native.Nat.{◌-◌, ◌≤◌, ℕ}
+-- others are missing. Assumes nothing.
+use Prim.Native.Nat.{ℕ}
 use Rattle.rules.specs.Problem.{problem, Problem}
 use mathlib.Core.Path.{◌≡◌}
 use mathlib.Core.Bool.{Bool}
@@ -21,7 +21,4 @@ pub record Passed (P : Problem Limit) (v : ℕ) (lower upper : List Given) (stri
   pub strict-is : strict ≡ some_below v (strict_at P)
 
 abbrev pub invariant-loop-v : goal.invariant-loop-v
-invariant-loop-v l = (l.v ≤ l.end) × Passed (problem l.words) l.v l.lower l.upper l.strict
-
-abbrev pub decreases-loop-v : goal.decreases-loop-v
-decreases-loop-v l = l.end - l.v
+invariant-loop-v l = Passed (problem l.words) l.v l.lower l.upper l.strict

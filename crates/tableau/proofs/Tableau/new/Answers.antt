@@ -56,8 +56,8 @@ module _ (c : After-count_at-rows) where
 pub limits_of-limits-requires : goal.limits_of-limits-requires
 limits_of-limits-requires c = record { framed = framed c; accepted = accepted c.before.before }
 
-pub start_values-starts-requires : goal.start_values-starts-requires
-start_values-starts-requires c = (framed c.before).few-columns
+pub start_values-requires : goal.start_values-requires
+start_values-requires c = (framed c.before).few-columns
 
 pub start_entries-requires : goal.start_entries-requires
 start_entries-requires c = framed c.before.before.before.before
@@ -105,6 +105,6 @@ returns c =
     joined P (rows_are here) (columns-are here) c.start_entries.ensures
     (c.start_basic.ensures ∙ ap start_basic (columns-are here))
     c.start_nonbasic.ensures
-    (c.start_values-starts.ensures ∙ ap₂ starts_for c.limits_of-limits.ensures (columns-are here) ∙ starts-same P)
+    (c.start_values.ensures ∙ ap₂ starts_for c.limits_of-limits.ensures (columns-are here) ∙ starts-same P)
     (c.start_seats.ensures ∙ ap₂ (λ n m. start_seats n (n + m)) (columns-are here) (rows_are here))
     c.limits_of-limits.ensures
