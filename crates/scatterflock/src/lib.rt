@@ -45,7 +45,7 @@ pub extern "C" fn scatterflock_solve(words: &[i32], out: &mut [i64]) -> u32
     ensures number { result ≡ refusal words.now (length out.old) }
     ensures output { out.new ≡ written result words.now out.old }
 {
-    solver::solve(words, out)
+    refusals::number(solver::solve(words, out))
 }
 
 // Answers a limit problem of at most so many rows.
@@ -54,7 +54,7 @@ pub extern "C" fn scatterflock_solve_within(most: u32, words: &[i32], out: &mut 
     ensures number { result ≡ refusal_within (rows_within most) words.now (length out.old) }
     ensures output { out.new ≡ written result words.now out.old }
 {
-    solver::solve_within(most, words, out)
+    refusals::number(solver::solve_within(most, words, out))
 }
 
 // Judges an answer to a limit problem.
@@ -62,7 +62,7 @@ pub extern "C" fn scatterflock_solve_within(most: u32, words: &[i32], out: &mut 
 pub extern "C" fn scatterflock_check(words: &[i32], answer: &[i64]) -> u32
     ensures { result ≡ checked words.now answer.now }
 {
-    evidence::check(words, answer)
+    refusals::verdict(evidence::check(words, answer))
 }
 
 // Judges an answer to a limit problem whose numbers have four words each.
@@ -70,7 +70,7 @@ pub extern "C" fn scatterflock_check(words: &[i32], answer: &[i64]) -> u32
 pub extern "C" fn scatterflock_check_wide(words: &[i32], answer: &[i64]) -> u32
     ensures { result ≡ checked_wide words.now answer.now }
 {
-    wide::check(words, answer)
+    refusals::verdict(wide::check(words, answer))
 }
 
 // Answers time rows.
@@ -78,7 +78,7 @@ pub extern "C" fn scatterflock_check_wide(words: &[i32], answer: &[i64]) -> u32
 pub extern "C" fn scatterflock_times(words: &[i32], out: &mut [i64]) -> u32
     ensures { Timed words.now out.old result out.new }
 {
-    times::times(words, out)
+    refusals::number(times::times(words, out))
 }
 
 // Judges an answer to time rows.
@@ -86,7 +86,7 @@ pub extern "C" fn scatterflock_times(words: &[i32], out: &mut [i64]) -> u32
 pub extern "C" fn scatterflock_check_times(words: &[i32], answer: &[i64]) -> u32
     ensures { result ≡ checked_times words.now answer.now }
 {
-    timecheck::check(words, answer)
+    refusals::verdict(timecheck::check(words, answer))
 }
 
 // Starts a run that is made in slices.
@@ -216,7 +216,7 @@ pub extern "C" fn scatterflock_bundle_write(
     ensures output { file.new
         ≡ file_left result edition lengths.now words.now file.old }
 {
-    bundle::write(edition, lengths, words, file)
+    refusals::number(bundle::write(edition, lengths, words, file))
 }
 
 // Prints a day's file, and answers how long its text is.
