@@ -1,9 +1,10 @@
 -- docs/RULES.md, "Replaying a trace", over the enums of the code.
---   replayed_as       each answer, and the refusals before them
---   told_of           an answer in numbers
+--   replayed_by       each answer
+--   told_of           an answer in numbers, or a refusal
+--   told_as           .. by the rules
 --   compared_by       a step against the basic variables before and after it
 --   FollowsAs        the trace against the run from a first state
-use Rattle.std.specs.Prelude.{Bool, cond, false, true, List, ◌≡◌, ℕ, suc, zero, eqb, ℤ}
+use Rattle.std.specs.Prelude.{Result, Ok, Err, Bool, cond, false, true, List, ◌≡◌, ℕ, suc, zero, eqb, ℤ}
 use Rattle.std.proofs.Math.Option.{Option, none, some}
 use Rattle.whole.specs.Values.{pairs}
 use Rattle.rules.specs.Problem.{Problem}
@@ -11,11 +12,11 @@ use Rattle.rules.specs.Runs.Replay.{StepWord, accepted, early, entering-word, le
 use Rattle.rules.specs.Runs.Replay.{replayed, step_at, step_count, wrong}
 use Rattle.rules.specs.Runs.Replay as rules
 use Rattle.rules.specs.Runs.Slices.{begun}
+use Rattle.refusals.specs.declared.Refusal.{Refusal}
+use Rattle.refusals.specs.Numbers.{number_of}
 use Rattle.tableau.specs.declared.Tableau.{Tableau}
 use Rattle.masks.specs.Masks.{went_from}
 use Rattle.solver.specs.Spend.{Holds}
-use Rattle.replay.specs.declared.Likeness.{Likeness}
-use Rattle.replay.specs.declared.Likeness.TheVariants as comparisons
 use Rattle.replay.specs.declared.Replayed.{Replayed}
 use Rattle.replay.specs.declared.Replayed.TheVariants as answers
 use Rattle.replay.specs.declared.Told.{Told}
@@ -33,40 +34,40 @@ replayed_by (wrong k w) = answers.Wrong k (word_of w)
 replayed_by early = answers.Early
 replayed_by past = answers.Past
 
--- a refusal comes first
-abbrev pub replayed_as : ℕ → rules.Replayed → Replayed
-replayed_as zero r = replayed_by r
-replayed_as (suc k) r = answers.Refused (suc k)
-
 -- in numbers: 52 to 54 are this project's own
 abbrev pub place_of : Word → ℕ
 place_of words.Leaving = 0
 place_of words.Entering = 1
 place_of words.Mask = 2
 
-abbrev pub told_of : Replayed → Told
-told_of (answers.Refused k) = record { number = k; word = 0; step = 0 }
-told_of answers.Accepted = record { number = 0; word = 0; step = 0 }
-told_of (answers.Wrong k w) = record { number = 52; word = place_of w; step = k }
-told_of answers.Early = record { number = 53; word = 0; step = 0 }
-told_of answers.Past = record { number = 54; word = 0; step = 0 }
+abbrev pub told_of : Result Replayed Refusal → Told
+told_of (Ok answers.Accepted) = record { number = 0; word = 0; step = 0 }
+told_of (Ok (answers.Wrong k w)) = record { number = 52; word = place_of w; step = k }
+told_of (Ok answers.Early) = record { number = 53; word = 0; step = 0 }
+told_of (Ok answers.Past) = record { number = 54; word = 0; step = 0 }
+told_of (Err refusal) = record { number = number_of refusal; word = 0; step = 0 }
+
+-- .. by the rules: a refusal comes first
+abbrev pub told_as : ℕ → rules.Replayed → Told
+told_as zero r = told_of (Ok (replayed_by r))
+told_as (suc k) r = record { number = suc k; word = 0; step = 0 }
 
 -- ---- a step
 
 -- by the tests of the three words, the first first
-abbrev pub tested : Bool → Bool → Bool → Likeness
-tested true true true = comparisons.Same
-tested true true false = comparisons.Differs words.Mask
-tested true false c = comparisons.Differs words.Entering
-tested false b c = comparisons.Differs words.Leaving
+abbrev pub tested : Bool → Bool → Bool → Result Unit Word
+tested true true true = Ok tt
+tested true true false = Err words.Mask
+tested true false c = Err words.Entering
+tested false b c = Err words.Leaving
 
-unfoldable pub compared_by : (before after leaving entering mask : ℕ) → Likeness
+unfoldable pub compared_by : (before after leaving entering mask : ℕ) → Result Unit Word
 compared_by before after leaving entering mask =
     tested (went_from before after leaving) (went_from after before entering) (eqb mask after)
 
-abbrev pub compared_of : Option StepWord → Likeness
-compared_of none = comparisons.Same
-compared_of (some w) = comparisons.Differs (word_of w)
+abbrev pub compared_of : Option StepWord → Result Unit Word
+compared_of none = Ok tt
+compared_of (some w) = Err (word_of w)
 
 -- the run is over
 abbrev pub last_is : ℕ → ℕ → Replayed

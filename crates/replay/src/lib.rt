@@ -1,29 +1,39 @@
 // Another solver's trace against the run of its problem: docs/RULES.md, "Replaying a trace". Nothing is written.
 #![tactic(auto)]
 
-ghost use Rattle.std.specs.Prelude.{◌≡◌, ◌+◌};
+ghost use Rattle.std.specs.Prelude.{◌≡◌, ◌+◌, Result, IfOk};
+ghost use Rattle.refusals.specs.Numbers.{told_by};
 ghost use Rattle.rules.specs.Runs.Replay.{replay_refusal, replayed_words};
 ghost use Rattle.solver.specs.Spend.{Standing};
-ghost use Rattle.replay.specs.Replay.{FollowsAs, compared_by, last_is, place_of, replayed_as, told_of};
+ghost use Rattle.replay.specs.Replay.{FollowsAs, compared_by, last_is, place_of, replayed_by, told_of};
 
 use masks::{mask_of, went};
+use refusals::Refusal;
 use solver::spend;
-use solver::spend::Spent;
+use solver::spend::{MOST_ANSWER, Spent};
 use tableau::Tableau;
 
-// A word of a step.
-#[derive(Drop)]
+/// A word of a step, in the order in which they stand there.
+#[derive(Clone, Copy, Debug, PartialEq, Eq)]
 pub enum Word {
     Leaving,
     Entering,
     Mask,
 }
 
-// What a trace comes to: refused with a number, accepted, the first wrong step with its first wrong word, or it stops
-// before the run does, or goes on past its end.
-#[derive(Drop)]
+/// The place of a word in its step.
+impl From<Word> for u32 {
+    ghost from_gives = { λ word place. place ≡ place_of word };
+
+    fn from(word: Word) -> u32 {
+        word as u32
+    }
+}
+
+/// What a trace comes to that is not refused: accepted, the first wrong step with its first wrong word, or it stops
+/// before the run does, or goes on past its end.
+#[derive(Clone, Copy, Debug, PartialEq, Eq)]
 pub enum Replayed {
-    Refused(u32),
     Accepted,
     Wrong(usize, Word),
     Early,
@@ -33,22 +43,12 @@ pub enum Replayed {
 // The same in numbers: 0 accepted, a refusal, 52 wrong, 53 early, 54 past; and where wrong, the step and which of its
 // words, 0 to 2. Else these are 0.
 #[repr(C)]
-#[derive(Drop)]
+#[derive(Clone, Copy, Debug, Default, PartialEq, Eq)]
 pub struct Told {
     pub number: u32,
     pub word: u32,
     pub step: usize,
 }
-
-// A step of the trace against that of the run.
-#[derive(Drop)]
-enum Likeness {
-    Same,
-    Differs(Word),
-}
-
-// The refusal of a trace whose words are not three for each step.
-const LEFT_OVER: u32 = 51;
 
 const WRONG: u32 = 52;
 
@@ -56,24 +56,21 @@ const EARLY: u32 = 53;
 
 const PAST: u32 = 54;
 
-// No answer is longer.
-const MOST_ANSWER: usize = 3 + 2 * Tableau::MOST_VARIABLES;
-
-// The words of a step against the basic variables before and after it: who is basic no more has left, who is now has
-// entered.
-fn compared(before: u32, after: u32, leaving: u32, entering: u32, mask: u32) -> Likeness
+// The words of a step against the basic variables before and after it, or the first that is wrong: who is basic no more
+// has left, who is now has entered.
+fn compared(before: u32, after: u32, leaving: u32, entering: u32, mask: u32) -> Result<(), Word>
     ensures { result ≡ compared_by before after leaving entering mask }
 {
     if !went(before, after, leaving) {
-        return Likeness::Differs(Word::Leaving);
+        return Err(Word::Leaving);
     }
     if !went(after, before, entering) {
-        return Likeness::Differs(Word::Entering);
+        return Err(Word::Entering);
     }
     if mask != after {
-        return Likeness::Differs(Word::Mask);
+        return Err(Word::Mask);
     }
-    Likeness::Same
+    Ok(())
 }
 
 // Where the run is over: as many steps as the trace has, or fewer.
@@ -81,9 +78,10 @@ fn at_end(made: usize, steps: usize) -> Replayed
     ensures { result ≡ last_is made steps }
 {
     if made == steps {
-        return Replayed::Accepted;
+        Replayed::Accepted
+    } else {
+        Replayed::Past
     }
-    Replayed::Past
 }
 
 // The run from its start, one pivot at a time, against the steps of the trace.
@@ -94,8 +92,7 @@ fn follow(first: Tableau, trace: &[u32]) -> Replayed
     let steps = trace.len() / 3;
     let variables = first.rows + first.columns;
     let mut out = [0i64; MOST_ANSWER];
-    let seats = first.seats;
-    let mut before = mask_of(seats, variables);
+    let mut before = mask_of(first.seats, variables);
     let mut spent = Spent {
         answered: false,
         count: 0,
@@ -110,76 +107,38 @@ fn follow(first: Tableau, trace: &[u32]) -> Replayed
         if made == steps {
             return Replayed::Early;
         }
-        let last = spent.tableau;
-        let seats = last.seats;
-        let after = mask_of(seats, variables);
+        let after = mask_of(spent.tableau.seats, variables);
         let at = 3 * made;
-        let found = compared(before, after, trace[at], trace[at + 1], trace[at + 2]);
-        match found {
-            Likeness::Differs(word) => return Replayed::Wrong(made, word),
-            Likeness::Same => {
-                before = after;
-            }
+        match compared(before, after, trace[at], trace[at + 1], trace[at + 2]) {
+            Ok(()) => before = after,
+            Err(word) => return Replayed::Wrong(made, word),
         }
     }
 }
 
-// Judges the words and the trace's length, and holds the trace against the run.
-pub fn replay(words: &[i32], trace: &[u32]) -> Replayed
-    ensures { result ≡ replayed_as (replay_refusal words.now trace.now)
-        (replayed_words words.now trace.now) }
+/// Judges the words and the trace's length, and holds the trace against the run.
+pub fn replay(words: &[i32], trace: &[u32]) -> Result<Replayed, Refusal>
+    ensures refused { told_by result ≡ replay_refusal words.now trace.now }
+    ensures replayed { IfOk result (λ r. r ≡ replayed_by (replayed_words words.now trace.now)) }
 {
-    let refused = judge::judge(words);
-    if refused != 0 {
-        return Replayed::Refused(refused);
-    }
+    judge::judge(words)?;
     if trace.len() % 3 != 0 {
-        return Replayed::Refused(LEFT_OVER);
+        return Err(Refusal::TraceLength);
     }
     let first = Tableau::new(words);
-    follow(first, trace)
+    Ok(follow(first, trace))
 }
 
-// The place of a word in its step.
-fn place_of(word: Word) -> u32
-    ensures { result ≡ place_of word }
-{
-    match word {
-        Word::Leaving => 0,
-        Word::Entering => 1,
-        Word::Mask => 2,
-    }
-}
-
-// An answer in numbers.
-pub fn in_numbers(answer: Replayed) -> Told
+/// An answer in numbers.
+pub fn in_numbers(answer: Result<Replayed, Refusal>) -> Told
     ensures { result ≡ told_of answer }
 {
-    match answer {
-        Replayed::Refused(number) => Told {
-            number,
-            word: 0,
-            step: 0,
-        },
-        Replayed::Accepted => Told {
-            number: 0,
-            word: 0,
-            step: 0,
-        },
-        Replayed::Wrong(step, word) => Told {
-            number: WRONG,
-            word: place_of(word),
-            step,
-        },
-        Replayed::Early => Told {
-            number: EARLY,
-            word: 0,
-            step: 0,
-        },
-        Replayed::Past => Told {
-            number: PAST,
-            word: 0,
-            step: 0,
-        },
-    }
+    let (number, word, step) = match answer {
+        Ok(Replayed::Accepted) => (0, 0, 0),
+        Ok(Replayed::Wrong(step, word)) => (WRONG, u32::from(word), step),
+        Ok(Replayed::Early) => (EARLY, 0, 0),
+        Ok(Replayed::Past) => (PAST, 0, 0),
+        Err(refusal) => (refusal.number(), 0, 0),
+    };
+    Told { number, word, step }
 }

@@ -9,6 +9,9 @@ use answers::multipliers::unit;
 use answers::{Head, Verdict, write};
 use tableau::{Limits, Tableau, Variable};
 
+/// No answer is longer.
+pub const MOST_ANSWER: usize = 3 + 2 * Tableau::MOST_VARIABLES;
+
 // How far a run came: whether it is over, so that there is an answer, all its pivots up to there, and the last
 // completed tableau.
 #[derive(Drop)]

@@ -30,7 +30,7 @@ use Rattle.masks.specs.Masks.{seats_mask}
 use Rattle.solver.specs.declared.spend.Spent.{Spent}
 use Rattle.solver.specs.Spend.{Holds, Standing, many_of, out_as, spent_as}
 use Rattle.solver.proofs.Laws.Stands.Slices.{many_is}
-use Rattle.replay.specs.declared.Likeness.TheVariants as comparisons
+use Rattle.std.proofs.Common.{Ok, Err}
 use Rattle.replay.specs.declared.Replayed.TheVariants as answers
 use Rattle.replay.specs.declared.Word.{Word}
 use Rattle.replay.specs.Replay.{FollowsAs, compared_by, compared_of, last_is, replayed_by, word_of}
@@ -179,11 +179,11 @@ module _ {first : Tableau} {trace : List ℕ} {N mask : ℕ} {t : Tableau} {k : 
           ∙ compared_is pairs P T.state u (on-way-rowed _ T.holds.on-way).seats-many z f
 
       pub following-wrong : (w : Word) →
-          compared_by mask after f.out f.into f.mask ≡ comparisons.Differs w →
+          compared_by mask after f.out f.into f.mask ≡ Err w →
           FollowsAs first trace (answers.Wrong k w)
       following-wrong w x P H = let T = F.follows P H in go T (turned T.holds)
         where
-          told : (o : Option StepWord) (p : Replayed) → compared_of o ≡ comparisons.Differs w →
+          told : (o : Option StepWord) (p : Replayed) → compared_of o ≡ Err w →
               answers.Wrong k w ≡ replayed_by (unless o k p)
           told none p y = let c : ◌≡◌ {A = ℕ} 0 1 = cc in zero_one c
           told (some v) p y = let c : word_of v ≡ w = cc in ap (answers.Wrong k) (sym c)
@@ -196,7 +196,7 @@ module _ {first : Tableau} {trace : List ℕ} {N mask : ℕ} {t : Tableau} {k : 
               (replayed_from pairs P u (step_at trace) (suc k) (n - suc k)) (sym (compared-are P T u z X) ∙ x)
               ∙ ap replayed_by (sym (T.left_is c ∙ next-is P T.state (step_at trace) k n F.few u z e))
 
-      pub following-more : compared_by mask after f.out f.into f.mask ≡ comparisons.Same →
+      pub following-more : compared_by mask after f.out f.into f.mask ≡ Ok tt →
           Following first trace N after r.tableau r.count
       following-more x = record {
         standing = next-standing.0;
@@ -205,7 +205,7 @@ module _ {first : Tableau} {trace : List ℕ} {N mask : ℕ} {t : Tableau} {k : 
         follows = λ P H. let T = F.follows P H in go P T (turned T.holds);
       }
         where
-          passed : (o : Option StepWord) (p : Replayed) → compared_of o ≡ comparisons.Same → unless o k p ≡ p
+          passed : (o : Option StepWord) (p : Replayed) → compared_of o ≡ Ok tt → unless o k p ≡ p
           passed none p y = refl
           passed (some v) p y = let c : ◌≡◌ {A = ℕ} 0 1 = cc in zero_one c
 

@@ -27,8 +27,9 @@ use Rattle.tableau.specs.declared.Tableau.{Tableau}
 use Rattle.tableau.specs.Parts.{seat_at}
 use Rattle.tableau.specs.Stands.{Stands}
 use Rattle.masks.specs.Masks.{seats_mask}
-use Rattle.answers.specs.declared.conflict.Crossed.{Crossed}
-use Rattle.answers.specs.declared.conflict.Crossed.TheVariants as crossings
+use Rattle.std.proofs.Common.{Some, None}
+use Rattle.std.proofs.Common as answered
+use Rattle.tableau.specs.declared.Variable.{Variable}
 use Rattle.answers.specs.Conflict.{conflict_at}
 use Rattle.answers.proofs.Laws.Stands.Crossed.{crossing-at, crossing-none}
 use Rattle.steps.specs.declared.End.{End}
@@ -66,9 +67,9 @@ module _ {S : Slice (ℤ × ℤ)} {t : Tableau} {k : ℕ} (H : Holds S t k) wher
   unfolding ran_at
   ran-one y e = ap (λ (x : StepAt). spent_by x.course t (ran_at x.tableau 0)) e
 
-  module _ (free : conflict_at t.limits (many_of t) ≡ crossings.Nowhere) where
+  module _ (free : conflict_at t.limits (many_of t) ≡ None) where
     spent-is : spent_as false t k 1 ≡ spent_from k (ran_by false t 1)
-    spent-is = spent-where false t k 1 crossings.Nowhere free
+    spent-is = spent-where false t k 1 None free
 
     spent-over : (e : End) → (stepped_at t).course ≡ over e → (spent_as false t k 1).answered ≡ true
     unfolding ran_at
@@ -113,10 +114,10 @@ module _ {S : Slice (ℤ × ℤ)} {t : Tableau} {k : ℕ} (H : Holds S t k) wher
   pub pivot-comes : PivotIs S k (spent_as false t k 1)
   pivot-comes = go (conflict_at t.limits (many_of t)) refl
     where
-      go : (c : Crossed) → conflict_at t.limits (many_of t) ≡ c → PivotIs S k (spent_as false t k 1)
-      go (crossings.At v) q = pivot-crossed v.0 (crossing-at H.stands rowed v q)
-          (ap (λ (r : Spent). r.answered) (spent-where false t k 1 (crossings.At v) q))
-      go crossings.Nowhere q = pivot-free q
+      go : (c : answered.Option Variable) → conflict_at t.limits (many_of t) ≡ c → PivotIs S k (spent_as false t k 1)
+      go (Some v) q = pivot-crossed v.0 (crossing-at H.stands rowed v q)
+          (ap (λ (r : Spent). r.answered) (spent-where false t k 1 (Some v) q))
+      go None q = pivot-free q
 
 -- ---- the output, where there is no answer
 
@@ -128,11 +129,11 @@ unanswered-keeps t k out a = go (conflict_at t.limits (many_of t)) refl
     by (over e) q f = true-false refl f
     by on q f = ap (λ w. out_by w (k + (ran_by false t 1).count) (ran_by false t 1).tableau out) q
 
-    go : (c : Crossed) → conflict_at t.limits (many_of t) ≡ c → out_as false t k 1 out ≡ out
-    go (crossings.At v) q = true-false (ap (λ (r : Spent). r.answered) (spent-where false t k 1 (crossings.At v) q)) a
-    go crossings.Nowhere q = out-where false t k 1 crossings.Nowhere q out
+    go : (c : answered.Option Variable) → conflict_at t.limits (many_of t) ≡ c → out_as false t k 1 out ≡ out
+    go (Some v) q = true-false (ap (λ (r : Spent). r.answered) (spent-where false t k 1 (Some v) q)) a
+    go None q = out-where false t k 1 None q out
         ∙ by (ran_by false t 1).course refl
-        (sym (ap (λ (r : Spent). r.answered) (spent-where false t k 1 crossings.Nowhere q)) ∙ a)
+        (sym (ap (λ (r : Spent). r.answered) (spent-where false t k 1 None q)) ∙ a)
 
 -- ---- the set of basic variables
 

@@ -72,10 +72,10 @@ pub bounds-trace-at-in-loop-spent-2 : goal.bounds-trace-at-in-loop-spent-2
 bounds-trace-at-in-loop-spent-2 c = let h = c.loop-spent.invariant.2.few in omega (arith, h)
 
 -- the step is compared
-pub returns-in-Differs : goal.returns-in-Differs
-returns-in-Differs c =
+pub returns-in-Err : goal.returns-in-Err
+returns-in-Err c =
     following-wrong c.loop-spent.invariant.2 c.spend-spent.ensures.state c.if-spent.false c.if-made-steps.false
-    c.mask_of-after.ensures _ (sym c.compared-found.ensures ∙ c.in-Differs.is)
+    c.mask_of-after.ensures _ (sym c.compared.ensures ∙ c.in-Err.is)
 
 pub loop-spent-smaller : goal.loop-spent-smaller
 loop-spent-smaller c =
@@ -87,5 +87,5 @@ loop-spent-preserved c = let i = c.loop-spent.invariant in let e = c.spend-spent
   refl,
   ap length (following-out i.2 e.state c.if-spent.false e.output) ∙ i.1,
   following-more i.2 e.state c.if-spent.false c.if-made-steps.false c.mask_of-after.ensures
-      (sym c.compared-found.ensures ∙ c.in-Same.is),
+      (sym c.compared.ensures ∙ c.in-Ok.is),
 )
