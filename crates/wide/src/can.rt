@@ -17,75 +17,51 @@ use amounts::Given;
 use layout::{ColumnPlace, RowPlace};
 use limbs::Wide;
 use parts::{Case, clears};
-use tableau::{Limits, Tableau};
 
 // The sum of a row over the numbers of the problem's variables.
-fn row_sum(
-    entries: &[i32; Tableau::MOST_ENTRIES],
-    answer: &[i64],
-    first: usize,
-    row: RowPlace,
-    rows: usize,
-    columns: usize,
-) -> Wide
-    requires row_lt_rows { (row.0 < rows) × (rows ≤ most_rows) × (columns ≤ most_columns) }
-    requires columns_bound { (first + columns ≤ most_numbers) × (2 + 4 * (first + columns) ≤ length answer.now) }
-    requires all_within { AllWithin entries.now largest_coefficient }
-    requires all_formed { AllFormed answer.now (first + columns) }
-    ensures { StandsFor result
-        (row_in entries.now answer.now first rows columns row.0 columns) row_most }
+fn row_sum(case: &Case<'_>, first: usize, row: RowPlace) -> Wide
+    requires row_lt_rows { row.0 < case.now.rows }
+    requires columns_bound { (first + case.now.columns ≤ most_numbers)
+        × (2 + 4 * (first + case.now.columns) ≤ length case.now.answer.now) }
+    requires all_formed { AllFormed case.now.answer.now (first + case.now.columns) }
+    ensures { StandsFor result (row_in case.now.entries case.now.answer.now first case.now.rows case.now.columns row.0
+        case.now.columns) row_most }
 {
     let mut sum = Wide::zero();
-    for j in 0..columns {
-        let k = layout::place(rows, columns, row, ColumnPlace(j as u8));
-        let e = entries[k];
-        let x = number_at(answer, first + j);
+    for j in 0..case.columns {
+        let k = layout::place(case.rows, case.columns, row, ColumnPlace(j as u8));
+        let e = case.entries[k];
+        let x = number_at(case.answer, first + j);
         sum = sum.plus(x.times(e));
     }
     sum
 }
 
 // The number of a row's variable equals its row's sum.
-fn row_holds(
-    entries: &[i32; Tableau::MOST_ENTRIES],
-    answer: &[i64],
-    first: usize,
-    row: RowPlace,
-    rows: usize,
-    columns: usize,
-) -> bool
-    requires row_lt_rows { (row.0 < rows) × (rows ≤ most_rows) × (columns ≤ most_columns) }
-    requires rows_bound { (first + (columns + rows) ≤ most_numbers)
-        × (2 + 4 * (first + (columns + rows)) ≤ length answer.now) }
-    requires all_within { AllWithin entries.now largest_coefficient }
-    requires all_formed { AllFormed answer.now (first + (columns + rows)) }
-    ensures { result ≡ eq_z (wide_at answer.now (first + (columns + row.0)))
-        (row_in entries.now answer.now first rows columns row.0 columns) }
+fn row_holds(case: &Case<'_>, first: usize, row: RowPlace) -> bool
+    requires row_lt_rows { row.0 < case.now.rows }
+    requires rows_bound { (first + (case.now.columns + case.now.rows) ≤ most_numbers)
+        × (2 + 4 * (first + (case.now.columns + case.now.rows)) ≤ length case.now.answer.now) }
+    requires all_formed { AllFormed case.now.answer.now (first + (case.now.columns + case.now.rows)) }
+    ensures { result ≡ eq_z (wide_at case.now.answer.now (first + (case.now.columns + row.0)))
+        (row_in case.now.entries case.now.answer.now first case.now.rows case.now.columns row.0 case.now.columns) }
 {
-    let x = number_at(answer, first + (columns + row.0 as usize));
-    let sum = row_sum(entries, answer, first, row, rows, columns);
-    let gap = x.less(sum);
+    let x = number_at(case.answer, first + (case.columns + row.0 as usize));
+    let gap = x.less(row_sum(case, first, row));
     gap.is_zero()
 }
 
 // Each row holds of the numbers of a half.
-fn rows_hold(
-    entries: &[i32; Tableau::MOST_ENTRIES],
-    answer: &[i64],
-    first: usize,
-    rows: usize,
-    columns: usize,
-) -> bool
-    requires rows_le_most_rows { (rows ≤ most_rows) × (columns ≤ most_columns) }
-    requires rows_bound { (first + (columns + rows) ≤ most_numbers)
-        × (2 + 4 * (first + (columns + rows)) ≤ length answer.now) }
-    requires all_within { AllWithin entries.now largest_coefficient }
-    requires all_formed { AllFormed answer.now (first + (columns + rows)) }
-    ensures { result ≡ rows_solved entries.now answer.now first rows columns rows }
+fn rows_hold(case: &Case<'_>, first: usize) -> bool
+    requires rows_bound { (first + (case.now.columns + case.now.rows) ≤ most_numbers)
+        × (2 + 4 * (first + (case.now.columns + case.now.rows)) ≤ length case.now.answer.now) }
+    requires all_formed { AllFormed case.now.answer.now (first + (case.now.columns + case.now.rows)) }
+    ensures { result
+        ≡ rows_solved case.now.entries case.now.answer.now first case.now.rows case.now.columns case.now.rows }
 {
     let mut fine = true;
-    for i in 0..rows {
-        fine = fine & row_holds(entries, answer, first, RowPlace(i as u8), rows, columns);
+    for i in 0..case.rows {
+        fine = fine & row_holds(case, first, RowPlace(i as u8));
     }
     fine
 }
@@ -114,19 +90,21 @@ fn at_most(common: Wide, x: Wide, small: Wide, limit: Given) -> bool
 }
 
 // Every present limit holds.
-fn limits_hold(limits: Limits, answer: &[i64], variables: usize, common: Wide) -> bool
-    requires variables_le_most_variables { (variables ≤ most_variables) × (6 + 8 * variables ≤ length answer.now) }
-    requires all_formed { AllFormed answer.now (numbers_of variables) }
+fn limits_hold(case: &Case<'_>, common: Wide) -> bool
+    requires rows_in_bounds { 6 + 8 * (case.now.columns + case.now.rows) ≤ length case.now.answer.now }
+    requires all_formed { AllFormed case.now.answer.now (numbers_of (case.now.columns + case.now.rows)) }
     requires limbs_within { LimbsWithin common limb_turn }
-    requires limited { Limited limits }
-    ensures { result ≡ limits_met limits answer.now variables (value common) variables }
+    ensures { result ≡ limits_met case.now.limits case.now.answer.now (case.now.columns + case.now.rows) (value common)
+        (case.now.columns + case.now.rows) }
 {
+    let variables = case.columns + case.rows;
     let mut fine = true;
+    // Kept: two numbers and two limits are read at each place, and a zip of four lists is no plainer.
     for v in 0..variables {
-        let x = number_at(answer, 1 + v);
-        let small = number_at(answer, 1 + variables + v);
-        let over = at_least(common, x, small, limits.lower[v]);
-        let under = at_most(common, x, small, limits.upper[v]);
+        let x = number_at(case.answer, 1 + v);
+        let small = number_at(case.answer, 1 + variables + v);
+        let over = at_least(common, x, small, case.limits.lower[v]);
+        let under = at_most(common, x, small, case.limits.upper[v]);
         fine = fine & (over & under);
     }
     fine
@@ -140,22 +118,15 @@ pub fn shows_can(case: &Case<'_>) -> bool
         (wide_denominator case.now.answer.now) (wide_lower case.now.answer.now)
         (wide_upper (case.now.columns + case.now.rows) case.now.answer.now) }
 {
-    let variables = case.columns + case.rows;
     let common = number_at(case.answer, 0);
     if !common.is_above() {
         return false;
     }
-    if !rows_hold(&case.entries, case.answer, 1, case.rows, case.columns) {
+    if !rows_hold(case, 1) {
         return false;
     }
-    if !rows_hold(
-        &case.entries,
-        case.answer,
-        1 + variables,
-        case.rows,
-        case.columns,
-    ) {
+    if !rows_hold(case, 1 + (case.columns + case.rows)) {
         return false;
     }
-    limits_hold(case.limits, case.answer, variables, common)
+    limits_hold(case, common)
 }

@@ -18,7 +18,6 @@ use amounts::Given;
 use layout::{ColumnPlace, RowPlace};
 use limbs::Wide;
 use parts::Case;
-use tableau::{Limits, Tableau};
 
 // A multiplier is at least 0, and 0 where its limit is missing.
 fn owed(limit: Given, k: Wide) -> bool
@@ -29,75 +28,66 @@ fn owed(limit: Given, k: Wide) -> bool
     (limit.on & !(sign < 0)) | (sign == 0)
 }
 
-fn multipliers_owed(limits: Limits, answer: &[i64], variables: usize) -> bool
-    requires variables_le_most_variables { (variables ≤ most_variables) × (6 + 8 * variables ≤ length answer.now) }
-    requires all_formed { AllFormed answer.now (numbers_of variables) }
-    ensures { result ≡ all_owed limits answer.now variables variables }
+fn multipliers_owed(case: &Case<'_>) -> bool
+    requires rows_in_bounds { 6 + 8 * (case.now.columns + case.now.rows) ≤ length case.now.answer.now }
+    requires all_formed { AllFormed case.now.answer.now (numbers_of (case.now.columns + case.now.rows)) }
+    ensures { result ≡ all_owed case.now.limits case.now.answer.now (case.now.columns + case.now.rows)
+        (case.now.columns + case.now.rows) }
 {
+    let variables = case.columns + case.rows;
     let mut fine = true;
+    // Kept: two numbers and two limits are read at each place, here and below, and a zip of four lists is no plainer.
     for v in 0..variables {
-        let low = number_at(answer, 1 + v);
-        let high = number_at(answer, 1 + variables + v);
-        let first = owed(limits.lower[v], low);
-        let second = owed(limits.upper[v], high);
+        let low = number_at(case.answer, 1 + v);
+        let high = number_at(case.answer, 1 + variables + v);
+        let first = owed(case.limits.lower[v], low);
+        let second = owed(case.limits.upper[v], high);
         fine = fine & (first & second);
     }
     fine
 }
 
 // The lower less the upper multiplier of a variable.
-fn balance(answer: &[i64], variables: usize, v: usize) -> Wide
-    requires v_lt_variables { (v < variables) × (variables ≤ most_variables) × (6 + 8 * variables ≤ length answer.now) }
-    requires all_formed { AllFormed answer.now (numbers_of variables) }
-    ensures { StandsFor result (balance_in answer.now variables v) (limb_turn + limb_turn) }
+fn balance(case: &Case<'_>, v: usize) -> Wide
+    requires v_lt_variables { v < case.now.columns + case.now.rows }
+    requires rows_in_bounds { 6 + 8 * (case.now.columns + case.now.rows) ≤ length case.now.answer.now }
+    requires all_formed { AllFormed case.now.answer.now (numbers_of (case.now.columns + case.now.rows)) }
+    ensures { StandsFor result (balance_in case.now.answer.now (case.now.columns + case.now.rows) v)
+        (limb_turn + limb_turn) }
 {
-    let low = number_at(answer, 1 + v);
-    let high = number_at(answer, 1 + variables + v);
+    let low = number_at(case.answer, 1 + v);
+    let high = number_at(case.answer, 1 + (case.columns + case.rows) + v);
     low.less(high)
 }
 
 // A column of the multipliers put through the rows.
-fn column_sum(
-    entries: &[i32; Tableau::MOST_ENTRIES],
-    answer: &[i64],
-    rows: usize,
-    columns: usize,
-    column: ColumnPlace,
-) -> Wide
-    requires rows_le_most_rows { (rows ≤ most_rows) × (columns ≤ most_columns) × (column.0 < columns)
-        × (6 + 8 * (columns + rows) ≤ length answer.now) }
-    requires all_within { AllWithin entries.now largest_coefficient }
-    requires all_formed { AllFormed answer.now (numbers_of (columns + rows)) }
-    ensures { StandsFor result (column_in entries.now answer.now rows columns rows column.0)
-        column_most }
+fn column_sum(case: &Case<'_>, column: ColumnPlace) -> Wide
+    requires column_lt_columns { column.0 < case.now.columns }
+    requires rows_in_bounds { 6 + 8 * (case.now.columns + case.now.rows) ≤ length case.now.answer.now }
+    requires all_formed { AllFormed case.now.answer.now (numbers_of (case.now.columns + case.now.rows)) }
+    ensures { StandsFor result (column_in case.now.entries case.now.answer.now case.now.rows case.now.columns
+        case.now.rows column.0) column_most }
 {
-    let variables = columns + rows;
-    let mut sum = balance(answer, variables, column.0 as usize);
-    for i in 0..rows {
-        let k = layout::place(rows, columns, RowPlace(i as u8), column);
-        let e = entries[k];
-        let more = balance(answer, variables, columns + i);
+    let mut sum = balance(case, column.0 as usize);
+    for i in 0..case.rows {
+        let k = layout::place(case.rows, case.columns, RowPlace(i as u8), column);
+        let e = case.entries[k];
+        let more = balance(case, case.columns + i);
         sum = sum.plus(more.times(e));
     }
     sum
 }
 
 // Every column cancels.
-fn columns_cancel(
-    entries: &[i32; Tableau::MOST_ENTRIES],
-    answer: &[i64],
-    rows: usize,
-    columns: usize,
-) -> bool
-    requires rows_le_most_rows { (rows ≤ most_rows) × (columns ≤ most_columns)
-        × (6 + 8 * (columns + rows) ≤ length answer.now) }
-    requires all_within { AllWithin entries.now largest_coefficient }
-    requires all_formed { AllFormed answer.now (numbers_of (columns + rows)) }
-    ensures { result ≡ columns_vanish entries.now answer.now rows columns columns }
+fn columns_cancel(case: &Case<'_>) -> bool
+    requires rows_in_bounds { 6 + 8 * (case.now.columns + case.now.rows) ≤ length case.now.answer.now }
+    requires all_formed { AllFormed case.now.answer.now (numbers_of (case.now.columns + case.now.rows)) }
+    ensures { result
+        ≡ columns_vanish case.now.entries case.now.answer.now case.now.rows case.now.columns case.now.columns }
 {
     let mut fine = true;
-    for j in 0..columns {
-        let sum = column_sum(entries, answer, rows, columns, ColumnPlace(j as u8));
+    for j in 0..case.columns {
+        let sum = column_sum(case, ColumnPlace(j as u8));
         fine = fine & sum.is_zero();
     }
     fine
@@ -115,18 +105,19 @@ fn weighed(limit: Given, k: Wide) -> Wide
 }
 
 // Lower limits times multipliers less upper limits times multipliers.
-fn surplus(limits: Limits, answer: &[i64], variables: usize) -> Wide
-    requires variables_le_most_variables { (variables ≤ most_variables) × (6 + 8 * variables ≤ length answer.now) }
-    requires all_formed { AllFormed answer.now (numbers_of variables) }
-    requires limited { Limited limits }
-    ensures { StandsFor result (surplus_in limits answer.now variables variables) surplus_most }
+fn surplus(case: &Case<'_>) -> Wide
+    requires rows_in_bounds { 6 + 8 * (case.now.columns + case.now.rows) ≤ length case.now.answer.now }
+    requires all_formed { AllFormed case.now.answer.now (numbers_of (case.now.columns + case.now.rows)) }
+    ensures { StandsFor result (surplus_in case.now.limits case.now.answer.now (case.now.columns + case.now.rows)
+        (case.now.columns + case.now.rows)) surplus_most }
 {
+    let variables = case.columns + case.rows;
     let mut sum = Wide::zero();
     for v in 0..variables {
-        let low = number_at(answer, 1 + v);
-        let high = number_at(answer, 1 + variables + v);
-        let gain = weighed(limits.lower[v], low);
-        let loss = weighed(limits.upper[v], high);
+        let low = number_at(case.answer, 1 + v);
+        let high = number_at(case.answer, 1 + variables + v);
+        let gain = weighed(case.limits.lower[v], low);
+        let loss = weighed(case.limits.upper[v], high);
         sum = sum.plus(gain.less(loss));
     }
     sum
@@ -141,17 +132,19 @@ fn strict_named(limit: Given, k: Wide) -> bool
 }
 
 // Some strict limit has.
-fn some_named(limits: Limits, answer: &[i64], variables: usize) -> bool
-    requires variables_le_most_variables { (variables ≤ most_variables) × (6 + 8 * variables ≤ length answer.now) }
-    requires all_formed { AllFormed answer.now (numbers_of variables) }
-    ensures { result ≡ some_marked limits answer.now variables variables }
+fn some_named(case: &Case<'_>) -> bool
+    requires rows_in_bounds { 6 + 8 * (case.now.columns + case.now.rows) ≤ length case.now.answer.now }
+    requires all_formed { AllFormed case.now.answer.now (numbers_of (case.now.columns + case.now.rows)) }
+    ensures { result ≡ some_marked case.now.limits case.now.answer.now (case.now.columns + case.now.rows)
+        (case.now.columns + case.now.rows) }
 {
+    let variables = case.columns + case.rows;
     let mut found = false;
     for v in 0..variables {
-        let low = number_at(answer, 1 + v);
-        let high = number_at(answer, 1 + variables + v);
-        let first = strict_named(limits.lower[v], low);
-        let second = strict_named(limits.upper[v], high);
+        let low = number_at(case.answer, 1 + v);
+        let high = number_at(case.answer, 1 + variables + v);
+        let first = strict_named(case.limits.lower[v], low);
+        let second = strict_named(case.limits.upper[v], high);
         found = found | (first | second);
     }
     found
@@ -165,23 +158,22 @@ pub fn shows_cannot(case: &Case<'_>) -> bool
         (wide_denominator case.now.answer.now) (wide_lower case.now.answer.now)
         (wide_upper (case.now.columns + case.now.rows) case.now.answer.now) }
 {
-    let variables = case.columns + case.rows;
     let common = number_at(case.answer, 0);
     if !common.is_zero() {
         return false;
     }
-    if !multipliers_owed(case.limits, case.answer, variables) {
+    if !multipliers_owed(case) {
         return false;
     }
-    if !columns_cancel(&case.entries, case.answer, case.rows, case.columns) {
+    if !columns_cancel(case) {
         return false;
     }
-    let total = surplus(case.limits, case.answer, variables);
+    let total = surplus(case);
     if total.is_above() {
         return true;
     }
     if !total.is_zero() {
         return false;
     }
-    some_named(case.limits, case.answer, variables)
+    some_named(case)
 }

@@ -21,15 +21,9 @@ returns-then-not-is_above c =
     sym (can-tests case.entries case.limits case.rows case.columns case.answer.now
     ∙ rw (sym (c.is_above.ensures ∙ ap is_pos common.number) ∙ c.if-not-is_above.true) refl)
 
-pub rows_hold-requires : goal.rows_hold-requires
-rows_hold-requires c =
-    let case = c.args.case.now in
-    let I = case.in_ranges in record {
-      rows_le_most_rows = (I.few-rows, I.few-columns);
-      rows_bound = (omega (arith, I.few-rows, I.few-columns), omega arith);
-      all_within = I.entries-within;
-      all_formed = formed-less c.requires.all_formed (1 + (case.columns + case.rows)) (omega arith);
-    }
+pub rows_hold-requires-clause-all_formed : goal.rows_hold-requires-clause-all_formed
+rows_hold-requires-clause-all_formed c =
+    formed-less c.requires.all_formed (1 + (c.args.case.now.columns + c.args.case.now.rows)) (omega arith)
 
 pub returns-then-not-rows_hold : goal.returns-then-not-rows_hold
 returns-then-not-rows_hold c =
@@ -41,16 +35,10 @@ returns-then-not-rows_hold c =
       sym c.rows_hold.ensures ∙ c.if-not-rows_hold.true,
     ) refl)
 
-pub rows_hold-requires-2 : goal.rows_hold-requires-2
-rows_hold-requires-2 c =
-    let case = c.args.case.now in
-    let I = case.in_ranges in
-    let N = case.columns + case.rows in record {
-      rows_le_most_rows = (I.few-rows, I.few-columns);
-      rows_bound = (omega (arith, I.few-rows, I.few-columns), omega arith);
-      all_within = I.entries-within;
-      all_formed = formed-less c.requires.all_formed (1 + N + N) (omega arith);
-    }
+pub rows_hold-requires-2-clause-all_formed : goal.rows_hold-requires-2-clause-all_formed
+rows_hold-requires-2-clause-all_formed c =
+    let N = c.args.case.now.columns + c.args.case.now.rows in
+    formed-less c.requires.all_formed (1 + N + N) (omega arith)
 
 pub returns-then-not-rows_hold-2 : goal.returns-then-not-rows_hold-2
 returns-then-not-rows_hold-2 c =
@@ -63,15 +51,10 @@ returns-then-not-rows_hold-2 c =
       sym c.rows_hold-2.ensures ∙ c.if-not-rows_hold-2.true,
     ) refl)
 
-pub limits_hold-requires : goal.limits_hold-requires
-limits_hold-requires c =
+pub limits_hold-requires-clause-limbs_within : goal.limits_hold-requires-clause-limbs_within
+limits_hold-requires-clause-limbs_within c =
     let common = stands-is c.number_at-common.ensures (stands-in c.requires.all_formed 0 (omega arith)) in
-    let I = c.args.case.now.in_ranges in record {
-      variables_le_most_variables = (omega (arith, I.few-rows, I.few-columns), c.requires.rows_in_bounds);
-      all_formed = c.requires.all_formed;
-      limbs_within = common.size;
-      limited = I.limited;
-    }
+    common.size
 
 pub returns : goal.returns
 returns c =

@@ -1,10 +1,6 @@
--- `wide::cannot::columns_cancel` meets its contract. The invariant: whether the columns passed cancel. The measure is
--- how many are left. Assumes nothing.
-use mathlib.Core.Path.{◌≡◌, ap, sym, ◌∙◌}
-use Prim.Native.Nat.{ℕ}
-use native.Mathlib.Omega.{arith}
+-- `wide::cannot::columns_cancel` meets its contract. Assumes nothing.
+use Rattle.std.proofs.Common.{◌≡◌, ap, sym, ◌∙◌, ℕ, ℤ, pos, arith}
 use lib.Dec.{lit≤}
-use lib.IntN.{ℤ, pos}
 use Rattle.whole.specs.Numbers.{eq_z}
 use Rattle.whole.proofs.Lists.Below.{all_start}
 use Rattle.limbs.proofs.Laws.Sizes.{sized-le}
@@ -17,13 +13,6 @@ pub loop-j-init : goal.loop-j-init
 unfolding columns_vanish
 loop-j-init c = (omega arith, sym (all_start _))
 
-pub column_sum-sum-requires : goal.column_sum-sum-requires
-column_sum-sum-requires c = let p = c.requires in record {
-  rows_le_most_rows = (p.rows_le_most_rows.0, p.rows_le_most_rows.1, omega arith, p.rows_le_most_rows.2);
-  all_within = p.all_within;
-  all_formed = p.all_formed;
-}
-
 pub is_zero-fine-requires : goal.is_zero-fine-requires
 is_zero-fine-requires c = sized-le c.column_sum-sum.ensures.size (lit≤ tt)
 
@@ -35,10 +24,10 @@ loop-j-preserved c = (
       (c.is_zero-fine.ensures ∙ ap (λ (z : ℤ). eq_z z (pos 0)) c.column_sum-sum.ensures.number),
 )
 
-all : (c : After-loop-j) → c.loop-j.j ≡ c.args.columns
+all : (c : After-loop-j) → c.loop-j.j ≡ c.args.case.now.columns
 all c = omega arith
 
 pub returns : goal.returns
-returns c = let o = c.args in
+returns c = let case = c.args.case.now in
     c.loop-j.invariant.1
-    ∙ ap (λ (k : ℕ). columns_vanish o.entries.now o.answer.now o.rows o.columns k) (all c)
+    ∙ ap (λ (k : ℕ). columns_vanish case.entries case.answer.now case.rows case.columns k) (all c)

@@ -21,12 +21,6 @@ returns-then-not-is_zero c =
     sym (cannot-tests case.entries case.limits case.rows case.columns case.answer.now
     ∙ rw (sym (c.is_zero.ensures ∙ ap (λ (z : ℤ). eq_z z (pos 0)) common.number) ∙ c.if-not-is_zero.true) refl)
 
-pub multipliers_owed-requires : goal.multipliers_owed-requires
-multipliers_owed-requires c = let I = c.args.case.now.in_ranges in record {
-  variables_le_most_variables = (omega (arith, I.few-rows, I.few-columns), c.requires.rows_in_bounds);
-  all_formed = c.requires.all_formed;
-}
-
 pub returns-then-not-multipliers_owed : goal.returns-then-not-multipliers_owed
 returns-then-not-multipliers_owed c =
     let case = c.args.case.now in
@@ -36,13 +30,6 @@ returns-then-not-multipliers_owed c =
       sym (c.is_zero.ensures ∙ ap (λ (z : ℤ). eq_z z (pos 0)) common.number) ∙ c.if-not-is_zero.false,
       sym c.multipliers_owed.ensures ∙ c.if-not-multipliers_owed.true,
     ) refl)
-
-pub columns_cancel-requires : goal.columns_cancel-requires
-columns_cancel-requires c = let I = c.args.case.now.in_ranges in record {
-  rows_le_most_rows = (I.few-rows, I.few-columns, c.requires.rows_in_bounds);
-  all_within = I.entries-within;
-  all_formed = c.requires.all_formed;
-}
 
 pub returns-then-not-columns_cancel : goal.returns-then-not-columns_cancel
 returns-then-not-columns_cancel c =
@@ -54,13 +41,6 @@ returns-then-not-columns_cancel c =
       sym c.multipliers_owed.ensures ∙ c.if-not-multipliers_owed.false,
       sym c.columns_cancel.ensures ∙ c.if-not-columns_cancel.true,
     ) refl)
-
-pub surplus-total-requires : goal.surplus-total-requires
-surplus-total-requires c = let I = c.args.case.now.in_ranges in record {
-  variables_le_most_variables = (omega (arith, I.few-rows, I.few-columns), c.requires.rows_in_bounds);
-  all_formed = c.requires.all_formed;
-  limited = I.limited;
-}
 
 pub is_above-requires : goal.is_above-requires
 is_above-requires c = sized-le c.surplus-total.ensures.size (lit≤ tt)
@@ -97,12 +77,6 @@ returns-then-not-is_zero-2 c =
     ) (contradicts-not total marked (sym (c.is_above.ensures ∙ ap is_pos c.surplus-total.ensures.number) ∙ c.if-is_above.false)
     (sym (c.is_zero-2.ensures ∙ ap (λ (z : ℤ). eq_z z (pos 0)) c.surplus-total.ensures.number)
     ∙ c.if-not-is_zero-2.true)))
-
-pub some_named-requires : goal.some_named-requires
-some_named-requires c = let I = c.args.case.now.in_ranges in record {
-  variables_le_most_variables = (omega (arith, I.few-rows, I.few-columns), c.requires.rows_in_bounds);
-  all_formed = c.requires.all_formed;
-}
 
 pub returns : goal.returns
 returns c =
