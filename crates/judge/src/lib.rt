@@ -1,8 +1,8 @@
 // Refusals 1 to 6 and 10: whether lent words are a problem. Each test runs over the whole input before the next.
 #![tactic(auto)]
 
-ghost use Rattle.std.specs.Prelude.{◌≡◌, ◌||◌, [], ◌∷◌, ◌/◌, ◌%◌, ◌<◌, ◌≤◌, eqb, pos, nat_abs, ◌<ℤ◌};
-ghost use Rattle.rules.specs.Limit.{has_lower, has_upper, strict_lower, strict_upper, bad_kind_word, bad_limit_word};
+ghost use Rattle.std.specs.Prelude.{◌≡◌, [], ◌∷◌, ◌/◌, ◌%◌, ◌<◌, ◌≤◌, eqb, pos, nat_abs, ◌<ℤ◌};
+ghost use Rattle.rules.specs.Limit.{bad_kind_word, has_lower, has_upper, strict_lower, strict_upper, bad_limit_word};
 ghost use Rattle.rules.specs.Refusal.{bad_coefficient, blank_row, first, problem_refusal, problem_refusal_within};
 ghost use Rattle.rules.specs.Refusal.{some_blank};
 ghost use Rattle.rules.specs.Sizes.{most_rows};
@@ -20,28 +20,31 @@ fn has_bit(kind: i32, power: i32) -> bool
     kind / power % 2 != 0
 }
 
-// Whether a kind says that there is a lower limit.
+/// Whether a kind says that there is a lower limit.
 pub fn has_lower(kind: i32) -> bool
     ensures { result ≡ has_lower kind }
 {
     kind % 2 != 0
 }
 
-// Whether a kind says that there is an upper limit.
+/// Whether a kind says that there is an upper limit.
+#[tactic(auto, unfolding(rules::specs::Limit::bit))]
 pub fn has_upper(kind: i32) -> bool
     ensures { result ≡ has_upper kind }
 {
     has_bit(kind, 2)
 }
 
-// Whether a kind marks the lower limit as strict.
+/// Whether a kind marks the lower limit as strict.
+#[tactic(auto, unfolding(rules::specs::Limit::bit))]
 pub fn strict_lower(kind: i32) -> bool
     ensures { result ≡ strict_lower kind }
 {
     has_bit(kind, 4)
 }
 
-// Whether a kind marks the upper limit as strict.
+/// Whether a kind marks the upper limit as strict.
+#[tactic(auto, unfolding(rules::specs::Limit::bit))]
 pub fn strict_upper(kind: i32) -> bool
     ensures { result ≡ strict_upper kind }
 {
@@ -49,15 +52,17 @@ pub fn strict_upper(kind: i32) -> bool
 }
 
 // Whether a kind is outside 0 to 15, or marks a missing limit.
+#[tactic(auto, unfolding(rules::specs::Limit::bad_kind_word, whole::specs::Numbers::outside))]
 fn is_bad_kind(kind: i32) -> bool
     ensures { result ≡ bad_kind_word kind }
 {
     let lower = strict_lower(kind) & !has_lower(kind);
     let upper = strict_upper(kind) & !has_upper(kind);
-    is_outside(kind as i64, 0, 15) | (lower | upper)
+    is_outside(i64::from(kind), 0, 15) | (lower | upper)
 }
 
 // Whether a limit's word is out of range, or not 0 where the limit is missing.
+#[tactic(auto, unfolding(rules::specs::Limit::bad_limit_word))]
 fn is_bad_limit(present: bool, word: i32) -> bool
     ensures { result ≡ bad_limit_word present word }
 {
@@ -67,90 +72,80 @@ fn is_bad_limit(present: bool, word: i32) -> bool
     word != 0
 }
 
-// Whether a variable's kind is bad, or else one of its two limits.
-fn is_bad_variable(kind: i32, lower: i32, upper: i32, kinds: bool) -> bool
-    ensures { result ≡ bad_by kinds kind lower upper }
-{
-    if kinds {
-        return is_bad_kind(kind);
-    }
-    either(
-        is_bad_limit(has_lower(kind), lower),
-        is_bad_limit(has_upper(kind), upper),
-    )
+// What is asked of a variable.
+#[derive(Clone, Copy, Debug, PartialEq, Eq)]
+enum Asked {
+    Kind,
+    Limits,
 }
 
-// Both are asked for, so that a loop looks at all words without a branch.
-fn either(a: bool, b: bool) -> bool
-    ensures { result ≡ (a || b) }
+// Whether a variable's kind is bad, or one of its two limits.
+fn is_bad_variable(asked: Asked, kind: i32, lower: i32, upper: i32) -> bool
+    ensures { result ≡ bad_by asked kind lower upper }
 {
-    if a {
-        return true;
+    match asked {
+        Asked::Kind => is_bad_kind(kind),
+        Asked::Limits => is_bad_limit(has_lower(kind), lower)
+            | is_bad_limit(has_upper(kind), upper),
     }
-    b
 }
 
-// Whether some coefficient is outside its range.
-fn some_bad_coefficient(words: &[i32], columns: usize, rows: usize) -> bool
-    requires { Framed words.now columns rows }
-    ensures { result ≡ bad_coefficient words.now }
-{
-    let end = rows * columns;
-    let mut bad = false;
-    for i in 0..end {
-        let at = 2 + i;
-        bad = either(bad, !is_within(words[at], rules::LARGEST_COEFFICIENT));
-    }
-    bad
+// The words of a problem whose sizes and whose length are fine.
+#[derive(Clone, Copy, Debug)]
+struct Frame<'a> {
+    words: &'a [i32],
+    columns: usize,
+    rows: usize,
+    ghost framed: { Framed words.now columns rows },
 }
 
-// Whether some variable fails the test of its kind, or else that of its limits.
-fn some_bad_variable(words: &[i32], columns: usize, rows: usize, kinds: bool) -> bool
-    requires { Framed words.now columns rows }
-    ensures { result ≡ bad_variable kinds words.now }
-{
-    let from = 2 + rows * columns;
-    let end = columns + rows;
-    let mut bad = false;
-    for v in 0..end {
-        let at = from + 3 * v;
-        let lower = at + 1;
-        let upper = at + 2;
-        bad = either(
-            bad,
-            is_bad_variable(words[at], words[lower], words[upper], kinds),
-        );
-    }
-    bad
-}
-
-// Whether all coefficients of a row are 0.
-fn is_blank_row(words: &[i32], columns: usize, rows: usize, row: usize) -> bool
-    requires framed { Framed words.now columns rows }
-    requires row_lt_rows { row < rows }
-    ensures { result ≡ blank_row words.now row }
-{
-    let from = 2 + row * columns;
-    for j in 0..columns {
-        let at = from + j;
-        if words[at] != 0 {
-            return false;
+impl Frame<'_> {
+    // Whether some coefficient is outside its range.
+    fn some_bad_coefficient(&self) -> bool
+        ensures { result ≡ bad_coefficient self.now.words.now }
+    {
+        let mut bad = false;
+        for word in &self.words[2..2 + self.rows * self.columns] {
+            bad |= !is_within(*word, rules::LARGEST_COEFFICIENT);
         }
+        bad
     }
-    true
-}
 
-// Whether some row is blank.
-fn some_blank_row(words: &[i32], columns: usize, rows: usize) -> bool
-    requires { Framed words.now columns rows }
-    ensures { result ≡ some_blank words.now }
-{
-    for i in 0..rows {
-        if is_blank_row(words, columns, rows, i) {
-            return true;
+    // Whether some variable fails what is asked of it.
+    fn some_bad_variable(&self, asked: Asked) -> bool
+        ensures { result ≡ bad_variable asked self.now.words.now }
+    {
+        let first = 2 + self.rows * self.columns;
+        let mut bad = false;
+        for v in 0..self.columns + self.rows {
+            let at = first + 3 * v;
+            bad |= is_bad_variable(
+                asked,
+                self.words[at],
+                self.words[at + 1],
+                self.words[at + 2],
+            );
         }
+        bad
     }
-    false
+
+    // Whether all coefficients of a row are 0.
+    fn is_blank(&self, row: usize) -> bool
+        requires { row < self.now.rows }
+        ensures { result ≡ blank_row self.now.words.now row }
+    {
+        let first = 2 + row * self.columns;
+        self.words[first..first + self.columns]
+            .iter()
+            .all(|word| *word == 0)
+    }
+
+    // Whether some row is blank.
+    fn some_blank_row(&self) -> bool
+        ensures { result ≡ some_blank self.now.words.now }
+    {
+        (0..self.rows).any(|row| self.is_blank(row))
+    }
 }
 
 // The first of refusals 4 to 6 and 10 that applies.
@@ -189,15 +184,21 @@ pub fn judge_within(most: u32, words: &[i32]) -> Result<(), Refusal>
     if words.len() != 2 + rows * columns + 3 * (columns + rows) {
         return Err(Refusal::Length);
     }
+    let frame = Frame {
+        words,
+        columns,
+        rows,
+    };
     word_refusal(
-        some_bad_coefficient(words, columns, rows),
-        some_bad_variable(words, columns, rows, true),
-        some_bad_variable(words, columns, rows, false),
-        some_blank_row(words, columns, rows),
+        frame.some_bad_coefficient(),
+        frame.some_bad_variable(Asked::Kind),
+        frame.some_bad_variable(Asked::Limits),
+        frame.some_blank_row(),
     )
 }
 
 /// .. within the most rows.
+#[tactic(auto, unfolding(rules::specs::Refusal::problem_refusal))]
 pub fn judge(words: &[i32]) -> Result<(), Refusal>
     ensures { told result ≡ problem_refusal words.now }
 {

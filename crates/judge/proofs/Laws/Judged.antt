@@ -2,22 +2,26 @@
 --   parity                        the remainder by 2 of a signed number, against that of its size
 --   zero_bits                     a signed number's bits are 0 exactly where it is
 --   few_words, kind-place, ..     the places of words whose sizes and whose length are fine
+--   row-long, row-word            a row's words, as a part of all
 --   accepted-framed               accepted words are such
+use Rattle.std.proofs.Common.{get_or-drop, get_or-take}
 use mathlib.Core.Path.{◌≡◌, refl, sym, ◌∙◌, ap, ap₂}
 use mathlib.Core.Bool.{not}
 use mathlib.Core.List.{List}
 use Prim.Native.Nat.{ℕ, zero, suc, ◌+◌, ◌*◌, ◌%◌, ◌^◌, ◌-◌, ◌≤◌, ◌<◌}
 use native.Mathlib.Omega.{arith}
-use native.Mathlib.Nat.{mod-lt, mul-le-mul}
+use native.Mathlib.Nat.{le_refl, mod-lt, mul-le-mul}
 use borrow.Author.Tests.{ne_eqb}
 use lib.Dec.{eqb}
 use lib.IntN.{ℤ, pos, negsuc, neg_ℤ, nat_abs}
+use lib.ListN.{drop, length, length-drop, take}
+use lib.Seq.{length-take-le}
 use lib.Signed.{rem_z}
 use mir.Syntax.{w32}
 use mir.Val.{SFits, of_z}
 use Rattle.whole.specs.Numbers.{eq_z}
 use Rattle.rules.specs.Sizes.{most_cells, most_rows}
-use Rattle.rules.specs.Problem.{m_of, n_of, vars_of, kind_place}
+use Rattle.rules.specs.Problem.{coefficient_word, m_of, n_of, vars_of, kind_place, word}
 use Rattle.rules.specs.Refusal.{Accepted}
 use Rattle.rules.proofs.Refusal.Accepted.{m-few, n-few}
 use Rattle.judge.specs.Words.{Framed}
@@ -56,6 +60,24 @@ module _ {ws : List ℤ} {n m : ℕ} (F : Framed ws n m) where
 
   pub kind-place : (v : ℕ) → 2 + m * n + 3 * v ≡ kind_place ws v
   kind-place v = ap (λ p. 2 + p + 3 * v) size-product
+
+-- row i, as a part of the words
+module _ {ws : List ℤ} {n m : ℕ} (F : Framed ws n m) (i k : ℕ) (h : i < m) (e : k ≡ n) where
+  abbrev pub row : List ℤ
+  row = take k (drop (2 + i * n) ws)
+
+  row-within : 2 + i * n + n ≤ length ws
+  row-within = let q : (i + 1) * n ≤ m * n = mul-le-mul (omega arith) (le_refl n) in omega (arith, F.exact)
+
+  pub row-long : length row ≡ n_of ws
+  row-long = length-take-le k (drop (2 + i * n) ws) (omega (arith, row-within, length-drop (2 + i * n) ws))
+      ∙ e ∙ F.columns-are
+
+  pub row-word : (j : ℕ) → j < n_of ws → word row j ≡ coefficient_word ws i j
+  row-word j l = get_or-take k (drop (2 + i * n) ws) j (pos 0) (omega (arith, F.columns-are))
+      ∙ get_or-drop (2 + i * n) ws j (pos 0)
+      ∙ ap (word ws) ((let z : 2 + i * n + j ≡ 2 + (i * n + j) = omega arith in z)
+      ∙ ap (λ p. 2 + (i * p + j)) F.columns-are)
 
 pub accepted-framed : {ws : List ℤ} {n m : ℕ} → Accepted most_rows ws → n ≡ n_of ws → m ≡ m_of ws → Framed ws n m
 accepted-framed A e q = record {

@@ -2,19 +2,12 @@
 use mathlib.Core.Path.{sym, ◌∙◌, ap}
 use Prim.Native.Nat.{◌%◌}
 use native.Mathlib.Nat.{div-one}
-use native.Mathlib.Omega.{arith}
 use lib.Dec.{eqb}
-use lib.IntN.{nat_abs, pos}
-use lib.Signed.{lt_z_yes}
+use lib.IntN.{nat_abs}
 use mir.Facts.{to_z-of_z}
-use Rattle.whole.proofs.Numbers.Sizes.{quot_fits}
 use Rattle.rules.specs.Limit.{bit}
 use Rattle.judge.proofs.Laws.Judged.{parity}
 use Rattle.judge.proofs.has_lower.Goals as goal
-
-pub nonzero_rem-result : goal.nonzero_rem-result
-nonzero_rem-result c =
-    simp (to_z-of_z c.ranges.kind) (omega arith, quot_fits c.args.kind (pos 2) (lt_z_yes tt) c.ranges.kind)
 
 pub returns : goal.returns
 unfolding bit
