@@ -14,7 +14,7 @@ use search::{Blocked, Next, View};
 use tableau::{Limits, Tableau};
 
 // How a run ends: every variable is within its limits, one is outside and stuck, or a number is too large.
-#[derive(Drop)]
+#[derive(Clone, Copy)]
 pub enum End {
     Can,
     Cannot(Blocked),
@@ -23,7 +23,7 @@ pub enum End {
 
 // What one step comes to: an end, or the row and the column whose variables are to change places, the value of the one
 // that leaves, and the new common number.
-#[derive(Drop)]
+#[derive(Clone, Copy)]
 pub enum Outcome {
     Ended(End),
     Goes(RowPlace, ColumnPlace, Value, i32),
@@ -34,9 +34,10 @@ fn violated_limit(rises: bool, lower: Given, upper: Given) -> Value
     ensures { result ≡ value_of (violated_pair rises lower upper) }
 {
     if rises {
-        return amounts::lower_value(lower);
+        amounts::lower_value(lower)
+    } else {
+        amounts::upper_value(upper)
     }
-    amounts::upper_value(upper)
 }
 
 // One step: where a pivot is chosen, the entries after it are put into `next`. What is not kept was a look.
@@ -51,26 +52,22 @@ pub fn step(
     ensures answer { result ≡ outcome_at (seen entries.now view limits) }
     ensures numbers { PutAt (seen entries.now view limits) next.new }
 {
-    let found = search::next_step(entries, view, limits);
-    match found {
+    match search::next_step(entries, view, limits) {
         Next::Within => Outcome::Ended(End::Can),
         Next::Stuck(blocked) => Outcome::Ended(End::Cannot(blocked)),
         Next::Pivot(choice) => {
             let row = choice.row;
             let column = choice.column;
-            let i = row.0 as usize;
-            let leaving = view.basic[i];
-            let v = leaving.0 as usize;
-            let value = violated_limit(choice.rises, limits.lower[v], limits.upper[v]);
+            let leaving = view.basic[row.0 as usize].0 as usize;
+            let value = violated_limit(choice.rises, limits.lower[leaving], limits.upper[leaving]);
             let asked = Asked {
                 rows: view.rows,
                 columns: view.columns,
                 common: view.common,
                 spot: Spot { row, column },
             };
-            let turned = pivot::pivot(entries, asked, next);
-            match turned {
-                Some(after) => Outcome::Goes(row, column, value, after),
+            match pivot::pivot(entries, asked, next) {
+                Some(common) => Outcome::Goes(row, column, value, common),
                 None => Outcome::Ended(End::Range),
             }
         }

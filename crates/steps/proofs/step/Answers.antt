@@ -26,17 +26,18 @@ use Rattle.steps.proofs.step.Goals as goal
 
 -- ---- a pivot is chosen
 
-pub bounds-view-i : goal.bounds-view-i
-bounds-view-i c = (c.requires.steppable.movable c.in-Pivot.choice (sym c.in-Pivot.ensures)).row-place
+pub bounds-view-row : goal.bounds-view-row
+bounds-view-row c = (c.requires.steppable.movable c.in-Pivot.choice (sym c.in-Pivot.ensures)).row-place
 
-pub bounds-limits-v : goal.bounds-limits-v
-bounds-limits-v c = (c.requires.steppable.movable c.in-Pivot.choice (sym c.in-Pivot.ensures)).leaving-seat
+pub bounds-limits-leaving : goal.bounds-limits-leaving
+bounds-limits-leaving c = (c.requires.steppable.movable c.in-Pivot.choice (sym c.in-Pivot.ensures)).leaving-seat
 
-pub bounds-limits-v-in-Pivot : goal.bounds-limits-v-in-Pivot
-bounds-limits-v-in-Pivot c = (c.requires.steppable.movable c.in-Pivot.choice (sym c.in-Pivot.ensures)).leaving-seat
+pub bounds-limits-leaving-in-Pivot : goal.bounds-limits-leaving-in-Pivot
+bounds-limits-leaving-in-Pivot c =
+    (c.requires.steppable.movable c.in-Pivot.choice (sym c.in-Pivot.ensures)).leaving-seat
 
-pub pivot-turned-requires : goal.pivot-turned-requires
-pivot-turned-requires c =
+pub pivot-requires : goal.pivot-requires
+pivot-requires c =
     let fit : SFits w32 c.args.view.common = search rules in
     let m = c.requires.steppable.movable c.in-Pivot.choice (sym c.in-Pivot.ensures) in
     simp (to_z-of_z fit) (record { able = m.pivotable; next_len = c.requires.next_len })
@@ -84,17 +85,17 @@ returns-in-Some c =
     let w = c.in-Pivot.choice in
     let e : next_at t ≡ nexts.Pivot w = sym c.in-Pivot.ensures in
     let keeps : SFits w32 c.args.view.common = search rules in
-    let told : c.pivot-turned.result ≡ pivoted_by (fits_by t w) (common_moved t w) =
-    simp (to_z-of_z keeps) at c.pivot-turned.ensures.answer in
-    let put : PutBy (fits_by t w) (live t.rows t.columns) (entries_moved t w) c.pivot-turned.new.next =
-    simp (to_z-of_z keeps) at c.pivot-turned.ensures.numbers in
-    let z = c.in-Some.after in
+    let told : c.pivot.result ≡ pivoted_by (fits_by t w) (common_moved t w) =
+    simp (to_z-of_z keeps) at c.pivot.ensures.answer in
+    let put : PutBy (fits_by t w) (live t.rows t.columns) (entries_moved t w) c.pivot.new.next =
+    simp (to_z-of_z keeps) at c.pivot.ensures.numbers in
+    let z = c.in-Some.common in
     let f = common-told (fits_by t w) (common_moved t w) z (sym told ∙ c.in-Some.is) in
     let m = c.requires.steppable.movable w e in
     let fit : SFits w32 z = subst (SFits w32) f.1 (fits-by (fits-common m.pivotable f.0) tt) in record {
       answer = ap₂ (λ v z. outcomes.Goes w.row w.column v z) c.violated_limit-value.ensures
           (to_z-of_z fit ∙ sym f.1) ∙ answer-is t w e true f.0;
-      numbers = put_is t w e c.pivot-turned.new.next put;
+      numbers = put_is t w e c.pivot.new.next put;
     }
 
 pub returns-in-None : goal.returns-in-None
@@ -103,11 +104,11 @@ returns-in-None c =
     let w = c.in-Pivot.choice in
     let e : next_at t ≡ nexts.Pivot w = sym c.in-Pivot.ensures in
     let keeps : SFits w32 c.args.view.common = search rules in
-    let told : c.pivot-turned.result ≡ pivoted_by (fits_by t w) (common_moved t w) =
-    simp (to_z-of_z keeps) at c.pivot-turned.ensures.answer in
-    let put : PutBy (fits_by t w) (live t.rows t.columns) (entries_moved t w) c.pivot-turned.new.next =
-    simp (to_z-of_z keeps) at c.pivot-turned.ensures.numbers in
+    let told : c.pivot.result ≡ pivoted_by (fits_by t w) (common_moved t w) =
+    simp (to_z-of_z keeps) at c.pivot.ensures.answer in
+    let put : PutBy (fits_by t w) (live t.rows t.columns) (entries_moved t w) c.pivot.new.next =
+    simp (to_z-of_z keeps) at c.pivot.ensures.numbers in
     let f = beyond-told (fits_by t w) (common_moved t w) (sym told ∙ c.in-None.is) in record {
       answer = answer-is t w e false f;
-      numbers = put_is t w e c.pivot-turned.new.next put;
+      numbers = put_is t w e c.pivot.new.next put;
     }
