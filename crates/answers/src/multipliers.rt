@@ -12,7 +12,7 @@ use search::{Blocked, Size};
 use tableau::{Seat, Tableau, Variable};
 
 // One multiplier for the lower and one for the upper limit of each variable.
-#[derive(Clone, Copy)]
+#[derive(Clone, Copy, Debug, PartialEq, Eq)]
 pub struct Multipliers {
     pub lower: [i64; Tableau::MOST_VARIABLES],
     pub upper: [i64; Tableau::MOST_VARIABLES],

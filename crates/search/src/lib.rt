@@ -14,7 +14,7 @@ use sides::LimitPair;
 use tableau::{Limits, Seat, Tableau, Variable};
 
 // What a step reads of a tableau beside its entries and its limits. Which variable is in which column it does not ask.
-#[derive(Clone, Copy)]
+#[derive(Clone, Copy, Debug, PartialEq, Eq)]
 pub struct View {
     pub rows: usize,
     pub columns: usize,
@@ -53,7 +53,7 @@ pub struct Size {
 // lower limit, and fall where it is above its upper one; its shortfall is how far D times its value is from D times
 // that limit, part by part. At the first step of case A of docs/RULES.md, whose D is 1, variable 2 must rise by 2: it
 // is 0 and its lower limit is 2.
-#[derive(Clone, Copy)]
+#[derive(Clone, Copy, Debug, PartialEq, Eq)]
 pub struct Choice {
     pub row: RowPlace,
     pub column: ColumnPlace,
@@ -62,7 +62,7 @@ pub struct Choice {
 }
 
 // The row of a variable outside its limits that nothing can move; side and shortfall as in a choice.
-#[derive(Clone, Copy)]
+#[derive(Clone, Copy, Debug, PartialEq, Eq)]
 pub struct Blocked {
     pub row: RowPlace,
     pub rises: bool,
@@ -70,7 +70,7 @@ pub struct Blocked {
 }
 
 // What a search comes to: every variable is within its limits, one is outside and stuck, or a pivot moves it.
-#[derive(Clone, Copy)]
+#[derive(Clone, Copy, Debug, PartialEq, Eq)]
 pub enum Next {
     Within,
     Stuck(Blocked),

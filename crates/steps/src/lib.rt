@@ -14,7 +14,7 @@ use search::{Blocked, Next, View};
 use tableau::{Limits, Tableau};
 
 // How a run ends: every variable is within its limits, one is outside and stuck, or a number is too large.
-#[derive(Clone, Copy)]
+#[derive(Clone, Copy, Debug, PartialEq, Eq)]
 pub enum End {
     Can,
     Cannot(Blocked),
@@ -23,7 +23,7 @@ pub enum End {
 
 // What one step comes to: an end, or the row and the column whose variables are to change places, the value of the one
 // that leaves, and the new common number.
-#[derive(Clone, Copy)]
+#[derive(Clone, Copy, Debug, PartialEq, Eq)]
 pub enum Outcome {
     Ended(End),
     Goes(RowPlace, ColumnPlace, Value, i32),

@@ -21,7 +21,7 @@ pub struct Seat {
 
 // The limits of every variable, and whether some limit is strict.
 #[repr(C)]
-#[derive(Clone, Copy)]
+#[derive(Clone, Copy, Debug, PartialEq, Eq)]
 pub struct Limits {
     pub lower: [Given; Tableau::MOST_VARIABLES],
     pub upper: [Given; Tableau::MOST_VARIABLES],
@@ -31,7 +31,7 @@ pub struct Limits {
 // The entries lie flat, as the crate layout says; a cell that is not in use is 0. The value of a nonbasic
 // variable has a plain part in `values` and a multiple of the small amount in `smalls`.
 #[repr(C)]
-#[derive(Clone, Copy)]
+#[derive(Clone, Copy, Debug, PartialEq, Eq)]
 pub struct Tableau {
     pub rows: usize,
     pub columns: usize,
