@@ -22,6 +22,7 @@ pub fn rows_of(words: &[i32]) -> u32
 }
 
 /// Where body `i` stands.
+#[tactic(auto, unfolding(crate::specs::Opened::part_at))]
 pub fn part_of(words: &[i32], i: usize) -> Part
     requires { Opened words.now × (i < count_in words.now) }
     ensures { result ≡ part_at words.now i }

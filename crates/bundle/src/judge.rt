@@ -13,6 +13,7 @@ use refusals::Refusal;
 use words::is_outside;
 
 // Bytes that are left over, fewer than two words, or too many.
+#[tactic(auto, unfolding(rules::specs::Bundle::File::bad_count))]
 fn is_bad_count(count: usize) -> bool
     ensures { result ≡ bad_count count }
 {
@@ -20,10 +21,11 @@ fn is_bad_count(count: usize) -> bool
 }
 
 // Whether a word is below `low` or above `high`.
+#[tactic(auto, unfolding(whole::specs::Numbers::outside))]
 fn is_bad_word(word: i32, low: u32, high: u32) -> bool
     ensures { result ≡ outside low high word }
 {
-    is_outside(word as i64, low as i64, high as i64)
+    is_outside(i64::from(word), i64::from(low), i64::from(high))
 }
 
 // A negative length, or a first word that is not `at`.
@@ -31,7 +33,7 @@ fn is_bad_pair(first: i32, size: i32, at: usize) -> bool
     requires { at < 2 ^ 63 }
     ensures { result ≡ (is_neg size || not (eq_z first (pos at))) }
 {
-    size < 0 || first as i64 != at as i64
+    size < 0 || i64::from(first) != at as i64
 }
 
 // Refusals 34 and 35: the pairs one after the other, with the place where the next body has to start.
