@@ -3,7 +3,7 @@
 --   Decisions  what the next token decides: declarations, relations, names, the end
 --   Numbers    a number by its tokens
 --   Terms      a number, a term and a relation by the results of calls
---   Pushed     words one behind the other, and copied
+--   Pushed     words one behind the other
 --   Slots      the words of one limit more
 --   Puts       .. in the words of the whole problem
 --   Course     from one place of a reading to the next: declarations and rows
