@@ -107,10 +107,11 @@ fn set_limit(words: &mut [i32], at: usize, upper: bool, strict: bool, value: i32
 }
 
 // Whether another limit stands there.
+#[tactic(auto, unfolding(crate::specs::Flow::assert_token, rules::specs::Program::Text::ascii))]
 fn is_limit(text: &[u8], held: Limited, most: usize) -> bool
     ensures { result ≡ (next_is text.now (Ok held.at) assert_token && ltb held.count most) }
 {
-    is_next(text, held.at, &ASSERT) & (held.count < most)
+    is_next(text, held.at, &ASSERT) && held.count < most
 }
 
 // One limit.

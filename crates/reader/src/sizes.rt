@@ -27,20 +27,22 @@ pub struct Shape {
 }
 
 // Whether another declaration stands there.
+#[tactic(auto, unfolding(crate::specs::Flow::declare_token, rules::specs::Program::Text::ascii))]
 fn is_declaration(text: &[u8], shape: Shape) -> bool
     ensures { result ≡ (next_is text.now (Ok shape.at) declare_token && ltb shape.counts.rows most_rows) }
 {
-    is_next(text, shape.at, &DECLARE) & (shape.counts.rows < rules::MOST_ROWS)
+    is_next(text, shape.at, &DECLARE) && shape.counts.rows < rules::MOST_ROWS
 }
 
 // Whether a column is declared, and not a row.
+#[tactic(auto, unfolding(rules::specs::Exchange::Script::column_name, rules::specs::Program::Text::ascii))]
 fn is_column(text: &[u8], at: usize, counts: Counts) -> bool
     ensures { result ≡ (eqb counts.rows 0 && ltb counts.columns most_columns
         && next_is text.now (Ok at) (column_name counts.columns)) }
 {
-    (counts.rows == 0)
-        & (counts.columns < rules::MOST_COLUMNS)
-        & is_next_name(text, at, b'x', counts.columns)
+    counts.rows == 0
+        && counts.columns < rules::MOST_COLUMNS
+        && is_next_name(text, at, b'x', counts.columns)
 }
 
 // A name and its sort, up to the next parenthesis that opens.
