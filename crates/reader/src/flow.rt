@@ -33,14 +33,11 @@ pub fn is_next_name(text: &[u8], at: usize, letter: u8, number: usize) -> bool
 }
 
 // Passes the token at `at` where it may stand there, or halts at it.
-#[tactic(auto, using(tokens::proofs::Laws::Places::token_ends))]
+#[tactic(auto, using(tokens::proofs::Laws::Places::token_ends), unfolding(crate::specs::Flow::skip_if, crate::specs::Flow::skip_at, crate::specs::Flow::skip_by, crate::specs::Flow::token_of))]
 pub fn skip_if(text: &[u8], at: usize, may: bool) -> Result<usize, Halted>
     ensures { result ≡ skip_if text.now (Ok at) may }
 {
-    if text.len() <= at {
-        return Err(Halted { place: at });
-    }
-    if !may {
+    if !may || text.len() <= at {
         return Err(Halted { place: at });
     }
     let end = tokens::stop(text, at);

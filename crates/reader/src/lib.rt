@@ -1,6 +1,6 @@
 // SMT-LIB text read back: exactly the texts that have the tokens of a written one, into a lent slice of words. A
-// reading goes on from a place of the text; where another token stands than one that may, it is halted, and nothing more
-// is read. No part looks further than the next token.
+// reading goes on from a place of the text. Where another token stands than one that may, it is halted, and nothing
+// more is read. No part looks further than the next token.
 #![tactic(auto)]
 
 mod flow;

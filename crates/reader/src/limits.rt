@@ -30,6 +30,7 @@ struct Limited {
 }
 
 // A relation that was found, where its side has a limit left.
+#[tactic(auto, unfolding(crate::specs::Limits::related_by, crate::specs::Limits::related))]
 fn relate(text: &[u8], at: usize, left: bool, upper: bool, strict: bool) -> Result<Related, Halted>
     ensures { result ≡ related_by text.now (Ok at) left upper strict }
 {
@@ -61,6 +62,7 @@ fn relation(text: &[u8], at: usize, count: usize, most: usize) -> Result<Related
 }
 
 // Whether the token at `at` is the name of a variable.
+#[tactic(auto, unfolding(rules::specs::Exchange::Script::name_of, rules::specs::Exchange::Script::column_name, rules::specs::Exchange::Script::row_name, rules::specs::Program::Text::ascii))]
 fn is_variable(text: &[u8], at: usize, columns: usize, variable: usize) -> bool
     ensures { result ≡ next_is text.now (Ok at) (name_of columns variable) }
 {
@@ -84,6 +86,7 @@ fn variable(text: &[u8], at: usize, columns: usize, from: usize, most: usize) ->
 }
 
 // 1, and 4 more where it is strict.
+#[tactic(auto, unfolding(crate::specs::Limits::mark_of))]
 fn mark(strict: bool) -> i32
     ensures { result ≡ pos (mark_of strict) }
 {

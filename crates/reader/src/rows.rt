@@ -57,6 +57,7 @@ fn terms(
 }
 
 // More than one term stand in a sum.
+#[tactic(auto, unfolding(crate::specs::Flow::sum_on))]
 fn pass_sum(text: &[u8], at: usize, columns: usize, script: &[u8]) -> Result<usize, Halted>
     requires { StandsAt text.now (Ok at) }
     ensures { result ≡ sum_on text.now (Ok at) columns (token_bytes script.now) }

@@ -218,7 +218,8 @@ module _ {t : List ℕ} {n m count : ℕ} {ws : List ℤ} {so : Followed} (r : L
         behind : length P.limits ≤ 2 * v + side_number upper
         behind = omega (arith, limit-behind h, r.held.numbered)
 
-        reading : Reads t (on (token_bytes end_assert) (limiting (with_limit P (2 * v + side_number upper) l))) (Ok told.at)
+        reading : Reads t (on (token_bytes end_assert) (limiting (with_limit P (2 * v + side_number upper) l)))
+            (Ok told.at)
         reading = record {
           reads = o.reads ∙ g.goes (limit P (2 * v + side_number upper) strict)
               (limit-asks P (2 * v + side_number upper) strict);

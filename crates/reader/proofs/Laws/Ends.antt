@@ -109,7 +109,8 @@ module _ {t : List ℕ} {ws : List ℤ} {count : ℕ} (w : WholeAt t ws count) w
       × (after ≡ taken_output (read_text t) out)
   unfolding taken_by taken_output fitting_by kept_by
   fit-answer out after l q =
-      let room : ltb (length out) (length w.own) ≡ false = le-ltb (length out) (length w.own) (omega (arith, w.size)) in (
+      let room : ltb (length out) (length w.own) ≡ false =
+      le-ltb (length out) (length w.own) (omega (arith, w.size)) in (
         ap (λ (k : ℕ). record { refused = 0; count = k }) (sym w.size)
             ∙ sym (ap (λ o. taken_by o (length out)) w.reads ∙ ap (fitting_by w.own) room),
         q

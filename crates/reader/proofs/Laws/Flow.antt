@@ -62,11 +62,13 @@ module _ (t : List ℕ) where
           (start_at t (stop_at t at) ≤ length t → start_at t (start_at t (stop_at t at)) ≡ start_at t (stop_at t at) →
           StandsAt t (followed t (start_at t (stop_at t at)) ws)) →
           StandsAt t (followed t at (w ∷ ws))
-      go (no n) b q rest = subst (StandsAt t) (sym (short-follow t at w ws (omega arith))) (stands-halted (record { place = at }))
+      go (no n) b q rest =
+          subst (StandsAt t) (sym (short-follow t at w ws (omega arith))) (stands-halted (record { place = at }))
       go (yes l) true q rest =
           subst (StandsAt t) (sym (more-follow t at w ws l q))
           (rest (start-most t (stop_at t at) (stop-ends t at l).1) (start-again t (stop_at t at)))
-      go (yes l) false q rest = subst (StandsAt t) (sym (other-follow t at w ws l q)) (stands-halted (record { place = at }))
+      go (yes l) false q rest =
+          subst (StandsAt t) (sym (other-follow t at w ws l q)) (stands-halted (record { place = at }))
 
   pub stands-followed : (so : Followed) (ws : List Bytes) → StandsAt t so → StandsAt t (followed_on t so ws)
   stands-followed (Ok at) ws s = stands_from ws at (s.inside at refl) (s.starts at refl)

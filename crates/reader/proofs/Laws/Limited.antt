@@ -129,7 +129,8 @@ module _ {t : List ℕ} {n m count : ℕ} {ws : List ℤ} {so : Followed} (r : L
           pub limited-more : count < 2 * v + side + 1
           limited-more = omega (arith, same, f, behind)
 
-          module _ {bound : Told} (d : NumberGoes t named (record { largest = largest_limit; blank = false }) (Ok bound))
+          module _ {bound : Told}
+              (d : NumberGoes t named (record { largest = largest_limit; blank = false }) (Ok bound))
               (z : ℤ) (i : z ≡ bound.value) (last : Followed)
               (j : last ≡ followed_on t (Ok bound.at) (token_bytes end_assert)) (new : List ℤ)
               (k : new ≡ limit_set ws (2 + m * n + 3 * v) told.upper told.strict z) (next : ℕ)

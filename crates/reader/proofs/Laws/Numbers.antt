@@ -285,7 +285,9 @@ stands-numeral t (Err p) below a s = stands-halted t p
 stands-numeral t (Ok at) below a s = go (dec_lt at (length t))
   where
     go : Dec (at < length t) → StandsAt t (place_of (numeral_at t at below a))
-    go (no n) = subst (λ r. StandsAt t (place_of r)) (sym (numeral-out t at below a (omega arith))) (stands-halted t (record { place = at }))
+    go (no n) =
+        subst (λ r. StandsAt t (place_of r)) (sym (numeral-out t at below a (omega arith)))
+        (stands-halted t (record { place = at }))
     go (yes l) =
         subst (λ r. StandsAt t (place_of r)) (sym (numeral-in t at below a l)) (by (short_numeral (bytes_at t at)))
       where

@@ -28,7 +28,8 @@ use Rattle.reader.specs.declared.numbers.Told.{Told}
 use Rattle.reader.specs.Course.{TermGoes}
 use Rattle.reader.specs.Flow.{StandsAt, followed_on, next_is, skip_if}
 use Rattle.reader.specs.Numbers.{NumberGoes, numeral_on, place_of, value_of}
-use Rattle.reader.proofs.Laws.Flow.{ahead-passed, name-passed, passed, passed-all, stands-followed, stands-halted, stands-skip}
+use Rattle.reader.proofs.Laws.Flow.{ahead-passed, name-passed, passed, passed-all, stands-followed, stands-halted}
+use Rattle.reader.proofs.Laws.Flow.{stands-skip}
 use Rattle.reader.proofs.Laws.Decisions.{minus-due, less-related, more-related, no-less-related, no-more-related}
 use Rattle.reader.proofs.Laws.Numbers.{coefficient-asks, numeral-goes, size-goes, stands-numeral}
 use native.Mathlib.Decide.{dec_lt}
@@ -93,10 +94,13 @@ module _ {t : List ℕ} {so : Followed} (s : StandsAt t so) (j : ℕ) (blank : B
   pub term-opened : StandsAt t opened
   term-opened = subst (StandsAt t) (sym o) (stands-followed t so (token_bytes open_term) s)
 
-  module _ {told : Result Told Halted} (g : NumberGoes t opened (record { largest = largest_coefficient; blank = blank }) told)
+  module _ {told : Result Told Halted}
+      (g : NumberGoes t opened (record { largest = largest_coefficient; blank = blank }) told)
       {named : Followed} (e : named ≡ skip_if t (place_of told) (next_is t (place_of told) (column_name j))) where
     pub term-named : StandsAt t named
-    term-named = subst (StandsAt t) (sym e) (stands-skip t (place_of told) (next_is t (place_of told) (column_name j)) g.stands)
+    term-named =
+        subst (StandsAt t) (sym e)
+        (stands-skip t (place_of told) (next_is t (place_of told) (column_name j)) g.stands)
 
     pub term_told : (r : Result Told Halted) → place_of r ≡ followed_on t named (token_bytes close) →
         ((p : ℕ) → place_of r ≡ Ok p → value_of r ≡ value_of told) → TermGoes t so j blank r

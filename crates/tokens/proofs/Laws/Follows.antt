@@ -77,11 +77,13 @@ module _ {t s : List ℕ} {at next due : ℕ} (f : Walked t s at next due) where
       where
         go : Dec (next < length t) → (b : Bool) → same_bytes (bytes_at s due) (bytes_at t next) ≡ b →
             Walked t s at p (start_at s (stop_at s due))
-        go (no n) b e = let o : halted next ≡ Ok p = sym (short-follow t next (bytes_at s due) [] (omega arith)) ∙ q in cc
+        go (no n) b e =
+            let o : halted next ≡ Ok p = sym (short-follow t next (bytes_at s due) [] (omega arith)) ∙ q in cc
         go (yes l) false e = let o : halted next ≡ Ok p = sym (other-follow t next (bytes_at s due) [] l e) ∙ q in cc
         go (yes l) true e =
             let z : p ≡ start_at t (stop_at t next) =
-            let o : Ok (start_at t (stop_at t next)) ≡ Ok p = sym (more-follow t next (bytes_at s due) [] l e) ∙ q in cc in
+            let o : Ok (start_at t (stop_at t next)) ≡ Ok p =
+            sym (more-follow t next (bytes_at s due) [] l e) ∙ q in cc in
             subst (λ k. Walked t s at k (start_at s (stop_at s due))) (sym z) record {
               next-in = start-most t (stop_at t next) (stop-ends t next l).1;
               next-at = start-again t (stop_at t next);
@@ -106,7 +108,8 @@ module _ {t s : List ℕ} {at next due : ℕ} (f : Walked t s at next due) where
             due-first ∙ other-follow t next (bytes_at s due) (bytes_from s (stop_at s due)) l r
             ∙ sym (other-follow t next (bytes_at s due) [] l r) ∙ q
         go (yes l) true r =
-            let o : Ok (start_at t (stop_at t next)) ≡ Err e = sym (more-follow t next (bytes_at s due) [] l r) ∙ q in cc
+            let o : Ok (start_at t (stop_at t next)) ≡ Err e =
+            sym (more-follow t next (bytes_at s due) [] l r) ∙ q in cc
 
 -- the bytes of a token, by where it stops
 pub token-due : (s : List ℕ) (due : ℕ) {last : ℕ} → last ≡ stop_at s due →

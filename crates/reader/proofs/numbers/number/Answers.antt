@@ -31,7 +31,8 @@ returns-in_err-told c =
     let x = c.in_err-told.field-0.0 in
     rw (p.1, p.2)
     (number-minus c.requires.0 c.args.asked (sym c.in_ok-opened.was ∙ c.follow.ensures)
-    (sym c.in_err-told.was ∙ c.numeral-2.ensures) (Err x) refl (λ k q. refl) (sym c.is_next.ensures ∙ c.if-not-is_next.false))
+    (sym c.in_err-told.was ∙ c.numeral-2.ensures) (Err x) refl (λ k q. refl)
+    (sym c.is_next.ensures ∙ c.if-not-is_next.false))
 
 pub follow-requires-2 : goal.follow-requires-2
 unfolding open_minus ascii

@@ -51,7 +51,8 @@ pub terms-requires : goal.terms-requires
 unfolding assert_row row_name open_sum ascii
 terms-requires c = (
   row-begun c.requires.0 c.requires.1
-      (sym c.in_ok-opened.was ∙ c.follow.ensures) (sym c.in_ok-named.was ∙ c.pass_name.ensures) (sym c.in_ok-summed.was ∙ c.pass_sum.ensures),
+      (sym c.in_ok-opened.was ∙ c.follow.ensures) (sym c.in_ok-named.was ∙ c.pass_name.ensures)
+      (sym c.in_ok-summed.was ∙ c.pass_sum.ensures),
   c.requires.1,
 )
 
