@@ -234,14 +234,6 @@ module _ (t : List ℕ) where
 
   -- ---- tokens of a sum
 
-  pub sum-single : (so : Followed) (n : ℕ) (ws : List Bytes) → n ≡ 1 → sum_on t so n ws ≡ so
-  unfolding sum_on
-  sum-single so n ws e = rw (eq-eqb n 1 e, sum_on) refl
-
-  pub sum-several : (so : Followed) (n : ℕ) (ws : List Bytes) → (n ≡ 1 → ⊥) → sum_on t so n ws ≡ followed_on t so ws
-  unfolding sum_on
-  sum-several so n ws e = rw (ne_eqb n 1 e, sum_on) refl
-
   pub sum-halted : (e : Halted) (n : ℕ) (ws : List Bytes) → sum_on t (Err e) n ws ≡ Err e
   unfolding sum_on
   sum-halted e n ws = go (eqb n 1)

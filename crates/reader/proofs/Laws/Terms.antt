@@ -3,19 +3,17 @@
 --   size-opened, size-stands    where the reading stands before and behind its size
 --   term-opened, term-named     where the reading stands before a term's number, and behind its name
 --   term_told                   all of a term is read
---   name-column, name-row       the name of a variable
 --   no-less-goes, more-goes, no-more-goes, less-goes   a relation
-use mathlib.Core.Bool.{Bool, true, false, ◌&&◌, cond}
+use mathlib.Core.Bool.{Bool, true, false, ◌&&◌}
 use mathlib.Core.List.{List, [], ◌∷◌, ◌++◌}
 use mathlib.Core.Path.{◌≡◌, refl, sym, ◌∙◌, ap, subst}
-use Prim.Native.Nat.{ℕ, suc, ◌+◌, ◌-◌, ◌*◌, ◌≤◌, ◌<◌}
+use Prim.Native.Nat.{ℕ, suc, ◌+◌, ◌-◌, ◌*◌, ◌<◌}
 use lib.Dec.{eqb, ltb}
 use lib.IntN.{ℤ}
 use Rattle.rules.specs.Sizes.{largest_coefficient}
 use Rattle.rules.specs.Exchange.Tokens.{token_bytes}
-use Rattle.rules.specs.Exchange.Script.{close, column_name, open_minus, open_term, less, more, name_of, no_less}
+use Rattle.rules.specs.Exchange.Script.{close, column_name, open_minus, open_term, less, more, no_less}
 use Rattle.rules.specs.Exchange.Script.{no_more}
-use Rattle.rules.specs.Exchange.Script.{row_name}
 use Rattle.rules.specs.Exchange.Reader.{ahead, all_zero, behind_term, coefficient, number, on, size, taken, Pieces}
 use Rattle.rules.specs.Exchange.Reader.{ReaderState, relating, bounding}
 use Rattle.rules.proofs.Exchange.Reader.Openings.{open_word}
@@ -36,7 +34,6 @@ use native.Mathlib.Decide.{dec_lt}
 use native.Mathlib.Omega.{arith}
 use borrow.Author.Tests.{le-ltb, lt-ltb}
 use lib.ListN.{length}
-use Rattle.rules.specs.Program.Text.{ascii, digits}
 use Rattle.reader.specs.declared.limits.Related.{Related}
 use Rattle.reader.specs.Limits.{RelationGoes, read_related, related, related_by, side_number}
 
@@ -120,17 +117,6 @@ module _ {t : List ℕ} {so : Followed} (s : StandsAt t so) (j : ℕ) (blank : B
           ∙ with-value t (λ z. behind_term P (row ++ (z ∷ []))) (value_of told) r v;
       stands = subst (StandsAt t) (sym d) (stands-followed t named (token_bytes close) term-named);
     }
-
--- ---- the name of a variable
-
-module _ (n v : ℕ) where
-  pub name-column : v < n → name_of n v ≡ 120 ∷ digits v
-  unfolding name_of column_name ascii
-  name-column h = ap (λ b. cond b (column_name v) (row_name (v - n))) (lt-ltb v n h)
-
-  pub name-row : n ≤ v → name_of n v ≡ 114 ∷ digits (v - n)
-  unfolding name_of row_name ascii
-  name-row h = ap (λ b. cond b (column_name v) (row_name (v - n))) (le-ltb v n h)
 
 -- ---- a relation
 
