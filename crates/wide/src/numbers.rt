@@ -17,14 +17,11 @@ pub fn number_at(answer: &[i64], slot: usize) -> Wide
     ensures { result ≡ wide_in answer.now slot }
 {
     let at = 2 + 4 * slot;
-    let second = at + 1;
-    let third = at + 2;
-    let last = at + 3;
     Wide {
         a: answer[at],
-        b: answer[second],
-        c: answer[third],
-        d: answer[last],
+        b: answer[at + 1],
+        c: answer[at + 2],
+        d: answer[at + 3],
     }
 }
 
