@@ -115,16 +115,11 @@ impl Frame<'_> {
     fn some_bad_variable(&self, asked: Asked) -> bool
         ensures { result ≡ bad_variable asked self.now.words.now }
     {
-        let first = 2 + self.rows * self.columns;
+        let (variables, _) = self.words[2 + self.rows * self.columns..].as_chunks::<3>();
         let mut bad = false;
-        for v in 0..self.columns + self.rows {
-            let at = first + 3 * v;
-            bad |= is_bad_variable(
-                asked,
-                self.words[at],
-                self.words[at + 1],
-                self.words[at + 2],
-            );
+        for variable in variables {
+            let [kind, lower, upper] = *variable;
+            bad |= is_bad_variable(asked, kind, lower, upper);
         }
         bad
     }

@@ -3,8 +3,10 @@
 --   zero_bits                     a signed number's bits are 0 exactly where it is
 --   few_words, kind-place, ..     the places of words whose sizes and whose length are fine
 --   row-long, row-word            a row's words, as a part of all
+--   variable-word                 a variable's words, likewise
 --   accepted-framed               accepted words are such
-use Rattle.std.proofs.Common.{get_or-drop, get_or-take}
+use Rattle.std.proofs.Common.{get_or, get_or-drop, get_or-take}
+use Rattle.std.specs.Simd.{first_chunks}
 use mathlib.Core.Path.{◌≡◌, refl, sym, ◌∙◌, ap, ap₂}
 use mathlib.Core.Bool.{not}
 use mathlib.Core.List.{List}
@@ -15,7 +17,7 @@ use borrow.Author.Tests.{ne_eqb}
 use lib.Dec.{eqb}
 use lib.IntN.{ℤ, pos, negsuc, neg_ℤ, nat_abs}
 use lib.ListN.{drop, length, length-drop, take}
-use lib.Seq.{length-take-le}
+use lib.Seq.{drop-drop, length-take-le}
 use lib.Signed.{rem_z}
 use mir.Syntax.{w32}
 use mir.Val.{SFits, of_z}
@@ -78,6 +80,20 @@ module _ {ws : List ℤ} {n m : ℕ} (F : Framed ws n m) (i k : ℕ) (h : i < m)
       ∙ get_or-drop (2 + i * n) ws j (pos 0)
       ∙ ap (word ws) ((let z : 2 + i * n + j ≡ 2 + (i * n + j) = omega arith in z)
       ∙ ap (λ p. 2 + (i * p + j)) F.columns-are)
+
+-- variable v, as a part of the words: three behind all coefficients
+chunk-at : (k i : ℕ) (xs d : List ℤ) → i < k → get_or (first_chunks 3 k xs) i d ≡ take 3 (drop (3 * i) xs)
+chunk-at zero i xs d h = absurd (omega arith)
+chunk-at (suc k) zero xs d h = refl
+chunk-at (suc k) (suc i) xs d h = chunk-at k i (drop 3 xs) d (omega arith) ∙ ap (take 3) (drop-drop (3 * i) 3 xs)
+    ∙ ap (λ n. take 3 (drop n xs)) (let z : 3 + 3 * i ≡ 3 * suc i = omega arith in z)
+
+pub variable-word : (k i j p : ℕ) (ws d : List ℤ) → i < k → j < 3 →
+    word (get_or (first_chunks 3 k (drop p ws)) i d) j ≡ word ws (p + 3 * i + j)
+variable-word k i j p ws d h l =
+    ap (λ xs. word xs j) (chunk-at k i (drop p ws) d h) ∙ get_or-take 3 (drop (3 * i) (drop p ws)) j (pos 0) l
+    ∙ get_or-drop (3 * i) (drop p ws) j (pos 0) ∙ get_or-drop p ws (3 * i + j) (pos 0)
+    ∙ ap (word ws) (let z : p + (3 * i + j) ≡ p + 3 * i + j = omega arith in z)
 
 pub accepted-framed : {ws : List ℤ} {n m : ℕ} → Accepted most_rows ws → n ≡ n_of ws → m ≡ m_of ws → Framed ws n m
 accepted-framed A e q = record {

@@ -10,5 +10,5 @@ use Rattle.judge.proofs.Frame.some_bad_variable.Given as goal
 abbrev pub bad-at : Asked → List ℤ → ℕ → Bool
 bad-at asked ws v = bad_by asked (kind ws v) (lower_word ws v) (upper_word ws v)
 
-abbrev pub invariant-loop-v : goal.invariant-loop-v
-invariant-loop-v l = l.bad ≡ some_below l.v (bad-at l.asked l.self.words.now)
+abbrev pub invariant-loop-variable : goal.invariant-loop-variable
+invariant-loop-variable l = l.bad ≡ some_below l.variable-index (bad-at l.asked l.self.words.now)
