@@ -1,6 +1,6 @@
 -- What the test program sees in an answer of time rows.
 --   told-refused, told-short, told-first    no cycle; no cycle; the first word says
---   rows_none, rows_few, rows-most          no rows, as many as are told, as many as there are words
+--   rows_none, rows-least                   no rows; as many as are told, or as there are words
 --   none-listed, one-listed, more-listed    for a loop: nothing passed yet, the row found, one row more
 use borrow.Author.Tests.{eq-eqb, ne_eqb, le-leb, lt-leb}
 use mathlib.Core.Bool.{true, false}
@@ -9,7 +9,6 @@ use mathlib.Core.Logic.{◌≢◌}
 use mathlib.Core.Path.{◌≡◌, refl, ◌∙◌}
 use Prim.Native.Nat.{ℕ, ◌+◌, ◌-◌, ◌≤◌, ◌<◌, min}
 use native.Mathlib.Numerals.{add-one}
-use native.Mathlib.Omega.{arith}
 use lib.IntN.{ℤ, pos, nat_abs}
 use lib.ListN.{length}
 use lib.Signed.{◌≤ℤ◌, ◌<ℤ◌}
@@ -38,15 +37,9 @@ module _ (out : List ℤ) where
   unfolding rows_told
   rows_none h = rw (lt→true h) refl
 
-  least : pos 0 ≤ℤ word out 1 → rows_told out ≡ min (nat_abs (word out 1)) (length out - 2)
+  pub rows-least : pos 0 ≤ℤ word out 1 → rows_told out ≡ min (nat_abs (word out 1)) (length out - 2)
   unfolding rows_told
-  least h = rw (le→false {a = pos 0} {b = word out 1} h) refl
-
-  pub rows_few : pos 0 ≤ℤ word out 1 → nat_abs (word out 1) < length out - 2 → rows_told out ≡ nat_abs (word out 1)
-  rows_few h k = least h ∙ omega arith
-
-  pub rows-most : pos 0 ≤ℤ word out 1 → length out - 2 ≤ nat_abs (word out 1) → rows_told out ≡ length out - 2
-  rows-most h k = least h ∙ omega arith
+  rows-least h = rw (le→false {a = pos 0} {b = word out 1} h) refl
 
 module _ (out : List ℤ) (row : ℤ) where
   pub none-listed : is_listed out 0 row ≡ false

@@ -1,3 +1,2 @@
 -- What the contracts of `vectors` say of the words that it reads and prints.
 pub mod Listed
-pub mod Wide

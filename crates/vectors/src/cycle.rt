@@ -5,7 +5,7 @@ ghost use Rattle.vectors.specs.Listed.{is_told, rows_told, is_listed};
 use crate::print;
 use std::io;
 
-const MOST_ROWS: usize = 256;
+const MOST_ROWS: i64 = 256;
 
 // Whether the words are those of a cycle, where the time solver returned this number.
 pub fn is_told(number: u32, out: &[i64]) -> bool
@@ -28,15 +28,10 @@ fn rows_of(out: &[i64]) -> usize
     ensures fit { 2 + result ≤ length out.now }
 {
     let told = out[1];
-    let most = out.len() - 2;
     if told < 0 {
         return 0;
     }
-    let rows = told as usize;
-    if rows < most {
-        return rows;
-    }
-    most
+    (told as usize).min(out.len() - 2)
 }
 
 // Whether a row is among those that are listed.
@@ -70,7 +65,7 @@ pub fn words(rt: &impl Print, out: &[i64]) -> io::Result<()>
     print::number(rt, out[0])?;
     print::number(rt, out[1])?;
     for i in 0..MOST_ROWS {
-        row(rt, out, rows, i as i64)?;
+        row(rt, out, rows, i)?;
     }
-    print::words(rt, out, 2 + rows)
+    print::words(rt, &out[2 + rows..])
 }

@@ -6,11 +6,10 @@ pub fn number(rt: &impl Print, n: i64) -> io::Result<()> {
     print!(rt; " {n}")
 }
 
-// The words of a slice from a place on.
-pub fn words(rt: &impl Print, list: &[i64], from: usize) -> io::Result<()> {
-    for i in from..list.len() {
-        let word = list[i];
-        number(rt, word)?;
+// The words of a slice.
+pub fn words(rt: &impl Print, list: &[i64]) -> io::Result<()> {
+    for word in list {
+        number(rt, *word)?;
     }
     Ok(())
 }

@@ -48,33 +48,16 @@ fn operate(
     requires { SessionStanding session }
     ensures { IfOk result SessionStanding }
 {
-    let what = input::count(reader, 5)?;
+    let what = input::number(reader)?;
     let variable = input::number(reader)?;
-    if what == 0 {
-        return Ok(session);
+    match what {
+        0 => Ok(session),
+        1 => check(rt, session, out),
+        2 => switch(rt, session, variable, false, true, out),
+        3 => switch(rt, session, variable, false, false, out),
+        4 => switch(rt, session, variable, true, true, out),
+        _ => switch(rt, session, variable, true, false, out),
     }
-    if what == 1 {
-        return check(rt, session, out);
-    }
-    let upper = what >= 4;
-    let on = what % 2 == 0;
-    switch(rt, session, variable, upper, on, out)
-}
-
-// Four operations.
-fn operate_four(
-    reader: &mut impl Read,
-    rt: &impl Print,
-    session: Session,
-    out: &mut [i64],
-) -> io::Result<Session>
-    requires { SessionStanding session }
-    ensures { IfOk result SessionStanding }
-{
-    let first = operate(reader, rt, session, out)?;
-    let second = operate(reader, rt, first, out)?;
-    let third = operate(reader, rt, second, out)?;
-    operate(reader, rt, third, out)
 }
 
 // Opens the session, and operates sixteen times.
@@ -86,10 +69,9 @@ pub fn run(
 ) -> io::Result<()> {
     let opened = session::open(words);
     line(rt, opened.refused, out)?;
-    let start = opened.session;
-    let first = operate_four(reader, rt, start, out)?;
-    let second = operate_four(reader, rt, first, out)?;
-    let third = operate_four(reader, rt, second, out)?;
-    let last = operate_four(reader, rt, third, out)?;
+    let mut session = opened.session;
+    for _ in 0..16 {
+        session = operate(reader, rt, session, out)?;
+    }
     Ok(())
 }

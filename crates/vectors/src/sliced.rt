@@ -17,24 +17,15 @@ fn go_on(rt: &impl Print, slice: Slice, pivots: usize, out: &mut [i64]) -> io::R
     Ok(after)
 }
 
-// Goes on 0 pivots, then 1.
-fn go_on_twice(rt: &impl Print, slice: Slice, out: &mut [i64]) -> io::Result<Slice>
-    requires { SliceStanding slice }
-    ensures { IfOk result SliceStanding }
-{
-    let after = go_on(rt, slice, 0, out)?;
-    go_on(rt, after, 1, out)
-}
-
 // Starts the run, and goes on five times.
 pub fn run(rt: &impl Print, words: &[i32], out: &mut [i64]) -> io::Result<()> {
     let begun = slices::start(words);
     if begun.refused != 0 {
         return line(rt, begun.refused, out);
     }
-    let first = begun.slice;
-    let second = go_on_twice(rt, first, out)?;
-    let third = go_on_twice(rt, second, out)?;
-    let last = go_on(rt, third, 5, out)?;
+    let mut slice = begun.slice;
+    for pivots in [0, 1, 0, 1, 5] {
+        slice = go_on(rt, slice, pivots, out)?;
+    }
     Ok(())
 }

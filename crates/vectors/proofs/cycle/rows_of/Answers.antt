@@ -2,8 +2,8 @@
 use borrow.Author.Rules.{rules}
 use mathlib.Core.Bool.{false}
 use mathlib.Core.List.{List}
-use mathlib.Core.Path.{sym, ◌≡◌}
-use Prim.Native.Nat.{◌-◌, ◌≤◌, ◌<◌}
+use mathlib.Core.Path.{ap, sym, ◌∙◌, ◌≡◌}
+use Prim.Native.Nat.{min, ◌-◌}
 use lib.IntN.{ℤ, pos, nat_abs}
 use lib.ListN.{length}
 use lib.Signed.{lt_z, ◌≤ℤ◌}
@@ -12,7 +12,7 @@ use mir.Syntax.{w64}
 use mir.Val.{SFits, of_z, to_z}
 use Rattle.whole.proofs.Numbers.Tests.{test-lt, test-nlt}
 use Rattle.rules.specs.Problem.{word}
-use Rattle.vectors.proofs.Listing.{rows_none, rows_few, rows-most}
+use Rattle.vectors.proofs.Listing.{rows_none, rows-least}
 use Rattle.vectors.proofs.cycle.rows_of.Goals as goal
 
 -- what is not below 0 by its bits is not below 0
@@ -25,16 +25,9 @@ returns-then-told-lt0-clause-count c =
     let told : SFits w64 (word c.args.out.now 1) = search rules in
     sym (rows_none c.args.out.now (test-lt w64 told (sfits_lit tt) c.if-told-lt0.true))
 
-pub returns-then-rows-most-clause-count : goal.returns-then-rows-most-clause-count
-returns-then-rows-most-clause-count c =
-    let out = c.args.out.now in
-    let told : SFits w64 (word out 1) = search rules in
-    let few : nat_abs (word out 1) < length out - 2 = simp (to_z-of_z told) at c.if-rows-most.true in
-    rw (to_z-of_z told) (sym (rows_few out (least out told c.if-told-lt0.false) few))
-
 pub returns-clause-count : goal.returns-clause-count
 returns-clause-count c =
     let out = c.args.out.now in
     let told : SFits w64 (word out 1) = search rules in
-    let most : length out - 2 ≤ nat_abs (word out 1) = simp (to_z-of_z told) at c.if-rows-most.false in
-    sym (rows-most out (least out told c.if-told-lt0.false) most)
+    c.min.ensures ∙ ap (λ z. min (nat_abs z) (length out - 2)) (to_z-of_z told)
+    ∙ sym (rows-least out (least out told c.if-told-lt0.false))
