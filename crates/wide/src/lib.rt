@@ -3,6 +3,7 @@
 //   numbers   the numbers of an answer, and whether their words are in their ranges
 //   can       verdict 1
 //   cannot    verdict 2
+// Kept: one trait for these and for numbers of one word is no plainer: those need ranges, these how large limbs are.
 #![tactic(auto)]
 
 ghost use Rattle.std.specs.Prelude.{◌≡◌};
