@@ -5,7 +5,7 @@
 ghost use Rattle.std.specs.Prelude.{◌≡◌};
 ghost use Rattle.whole.specs.Values.{pairs};
 ghost use Rattle.rules.specs.Limit.{inset};
-ghost use Rattle.amounts.specs.Amounts.{amount_of, given_lower, given_upper, pair_in, pair_of, put_inside, value_of};
+ghost use Rattle.amounts.specs.Amounts.{amount_of, given_lower, given_upper, pair_in, put_inside, value_of};
 
 // A limit as it was given: whether it was, whether it is on, whether it excludes its own number, and that number. Every
 // answer is by the limits that are on. Of a missing limit no flag is set and the number is 0.

@@ -76,7 +76,7 @@ module _ (bs : List ℕ) where
       edition-skip : file_refusal bs ≡ first tests-32
       edition-skip = count-skip ∙ first-skip 31 tests-32 e
 
-      pub edition-least : pos 1 ≤ℤ word ws 0
+      edition-least : pos 1 ≤ℤ word ws 0
       unfolding bad_edition
       edition-least = ((tells-outside 1 (length editions) (word ws 0)).if-false e).0
 
@@ -93,7 +93,7 @@ module _ (bs : List ℕ) where
       bodies-hit h = sym (edition-skip ∙ first-hit 32 tests-33 h)
 
       module _ (b : bad_bodies ws ≡ false) where
-        pub bodies-least : pos 0 ≤ℤ word ws 1
+        bodies-least : pos 0 ≤ℤ word ws 1
         unfolding bad_bodies
         bodies-least = ((tells-outside 0 (bodies_most (edition_in ws)) (word ws 1)).if-false b).0
 

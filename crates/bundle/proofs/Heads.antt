@@ -100,7 +100,7 @@ head-then : (e : ℕ) (lengths ws : List ℤ) → file_words e lengths [] ++ ws 
 unfolding file_words
 head-then e lengths ws = ap (λ l. l ++ ws) (append-nil (head_words e lengths))
 
-pub head-length : (e : ℕ) (lengths : List ℤ) → length (file_words e lengths []) ≡ head_size (length lengths)
+head-length : (e : ℕ) (lengths : List ℤ) → length (file_words e lengths []) ≡ head_size (length lengths)
 head-length e lengths = omega (arith, file-length e lengths [])
 
 module _ (e : ℕ) (lengths front rest : List ℤ) (size : ℕ) (size-is : size ≡ head_size (length lengths))

@@ -28,7 +28,7 @@ use Rattle.rules.proofs.Bundle.Exactly.{writer-accepted-exactly, writer-refusal-
 use Rattle.rules.proofs.Bundle.Places.{bodies-few}
 use Rattle.bundle.specs.Lengths.{Counts, Fillable}
 
-pub negative-tells : (l : List ℤ) → Tells (bad_lengths l) ((i : ℕ) × (i < length l) × (word l i <ℤ pos 0))
+negative-tells : (l : List ℤ) → Tells (bad_lengths l) ((i : ℕ) × (i < length l) × (word l i <ℤ pos 0))
     ((i : ℕ) → i < length l → pos 0 ≤ℤ word l i)
 unfolding bad_lengths
 negative-tells l = tells-some (length l) (λ i. is_neg (word l i)) (λ i h. tells-lt_z (word l i) (pos 0))

@@ -3,7 +3,7 @@
 
 ghost use Rattle.std.specs.Prelude.{◌≡◌, ◌≤◌, length};
 ghost use Rattle.whole.specs.Divisors.{gcd};
-ghost use Rattle.whole.specs.Numbers.{Within, AllWithin};
+ghost use Rattle.whole.specs.Numbers.{AllWithin};
 ghost use Rattle.divisor.specs.Cells.{largest_size, Divides, divisor_below, divided_cells};
 ghost use Rattle.divisor.specs.Signs.{signed_by};
 

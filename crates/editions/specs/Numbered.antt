@@ -5,11 +5,11 @@ use Rattle.refusals.specs.declared.Refusal.TheVariants as reasons
 use Rattle.editions.specs.declared.Edition.{Edition}
 use Rattle.editions.specs.declared.Edition.TheVariants.{First, Second}
 
-abbrev pub number_of : Edition → ℕ
-number_of First = 1
-number_of Second = 2
+abbrev pub edition_number : Edition → ℕ
+edition_number First = 1
+edition_number Second = 2
 
 -- the result is the edition with this number, or refusal 31 of a number that no edition has
 abbrev pub Decodes : ℕ → Result Edition Refusal → Type 0
 Decodes number r =
-    MatchResult r (λ e. number ≡ number_of e) (λ e. (e ≡ reasons.Edition) × (number ≢ 1) × (number ≢ 2))
+    MatchResult r (λ e. number ≡ edition_number e) (λ e. (e ≡ reasons.Edition) × (number ≢ 1) × (number ≢ 2))

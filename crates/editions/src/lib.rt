@@ -5,7 +5,7 @@
 ghost use Rattle.std.specs.Prelude.{◌≡◌};
 ghost use Rattle.rules.specs.Bundle.File.{bodies_most, rows_in};
 ghost use Rattle.rules.specs.Bundle.Writer.{no_such_edition};
-ghost use Rattle.editions.specs.Numbered.{Decodes, number_of};
+ghost use Rattle.editions.specs.Numbered.{Decodes, edition_number};
 
 use refusals::Refusal;
 
@@ -37,7 +37,7 @@ impl TryFrom<u32> for Edition {
 impl Edition {
     // How many bodies a file may have.
     fn bodies(self) -> usize
-        ensures { result ≡ bodies_most (number_of self) }
+        ensures { result ≡ bodies_most (edition_number self) }
     {
         match self {
             Edition::First => rules::FIRST_BODIES,
@@ -47,7 +47,7 @@ impl Edition {
 
     // How many rows a body may have.
     fn rows(self) -> u32
-        ensures { result ≡ rows_in (number_of self) }
+        ensures { result ≡ rows_in (edition_number self) }
     {
         match self {
             Edition::First => rules::FIRST_ROWS as u32,

@@ -7,7 +7,7 @@
 --   words-few, words-front              how many words there are, and where they stand
 --   put_as                              a text that is another is put as it
 --   vars-few                            as many variables as the writer takes
---   front-words, front-long             words that were made of bytes stand at the front
+--   front-words, front-words-long             words that were made of bytes stand at the front
 use mathlib.Core.List.{List, [], ◌∷◌, ◌++◌}
 use mathlib.Core.Logic.{◌≢◌}
 use mathlib.Core.Path.{◌≡◌, ap, refl, sym, ◌∙◌}
@@ -100,7 +100,7 @@ module _ (bs : List ℕ) where
   program-replied e = sym (ap (λ j. reply_after j (words_from bs)) e)
 
   -- the words at the front of an array that they were put into
-  pub words-front : (rest : List ℤ) (k : ℕ) → k ≡ length bs / 4 → take k (words_from bs ++ rest) ≡ words_from bs
+  words-front : (rest : List ℤ) (k : ℕ) → k ≡ length bs / 4 → take k (words_from bs ++ rest) ≡ words_from bs
   words-front rest k e = take-append-all (words_from bs) rest k (e ∙ sym (words-length bs))
     where
       take-append-all : (s t : List ℤ) (i : ℕ) → i ≡ length s → take i (s ++ t) ≡ s
@@ -115,5 +115,5 @@ module _ (bytes : List ℕ) (rest : List ℤ) {k : ℕ} {words : List ℤ} (coun
   pub front-words : take k words ≡ words_from bytes
   front-words = ap (take k) content ∙ words-front bytes rest k count
 
-  pub front-long : k ≡ length (take k words)
-  front-long = count ∙ sym (ap length front-words ∙ words-length bytes)
+  pub front-words-long : k ≡ length (take k words)
+  front-words-long = count ∙ sym (ap length front-words ∙ words-length bytes)

@@ -153,8 +153,8 @@ unfoldable pub column_by : Tableau → Option ℕ → answered.Option ColumnPlac
 column_by t none = None
 column_by t (some w) = Some (seat_at t w).column
 
-abbrev pub column_in : Tableau → ℕ → Bool → answered.Option ColumnPlace
-column_in t i rises = column_by t (entering_at t i (side_by rises))
+abbrev pub column_seated : Tableau → ℕ → Bool → answered.Option ColumnPlace
+column_seated t i rises = column_by t (entering_at t i (side_by rises))
 
 -- ---- what the code reads
 

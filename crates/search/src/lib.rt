@@ -4,9 +4,9 @@
 
 ghost use Rattle.std.specs.Prelude.{◌≡◌, false, ℕ, ◌+◌, ◌≤◌, ◌<◌, pos, get_or};
 ghost use Rattle.whole.specs.Numbers.{Within};
-ghost use Rattle.rules.specs.Sizes.{most_columns, most_rows, most_variables, largest_number, largest_limit};
+ghost use Rattle.rules.specs.Sizes.{most_columns, most_rows, largest_number, largest_limit};
 ghost use Rattle.layout.specs.Layout.{entry_in};
-ghost use Rattle.search.specs.Search.{blocked_in, column_in, row_sum_in, Searchable, seen, next_at, view_of};
+ghost use Rattle.search.specs.Search.{blocked_in, column_seated, row_sum_in, Searchable, seen, next_at, view_of};
 
 use amounts::{Amount, Value};
 use layout::{ColumnPlace, RowPlace};
@@ -173,7 +173,7 @@ fn entering(
 ) -> Option<ColumnPlace>
     requires searchable { Searchable (seen entries.now view.now limits.now) }
     requires in_rows { row.0 < view.now.rows }
-    ensures { result ≡ column_in (seen entries.now view.now limits.now) row.0 rises }
+    ensures { result ≡ column_seated (seen entries.now view.now limits.now) row.0 rises }
 {
     let size = Size {
         rows: view.rows,

@@ -36,10 +36,12 @@ bytes-are z fit = ap (λ y. to_le_bytes w32 (of_z w32 y)) (to_z-of_z fit) ∙ ap
     four u = rw div-one refl
 
 -- a part of a list in whose place others stand
-pub part-put : (l vs : List ℕ) (at : ℕ) → length vs ≡ 4 → at + 4 ≤ length l → put_mid at (at + 4 - at) l vs ≡ sets l at vs
+pub part-put : (l vs : List ℕ) (at : ℕ) → length vs ≡ 4 → at + 4 ≤ length l → put_mid at (at + 4 - at) l vs
+    ≡ sets l at vs
 part-put l vs at long room =
     let behind : drop (at + 4 - at) (drop at l) ≡ drop (at + length vs) l =
-    drop-drop (at + 4 - at) at l ∙ ap (λ n. drop n l) (let z : at + (at + 4 - at) ≡ at + length vs = omega arith in z) in
+    drop-drop (at + 4 - at) at l ∙ ap (λ n. drop n l) (let z : at + (at + 4 - at) ≡ at + length vs = omega arith in
+    z) in
     sym (append_assoc (take at l) vs (drop (at + 4 - at) (drop at l))) ∙ ap (λ r. take at l ++ vs ++ r) behind
     ∙ sym (sets-eq vs l at (omega arith))
 

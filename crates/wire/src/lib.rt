@@ -11,7 +11,8 @@ use refusals::Refusal;
 // The most bytes that a problem has.
 const MOST_BYTES: usize = 4 * rules::MOST_WORDS;
 
-/// Whether an input may have so many bytes: at least two words, no byte left over, and no more words than a problem has.
+/// Whether an input may have so many bytes: at least two words, no byte left over, and no more words than a problem
+/// has.
 pub fn judge(count: usize) -> Result<(), Refusal>
     ensures { told result ≡ count_refusal count }
 {

@@ -10,19 +10,19 @@ use Rattle.whole.proofs.Lists.Below.{all-not, all_of, some-empty, some_of}
 
 module _ {A : Type 0} (f : A → Bool) (xs : List A) (d : A) (n : ℕ) (g : ℕ → Bool) (long : length xs ≡ n)
     (same : (i : ℕ) → i < n → f (get_or xs i d) ≡ g i) where
-  abbrev pub Each : Bool → Type 0
-  Each b = AllWithin (λ x. f x ≡ b) xs 0 (length xs)
+  abbrev pub EachWord : Bool → Type 0
+  EachWord b = AllWithin (λ x. f x ≡ b) xs 0 (length xs)
 
   abbrev pub One : Bool → Type 0
   One b = (k : ℕ) × (k < length xs) × HoldsAt (λ x. f x ≡ b) xs k
 
-  each : (b : Bool) → Each b → (i : ℕ) → i < n → g i ≡ b
+  each : (b : Bool) → EachWord b → (i : ℕ) → i < n → g i ≡ b
   each b h i l = sym (same i l) ∙ h i d (omega arith) (omega arith)
 
-  pub any-below : (r : Bool) → MatchBool r (One true) (Each false) → r ≡ some_below n g
+  pub any-below : (r : Bool) → MatchBool r (One true) (EachWord false) → r ≡ some_below n g
   any-below true h = sym (some_of n h.0 g (omega arith) (sym (same h.0 (omega arith)) ∙ h.2 d))
   any-below false h = sym (some-empty n g (each false h))
 
-  pub all-below : (r : Bool) → MatchBool r (Each true) (One false) → r ≡ all_below n g
+  pub all-below : (r : Bool) → MatchBool r (EachWord true) (One false) → r ≡ all_below n g
   all-below true h = sym (all_of n g (each true h))
   all-below false h = sym (all-not n h.0 g (omega arith) (sym (same h.0 (omega arith)) ∙ h.2 d))

@@ -6,7 +6,7 @@ use Rattle.amounts.specs.contracts.ValuePartialOrd.TheImpl as values
 use Rattle.amounts.specs.declared.Given.{Given}
 use Rattle.amounts.specs.declared.Value.{Value}
 use Rattle.amounts.specs.Amounts.{given_lower, given_upper, pair_in, put_inside, value_of}
-use Rattle.amounts.proofs.Laws.Order.{value-less}
+use Rattle.amounts.proofs.Laws.Order.{value-below}
 use Rattle.amounts.proofs.put_inside.Goals as goal
 use Rattle.amounts.proofs.put_inside.Goals.{else-lower-via-then-lower+else-lt, else-lower-via-else-lower}
 use Rattle.amounts.proofs.put_inside.Goals.{else-upper-via-then-upper+else-lt-2, else-upper-via-else-upper}
@@ -26,11 +26,11 @@ module _ (lower upper : Given) (x : Value) where
   -- .. which are asked of a limit that is on
   raised : {least : Value} {r b : Bool} → lower.on ≡ true → least ≡ value_of (given_lower lower) →
       r ≡ is_less x least → r ≡ b → (lower.on && pairs.less (pair_in x) (given_lower lower)) ≡ b
-  raised o l e f = rw o (sym (value-less x (value_of (given_lower lower))) ∙ ap (is_less x) (sym l) ∙ sym e ∙ f)
+  raised o l e f = rw o (sym (value-below x (value_of (given_lower lower))) ∙ ap (is_less x) (sym l) ∙ sym e ∙ f)
 
   lowered : {most : Value} {r b : Bool} → upper.on ≡ true → most ≡ value_of (given_upper upper) →
       r ≡ is_less most x → r ≡ b → (upper.on && pairs.less (given_upper upper) (pair_in x)) ≡ b
-  lowered o l e f = rw o (sym (value-less (value_of (given_upper upper)) x)
+  lowered o l e f = rw o (sym (value-below (value_of (given_upper upper)) x)
       ∙ ap (λ y. is_less y x) (sym l) ∙ sym e ∙ f)
 
 -- a limit that is off raises nothing, and lowers nothing

@@ -37,5 +37,6 @@ written_all v k d N x y before h p q f g =
     (ap₂ (λ s z. put_mid 3 (3 + N - 3) (s ++ drop 3 before) z) h (p ∙ first-is N x f)
     ∙ put-behind (number_of v ∷ pos k ∷ d ∷ []) (first_of N x) before 3 (3 + N - 3) (3 + N) refl (omega arith))
     (q ∙ first-is N y g)
-    ∙ put-behind (number_of v ∷ pos k ∷ d ∷ first_of N x) (first_of N y) before (3 + N) (3 + 2 * N - (3 + N)) (3 + 2 * N)
+    ∙ put-behind (number_of v ∷ pos k ∷ d ∷ first_of N x) (first_of N y) before (3 + N) (3 + 2 * N - (3 + N))
+    (3 + 2 * N)
     (omega (arith, table-length N (λ v. get_or x v (pos 0)))) (omega arith)

@@ -14,7 +14,8 @@ returns-in_err-judge c =
     ap told e ∙ read_kept c.args.file.now c.args.sizes c.args.words _ c.in_err-judge.ensures (number-some _)
 
 pub count_of-bodies-requires : goal.count_of-bodies-requires
-count_of-bodies-requires c = omega (arith, ((file-accepted-exactly c.args.file.now).0 (sym c.in_ok-judge.ensures)).enough)
+count_of-bodies-requires c =
+    omega (arith, ((file-accepted-exactly c.args.file.now).0 (sym c.in_ok-judge.ensures)).enough)
 
 pub overflow_mul-bodies : goal.overflow_mul-bodies
 overflow_mul-bodies c = omega (

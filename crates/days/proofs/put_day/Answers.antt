@@ -6,7 +6,7 @@ use Rattle.rules.specs.Bundle.File.{body_in, count_in, edition_in}
 use Rattle.rules.specs.Bundle.Day.{body_text}
 use Rattle.rules.proofs.Bundle.Day.{day-lines}
 use Rattle.rules.proofs.Bundle.Exactly.{file-accepted-exactly}
-use Rattle.lines.proofs.Replies.{front-long, front-words, put_as}
+use Rattle.lines.proofs.Replies.{front-words-long, front-words, put_as}
 use Rattle.bundle.specs.Opened.{Opened}
 use Rattle.days.proofs.Days.{day-refused-by, put-within}
 use Rattle.days.proofs.put_day.Goals as goal
@@ -28,12 +28,12 @@ words_of-count-requires c =
 pub slice_bounds-words-end : goal.slice_bounds-words-end
 slice_bounds-words-end c =
     let w = c.words_of-count in
-    let h = front-long c.args.file.now _ w.ensures.count w.ensures.content in
+    let h = front-words-long c.args.file.now _ w.ensures.count w.ensures.content in
     omega (arith, h, length-take w.result w.new.words)
 
 pub slice_bounds-put_bodies-end : goal.slice_bounds-put_bodies-end
 slice_bounds-put_bodies-end c =
-    front-long c.args.file.now _ c.words_of-count.ensures.count c.words_of-count.ensures.content
+    front-words-long c.args.file.now _ c.words_of-count.ensures.count c.words_of-count.ensures.content
 
 pub put_bodies-requires : goal.put_bodies-requires
 put_bodies-requires c =

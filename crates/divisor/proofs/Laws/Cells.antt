@@ -69,7 +69,7 @@ module _ (l : List ℤ) (common : ℤ) where
       dvd-one.0 (subst (λ g. divisor_below n l common ∣ g) e
       (cells-greatest k (divisor_below n l common) d.0 (λ i b. d.1 i (omega arith))))
 
-pub divisor-same : (k : ℕ) (l r : List ℤ) (common : ℤ) → ((i : ℕ) → i < k → get_or l i (pos 0) ≡ get_or r i (pos 0)) →
+divisor-same : (k : ℕ) (l r : List ℤ) (common : ℤ) → ((i : ℕ) → i < k → get_or l i (pos 0) ≡ get_or r i (pos 0)) →
     divisor_below k l common ≡ divisor_below k r common
 unfolding divisor_below fold_below
 divisor-same zero l r common h = refl

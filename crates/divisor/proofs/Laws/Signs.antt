@@ -16,11 +16,11 @@ use Rattle.whole.proofs.Bools.{T→false}
 use Rattle.whole.proofs.Numbers.Sizes.{abs_neg}
 use Rattle.divisor.specs.Signs.{signed_by}
 
-pub signed-down : (s : ℤ) (g : ℕ) → is_neg s ≡ true → signed_by s g ≡ neg_ℤ (pos g)
+signed-down : (s : ℤ) (g : ℕ) → is_neg s ≡ true → signed_by s g ≡ neg_ℤ (pos g)
 unfolding signed_by
 signed-down s g e = ap (λ b. cond b (neg_ℤ (pos g)) (pos g)) e
 
-pub signed_up : (s : ℤ) (g : ℕ) → is_neg s ≡ false → signed_by s g ≡ pos g
+signed_up : (s : ℤ) (g : ℕ) → is_neg s ≡ false → signed_by s g ≡ pos g
 unfolding signed_by
 signed_up s g e = ap (λ b. cond b (neg_ℤ (pos g)) (pos g)) e
 

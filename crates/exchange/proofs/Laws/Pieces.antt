@@ -47,7 +47,7 @@ named_as n v = go (ltb v n)
     go true = refl
     go false = refl
 
-pub lower_text : (name : Name) (kind z : ℤ) →
+lower_text : (name : Name) (kind z : ℤ) →
     limit_piece name (lower_limit kind z)
     ≡ limit_text (has_lower kind) (lower_relation (strict_lower kind)) (name_text name) z
 unfolding limit_text lower_relation
@@ -62,7 +62,7 @@ lower_text name kind z = go (has_lower kind) (strict_lower kind)
     go true true = refl
     go true false = refl
 
-pub upper_text : (name : Name) (kind z : ℤ) →
+upper_text : (name : Name) (kind z : ℤ) →
     limit_piece name (upper_limit kind z)
     ≡ limit_text (has_upper kind) (upper_relation (strict_upper kind)) (name_text name) z
 unfolding limit_text upper_relation
@@ -119,7 +119,7 @@ module _ (ws : List ℤ) (a b k : ℕ) {rest : List ℤ} (chunk more : List ℤ)
 module _ {ws : List ℤ} {n m : ℕ} (F : Framed ws n m) where
   -- ---- rows
 
-  pub row_inside : (i : ℕ) → i < m → 2 + i * n + n ≤ length ws
+  row_inside : (i : ℕ) → i < m → 2 + i * n + n ≤ length ws
   row_inside i h =
       let z : suc i * n ≤ m * n = mul-le-mul h (le_refl n) in
       omega (arith, z, suc-mul i n, F.exact)
@@ -150,7 +150,7 @@ module _ {ws : List ℤ} {n m : ℕ} (F : Framed ws n m) where
 
   -- ---- limits
 
-  pub limits-inside : (v : ℕ) → v < n + m → 2 + m * n + 3 * v + 3 ≤ length ws
+  limits-inside : (v : ℕ) → v < n + m → 2 + m * n + 3 * v + 3 ≤ length ws
   limits-inside v h = omega (arith, F.exact)
 
   pub limits-length : (v : ℕ) → v < n + m → length (words_part ws (2 + m * n + 3 * v) 3) ≡ 3

@@ -2,16 +2,16 @@
 use Rattle.std.proofs.Common.{Err, Ok, ◌∙◌, ap}
 use Rattle.rules.specs.Exchange.Script.{exchange_text}
 use Rattle.exchange.specs.Sent.{sent_by}
-use Rattle.exchange.proofs.Laws.Sent.{answered}
+use Rattle.exchange.proofs.Laws.Sent.{text-answered}
 use Rattle.exchange.proofs.write.Goals as goal
 
 pub returns-in-Ok-clause-answer : goal.returns-in-Ok-clause-answer
 returns-in-Ok-clause-answer c =
     let text = exchange_text c.args.words.now in
-    answered text (Ok c.in-Ok.count) c.in-Ok.ensures.size ∙ ap (λ k. sent_by k text) c.in-Ok.ensures.refused
+    text-answered text (Ok c.in-Ok.count) c.in-Ok.ensures.size ∙ ap (λ k. sent_by k text) c.in-Ok.ensures.refused
 
 pub returns-in-Err-clause-answer : goal.returns-in-Err-clause-answer
 returns-in-Err-clause-answer c =
     let text = exchange_text c.args.words.now in
     rw c.number.ensures
-    (answered text (Err c.in-Err.refusal) tt ∙ ap (λ k. sent_by k text) c.in-Err.ensures.refused)
+    (text-answered text (Err c.in-Err.refusal) tt ∙ ap (λ k. sent_by k text) c.in-Err.ensures.refused)

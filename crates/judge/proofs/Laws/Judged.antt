@@ -65,17 +65,17 @@ module _ {ws : List ℤ} {n m : ℕ} (F : Framed ws n m) where
 
 -- row i, as a part of the words
 module _ {ws : List ℤ} {n m : ℕ} (F : Framed ws n m) (i k : ℕ) (h : i < m) (e : k ≡ n) where
-  abbrev pub row : List ℤ
-  row = take k (drop (2 + i * n) ws)
+  abbrev pub row-words : List ℤ
+  row-words = take k (drop (2 + i * n) ws)
 
   row-within : 2 + i * n + n ≤ length ws
   row-within = let q : (i + 1) * n ≤ m * n = mul-le-mul (omega arith) (le_refl n) in omega (arith, F.exact)
 
-  pub row-long : length row ≡ n_of ws
+  pub row-long : length row-words ≡ n_of ws
   row-long = length-take-le k (drop (2 + i * n) ws) (omega (arith, row-within, length-drop (2 + i * n) ws))
       ∙ e ∙ F.columns-are
 
-  pub row-word : (j : ℕ) → j < n_of ws → word row j ≡ coefficient_word ws i j
+  pub row-word : (j : ℕ) → j < n_of ws → word row-words j ≡ coefficient_word ws i j
   row-word j l = get_or-take k (drop (2 + i * n) ws) j (pos 0) (omega (arith, F.columns-are))
       ∙ get_or-drop (2 + i * n) ws j (pos 0)
       ∙ ap (word ws) ((let z : 2 + i * n + j ≡ 2 + (i * n + j) = omega arith in z)

@@ -29,4 +29,5 @@ returns-clause-refused c = let a = c.args in
 
 pub returns-clause-replayed : goal.returns-clause-replayed
 returns-clause-replayed c = let ws = c.args.words.now in
-    c.follow.ensures (inner (problem ws)) (holds-start ws c.new-first.result c.new-first.ensures (sym c.in_ok-judge.ensures))
+    c.follow.ensures (inner (problem ws))
+    (holds-start ws c.new-first.result c.new-first.ensures (sym c.in_ok-judge.ensures))

@@ -1,11 +1,11 @@
 -- The search by place, turn by turn: where it goes on past a variable, where it stops, and what it comes to.
 --   variable-few                  a variable in use has a place in the arrays
 --   past-nonbasic, past-within    none leaves up to here, as this one is nonbasic, or is within its limits
---   leaves-here, none-leaves      this one leaves: it is the first one outside its limits; none does
+--   leaves-here, no-one-leaves      this one leaves: it is the first one outside its limits; none does
 --   enters-basic                  a basic variable does not enter
 --   past-basic, past-unfit        none enters up to here, as this one is basic, or cannot move the one that leaves
---   enters-here, none-enters      this one enters: it is the first one that can; none does
---   leaving-row                   the row of the one that leaves is in use
+--   enters-here, no-one-enters      this one enters: it is the first one that can; none does
+--   row-of-leaving                   the row of the one that leaves is in use
 --   next-within, -stuck, -pivot   what the search comes to: none leaves, none enters, or a row and a column
 use Rattle.std.proofs.Common.{◌≡◌, ℕ, ◌+◌, ◌<◌, ℤ, Bool, true, false, cond, Some, None, refl, sym, ap, ap₂, ◌∙◌, arith}
 use Rattle.std.proofs.Math.Option.{Option, none, some, none-ne-some}
@@ -26,7 +26,7 @@ use Rattle.search.specs.declared.Next.{Next}
 use Rattle.search.specs.declared.Next.TheVariants as variants
 use Rattle.search.specs.Search.{Searchable, short_at, side_at, tagged, broken_at, broken_laid, leaving_at, leaving_laid}
 use Rattle.search.specs.Search.{fitting, entering_of, enters_laid, entering_at, entering_laid, move_by, blocked_at}
-use Rattle.search.specs.Search.{blocked_by, blocked_in, column_by, column_in, next_by, next_by_laid, next_at, next_laid}
+use Rattle.search.specs.Search.{blocked_by, blocked_in, column_by, column_seated, next_by, next_by_laid, next_at, next_laid}
 
 rising-by : (b : Bool) → rising (side_by b) ≡ b
 rising-by true = refl
@@ -77,9 +77,9 @@ module _ (t : Tableau) where
           (broken-by e ∙ some-breach v (short_at t v) b (side_at t v) (sym f)))
           ∙ ap (λ a. Some (record { row = (seat_at t v).row; rises = a; shortfall = b.shortfall })) (rising-by b.rises))
 
-  pub none-leaves : (k : ℕ) → t.rows + t.columns ≡ k → lowest k (broken_at t) ≡ none → None ≡ blocked_in t
+  pub no-one-leaves : (k : ℕ) → t.rows + t.columns ≡ k → lowest k (broken_at t) ≡ none → None ≡ blocked_in t
   unfolding leaving_laid blocked_by
-  none-leaves k q n = sym (ap (blocked_by t) (ap (λ k. lowest k (broken_at t)) q ∙ n))
+  no-one-leaves k q n = sym (ap (blocked_by t) (ap (λ k. lowest k (broken_at t)) q ∙ n))
 
   -- ---- the one that enters, for row place i and side σ
 
@@ -107,10 +107,10 @@ module _ (t : Tableau) where
       enters-here h e f = sym (ap (column_by t)
           (lowest-here (entering_of t i σ) (t.rows + t.columns) w w h n (enters-by e f)))
 
-    pub none-enters : t.rows + t.columns ≡ w → lowest w (entering_of t i σ) ≡ none →
+    pub no-one-enters : t.rows + t.columns ≡ w → lowest w (entering_of t i σ) ≡ none →
         None ≡ column_by t (entering_at t i σ)
     unfolding entering_laid column_by
-    none-enters q n = sym (ap (column_by t) (ap (λ k. lowest k (entering_of t i σ)) q ∙ n))
+    no-one-enters q n = sym (ap (column_by t) (ap (λ k. lowest k (entering_of t i σ)) q ∙ n))
 
   -- ---- what it comes to
 
@@ -129,8 +129,8 @@ module _ (t : Tableau) where
       let i = is-basic f.at (seat_at t f.at).basic (side_at t f.at) (short_at t f.at) r f.is in
       let h = S.row-seats f.at f.in-range i.0 in let same : b ≡ blocked_at t r = cc in rw (same, ← i.1) h
 
-  pub leaving-row : Searchable t → {b : Blocked} → Some b ≡ blocked_in t → b.row.0 < t.rows
-  leaving-row S {b} e = leaving-by S (leaving_at t) refl b e
+  pub row-of-leaving : Searchable t → {b : Blocked} → Some b ≡ blocked_in t → b.row.0 < t.rows
+  row-of-leaving S {b} e = leaving-by S (leaving_at t) refl b e
 
   within-by : (o : Option (Leaving (ℤ × ℤ))) → None ≡ blocked_by t o → variants.Within ≡ next_by t o
   unfolding blocked_by next_by_laid
@@ -147,7 +147,7 @@ module _ (t : Tableau) where
   stuck-by r none e = refl
   stuck-by r (some w) e = absurd (none-some _ e)
 
-  pub next-stuck : {b : Blocked} → Some b ≡ blocked_in t → None ≡ column_in t b.row.0 b.rises →
+  pub next-stuck : {b : Blocked} → Some b ≡ blocked_in t → None ≡ column_seated t b.row.0 b.rises →
       variants.Stuck b ≡ next_at t
   unfolding next_laid blocked_by next_by_laid
   next-stuck {b} e f = go (leaving_at t) e
@@ -156,7 +156,7 @@ module _ (t : Tableau) where
       go none e = absurd (none-some b (sym e))
       go (some r) e = let same : b ≡ blocked_at t r = cc in
           ap variants.Stuck same
-          ∙ stuck-by r (entering_at t (row_of t r.variable) r.side) (f ∙ ap (λ b. column_in t b.row.0 b.rises) same
+          ∙ stuck-by r (entering_at t (row_of t r.variable) r.side) (f ∙ ap (λ b. column_seated t b.row.0 b.rises) same
           ∙ ap (λ σ. column_by t (entering_at t (row_of t r.variable) σ)) (side-rising r.side))
 
   -- a pivot, by the one that leaves
@@ -169,7 +169,7 @@ module _ (t : Tableau) where
   pivot-by r none j e = absurd (none-some j (sym e))
   pivot-by r (some w) j e = let same : j ≡ (seat_at t w).column = cc in ap (pivot_of (blocked_at t r)) same
 
-  pub next-pivot : {b : Blocked} {j : ColumnPlace} → Some b ≡ blocked_in t → Some j ≡ column_in t b.row.0 b.rises →
+  pub next-pivot : {b : Blocked} {j : ColumnPlace} → Some b ≡ blocked_in t → Some j ≡ column_seated t b.row.0 b.rises →
       pivot_of b j ≡ next_at t
   unfolding next_laid blocked_by next_by_laid
   next-pivot {b} {j} e f = go (leaving_at t) e
@@ -178,5 +178,5 @@ module _ (t : Tableau) where
       go none e = absurd (none-some b (sym e))
       go (some r) e = let same : b ≡ blocked_at t r = cc in
           ap (λ b. pivot_of b j) same
-          ∙ pivot-by r (entering_at t (row_of t r.variable) r.side) j (f ∙ ap (λ b. column_in t b.row.0 b.rises) same
+          ∙ pivot-by r (entering_at t (row_of t r.variable) r.side) j (f ∙ ap (λ b. column_seated t b.row.0 b.rises) same
           ∙ ap (λ σ. column_by t (entering_at t (row_of t r.variable) σ)) (side-rising r.side))

@@ -12,7 +12,7 @@ use Rattle.tableau.specs.Parts.{value_at}
 use Rattle.layout.specs.Layout.{entry_in}
 use Rattle.sides.specs.Sides.{side_by, suits_of}
 use Rattle.search.specs.Search.{fitting, seen}
-use Rattle.search.proofs.Laws.Turns.{enters-here, none-enters, past-basic, past-unfit}
+use Rattle.search.proofs.Laws.Turns.{enters-here, no-one-enters, past-basic, past-unfit}
 use Rattle.search.proofs.entering.Goals as goal
 use Rattle.search.proofs.entering.Goals.{then-not-seat+else-suits, else-not-seat}
 
@@ -58,4 +58,4 @@ loop-w-preserved c = let t = seen c.args.entries.now c.args.view.now c.args.limi
 
 pub returns : goal.returns
 returns c = let t = seen c.args.entries.now c.args.view.now c.args.limits.now in
-    none-enters t c.args.row.0 (side_by c.args.rises) c.loop-w.w (omega arith) c.loop-w.invariant
+    no-one-enters t c.args.row.0 (side_by c.args.rises) c.loop-w.w (omega arith) c.loop-w.invariant

@@ -8,7 +8,7 @@ use Rattle.sides.specs.declared.Breach.{Breach}
 use Rattle.sides.specs.Sides.{as_breach, breach_at, breach_of}
 use Rattle.search.specs.Search.{scaled_at, seen, short_at, side_at}
 use Rattle.search.proofs.Laws.Shortfalls.{scaled-modest}
-use Rattle.search.proofs.Laws.Turns.{leaves-here, none-leaves, past-nonbasic, past-within}
+use Rattle.search.proofs.Laws.Turns.{leaves-here, no-one-leaves, past-nonbasic, past-within}
 use Rattle.search.proofs.leaving.Goals as goal
 use Rattle.search.proofs.leaving.Goals.{then-seat+in_default, else-seat}
 
@@ -57,4 +57,4 @@ loop-v-preserved c = let t = seen c.args.entries.now c.args.view.now c.args.limi
 
 pub returns : goal.returns
 returns c = let t = seen c.args.entries.now c.args.view.now c.args.limits.now in
-    none-leaves t c.loop-v.v (omega arith) c.loop-v.invariant
+    no-one-leaves t c.loop-v.v (omega arith) c.loop-v.invariant

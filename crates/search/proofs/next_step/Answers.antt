@@ -1,6 +1,6 @@
 -- `search::next_step` meets its contract: by the one that leaves and the one that enters. Assumes nothing.
 use Rattle.search.specs.Search.{seen}
-use Rattle.search.proofs.Laws.Turns.{leaving-row, next-pivot, next-stuck, next-within}
+use Rattle.search.proofs.Laws.Turns.{row-of-leaving, next-pivot, next-stuck, next-within}
 use Rattle.search.proofs.next_step.Goals as goal
 
 pub returns-in_default : goal.returns-in_default
@@ -8,7 +8,7 @@ returns-in_default c = next-within (seen c.args.entries.now c.args.view c.args.l
 
 pub entering-requires-clause-in_rows : goal.entering-requires-clause-in_rows
 entering-requires-clause-in_rows c =
-    leaving-row (seen c.args.entries.now c.args.view c.args.limits) c.requires c.in-Some.ensures
+    row-of-leaving (seen c.args.entries.now c.args.view c.args.limits) c.requires c.in-Some.ensures
 
 pub returns-in-Some-entering : goal.returns-in-Some-entering
 returns-in-Some-entering c =

@@ -2,7 +2,7 @@
 use Rattle.std.proofs.Common.{ap, arith, length-take, subst, sym, ◌∙◌}
 use Rattle.refusals.proofs.Refused.{number-some}
 use Rattle.rules.proofs.Bundle.Exactly.{file-accepted-exactly}
-use Rattle.lines.proofs.Replies.{front-long, front-words}
+use Rattle.lines.proofs.Replies.{front-words-long, front-words}
 use Rattle.bundle.specs.Opened.{Opened}
 use Rattle.tally.specs.Sums.{totals_in}
 use Rattle.sheet.proofs.Laws.Sheets.{refused-put, sheet-put, sheet-room}
@@ -20,12 +20,12 @@ words_of-count-requires c =
 pub slice_bounds-words-end : goal.slice_bounds-words-end
 slice_bounds-words-end c =
     let w = c.words_of-count in
-    let h = front-long c.args.file.now _ w.ensures.count w.ensures.content in
+    let h = front-words-long c.args.file.now _ w.ensures.count w.ensures.content in
     omega (arith, h, length-take w.result w.new.words)
 
 pub slice_bounds-totals-end : goal.slice_bounds-totals-end
 slice_bounds-totals-end c =
-    front-long c.args.file.now _ c.words_of-count.ensures.count c.words_of-count.ensures.content
+    front-words-long c.args.file.now _ c.words_of-count.ensures.count c.words_of-count.ensures.content
 
 pub totals-requires : goal.totals-requires
 totals-requires c =

@@ -115,11 +115,11 @@ module _ (f : Limit → ℤ × ℤ) (l : Limit) where
   fall-there false x = refl
 
 module _ (g : Given) where
-  pub under-joined : (d : ℤ) (x : ℤ × ℤ) →
+  under-joined : (d : ℤ) (x : ℤ × ℤ) →
       (g.on && pairs.less x (pairs.scale d (given_lower g))) ≡ under pairs d x (least_in g)
   under-joined = under-there lower_pair (stated g) g.on
 
-  pub over-joined : (d : ℤ) (x : ℤ × ℤ) →
+  over-joined : (d : ℤ) (x : ℤ × ℤ) →
       (g.on && pairs.less (pairs.scale d (given_upper g)) x) ≡ over pairs d x (most_in g)
   over-joined = over-there upper_pair (stated g) g.on
 

@@ -31,9 +31,11 @@ pub returns-in_err-judge_within : goal.returns-in_err-judge_within
 returns-in_err-judge_within c = let a = c.args in let ws = a.words.now in let room = length a.out.now in
     let rows = c.min-rows.result in
     let p = err_from_is_err_and c.from_residual.result c.from_residual.ensures.1 in
-    let k : told c.from_residual.result ≡ problem_refusal_within rows ws = rw (p.1, p.2) c.in_err-judge_within.ensures in
+    let k : told c.from_residual.result ≡ problem_refusal_within rows ws =
+    rw (p.1, p.2) c.in_err-judge_within.ensures in
     let some : told c.from_residual.result ≢ 0 = told-err c.from_residual.result p.1 in record {
-      number = k ∙ within-problem rows ws room (λ z. some (k ∙ z)) ∙ ap (λ n. refusal_within n ws room) c.min-rows.ensures;
+      number = k ∙ within-problem rows ws room (λ z. some (k ∙ z))
+          ∙ ap (λ n. refusal_within n ws room) c.min-rows.ensures;
       output = written-refused _ ws a.out.now some;
     }
 

@@ -30,7 +30,11 @@ returns-in_err-judge c = let a = c.args in let ws = a.words.now in let room = le
 
 pub count_of-count-requires : goal.count_of-count-requires
 count_of-count-requires c =
-    record { slice = _; holds = holds-start c.args.words.now c.new-first.result c.new-first.ensures (sym c.in_ok-judge.ensures) }
+    record {
+      slice = _;
+      holds =
+          holds-start c.args.words.now c.new-first.result c.new-first.ensures (sym c.in_ok-judge.ensures);
+    }
 
 counted : {t : Tableau} {k : ℕ} (ws : List ℤ) → t ≡ start_tableau (problem ws) → 0 ≡ problem_refusal ws → CountsAs t k →
     k ≡ run_count ws

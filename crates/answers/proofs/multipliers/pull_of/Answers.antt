@@ -1,5 +1,6 @@
 -- `answers::multipliers::pull_of` meets its contract. Assumes nothing.
-use Rattle.std.proofs.Common.{◌≡◌, ℤ, neg_ℤ, pos, Bool, true, false, eqb, refl, ap, ap₂, sym, ◌∙◌, rules, w32, w64, SFits}
+use Rattle.std.proofs.Common.{◌≡◌, ℤ, neg_ℤ, pos, Bool, true, false, eqb, refl, ap, ap₂, sym, ◌∙◌, rules, w32, w64}
+use Rattle.std.proofs.Common.{SFits}
 use Rattle.std.proofs.Math.Facts.{to_z-of_z}
 use borrow.Author.Tests.{eq-eqb, ne_eqb, not-false, not-true}
 use lib.IntN.{+ℤ_idl}

@@ -1,5 +1,6 @@
 -- `bundle::head::fill` meets its contract: edition and count are put first, and then pair after pair.
-use Rattle.std.proofs.Common.{◌≡◌, ◌+◌, ◌*◌, ◌++◌, [], arith, rules, ap, sym, ◌∙◌, w32, set, pos, length, to_z, of_z, nat_abs}
+use Rattle.std.proofs.Common.{◌≡◌, ◌+◌, ◌*◌, ◌++◌, [], arith, rules, ap, sym, ◌∙◌, w32, set, pos, length, to_z, of_z}
+use Rattle.std.proofs.Common.{nat_abs}
 use Rattle.std.proofs.Math.Numerals.{add-one}
 use Rattle.std.proofs.Math.ListN.{length-set}
 use mir.Facts.{to_z-of_z, to_z_pos}
@@ -10,7 +11,8 @@ use Rattle.rules.specs.Problem.{word}
 use Rattle.rules.specs.Bundle.File.{head_size}
 use Rattle.rules.specs.Bundle.Writer.{file_words}
 use Rattle.rules.proofs.Bundle.Places.{counts-next, counts-none}
-use Rattle.bundle.proofs.Heads.{head_done, head_more, head_over, head_word, head-begun, head-kept, place-few, word_first}
+use Rattle.bundle.proofs.Heads.{head_done, head_more, head_over, head_word, head-begun, head-kept, place-few}
+use Rattle.bundle.proofs.Heads.{word_first}
 use Rattle.bundle.proofs.Heads.{word_size}
 use Rattle.bundle.proofs.head.fill.Goals as goal
 
@@ -50,7 +52,8 @@ loop-i-preserved c =
     let i = c.loop-i.i in
     let kept = set (set c.args.front.now 0 (to_z w32 e)) 1 (to_z w32 (length ls)) in
     let fit : SFits w32 (word ls i) = search rules in
-    let size : c.unsigned_abs.result ≡ nat_abs (word ls i) = c.unsigned_abs.ensures.value ∙ ap nat_abs (to_z-of_z fit) in
+    let size : c.unsigned_abs.result ≡ nat_abs (word ls i) =
+    c.unsigned_abs.ensures.value ∙ ap nat_abs (to_z-of_z fit) in
     let small = place-few ls c.requires.0 i (omega arith) in
     let first-told = to_z_pos w32 (omega (arith, c.loop-i.invariant.at-is, c.requires.0.counts.few, small))
     ∙ ap pos c.loop-i.invariant.at-is ∙ sym (word_first e ls c.requires.0.counts i (omega arith)) in

@@ -5,7 +5,8 @@ use Rattle.rules.specs.Program.Bytes.{words_from}
 use Rattle.rules.proofs.Program.Words.{words-length}
 use Rattle.rules.proofs.Bundle.Exactly.{table-tells}
 use Rattle.rules.proofs.Bundle.Places.{bodies-few}
-use Rattle.bundle.proofs.Files.{all-skipped, bodies-hit, bodies-most, bodies-tested, count-enough, count-hit, edition-few}
+use Rattle.bundle.proofs.Files.{all-skipped, bodies-hit, bodies-most, bodies-tested, count-enough, count-hit}
+use Rattle.bundle.proofs.Files.{edition-few}
 use Rattle.bundle.proofs.Files.{edition-hit, edition-tested, table-hit}
 use Rattle.bundle.proofs.judge.judge.Goals as goal
 
@@ -36,7 +37,8 @@ overflow_cast-count_of c =
     )
 
 pub word_of-requires-2 : goal.word_of-requires-2
-word_of-requires-2 c = omega (arith, count-enough c.args.file.now (sym c.is_bad_count.ensures ∙ c.if-is_bad_count.false))
+word_of-requires-2 c =
+    omega (arith, count-enough c.args.file.now (sym c.is_bad_count.ensures ∙ c.if-is_bad_count.false))
 
 pub overflow_cast-most : goal.overflow_cast-most
 overflow_cast-most c = omega (arith, c.bodies_in-most.ensures, bodies-few c.count_of.result)

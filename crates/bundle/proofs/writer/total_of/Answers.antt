@@ -15,8 +15,10 @@ loop-length-preserved c =
     let i = c.loop-length.length-index in
     let ls = c.args.lengths.now in
     let next = counts-next i (word ls) in
-    let fit : SFits w32 (word ls i) = search rules in
-    (rw add-one (omega (arith, next, (simp (to_z-of_z fit) at c.unsigned_abs.ensures.value))), omega (arith, c.unsigned_abs.ensures.bound))
+    let fit : SFits w32 (word ls i) = search rules in (
+      rw add-one (omega (arith, next, (simp (to_z-of_z fit) at c.unsigned_abs.ensures.value))),
+      omega (arith, c.unsigned_abs.ensures.bound),
+    )
 
 pub returns : goal.returns
 returns c =

@@ -1,5 +1,6 @@
 -- `judge::Frame::is_blank` meets its contract: all words of the row are looked at.
-use Rattle.std.proofs.Common.{◌≡◌, ◌+◌, ◌*◌, ◌-◌, ◌<◌, arith, rules, ap, sym, ◌∙◌, take, drop, pos, Bool, true, false, ℤ, of_z, w32, eqb}
+use Rattle.std.proofs.Common.{◌≡◌, ◌+◌, ◌*◌, ◌-◌, ◌<◌, arith, rules, ap, sym, ◌∙◌, take, drop, pos, Bool, true, false}
+use Rattle.std.proofs.Common.{ℤ, of_z, w32, eqb}
 use Rattle.std.proofs.lemmas.Iterator.{YieldsList-from_slice, cases_from_all}
 use borrow.Author.Tests.{tests}
 use mir.Val.{SFits}
@@ -7,7 +8,7 @@ use Rattle.whole.specs.Numbers.{eq_z}
 use Rattle.rules.specs.Problem.{coefficient_word, n_of}
 use Rattle.rules.specs.Refusal.{blank_row}
 use Rattle.words.proofs.Chains.{all-below}
-use Rattle.judge.proofs.Laws.Judged.{row, row-long, row-word, zero_bits}
+use Rattle.judge.proofs.Laws.Judged.{row-words, row-long, row-word, zero_bits}
 use Rattle.judge.proofs.Frame.is_blank.Goals as goal
 
 abbrev zero : ℤ → Bool
@@ -27,7 +28,7 @@ returns c =
     let count = first + c.args.self.now.columns - first in
     let within : i < c.args.self.now.rows = omega arith in
     let whole : count ≡ c.args.self.now.columns = omega arith in
-    all-below zero (row F i count within whole) (pos 0) (n_of ws) (λ j. zero (coefficient_word ws i j))
+    all-below zero (row-words F i count within whole) (pos 0) (n_of ws) (λ j. zero (coefficient_word ws i j))
     (row-long F i count within whole) (λ j h. ap zero (row-word F i count within whole j h)) c.all.result
     (cases_from_all _ _ c.all.result (λ z. zero z ≡ true) (λ z. zero z ≡ false) c.all.ensures.ran
     (YieldsList-from_slice (take count (drop first ws)) cc)

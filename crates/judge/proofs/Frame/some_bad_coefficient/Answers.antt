@@ -1,5 +1,6 @@
 -- `judge::Frame::some_bad_coefficient` meets its contract: each coefficient is looked at, at its place.
-use Rattle.std.proofs.Common.{◌≡◌, ◌+◌, ◌*◌, ◌-◌, ◌||◌, arith, rules, ap, ap₂, sym, ◌∙◌, not, pos, take, drop, get_or-drop, get_or-take, w32}
+use Rattle.std.proofs.Common.{◌≡◌, ◌+◌, ◌*◌, ◌-◌, ◌||◌, arith, rules, ap, ap₂, sym, ◌∙◌, not, pos, take, drop}
+use Rattle.std.proofs.Common.{get_or-drop, get_or-take, w32}
 use Rattle.std.proofs.Math.Numerals.{add-one}
 use mir.Facts.{to_z-of_z}
 use mir.Val.{SFits}

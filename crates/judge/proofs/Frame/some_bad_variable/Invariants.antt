@@ -1,4 +1,5 @@
--- `judge::Frame::some_bad_variable` meets its contract. The invariant: whether one of the variables passed fails what is
+-- `judge::Frame::some_bad_variable` meets its contract. The invariant: whether one of the variables passed fails what
+-- is
 -- asked.
 use Rattle.std.proofs.Common.{◌≡◌, Bool, List, ℕ, ℤ}
 use Rattle.whole.specs.Below.{some_below}

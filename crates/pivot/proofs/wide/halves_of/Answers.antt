@@ -26,7 +26,8 @@ map-requires c = (
     (
       lit< tt,
       serves_from_places
-          (YieldsList-from_shown (list_steps {A = ℤ}) (λ x. x) (λ s. s) (λ s t h. ap length h) (λ s x t h. h) c.args.cells)
+          (YieldsList-from_shown (list_steps {A =
+          ℤ}) (λ x. x) (λ s. s) (λ s t h. ap length h) (λ s x t h. h) c.args.cells)
           (λ x q h. search rules)
           (λ x k b e.
           let w : Within x largest_number = subst (λ z. Within z largest_number)

@@ -8,19 +8,35 @@ use Rattle.tableau.proofs.read.coefficient_at.Goals as goal
 
 pub overflow_mul-at : goal.overflow_mul-at
 overflow_mul-at c = let r = c.requires in
-    omega (arith, coefficient-in r.framed c.args.row.0 c.args.column.0 r.row_lt_rows.0 r.row_lt_rows.1, few_words r.framed)
+    omega (
+      arith,
+      coefficient-in r.framed c.args.row.0 c.args.column.0 r.row_lt_rows.0 r.row_lt_rows.1,
+      few_words r.framed,
+    )
 
 pub overflow_add-at : goal.overflow_add-at
 overflow_add-at c = let r = c.requires in
-    omega (arith, coefficient-in r.framed c.args.row.0 c.args.column.0 r.row_lt_rows.0 r.row_lt_rows.1, few_words r.framed)
+    omega (
+      arith,
+      coefficient-in r.framed c.args.row.0 c.args.column.0 r.row_lt_rows.0 r.row_lt_rows.1,
+      few_words r.framed,
+    )
 
 pub overflow_add-at-2 : goal.overflow_add-at-2
 overflow_add-at-2 c = let r = c.requires in
-    omega (arith, coefficient-in r.framed c.args.row.0 c.args.column.0 r.row_lt_rows.0 r.row_lt_rows.1, few_words r.framed)
+    omega (
+      arith,
+      coefficient-in r.framed c.args.row.0 c.args.column.0 r.row_lt_rows.0 r.row_lt_rows.1,
+      few_words r.framed,
+    )
 
 pub offset_bounds-words-at : goal.offset_bounds-words-at
 offset_bounds-words-at c = let r = c.requires in
-    omega (arith, coefficient-in r.framed c.args.row.0 c.args.column.0 r.row_lt_rows.0 r.row_lt_rows.1, few_words r.framed)
+    omega (
+      arith,
+      coefficient-in r.framed c.args.row.0 c.args.column.0 r.row_lt_rows.0 r.row_lt_rows.1,
+      few_words r.framed,
+    )
 
 pub bounds-words-at : goal.bounds-words-at
 bounds-words-at c = let r = c.requires in

@@ -16,7 +16,8 @@ pub loop-i-init : goal.loop-i-init
 loop-i-init c = filled-start most_rows (variable 0) (row-variable c.args.columns)
 
 pub loop-i-preserved : goal.loop-i-preserved
-loop-i-preserved c = filled_more most_rows (variable 0) (row-variable c.args.columns) c.loop-i.i (omega arith) c.loop-i.invariant refl
+loop-i-preserved c =
+    filled_more most_rows (variable 0) (row-variable c.args.columns) c.loop-i.i (omega arith) c.loop-i.invariant refl
 
 pub returns : goal.returns
 returns c = let f = row-variable c.args.columns in let e : c.loop-i.i ≡ most_rows = omega arith in
