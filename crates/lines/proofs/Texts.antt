@@ -1,7 +1,7 @@
 -- Lines put one behind the other, and whole texts.
 --   text-lines-start, -room, -more   the lines of the variables below a number: none, room for one more, one more
 --   printed-none, -all, -as, -only   a whole text in a slice, or none of it; bytes_fit, that it is there
---   front-size, printed-from         a text that is put into another slice first, and is written from there
+--   printed-from         a text that is put into another slice first, and is written from there
 --   short-clash                 a slice of as many bytes as the longest text has is not too short
 use mathlib.Core.Path.{◌≡◌, refl, sym, ◌∙◌, ap}
 use mathlib.Core.Bool.{Bool, true, false, cond}
@@ -71,9 +71,6 @@ module _ {text : List ℕ} {most : ℕ} {v w : Writer} (p : PutShort most v text
     (room : most ≤ length v.out.now) where
   front : take w.at w.out.now ≡ text
   front = put_front p.put z (omega (arith, p.short))
-
-  pub front-size : w.at ≡ length (take w.at w.out.now)
-  front-size = omega (arith, p.put.place, ap length front, z)
 
   pub printed-from : {before after : List ℕ} {k : ℕ} {r : Option ℕ} →
       Printed k (take w.at w.out.now) before after r → Printed most text before after r

@@ -1,6 +1,5 @@
 -- Texts put one behind the other.
 --   put-none, put_then       no text; two texts are one
---   put-length               the slice is as long as before
 --   put_front                a text put at the front is the front, where it fits
 --   room-left, room-right    where there is room for both, there is room for each
 --   texts                    these for `search`: texts one behind the other, in the order of their definition
@@ -12,7 +11,7 @@ use Prim.Native.Nat.{ℕ, ◌+◌, ◌≤◌, ◌<◌}
 use native.Mathlib.Numerals.{add-one}
 use native.Mathlib.Omega.{arith}
 use lib.ListN.{drop, length, take, length-append}
-use lib.Seq.{sets, length-sets, take-append_seam}
+use lib.Seq.{sets, take-append_seam}
 use Rattle.whole.proofs.Lists.Stores.{sets-front, sets_then}
 use Rattle.rules.specs.Program.Text.{lines_below}
 use Rattle.rules.proofs.Program.Lengths.{lines-inside}
@@ -29,9 +28,6 @@ module _ {u v w : Writer} {s t : List ℕ} where
     bytes = q.bytes ∙ ap₂ (λ a b. sets a b t) p.bytes p.place ∙ sym (sets_then s t u.out.now u.at);
     place = omega (arith, length-append s t, p.place, q.place);
   }
-
-pub put-length : {v w : Writer} {s : List ℕ} → Put v s w → length w.out.now ≡ length v.out.now
-put-length {v} {w} {s} p = ap length p.bytes ∙ length-sets v.out.now v.at s
 
 pub put_front :
     {v w : Writer} {s : List ℕ} → Put v s w → v.at ≡ 0 → length s ≤ length v.out.now → take w.at w.out.now ≡ s

@@ -15,7 +15,7 @@ use Rattle.tokens.specs.Followed.{Followed}
 use Rattle.tokens.specs.Placed.{read_behind}
 use Rattle.reader.specs.declared.numbers.Told.{Told}
 use Rattle.reader.specs.Flow.{StandsAt}
-use Rattle.reader.specs.Numbers.{place_of, value_of}
+use Rattle.reader.specs.Numbers.{told_place, told_value}
 
 -- what is read from there on, in this state, is what is read of the text
 pub record Reads (t : List ℕ) (S : ReaderState) (so : Followed) : Type 0 where
@@ -71,8 +71,8 @@ pub record TermsAt (t : List ℕ) (n m i j : ℕ) (ws : List ℤ) (blank : Bool)
 pub record TermGoes (t : List ℕ) (so : Followed) (j : ℕ) (blank : Bool) (r : Result Told Halted) : Type 0 where
   pub goes : (P : Pieces) (row : List ℤ) → length row ≡ j → blank ≡ (eqb (suc j) P.n && all_zero row) →
       read_behind t (on (token_bytes open_term) (number (coefficient P row))) so
-      ≡ read_behind t (behind_term P (row ++ (value_of r ∷ []))) (place_of r)
-  pub stands : StandsAt t (place_of r)
+      ≡ read_behind t (behind_term P (row ++ (told_value r ∷ []))) (told_place r)
+  pub stands : StandsAt t (told_place r)
 
 -- .. and all of its coefficients
 pub record TermsDone (t : List ℕ) (n m i : ℕ) (ws : List ℤ) (so : Followed) : Type 0 where

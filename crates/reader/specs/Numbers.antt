@@ -26,13 +26,13 @@ value_by true zero = pos 0
 value_by true (suc k) = negsuc k
 
 -- the place behind a number, or halted; and the number, 0 where there is none
-abbrev pub place_of : Result Told Halted → Followed
-place_of (Ok r) = Ok r.at
-place_of (Err e) = Err e
+abbrev pub told_place : Result Told Halted → Followed
+told_place (Ok r) = Ok r.at
+told_place (Err e) = Err e
 
-abbrev pub value_of : Result Told Halted → ℤ
-value_of (Ok r) = r.value
-value_of (Err e) = pos 0
+abbrev pub told_value : Result Told Halted → ℤ
+told_value (Ok r) = r.value
+told_value (Err e) = pos 0
 
 unfoldable pub numeral_fit : List ℕ → ℕ → Bool → ℕ → Bool → Result Told Halted
 numeral_fit t at below k false = halted at
@@ -53,5 +53,5 @@ numeral_on t (Err e) below a = Err e
 -- a number is read, in any spot that asks so
 pub record NumberGoes (t : List ℕ) (so : Followed) (a : Asked) (r : Result Told Halted) : Type 0 where
   pub goes : (c : Spot) → Asks c a →
-      read_behind t (on [] (number c)) so ≡ read_behind t (taken c (value_of r)) (place_of r)
-  pub stands : StandsAt t (place_of r)
+      read_behind t (on [] (number c)) so ≡ read_behind t (taken c (told_value r)) (told_place r)
+  pub stands : StandsAt t (told_place r)

@@ -1,5 +1,5 @@
 -- A refusal has a number, and 0 is none. No two have the same, so what is told says which result it was.
---   number-some, told-ok, told-err    0 is told where nothing is refused, and only there
+--   number-some, told-err    0 is told where nothing is refused, and only there
 --   number-only, told-only, verdict-only    two that tell the same number are the same
 use Rattle.std.proofs.Common.{◌≡◌, ◌≢◌, ℕ, Bool, true, false, cond, eqb, Result, Ok, Err, refl, arith, ap, sym, ◌∙◌}
 use Rattle.refusals.specs.declared.Refusal.{Refusal}
@@ -35,11 +35,6 @@ number-some reasons.OnAlready e = omega arith
 number-some reasons.OffAlready e = omega arith
 number-some reasons.TraceLength e = omega arith
 number-some reasons.Token e = omega arith
-
--- what tells 0 is no refusal
-pub told-ok : {A : Type 0} (r : Result A Refusal) → told_by r ≡ 0 → (a : A) × (r ≡ Ok a)
-told-ok (Ok a) e = (a, refl)
-told-ok (Err r) e = absurd (number-some r e)
 
 pub told-err : {A : Type 0} {r : Refusal} (x : Result A Refusal) → x ≡ Err r → told_by x ≢ 0
 told-err {r = r} x e z = number-some r (ap told_by (sym e) ∙ z)

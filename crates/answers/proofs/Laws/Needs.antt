@@ -1,25 +1,21 @@
 -- What the numerators and the multipliers need holds of a tableau that a search could read.
---   numerable, numerable-small, blockable
 --   smalls-nought     where no limit is strict, the numerators of the small parts are zeros
 use mathlib.Core.Bool.{Bool, false, true}
-use mathlib.Core.List.{List, ◌∷◌, ◌++◌}
+use mathlib.Core.List.{◌∷◌, ◌++◌}
 use mathlib.Core.Path.{◌≡◌, ap, refl, sym, ◌∙◌}
 use Prim.Native.Nat.{ℕ, zero, suc, ◌+◌, ◌≤◌, ◌<◌}
 use native.Mathlib.Omega.{arith}
-use lib.IntN.{ℤ, pos, *ℤ-zero, ◌*ℤ◌}
-use lib.ListN.{drop, get_or, replicate}
-use Rattle.whole.specs.Numbers.{Within}
+use lib.IntN.{pos, *ℤ-zero, ◌*ℤ◌}
+use lib.ListN.{drop, replicate}
 use Rattle.whole.specs.Tables.{filled, table_from}
 use Rattle.whole.proofs.Lists.Prefix.{filled-same}
-use Rattle.whole.proofs.Numbers.Sizes.{within-le}
-use Rattle.rules.specs.Sizes.{largest_limit, most_variables}
+use Rattle.rules.specs.Sizes.{most_variables}
 use Rattle.tableau.specs.declared.Tableau.{Tableau}
 use Rattle.tableau.specs.Parts.{column_of, row_of, seat_at, small_at}
 use Rattle.search.specs.Search.{Searchable, scaled_at}
 use Rattle.search.proofs.Laws.Sums.{row-nothing}
-use Rattle.answers.specs.Answer.{Numerable, noughts, numerator_at, numerator_from, numerator_laid}
+use Rattle.answers.specs.Answer.{noughts, numerator_at, numerator_from, numerator_laid}
 use Rattle.answers.specs.Answer.{numerators_at, numerators_laid}
-use Rattle.answers.specs.Multipliers.{Blockable}
 
 -- zeros over zeros
 zeros-over : (i k n : ℕ) → k ≤ n → replicate n (pos 0) ≡ table_from i k (λ v. pos 0) ++ drop k (replicate n (pos 0))
@@ -33,27 +29,6 @@ unfolding filled
 zeros-filled k n h = zeros-over 0 k n h
 
 module _ {t : Tableau} (S : Searchable t) where
-  numerable-by : (x : List ℤ) → ((j : ℕ) → Within (get_or x j (pos 0)) largest_limit) →
-      (v : ℕ) → v < t.rows + t.columns →
-      Numerable t.entries x t.rows t.columns t.common (seat_at t v)
-  numerable-by x w v h = record {
-    few-rows = S.few-rows;
-    few-columns = S.few-columns;
-    common-within = S.cells.common-within;
-    entries-within = S.cells.cell-within;
-    values-within = w;
-    in_rows = S.row-seats v h;
-    in-columns = S.column-seats v h;
-  }
-
-  pub numerable : (v : ℕ) → v < t.rows + t.columns →
-      Numerable t.entries t.values t.rows t.columns t.common (seat_at t v)
-  numerable = numerable-by t.values S.values-within
-
-  pub numerable-small : (v : ℕ) → v < t.rows + t.columns →
-      Numerable t.entries t.smalls t.rows t.columns t.common (seat_at t v)
-  numerable-small = numerable-by t.smalls (λ j. within-le (S.smalls-within j) (omega arith))
-
   pub smalls-nought : t.limits.strict ≡ false → noughts ≡ numerators_at t t.smalls
   unfolding numerators_laid numerator_laid
   smalls-nought e = zeros-filled (t.rows + t.columns) most_variables
@@ -65,14 +40,3 @@ module _ {t : Tableau} (S : Searchable t) where
       go v true =
           row-nothing t.rows t.columns t.entries t.smalls (row_of t v) (S.smalls-plain e) t.columns
       go v false = ap (λ z. t.common *ℤ z) (S.smalls-plain e (column_of t v)) ∙ *ℤ-zero t.common
-
-  pub blockable : (i : ℕ) → i < t.rows → (v : ℕ) → v < t.rows + t.columns →
-      Blockable t.entries t.rows t.columns t.common i (seat_at t v)
-  blockable i k v h = record {
-    few-rows = S.few-rows;
-    few-columns = S.few-columns;
-    common-within = S.cells.common-within;
-    entries-within = S.cells.cell-within;
-    in_rows = k;
-    in-columns = S.column-seats v h;
-  }

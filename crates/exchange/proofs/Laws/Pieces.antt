@@ -2,7 +2,7 @@
 --   chunk-part, chunk-rest, chunk-inside    the next words of a part, and what is left of it
 --   row-behind, row-next, rows-end    the place behind a row; while a row is left, and when none is
 --   row-part, limits-part      a row from its coefficients among the words, the limits of a variable from their words
---   row_inside, limits-inside  .. which are all there
+--   row_inside                 .. which are all there
 --   sum-alone, sum-joined      one term, or more
 --   named_as                    a name, by its number among the variables
 --   lower_text, upper_text     a limit that is missing, or present, strict or not
@@ -149,12 +149,6 @@ module _ {ws : List ℤ} {n m : ℕ} (F : Framed ws n m) where
     row-part = ap₂ (λ k t. assert_row ++ row_name i ++ sum_text k t ++ end_assert) (many ∙ F.columns-are) terms-part
 
   -- ---- limits
-
-  limits-inside : (v : ℕ) → v < n + m → 2 + m * n + 3 * v + 3 ≤ length ws
-  limits-inside v h = omega (arith, F.exact)
-
-  pub limits-length : (v : ℕ) → v < n + m → length (words_part ws (2 + m * n + 3 * v) 3) ≡ 3
-  limits-length v h = part_length ws (2 + m * n + 3 * v) 3 (limits-inside v h)
 
   pub limits-part :
       (v : ℕ) → limits_piece (name_at n v) (words_part ws (2 + m * n + 3 * v) 3) ≡ limits_text ws v

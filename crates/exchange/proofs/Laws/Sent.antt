@@ -1,4 +1,4 @@
--- What is text-answered and what stands in the slice afterwards.
+-- What is answered and what stands in the slice afterwards.
 --   problem-refused, room-refused    why nothing is written, and the slice is kept
 --   text-put                         the text stands at the front
 --   text-answered                         the answer, from what became of the text

@@ -1,7 +1,8 @@
 -- The refusal of the words of a problem, test after test, within so many rows.
 --   few-hit, size-hit, length-hit    a test applies, and none before it does
 --   least, few-columns, few-rows     what the test of the sizes leaves
---   frame-is, tests-passed                   none of the three applies: the words are framed, and the tests over all words decide
+-- frame-is, tests-passed                   none of the three applies: the words are framed, and the tests over all
+-- words decide
 use Rattle.std.proofs.Common.{◌≡◌, ◌≢◌, ◌+◌, ◌*◌, ◌≤◌, ◌<◌, sym, ◌∙◌, ap₂, true, false, [], ◌∷◌, List, ℕ, ℤ}
 use Rattle.std.proofs.Common.{pos, length, drop, ◌≤ℤ◌}
 use native.Mathlib.Nat.{le_trans, mul-le-mul}
@@ -80,7 +81,10 @@ module _ (most : ℕ) (ws : List ℤ) where
             exact = exact;
           }
 
-          pub tests-passed : first ((bad_coefficient ws, 4) ∷ (bad_kind ws, 5) ∷ (bad_limit ws, 6) ∷ (some_blank ws, 10) ∷ [])
+          pub tests-passed : first ((bad_coefficient ws, 4) ∷ (bad_kind ws, 5) ∷ (bad_limit ws, 6) ∷ (
+            some_blank ws,
+            10,
+          ) ∷ [])
               ≡ number
           unfolding problem_tests
           tests-passed = sym (skip-2 ∙ first-skip 3 _ (tells-false (length-tells ws) (exact ∙ exact-is)))

@@ -1,7 +1,8 @@
 -- `judge::judge_within` meets its contract: each return is the first test that applies.
 use Rattle.std.proofs.Common.{arith, ap₂, sym, ◌∙◌, Bool, ℕ, [], ◌∷◌}
 use Rattle.rules.specs.Refusal.{bad_coefficient, bad_kind, first}
-use Rattle.judge.proofs.Laws.Tests.{few-cells, few-columns, few-hit, few-rows, frame-is, least, length-hit, tests-passed}
+use Rattle.judge.proofs.Laws.Tests.{few-cells, few-columns, few-hit, few-rows, frame-is, least, length-hit}
+use Rattle.judge.proofs.Laws.Tests.{tests-passed}
 use Rattle.judge.proofs.Laws.Tests.{size-hit}
 use Rattle.judge.proofs.judge_within.Goals as goal
 
@@ -74,7 +75,8 @@ returns-then-words-rows c =
 
 pub invariant_of-frame : goal.invariant_of-frame
 invariant_of-frame c = record {
-  frame-is = frame-is c.args.most c.args.words.now c.if-words-lt2.false (sym c.is_bad_size.ensures ∙ c.if-is_bad_size.false)
+  frame-is = frame-is c.args.most c.args.words.now c.if-words-lt2.false (sym c.is_bad_size.ensures
+      ∙ c.if-is_bad_size.false)
       c.requires c.count_at-columns.result c.count_at-rows.result c.count_at-columns.ensures c.count_at-rows.ensures
       c.if-words-rows.false;
 }
@@ -89,6 +91,7 @@ returns c =
     ∙ ap₂ (λ a b. by-words a b c.some_bad_variable-2.result c.some_blank_row.result)
     c.some_bad_coefficient.ensures c.some_bad_variable.ensures
     ∙ ap₂ (by-words (bad_coefficient ws) (bad_kind ws)) c.some_bad_variable-2.ensures c.some_blank_row.ensures
-    ∙ tests-passed c.args.most c.args.words.now c.if-words-lt2.false (sym c.is_bad_size.ensures ∙ c.if-is_bad_size.false)
+    ∙ tests-passed c.args.most c.args.words.now c.if-words-lt2.false (sym c.is_bad_size.ensures
+    ∙ c.if-is_bad_size.false)
     c.requires c.count_at-columns.result c.count_at-rows.result c.count_at-columns.ensures c.count_at-rows.ensures
     c.if-words-rows.false

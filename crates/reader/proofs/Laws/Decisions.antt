@@ -33,7 +33,7 @@ use Rattle.tokens.specs.Followed.{Followed}
 use Rattle.tokens.specs.Placed.{read_behind}
 use Rattle.reader.specs.Flow.{StandsAt, assert_token, declare_token, next_is, next_token, skip_if}
 use Rattle.reader.specs.Limits.{name_test, or_most, variable_from}
-use Rattle.reader.proofs.Laws.Flow.{alike, chosen, token-same}
+use Rattle.reader.proofs.Laws.Flow.{alike, chosen, same-token}
 
 -- the first row, or the limits
 abbrev first_row : Pieces → Bool → ReaderState
@@ -48,7 +48,7 @@ module _ (t : List ℕ) (so : Followed) (s : StandsAt t so) where
     unfolding declare_token finish decided token_step is matched
     declare-due e =
         alike t (on [] (declaring n m)) (on (token_bytes declare_const) (naming n m)) so s refl ended-due
-        (λ w q. step w (ap (λ b. b && ltb m most_rows) (sym (token-same t so declare_word w q)) ∙ e))
+        (λ w q. step w (ap (λ b. b && ltb m most_rows) (sym (same-token t so declare_word w q)) ∙ e))
       where
         ended-due : finish 0 (token_bytes declare_const) (naming n m) ≡ stuck 0
         ended-due = rw openings.declare-is refl
@@ -62,7 +62,7 @@ module _ (t : List ℕ) (so : Followed) (s : StandsAt t so) where
     unfolding declare_token going row_head finish decided is command token_step matched
     declare-over e =
         alike t (on [] (declaring n m)) (going (pieces n m [] [])) so s refl ended-over
-        (λ w q. step w (ap (λ b. b && ltb m most_rows) (sym (token-same t so declare_word w q)) ∙ e))
+        (λ w q. step w (ap (λ b. b && ltb m most_rows) (sym (same-token t so declare_word w q)) ∙ e))
       where
         ended-over : finish 0 (going (pieces n m [] [])).todo (going (pieces n m [] [])).stage ≡ stuck 0
         ended-over = go (ltb 0 m)
@@ -89,7 +89,7 @@ module _ (t : List ℕ) (so : Followed) (s : StandsAt t so) where
     unfolding decided token_step finish
     column-due e =
         alike t (on [] (naming n m)) (on (column_name n ∷ token_bytes of_real) (declaring (suc n) 0)) so s refl refl
-        (λ w q. step w (ap (λ b. eqb m 0 && ltb n most_columns && b) (sym (token-same t so (column_name n) w q)) ∙ e))
+        (λ w q. step w (ap (λ b. eqb m 0 && ltb n most_columns && b) (sym (same-token t so (column_name n) w q)) ∙ e))
       where
         step : (w : Bytes) → (eqb m 0 && ltb n most_columns && same_bytes (column_name n) w) ≡ true →
             decided (naming n m) w ≡ token_step (column_name n ∷ token_bytes of_real) (declaring (suc n) 0) w
@@ -101,7 +101,7 @@ module _ (t : List ℕ) (so : Followed) (s : StandsAt t so) where
     unfolding decided token_step finish
     row-due e =
         alike t (on [] (naming n m)) (on (row_name m ∷ token_bytes of_real) (declaring n (suc m))) so s refl refl
-        (λ w q. step w (ap (λ b. eqb m 0 && ltb n most_columns && b) (sym (token-same t so (column_name n) w q)) ∙ e))
+        (λ w q. step w (ap (λ b. eqb m 0 && ltb n most_columns && b) (sym (same-token t so (column_name n) w q)) ∙ e))
       where
         step : (w : Bytes) → (eqb m 0 && ltb n most_columns && same_bytes (column_name n) w) ≡ false →
             decided (naming n m) w ≡ token_step (row_name m ∷ token_bytes of_real) (declaring n (suc m)) w
@@ -116,7 +116,7 @@ module _ (t : List ℕ) (so : Followed) (s : StandsAt t so) where
     limit-due e =
         alike t (on [] (limiting P)) (on (token_bytes assert_limit) (relating P)) so s refl ended-due
         (λ w q. step w
-        (ap (λ b. b && ltb (length P.limits) (2 * (P.n + P.m))) (sym (token-same t so assert_word w q)) ∙ e))
+        (ap (λ b. b && ltb (length P.limits) (2 * (P.n + P.m))) (sym (same-token t so assert_word w q)) ∙ e))
       where
         ended-due : finish 0 (token_bytes assert_limit) (relating P) ≡ stuck 0
         ended-due = rw openings.limit_is refl
@@ -131,7 +131,7 @@ module _ (t : List ℕ) (so : Followed) (s : StandsAt t so) where
     limit-over e =
         alike t (on [] (limiting P)) (on (token_bytes check_sat) (ended P)) so s refl ended-over
         (λ w q. step w
-        (ap (λ b. b && ltb (length P.limits) (2 * (P.n + P.m))) (sym (token-same t so assert_word w q)) ∙ e))
+        (ap (λ b. b && ltb (length P.limits) (2 * (P.n + P.m))) (sym (same-token t so assert_word w q)) ∙ e))
       where
         ended-over : finish 0 (token_bytes check_sat) (ended P) ≡ stuck 0
         ended-over = rw openings.check-is refl
@@ -153,7 +153,7 @@ module _ (t : List ℕ) (so : Followed) (s : StandsAt t so) where
         next_is t so no_less ≡ true →
         read_behind t (on [] (relating P)) so ≡ read_behind t (on [] (bounding P 0 false)) (skip_if t so left)
     unfolding relation_read
-    no-less-related left l e = related-by 0 false left l (λ w q. step w (sym (token-same t so no_less w q) ∙ e))
+    no-less-related left l e = related-by 0 false left l (λ w q. step w (sym (same-token t so no_less w q) ∙ e))
       where
         step : (w : Bytes) → same_bytes no_less w ≡ true → relation_read P w ≡ relation_taken P 0 false
         step w q = rw q refl
@@ -164,7 +164,7 @@ module _ (t : List ℕ) (so : Followed) (s : StandsAt t so) where
           read_behind t (on [] (relating P)) so ≡ read_behind t (on [] (bounding P 0 true)) (skip_if t so left)
       unfolding relation_read
       more-related left l e = related-by 0 true left l
-          (λ w q. step w (sym (token-same t so no_less w q) ∙ no_less_lem) (sym (token-same t so more w q) ∙ e))
+          (λ w q. step w (sym (same-token t so no_less w q) ∙ no_less_lem) (sym (same-token t so more w q) ∙ e))
         where
           step : (w : Bytes) → same_bytes no_less w ≡ false → same_bytes more w ≡ true →
               relation_read P w ≡ relation_taken P 0 true
@@ -178,9 +178,9 @@ module _ (t : List ℕ) (so : Followed) (s : StandsAt t so) where
             read_behind t (on [] (relating P)) so ≡ read_behind t (on [] (bounding P 1 false)) (skip_if t so true)
         unfolding relation_read
         no-more-related e = related-by 1 false true upper-left
-            (λ w q. step w (sym (token-same t so no_less w q) ∙ no_less_lem)
-            (sym (token-same t so more w q) ∙ no_more_lem)
-            (sym (token-same t so no_more w q) ∙ e))
+            (λ w q. step w (sym (same-token t so no_less w q) ∙ no_less_lem)
+            (sym (same-token t so more w q) ∙ no_more_lem)
+            (sym (same-token t so no_more w q) ∙ e))
           where
             step : (w : Bytes) → same_bytes no_less w ≡ false → same_bytes more w ≡ false →
                 same_bytes no_more w ≡ true →
@@ -193,10 +193,10 @@ module _ (t : List ℕ) (so : Followed) (s : StandsAt t so) where
         unfolding decided token_step relation_read relation_taken finish
         less-related e =
             chosen t (on [] (relating P)) (on [] (bounding P 1 true)) so (next_is t so less) s refl
-            (λ w q. step w (sym (token-same t so no_less w q) ∙ no_less_lem)
-            (sym (token-same t so more w q) ∙ no_more_lem)
-            (sym (token-same t so no_more w q) ∙ e)
-            ∙ ap (λ b. cond b (some (on [] (bounding P 1 true))) none) (sym (token-same t so less w q)))
+            (λ w q. step w (sym (same-token t so no_less w q) ∙ no_less_lem)
+            (sym (same-token t so more w q) ∙ no_more_lem)
+            (sym (same-token t so no_more w q) ∙ e)
+            ∙ ap (λ b. cond b (some (on [] (bounding P 1 true))) none) (sym (same-token t so less w q)))
           where
             step : (w : Bytes) → same_bytes no_less w ≡ false → same_bytes more w ≡ false →
                 same_bytes no_more w ≡ false →
@@ -210,7 +210,7 @@ module _ (t : List ℕ) (so : Followed) (s : StandsAt t so) where
       module _ (w : Bytes) (q : next_token t so ≡ some w) where
         same_test : (v : ℕ) → (leb from v && next_is t so (name_of P.n v))
             ≡ (leb (length P.limits) (2 * v + side) && same_bytes (name_of P.n v) w)
-        same_test v = ap₂ (λ a b. a && b) (first v) (token-same t so (name_of P.n v) w q)
+        same_test v = ap₂ (λ a b. a && b) (first v) (same-token t so (name_of P.n v) w q)
 
         found-by : (o : Option ℕ) → lowest (P.n + P.m) (name_test t so P.n from) ≡ o →
             bounded P side strict (name_read P side w)
@@ -252,7 +252,7 @@ module _ (t : List ℕ) (so : Followed) (s : StandsAt t so) where
   unfolding finish decided token_step is matched
   minus-due c e =
       alike t (on [] (number c)) (on (token_bytes open_minus) (size c)) so s refl ended-due
-      (λ w q. step w (sym (token-same t so open_word w q) ∙ e))
+      (λ w q. step w (sym (same-token t so open_word w q) ∙ e))
     where
       ended-due : finish 0 (token_bytes open_minus) (size c) ≡ stuck 0
       ended-due = rw openings.minus_is refl

@@ -95,7 +95,7 @@ module _ (t : List ℕ) where
   unfolding next_is next_token token_is
   token-is-out at w h = ap (token_is w) (token-out at h)
 
-  pub skip-out : (at : ℕ) (may : Bool) → length t ≤ at → skip_at t at may ≡ halted at
+  skip-out : (at : ℕ) (may : Bool) → length t ≤ at → skip_at t at may ≡ halted at
   unfolding skip_at skip_by
   skip-out at may h = ap (λ o. skip_by t at o may) (token-out at h)
 
@@ -193,16 +193,16 @@ module _ (t : List ℕ) where
           (h (bytes_at t at) (token-in at l) ∙ ap (λ c. cond c (some T) none) q)
           ∙ ap (read_behind t T) (sym (ap (skip_at t at) q ∙ skip-not at))
 
-  pub token-same : (so : Followed) (v w : Bytes) → next_token t so ≡ some w → next_is t so v ≡ same_bytes v w
+  pub same-token : (so : Followed) (v w : Bytes) → next_token t so ≡ some w → next_is t so v ≡ same_bytes v w
   unfolding next_is token_is
-  token-same so v w e = ap (token_is v) e
+  same-token so v w e = ap (token_is v) e
 
   pub name-passed : (w : Bytes) (us : List Bytes) (st : Stage) (so : Followed) → StandsAt t so →
       read_behind t (on (w ∷ us) st) so ≡ read_behind t (on us st) (skip_if t so (next_is t so w))
   unfolding finish token_step matched
   name-passed w us st so s =
       chosen (on (w ∷ us) st) (on us st) so (next_is t so w) s refl
-      (λ v e. ap (λ c. cond c (some (on us st)) none) (sym (token-same so w v e)))
+      (λ v e. ap (λ c. cond c (some (on us st)) none) (sym (same-token so w v e)))
 
   -- ---- a name at a place
 

@@ -4,7 +4,7 @@
 --   relation-refused, variable-refused, bound-refused   its relation, its name or its number cannot stand there
 --   place-room                     where the words of the limit stand
 --   limited-at, limited-more       the limit is read, and it is a later one
-use mathlib.Core.Bool.{Bool, true, false, ◌&&◌}
+use mathlib.Core.Bool.{true, false, ◌&&◌}
 use mathlib.Core.List.{List, []}
 use mathlib.Core.Path.{refl, ◌≡◌, sym, ◌∙◌, ap, ap₂, subst}
 use Prim.Native.Nat.{ℕ, ◌+◌, ◌-◌, ◌*◌, ◌/◌, ◌≤◌, ◌<◌}
@@ -36,11 +36,6 @@ use Rattle.tokens.specs.declared.Halted.{Halted}
 use Rattle.tokens.specs.Placed.{read_behind}
 use Rattle.reader.proofs.Laws.Pushed.{push-length}
 use Rattle.reader.proofs.Laws.Puts.{kind-small, pieces-length}
-
-pub side-few : (upper : Bool) → side_number upper < 2
-unfolding side_number
-side-few true = omega arith
-side-few false = omega arith
 
 module _ {t : List ℕ} {n m count : ℕ} {ws : List ℤ} {so : Followed} (r : LimitsAt t n m count ws so) where
   abbrev H : Pieces

@@ -37,9 +37,10 @@ use Rattle.tokens.proofs.Laws.Numerals.{long-refused}
 use Rattle.reader.specs.declared.numbers.Asked.{Asked}
 use Rattle.reader.specs.declared.numbers.Told.{Told}
 use Rattle.reader.specs.Flow.{StandsAt, next_is, next_token, skip_if}
-use Rattle.reader.specs.Numbers.{Asks, admissible, place_of, value_of, numeral_at, numeral_by, numeral_fit, numeral_on}
+use Rattle.reader.specs.Numbers.{Asks, admissible, told_place, told_value, numeral_at, numeral_by, numeral_fit}
+use Rattle.reader.specs.Numbers.{numeral_on}
 use Rattle.reader.specs.Numbers.{value_by}
-use Rattle.reader.proofs.Laws.Flow.{chosen, token-same, skip-in, skip-not, stands-halted, stands-skip}
+use Rattle.reader.proofs.Laws.Flow.{chosen, same-token, skip-in, skip-not, stands-halted, stands-skip}
 use Rattle.reader.proofs.Laws.Flow.{token-in, token-out}
 
 -- ---- what is asked
@@ -205,13 +206,14 @@ module _ (c : Spot) (a : Asked) (A : Asks c a) (before : List Bytes) where
       ((w : Bytes) → next_token t so ≡ some w →
       token_step S.todo S.stage w ≡ admitted c before (with_sign below (numeral w))) →
       read_behind t S so
-      ≡ read_behind t (ahead before (taken c (value_of (numeral_on t so below a)))) (place_of (numeral_on t so below a))
+      ≡ read_behind t (ahead before (taken c (told_value (numeral_on t so below a))))
+      (told_place (numeral_on t so below a))
   unfolding numeral_on skip_if numeral_by numeral_fit next_token read_behind
   numeral-leads t S below (Err p) s e h = refl
   numeral-leads t S below (Ok at) s e h = go (dec_lt at (length t))
     where
       goal : Result Told Halted → Type 0
-      goal r = read_behind t S (Ok at) ≡ read_behind t (ahead before (taken c (value_of r))) (place_of r)
+      goal r = read_behind t S (Ok at) ≡ read_behind t (ahead before (taken c (told_value r))) (told_place r)
 
       -- halted there, for any state
       stopped : (may : Bool) (T : ReaderState) → may ≡ false →
@@ -262,39 +264,39 @@ module _ (c : Spot) (a : Asked) (A : Asks c a) (before : List Bytes) where
 module _ (t : List ℕ) (so : Followed) (s : StandsAt t so) (c : Spot) (a : Asked) (A : Asks c a) where
   pub numeral-goes : next_is t so open_word ≡ false →
       read_behind t (on [] (number c)) so
-      ≡ read_behind t (taken c (value_of (numeral_on t so false a))) (place_of (numeral_on t so false a))
+      ≡ read_behind t (taken c (told_value (numeral_on t so false a))) (told_place (numeral_on t so false a))
   unfolding ahead decided is finish token_step
   numeral-goes e = numeral-leads c a A [] t (on [] (number c)) false so s refl
-      (λ w q. step w (sym (token-same t so open_word w q) ∙ e))
+      (λ w q. step w (sym (same-token t so open_word w q) ∙ e))
     where
       step : (w : Bytes) → same_bytes open_word w ≡ false →
           decided (number c) w ≡ admitted c [] (with_sign false (numeral w))
       step w q = rw (openings.minus_is, q) refl
 
   pub size-goes : read_behind t (on [] (size c)) so
-      ≡ read_behind t (ahead (token_bytes close) (taken c (value_of (numeral_on t so true a))))
-      (place_of (numeral_on t so true a))
+      ≡ read_behind t (ahead (token_bytes close) (taken c (told_value (numeral_on t so true a))))
+      (told_place (numeral_on t so true a))
   unfolding decided finish token_step
   size-goes = numeral-leads c a A (token_bytes close) t (on [] (size c)) true so s refl (λ w q. refl)
 
 -- where the reading stands then
 pub stands-numeral : (t : List ℕ) (so : Followed) (below : Bool) (a : Asked) → StandsAt t so →
-    StandsAt t (place_of (numeral_on t so below a))
+    StandsAt t (told_place (numeral_on t so below a))
 unfolding numeral_on numeral_fit numeral_by skip_if
 stands-numeral t (Err p) below a s = stands-halted t p
 stands-numeral t (Ok at) below a s = go (dec_lt at (length t))
   where
-    go : Dec (at < length t) → StandsAt t (place_of (numeral_at t at below a))
+    go : Dec (at < length t) → StandsAt t (told_place (numeral_at t at below a))
     go (no n) =
-        subst (λ r. StandsAt t (place_of r)) (sym (numeral-out t at below a (omega arith)))
+        subst (λ r. StandsAt t (told_place r)) (sym (numeral-out t at below a (omega arith)))
         (stands-halted t (record { place = at }))
     go (yes l) =
-        subst (λ r. StandsAt t (place_of r)) (sym (numeral-in t at below a l)) (by (short_numeral (bytes_at t at)))
+        subst (λ r. StandsAt t (told_place r)) (sym (numeral-in t at below a l)) (by (short_numeral (bytes_at t at)))
       where
-        fit : (k : ℕ) (b : Bool) → StandsAt t (place_of (numeral_fit t at below k b))
+        fit : (k : ℕ) (b : Bool) → StandsAt t (told_place (numeral_fit t at below k b))
         fit k false = stands-halted t (record { place = at })
         fit k true = subst (StandsAt t) (skip-in t at l) (stands-skip t (Ok at) true s)
 
-        by : (r : Found ℕ) → StandsAt t (place_of (numeral_by t at below a r))
+        by : (r : Found ℕ) → StandsAt t (told_place (numeral_by t at below a r))
         by None = stands-halted t (record { place = at })
         by (Some k) = fit k (admissible k below a)

@@ -25,7 +25,7 @@ use Rattle.reader.specs.declared.numbers.Asked.{Asked}
 use Rattle.reader.specs.declared.numbers.Told.{Told}
 use Rattle.reader.specs.Course.{TermGoes}
 use Rattle.reader.specs.Flow.{StandsAt, followed_on, next_is, skip_if}
-use Rattle.reader.specs.Numbers.{NumberGoes, numeral_on, place_of, value_of}
+use Rattle.reader.specs.Numbers.{NumberGoes, numeral_on, told_place, told_value}
 use Rattle.reader.proofs.Laws.Flow.{ahead-passed, name-passed, passed, passed-all, stands-followed, stands-halted}
 use Rattle.reader.proofs.Laws.Flow.{stands-skip}
 use Rattle.reader.proofs.Laws.Decisions.{minus-due, less-related, more-related, no-less-related, no-more-related}
@@ -39,8 +39,8 @@ use Rattle.reader.specs.Limits.{RelationGoes, read_related, related, related_by,
 
 -- a value counts where the reading goes on
 with-value : (t : List ℕ) (S : ℤ → ReaderState) (z : ℤ) (r : Result Told Halted) →
-    ((p : ℕ) → place_of r ≡ Ok p → value_of r ≡ z) →
-    read_behind t (S z) (place_of r) ≡ read_behind t (S (value_of r)) (place_of r)
+    ((p : ℕ) → told_place r ≡ Ok p → told_value r ≡ z) →
+    read_behind t (S z) (told_place r) ≡ read_behind t (S (told_value r)) (told_place r)
 unfolding read_behind
 with-value t S z (Ok r) v = ap (λ x. read_behind t (S x) (Ok r.at)) (sym (v r.at refl))
 with-value t S z (Err e) v = refl
@@ -65,11 +65,11 @@ module _ {t : List ℕ} {so : Followed} (s : StandsAt t so) (a : Asked) where
     size-opened : StandsAt t opened
     size-opened = subst (StandsAt t) (sym o) (stands-followed t so (token_bytes open_minus) s)
 
-    pub size-stands : StandsAt t (place_of told)
-    size-stands = subst (λ r. StandsAt t (place_of r)) (sym q) (stands-numeral t opened true a size-opened)
+    pub size-stands : StandsAt t (told_place told)
+    size-stands = subst (λ r. StandsAt t (told_place r)) (sym q) (stands-numeral t opened true a size-opened)
 
-    pub number-minus : (r : Result Told Halted) → place_of r ≡ followed_on t (place_of told) (token_bytes close) →
-        ((p : ℕ) → place_of r ≡ Ok p → value_of r ≡ value_of told) → next_is t so open_word ≡ true →
+    pub number-minus : (r : Result Told Halted) → told_place r ≡ followed_on t (told_place told) (token_bytes close) →
+        ((p : ℕ) → told_place r ≡ Ok p → told_value r ≡ told_value told) → next_is t so open_word ≡ true →
         NumberGoes t so a r
     number-minus r d v e = record {
       goes = λ c A.
@@ -77,11 +77,11 @@ module _ {t : List ℕ} {so : Followed} (s : StandsAt t so) (a : Asked) where
           ∙ passed-all t (token_bytes open_minus) (size c) so s
           ∙ ap (read_behind t (on [] (size c))) (sym o)
           ∙ size-goes t opened size-opened c a A
-          ∙ ap (λ r. read_behind t (ahead (token_bytes close) (taken c (value_of r))) (place_of r)) (sym q)
-          ∙ ahead-passed t (token_bytes close) (taken c (value_of told)) (place_of told) size-stands
-          ∙ ap (read_behind t (taken c (value_of told))) (sym d)
-          ∙ with-value t (taken c) (value_of told) r v;
-      stands = subst (StandsAt t) (sym d) (stands-followed t (place_of told) (token_bytes close) size-stands);
+          ∙ ap (λ r. read_behind t (ahead (token_bytes close) (taken c (told_value r))) (told_place r)) (sym q)
+          ∙ ahead-passed t (token_bytes close) (taken c (told_value told)) (told_place told) size-stands
+          ∙ ap (read_behind t (taken c (told_value told))) (sym d)
+          ∙ with-value t (taken c) (told_value told) r v;
+      stands = subst (StandsAt t) (sym d) (stands-followed t (told_place told) (token_bytes close) size-stands);
     }
 
 -- ---- a term
@@ -93,28 +93,28 @@ module _ {t : List ℕ} {so : Followed} (s : StandsAt t so) (j : ℕ) (blank : B
 
   module _ {told : Result Told Halted}
       (g : NumberGoes t opened (record { largest = largest_coefficient; blank = blank }) told)
-      {named : Followed} (e : named ≡ skip_if t (place_of told) (next_is t (place_of told) (column_name j))) where
+      {named : Followed} (e : named ≡ skip_if t (told_place told) (next_is t (told_place told) (column_name j))) where
     pub term-named : StandsAt t named
     term-named =
         subst (StandsAt t) (sym e)
-        (stands-skip t (place_of told) (next_is t (place_of told) (column_name j)) g.stands)
+        (stands-skip t (told_place told) (next_is t (told_place told) (column_name j)) g.stands)
 
-    pub term_told : (r : Result Told Halted) → place_of r ≡ followed_on t named (token_bytes close) →
-        ((p : ℕ) → place_of r ≡ Ok p → value_of r ≡ value_of told) → TermGoes t so j blank r
+    pub term_told : (r : Result Told Halted) → told_place r ≡ followed_on t named (token_bytes close) →
+        ((p : ℕ) → told_place r ≡ Ok p → told_value r ≡ told_value told) → TermGoes t so j blank r
     unfolding taken ahead
     term_told r d v = record {
       goes = λ P row q b.
-          let S = behind_term P (row ++ (value_of told ∷ [])) in
+          let S = behind_term P (row ++ (told_value told ∷ [])) in
           passed-all t (token_bytes open_term) (number (coefficient P row)) so s
           ∙ ap (read_behind t (on [] (number (coefficient P row)))) (sym o)
           ∙ g.goes (coefficient P row)
           (coefficient-asks P row blank (b ∙ ap (λ k. eqb (suc k) P.n && all_zero row) (sym q)))
-          ∙ ap (λ k. read_behind t (on (column_name k ∷ (token_bytes close ++ S.todo)) S.stage) (place_of told)) q
-          ∙ name-passed t (column_name j) (token_bytes close ++ S.todo) S.stage (place_of told) g.stands
+          ∙ ap (λ k. read_behind t (on (column_name k ∷ (token_bytes close ++ S.todo)) S.stage) (told_place told)) q
+          ∙ name-passed t (column_name j) (token_bytes close ++ S.todo) S.stage (told_place told) g.stands
           ∙ ap (read_behind t (on (token_bytes close ++ S.todo) S.stage)) (sym e)
           ∙ passed t (token_bytes close) S.todo S.stage named term-named
           ∙ ap (read_behind t S) (sym d)
-          ∙ with-value t (λ z. behind_term P (row ++ (z ∷ []))) (value_of told) r v;
+          ∙ with-value t (λ z. behind_term P (row ++ (z ∷ []))) (told_value told) r v;
       stands = subst (StandsAt t) (sym d) (stands-followed t named (token_bytes close) term-named);
     }
 

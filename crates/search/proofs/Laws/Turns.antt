@@ -26,7 +26,8 @@ use Rattle.search.specs.declared.Next.{Next}
 use Rattle.search.specs.declared.Next.TheVariants as variants
 use Rattle.search.specs.Search.{Searchable, short_at, side_at, tagged, broken_at, broken_laid, leaving_at, leaving_laid}
 use Rattle.search.specs.Search.{fitting, entering_of, enters_laid, entering_at, entering_laid, move_by, blocked_at}
-use Rattle.search.specs.Search.{blocked_by, blocked_in, column_by, column_seated, next_by, next_by_laid, next_at, next_laid}
+use Rattle.search.specs.Search.{blocked_by, blocked_in, column_by, column_seated, next_by, next_by_laid, next_at}
+use Rattle.search.specs.Search.{next_laid}
 
 rising-by : (b : Bool) → rising (side_by b) ≡ b
 rising-by true = refl
@@ -178,5 +179,6 @@ module _ (t : Tableau) where
       go none e = absurd (none-some b (sym e))
       go (some r) e = let same : b ≡ blocked_at t r = cc in
           ap (λ b. pivot_of b j) same
-          ∙ pivot-by r (entering_at t (row_of t r.variable) r.side) j (f ∙ ap (λ b. column_seated t b.row.0 b.rises) same
+          ∙ pivot-by r (entering_at t (row_of t r.variable) r.side) j (f
+          ∙ ap (λ b. column_seated t b.row.0 b.rises) same
           ∙ ap (λ σ. column_by t (entering_at t (row_of t r.variable) σ)) (side-rising r.side))

@@ -1,10 +1,11 @@
--- `tokens::is_decimal` meets its contract: the last byte, and those before it. A token has fewer bytes before its last
+-- `tokens::is_decimal` meets its contract: the last-of byte, and those before it. A token has fewer bytes before its
+-- last-of
 -- one. Assumes nothing.
 use Rattle.std.proofs.Common.{◌≡◌, sym, ◌∙◌, ap, ap₂, arith, eqb, Bool, true, false, ◌&&◌, ◌+◌, ◌%◌, ◌/◌}
 use borrow.Author.Tests.{eq-eqb, ne_eqb}
 use Rattle.rules.specs.Program.Text.{digits}
 use Rattle.rules.specs.Exchange.Reader.{same_bytes}
-use Rattle.tokens.proofs.Laws.Decimals.{decimal-more, decimal-none, decimal-one, front, last, nothing-same}
+use Rattle.tokens.proofs.Laws.Decimals.{decimal-more, decimal-none, decimal-one, front, last-of, nothing-same}
 use Rattle.tokens.proofs.+is_decimal.Goals as goal
 
 pub returns-then-is_empty : goal.returns-then-is_empty
@@ -13,7 +14,7 @@ returns-then-is_empty t c =
     ap₂ (λ b d. b && eqb (48 + c.args.value) d) (sym c.if-is_empty.true ∙ c.is_empty.ensures) c.from.ensures
     ∙ sym
     (decimal-one c.args.value w (omega arith) c.if-value-lt10.true
-    ∙ ap (λ b. b && eqb (48 + c.args.value) (last w)) (nothing-same (front w)))
+    ∙ ap (λ b. b && eqb (48 + c.args.value) (last-of w)) (nothing-same (front w)))
 
 pub returns-else-is_empty : goal.returns-else-is_empty
 returns-else-is_empty t c =
@@ -21,7 +22,7 @@ returns-else-is_empty t c =
     c.if-is_empty.false
     ∙ sym
     (decimal-one c.args.value w (omega arith) c.if-value-lt10.true
-    ∙ ap (λ b. b && eqb (48 + c.args.value) (last w))
+    ∙ ap (λ b. b && eqb (48 + c.args.value) (last-of w))
     (nothing-same (front w) ∙ sym c.is_empty.ensures ∙ c.if-is_empty.false))
 
 pub returns-in-empty : goal.returns-in-empty

@@ -1,6 +1,6 @@
--- Bytes compared with the digits of a number, the last one first.
+-- Bytes compared with the digits of a number, the last-of one first.
 --   decimal-none                no byte is left
---   decimal-one, decimal-more   the last digit, and those before it
+--   decimal-one, decimal-more   the last-of digit, and those before it
 --   value-more, most-more       the value of one byte more, and how large it is
 use Rattle.std.proofs.Common.{◌≡◌, refl, sym, ◌∙◌, ap, subst, arith, Bool, true, false, ◌&&◌, List, [], ◌∷◌, ◌++◌, ℕ}
 use Rattle.std.proofs.Common.{zero, suc, ◌+◌, ◌-◌, ◌*◌, ◌/◌, ◌%◌, ◌≤◌, ◌<◌, eqb, get_or, length, take, add-one}
@@ -58,15 +58,15 @@ module _ (k : ℕ) where
       go (yes h) = ap (λ v. same_bytes v []) (digits-one k h) ∙ more-none [] (digit k)
       go (no h) = ap (λ v. same_bytes v []) (digits_more k (omega arith)) ∙ more-none (digits (k / 10)) (digit (k % 10))
 
--- ---- a token by its last byte, and those before it
+-- ---- a token by its last-of byte, and those before it
 
 abbrev pub front : List ℕ → List ℕ
 front w = take (length w - 1) w
 
-abbrev pub last : List ℕ → ℕ
-last w = get_or w (length w - 1) 0
+abbrev pub last-of : List ℕ → ℕ
+last-of w = get_or w (length w - 1) 0
 
-split_last : (w : List ℕ) → 0 < length w → w ≡ front w ++ (last w ∷ [])
+split_last : (w : List ℕ) → 0 < length w → w ≡ front w ++ (last-of w ∷ [])
 split_last w h =
     sym (take-length w)
     ∙ ap (λ k. take k w) (let z : length w ≡ suc (length w - 1) = omega arith in z)
@@ -77,12 +77,12 @@ decimal-none k [] h = none_left k
 decimal-none k (b ∷ w) h = absurd (omega arith)
 
 module _ (k : ℕ) (w : List ℕ) (h : 0 < length w) where
-  pub decimal-one : k < 10 → same_bytes (digits k) w ≡ (same_bytes [] (front w) && eqb (48 + k) (last w))
-  decimal-one few = ap (same_bytes (digits k)) (split_last w h) ∙ decimal-single k (front w) (last w) few
+  pub decimal-one : k < 10 → same_bytes (digits k) w ≡ (same_bytes [] (front w) && eqb (48 + k) (last-of w))
+  decimal-one few = ap (same_bytes (digits k)) (split_last w h) ∙ decimal-single k (front w) (last-of w) few
 
   pub decimal-more : 10 ≤ k →
-      same_bytes (digits k) w ≡ (same_bytes (digits (k / 10)) (front w) && eqb (48 + k % 10) (last w))
-  decimal-more many = ap (same_bytes (digits k)) (split_last w h) ∙ decimal-last k (front w) (last w) many
+      same_bytes (digits k) w ≡ (same_bytes (digits (k / 10)) (front w) && eqb (48 + k % 10) (last-of w))
+  decimal-more many = ap (same_bytes (digits k)) (split_last w h) ∙ decimal-last k (front w) (last-of w) many
 
 pub nothing-same : (w : List ℕ) → same_bytes [] w ≡ eqb (length w) 0
 unfolding same_bytes

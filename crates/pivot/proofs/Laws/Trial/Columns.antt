@@ -3,7 +3,7 @@
 --                                                       larger part, twice
 --   each_more                                           what holds of each cell written, with one cell more
 --   column-none, -more, -divides, -greatest, -one       the divisor of a column; once it is 1 it stays 1
---   difference-within, above-none, -more, -here, -at       the sizes of its cells
+--   above-none, -more, -here, -at       the sizes of its cells
 --   column-alike                                        a column of equal parts
 --   column-end, -live, -most, columned, cell-here       a column of a border
 --   quotients-then, columns-all                         right quotients before a column and in it; all columns
@@ -16,19 +16,17 @@ use mathlib.Core.Path.{◌≡◌, refl, ap, ap₂, sym, subst, ◌∙◌}
 use mathlib.Core.Bool.{true, false}
 use mathlib.Core.Logic.{◌≢◌, ◌⊎◌, inl, inr}
 use mathlib.Core.List.{List}
-use lib.Dec.{ltb, lit≤}
+use lib.Dec.{ltb}
 use lib.IntN.{ℤ, pos, nat_abs}
 use lib.ListN.{length, get_or, set, length-set}
 use lib.Seq.{get_or-set_same, get_or-set_other}
 use Rattle.whole.specs.Below.{fold_below}
 use Rattle.whole.specs.Divisors.{gcd}
-use Rattle.whole.specs.Numbers.{Within, AllWithin}
+use Rattle.whole.specs.Numbers.{AllWithin}
 use Rattle.whole.proofs.Lists.Below.{some-start, some_more, some_of, some_at}
 use Rattle.whole.proofs.Bools.{or-of}
 use Rattle.whole.proofs.Numbers.Divisors.{fold-dvd, fold-greatest}
-use Rattle.whole.proofs.Numbers.Sizes.{within-*, within--, within-le}
 use Rattle.whole.proofs.Tells.{tells-lt, tells-true, tells-false}
-use Rattle.divisor.specs.Cells.{largest_size}
 use Rattle.rules.specs.Sizes.{largest_number}
 use Rattle.pivot.specs.declared.border.Border.{Border}
 use Rattle.pivot.specs.declared.column.Column.{Column}
@@ -197,9 +195,6 @@ columns-all b e = let m = b.rows in let n = b.columns in
 -- ---- the sizes of a column's cells
 
 module _ {l besides : List ℤ} {c : Column} (h : Columned l besides c) where
-  pub difference-within : (i : ℕ) → Within (difference_in l besides c i) largest_size
-  difference-within i = within-le (within-- (within-* h.pivot-within (h.entries-within.each (c.start + i)))
-      (within-* (h.besides-within.each i) h.above_within)) (lit≤ tt)
 
 module _ (l besides : List ℤ) (c : Column) (limit : ℕ) where
   pub above-none : some_above l besides c 0 limit ≡ false
