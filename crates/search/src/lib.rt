@@ -141,6 +141,7 @@ fn leaving(entries: &[i32; Tableau::MOST_ENTRIES], view: &View, limits: &Limits)
         rows: view.rows,
         columns: view.columns,
     };
+    // Kept: three arrays have place v in common, so a zip of them is no plainer
     for v in 0..size.rows + size.columns {
         let seat = view.seats[v];
         if seat.basic {

@@ -55,7 +55,7 @@ pub fn breach_of(common: i32, value: Amount, limits: LimitPair) -> Option<Breach
 {
     let least = amounts::times(common, amounts::lower_value(limits.lower));
     let most = amounts::times(common, amounts::upper_value(limits.upper));
-    // both limits are tested before the one branch, which is seldom taken
+    // Kept: both limits are tested before the one branch, which is seldom taken; a branch for each is slower
     let low = limits.lower.on & (value < least);
     let high = limits.upper.on & (most < value);
     if !(low | high) {
@@ -91,6 +91,7 @@ fn may_fall(value: Value, limit: Given) -> bool
 pub fn suits(rises: bool, entry: i32, value: Value, limits: LimitPair) -> bool
     ensures { result ≡ suits_of rises entry (pair_in value) limits }
 {
+    // Kept: the search of a pivot asks this of each nonbasic variable, and `&` and `|` take no branch
     let falls = (entry < 0) == rises;
     let down = falls & may_fall(value, limits.lower);
     let up = !falls & may_rise(value, limits.upper);

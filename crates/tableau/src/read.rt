@@ -105,6 +105,7 @@ fn start_seats(columns: usize, variables: usize) -> [Seat; Tableau::MOST_VARIABL
         column: ColumnPlace(0),
     };
     let mut seats = [nowhere; Tableau::MOST_VARIABLES];
+    // Kept: of the first ones alone; `iter_mut().enumerate().take(..)` is no plainer
     for v in 0..variables {
         seats[v] = seat_for(columns, Variable(v as u8));
     }
@@ -146,6 +147,7 @@ fn start_values(limits: Limits, columns: usize) -> Starts
 {
     let mut values = [0; Tableau::MOST_COLUMNS];
     let mut smalls = [0; Tableau::MOST_COLUMNS];
+    // Kept: four arrays have place j in common, so a zip of them is no plainer
     for j in 0..columns {
         let value = start_value(limits.lower[j], limits.upper[j]);
         values[j] = value.plain;

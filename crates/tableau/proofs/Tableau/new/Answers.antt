@@ -12,7 +12,6 @@ use Rattle.rules.specs.Problem.{Problem, problem, vars}
 use Rattle.rules.specs.Refusal.{Accepted, problem_refusal}
 use Rattle.rules.proofs.Refusal.Accepted.{problem-m, problem-n}
 use Rattle.rules.proofs.Refusal.Exactly.{accepted-exactly}
-use Rattle.judge.specs.Words.{Framed}
 use Rattle.judge.proofs.Laws.Judged.{accepted-framed}
 use Rattle.tableau.specs.declared.Limits.{Limits}
 use Rattle.tableau.specs.declared.Seat.{Seat}
@@ -23,56 +22,41 @@ use Rattle.tableau.specs.Start.{limits_for, start_basic, start_entries, start_no
 use Rattle.tableau.specs.Start.{start_laid, start_smalls, start_tableau, start_values, starts_for}
 use Rattle.tableau.proofs.Laws.Read.{starts-same}
 use Rattle.tableau.proofs.Tableau.new.Goals as goal
-use Rattle.tableau.proofs.Tableau.new.Goals.{After-count_at-rows, Start}
 
-abbrev words : Start → List ℤ
-words s = s.args.words.now
-
-accepted : (s : Start) → Accepted most_rows (words s)
+accepted : {ws : List ℤ} → problem_refusal ws ≡ 0 → Accepted most_rows ws
 unfolding problem_refusal
-accepted s = (accepted-exactly most_rows (words s)).0 s.requires
+accepted {ws} e = (accepted-exactly most_rows ws).0 e
 
 pub count_at-columns-requires : goal.count_at-columns-requires
-count_at-columns-requires c =
-    let A = accepted c in (omega (arith, A.enough), ≤ℤ-trans {b = pos 1} (le_z_yes tt) A.n-least)
+count_at-columns-requires c = let A = accepted c.requires in
+    (omega (arith, A.enough), ≤ℤ-trans {b = pos 1} (le_z_yes tt) A.n-least)
 
 pub count_at-rows-requires : goal.count_at-rows-requires
-count_at-rows-requires c = let A = accepted c.before in (omega (arith, A.enough), A.m-least)
-
--- n and m are at hand
-module _ (c : After-count_at-rows) where
-  abbrev start : Start
-  start = c.before.before
-
-  columns-are : c.count_at-columns.result ≡ (problem (words start)).n
-  columns-are = c.count_at-columns.ensures ∙ sym (problem-n (words start))
-
-  rows_are : c.count_at-rows.result ≡ (problem (words start)).m
-  rows_are = c.count_at-rows.ensures ∙ sym (problem-m (words start))
-
-  framed : Framed (words start) c.count_at-columns.result c.count_at-rows.result
-  framed = accepted-framed (accepted start) c.count_at-columns.ensures c.count_at-rows.ensures
+count_at-rows-requires c = let A = accepted c.requires in (omega (arith, A.enough), A.m-least)
 
 pub limits_of-limits-requires : goal.limits_of-limits-requires
-limits_of-limits-requires c = record { framed = framed c; accepted = accepted c.before.before }
+limits_of-limits-requires c = let A = accepted c.requires in
+    record { framed = accepted-framed A c.count_at-columns.ensures c.count_at-rows.ensures; accepted = A }
 
 pub start_values-requires : goal.start_values-requires
-start_values-requires c = (framed c.before).few-columns
+start_values-requires c =
+    (accepted-framed (accepted c.requires) c.count_at-columns.ensures c.count_at-rows.ensures).few-columns
 
 pub start_entries-requires : goal.start_entries-requires
-start_entries-requires c = framed c.before.before.before.before
+start_entries-requires c = accepted-framed (accepted c.requires) c.count_at-columns.ensures c.count_at-rows.ensures
 
 pub start_basic-requires : goal.start_basic-requires
-start_basic-requires c = (framed c.before.before.before.before.before).few-columns
+start_basic-requires c =
+    (accepted-framed (accepted c.requires) c.count_at-columns.ensures c.count_at-rows.ensures).few-columns
 
 pub overflow_add-columns : goal.overflow_add-columns
 overflow_add-columns c =
-    let F = framed c.before.before.before.before.before.before.before in
+    let F = accepted-framed (accepted c.requires) c.count_at-columns.ensures c.count_at-rows.ensures in
     omega (arith, F.few-columns, F.few-rows)
 
 pub start_seats-requires : goal.start_seats-requires
 start_seats-requires c =
-    let F = framed c.before.before.before.before.before.before.before in
+    let F = accepted-framed (accepted c.requires) c.count_at-columns.ensures c.count_at-rows.ensures in
     omega (arith, F.few-columns, F.few-rows)
 
 -- a tableau is the start's if its parts are
@@ -99,12 +83,12 @@ unfolding start_laid
 joined P rows_are columns-are entries-are basic-are nonbasic-are starts-are seats-are limits-are = cc
 
 pub returns : goal.returns
-returns c =
-    let here = c.before.before.before.before.before.before.before.before in
-    let P = problem (words (start here)) in
-    joined P (rows_are here) (columns-are here) c.start_entries.ensures
-    (c.start_basic.ensures ∙ ap start_basic (columns-are here))
+returns c = let ws = c.args.words.now in let P = problem ws in
+    let columns-are : c.count_at-columns.result ≡ P.n = c.count_at-columns.ensures ∙ sym (problem-n ws) in
+    let rows_are : c.count_at-rows.result ≡ P.m = c.count_at-rows.ensures ∙ sym (problem-m ws) in
+    joined P rows_are columns-are c.start_entries.ensures
+    (c.start_basic.ensures ∙ ap start_basic columns-are)
     c.start_nonbasic.ensures
-    (c.start_values.ensures ∙ ap₂ starts_for c.limits_of-limits.ensures (columns-are here) ∙ starts-same P)
-    (c.start_seats.ensures ∙ ap₂ (λ n m. start_seats n (n + m)) (columns-are here) (rows_are here))
+    (c.start_values.ensures ∙ ap₂ starts_for c.limits_of-limits.ensures columns-are ∙ starts-same P)
+    (c.start_seats.ensures ∙ ap₂ (λ n m. start_seats n (n + m)) columns-are rows_are)
     c.limits_of-limits.ensures

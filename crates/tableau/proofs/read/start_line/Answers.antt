@@ -1,102 +1,76 @@
 -- `tableau::read::start_line` meets its contract. The invariant: the cells before this step of the line are the
--- definition's, the others 0. The measure is the steps left. Assumes nothing.
-use mathlib.Core.Path.{◌≡◌, ◌∙◌, ap}
-use Prim.Native.Nat.{ℕ, ◌+◌, ◌<◌}
-use native.Mathlib.Omega.{arith}
-use borrow.Author.Rules.{rules}
-use lib.IntN.{ℤ}
-use mir.Facts.{to_z-of_z}
-use mir.Syntax.{w32}
-use mir.Val.{SFits}
-use Rattle.rules.specs.Problem.{problem}
+-- definition's, the others 0. Assumes nothing.
+use Rattle.std.proofs.Common.{◌≡◌, ◌∙◌, ℕ, ◌+◌, ◌<◌, List, ℤ, ap, arith, rules, w32, SFits}
+use Rattle.std.proofs.Math.Facts.{to_z-of_z}
+use Rattle.rules.specs.Problem.{Problem, problem}
+use Rattle.rules.specs.Limit.{Limit}
+use Rattle.judge.specs.Words.{Framed}
 use Rattle.layout.specs.declared.Spot.{Spot}
-use Rattle.layout.specs.Layout.{OnLine, most_entries, row_at, column_at, line_at}
+use Rattle.layout.specs.Layout.{OnLine, most_entries, row_at, column_at, line_at, lines}
+use Rattle.layout.specs.Layout as layout
 use Rattle.layout.proofs.Laws.Lines.{line-all, line-more, line-start, spot_in, step_in}
 use Rattle.tableau.proofs.read.start_line.Goals as goal
-use Rattle.tableau.proofs.read.start_line.Goals.{After-coefficient_at, In-loop-step, Start}
+
+-- the number of a cell
+abbrev cell : Problem Limit → ℕ → ℕ → ℕ → ℤ
+cell P m n k = P.coefficient (row_at m n k) (column_at m n k)
+
+-- a step of a line
+on_line : {ws : List ℤ} {m n : ℕ} (line step : ℕ) {steps : ℕ} → Framed ws n m → line < lines m n →
+    steps ≡ layout.steps m n → step < steps → OnLine m n line step
+on_line line step F h e k = record {
+  few-rows = F.few-rows;
+  few-columns = F.few-columns;
+  in_lines = h;
+  in-steps = rw (← e) k;
+}
+
+-- .. stands within the cells
+in_cells : {m n line step start : ℕ} → OnLine m n line step → start ≡ line_at m n line → start + step < most_entries
+in_cells h e = rw e (step_in h)
 
 pub line_at-start-requires : goal.line_at-start-requires
 line_at-start-requires c = let h = c.requires in (h.framed.few-rows, h.framed.few-columns, h.line_bound)
 
-module _ (s : Start) where
-  abbrev m : ℕ
-  m = s.args.rows
-
-  abbrev n : ℕ
-  n = s.args.columns
-
-  abbrev line : ℕ
-  line = s.args.line
-
-  abbrev cell : ℕ → ℤ
-  cell k = (problem s.args.words.now).coefficient (row_at m n k) (column_at m n k)
-
 pub loop-step-init : goal.loop-step-init
-loop-step-init c = let s : Start = c.before.before in
-    (omega arith, line-start (m s) (n s) (cell s) (line s) c.requires.entries_value)
-
--- a step
-module _ (c : In-loop-step) where
-  abbrev start : Start
-  start = c.before.before.before.before
-
-  abbrev step : ℕ
-  step = c.loop-step.step
-
-  on_line : OnLine (m start) (n start) (line start) step
-  on_line = record {
-    few-rows = start.requires.framed.few-rows;
-    few-columns = start.requires.framed.few-columns;
-    in_lines = start.requires.line_bound;
-    in-steps = rw (← c.steps-steps.ensures) (omega arith);
-  }
-
-  at-is : c.line_at-start.result + step ≡ line_at (m start) (n start) (line start) + step
-  at-is = ap (λ b. b + step) c.line_at-start.ensures
-
-  in_cells : c.line_at-start.result + step < most_entries
-  in_cells = rw at-is (step_in on_line)
+loop-step-init c = let a = c.args in
+    line-start a.rows a.columns (cell (problem a.words.now) a.rows a.columns) a.line c.requires.entries_value
 
 pub spot_at-spot-requires : goal.spot_at-spot-requires
-spot_at-spot-requires c = on_line c
+spot_at-spot-requires c = on_line c.args.line c.loop-step.step c.requires.framed c.requires.line_bound
+    c.steps-steps.ensures c.loop-step-test.true
 
 pub overflow_add-at : goal.overflow_add-at
-overflow_add-at c = omega (arith, in_cells c.before)
+overflow_add-at c = let h = in_cells (on_line c.args.line c.loop-step.step c.requires.framed c.requires.line_bound
+    c.steps-steps.ensures c.loop-step-test.true) c.line_at-start.ensures in
+    omega (arith, h)
 
 pub coefficient_at-requires : goal.coefficient_at-requires
 coefficient_at-requires c = record {
   framed = c.requires.framed;
-  row_lt_rows = spot_in (on_line c.before.before.before) c.spot_at-spot.ensures;
+  row_lt_rows = spot_in (on_line c.args.line c.loop-step.step c.requires.framed c.requires.line_bound
+      c.steps-steps.ensures c.loop-step-test.true) c.spot_at-spot.ensures;
 }
 
--- what the call gives is the definition's number at this place
-module _ (c : After-coefficient_at) where
-  abbrev here : In-loop-step
-  here = c.before.before.before.before
-
-  fit : SFits w32 c.coefficient_at.result
-  fit = search rules
-
-  right : let s = start here in c.coefficient_at.result ≡ cell s (line_at (m s) (n s) (line s) + step here)
-  right = c.coefficient_at.ensures
-      ∙ ap (λ (x : Spot). (problem (start here).args.words.now).coefficient x.row.0 x.column.0)
-      c.spot_at-spot.ensures
-
 pub offset_bounds-entries-at : goal.offset_bounds-entries-at
-offset_bounds-entries-at c = omega (arith, in_cells c.before.before.before.before)
+offset_bounds-entries-at c = let h = in_cells (on_line c.args.line c.loop-step.step c.requires.framed
+    c.requires.line_bound c.steps-steps.ensures c.loop-step-test.true) c.line_at-start.ensures in
+    omega (arith, h)
 
 pub bounds-entries-at : goal.bounds-entries-at
-bounds-entries-at c = in_cells c.before.before.before.before
+bounds-entries-at c = in_cells (on_line c.args.line c.loop-step.step c.requires.framed
+    c.requires.line_bound c.steps-steps.ensures c.loop-step-test.true) c.line_at-start.ensures
 
 pub loop-step-preserved : goal.loop-step-preserved
-loop-step-preserved c = let i = here c in let s = start i in (
-  omega arith,
-  simp (to_z-of_z (fit c))
-      (line-more (m s) (n s) (cell s) (line s) (on_line i) (at-is i) i.loop-step.invariant.1 (right c)),
-)
+loop-step-preserved c = let a = c.args in let P = problem a.words.now in
+    let h = on_line a.line c.loop-step.step c.requires.framed c.requires.line_bound
+    c.steps-steps.ensures c.loop-step-test.true in
+    let fit : SFits w32 c.coefficient_at.result = search rules in
+    simp (to_z-of_z fit) (line-more a.rows a.columns (cell P a.rows a.columns) a.line h
+    (ap (λ b. b + c.loop-step.step) c.line_at-start.ensures) c.loop-step.invariant
+    (c.coefficient_at.ensures ∙ ap (λ (x : Spot). P.coefficient x.row.0 x.column.0) c.spot_at-spot.ensures))
 
 pub returns : goal.returns
-returns c =
-    let s : Start = c.before.before.before.before in
-    let e : c.loop-step.step ≡ c.steps-steps.result = omega arith in
-    line-all (m s) (n s) (cell s) (line s) (e ∙ c.steps-steps.ensures) c.loop-step.invariant.1
+returns c = let a = c.args in let e : c.loop-step.step ≡ c.steps-steps.result = omega arith in
+    line-all a.rows a.columns (cell (problem a.words.now) a.rows a.columns) a.line (e ∙ c.steps-steps.ensures)
+    c.loop-step.invariant
