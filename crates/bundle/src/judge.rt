@@ -44,6 +44,7 @@ fn judge_table(file: &[u8], bodies: usize) -> Result<(), Refusal>
         ∷ (bad_total (words_from file.now), 35) ∷ []) }
 {
     let mut at = 2 + 2 * bodies;
+    // Kept: a pair is two words by their places, and eight bytes at a time would be read by place all the same.
     for i in 0..bodies {
         let size = word_of(file, 3 + 2 * i);
         if is_bad_pair(word_of(file, 2 + 2 * i), size, at) {
