@@ -1,5 +1,6 @@
 -- `judge::Frame::some_bad_variable` meets its contract: each variable is asked, at its place.
-use Rattle.std.proofs.Common.{◌-◌, ◌/◌, ◌<◌, ℕ, [], length, take, drop, get_or, to_z, of_z, ◌≡◌, ◌+◌, ◌*◌, ◌||◌, arith, rules, ap, ap₂, sym, ◌∙◌, refl, w32, List, ℤ}
+use Rattle.std.proofs.Common.{◌-◌, ◌/◌, ◌<◌, ℕ, [], length, take, drop, get_or, to_z, of_z, ◌≡◌}
+use Rattle.std.proofs.Common.{◌+◌, ◌*◌, ◌||◌, arith, rules, ap, ap₂, sym, ◌∙◌, refl, w32, List, ℤ}
 use Rattle.std.proofs.Math.Numerals.{add-one}
 use Rattle.std.proofs.lemmas.List.{take_rest}
 use Rattle.std.specs.Simd.{first_chunks}
@@ -52,6 +53,7 @@ some-is Limits _ = refl
 
 pub returns : goal.returns
 returns c =
-    let all : c.loop-variable.variable-index ≡ c.args.self.now.columns + c.args.self.now.rows = omega (arith, c.as_chunks.ensures.front_len, c.args.self.now.framed.exact) in
+    let all : c.loop-variable.variable-index ≡ c.args.self.now.columns + c.args.self.now.rows =
+    omega (arith, c.as_chunks.ensures.front_len, c.args.self.now.framed.exact) in
     c.loop-variable.invariant ∙ ap (λ k. some_below k (bad-at c.args.asked c.args.self.now.words.now))
     (all ∙ vars-are c.args.self.now.framed) ∙ some-is c.args.asked c.args.self.now.words.now
