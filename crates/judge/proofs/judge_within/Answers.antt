@@ -75,7 +75,7 @@ returns-then-words-rows c =
 
 pub invariant_of-frame : goal.invariant_of-frame
 invariant_of-frame c = record {
-  frame-is = frame-is c.args.most c.args.words.now c.if-words-lt2.false (sym c.is_bad_size.ensures
+  framed = frame-is c.args.most c.args.words.now c.if-words-lt2.false (sym c.is_bad_size.ensures
       ∙ c.if-is_bad_size.false)
       c.requires c.count_at-columns.result c.count_at-rows.result c.count_at-columns.ensures c.count_at-rows.ensures
       c.if-words-rows.false;
