@@ -13,7 +13,6 @@ use Rattle.limbs.proofs.Laws.Sizes.{sized-le}
 use Rattle.limbs.specs.Limbs.{value}
 use Rattle.wide.proofs.Laws.Signs.{owed-joined}
 use Rattle.wide.proofs.cannot.owed.Goals as goal
-use Rattle.wide.proofs.cannot.owed.Goals.{After-sign-sign}
 
 zero-fits : SFits w64 (pos 0)
 zero-fits = record { sfits = lit< tt }
@@ -21,12 +20,11 @@ zero-fits = record { sfits = lit< tt }
 pub sign-sign-requires : goal.sign-sign-requires
 sign-sign-requires c = sized-le c.requires (lit≤ tt)
 
-fit : (c : After-sign-sign) → SFits w64 c.sign-sign.result
-fit c = search rules
-
 pub returns : goal.returns
-returns c = let l = c.args.limit in
-    simp (to_z-of_z (fit c.before))
+returns c =
+    let l = c.args.limit in
+    let fit : SFits w64 c.sign-sign.result = search rules in
+    simp (to_z-of_z fit)
     (ap₂ (λ (z : ℤ) (b : Bool). (l.on && not (is_neg z)) || b) c.sign-sign.ensures
-    (bits-eq w64 (fit c.before) zero-fits ∙ ap (λ (z : ℤ). eq_z z (pos 0)) c.sign-sign.ensures)
+    (bits-eq w64 fit zero-fits ∙ ap (λ (z : ℤ). eq_z z (pos 0)) c.sign-sign.ensures)
     ∙ owed-joined l.on _ (value c.args.k))
