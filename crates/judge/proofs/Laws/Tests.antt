@@ -1,8 +1,7 @@
 -- The refusal of the words of a problem, test after test, within so many rows.
 --   few-hit, size-hit, length-hit    a test applies, and none before it does
 --   least, few-columns, few-rows     what the test of the sizes leaves
---   frame-is, tests-passed                   none of the three applies: the words are framed, and the tests over all
--- words decide
+--   frame-is, tests-passed           none of the three applies: the words are framed, and the tests over them decide
 use Rattle.std.proofs.Common.{◌≡◌, ◌≢◌, ◌+◌, ◌*◌, ◌≤◌, ◌<◌, sym, ◌∙◌, ap₂, true, false, [], ◌∷◌, List, ℕ, ℤ}
 use Rattle.std.proofs.Common.{pos, length, drop, ◌≤ℤ◌}
 use native.Mathlib.Nat.{le_trans, mul-le-mul}
