@@ -16,7 +16,7 @@ pub mod answer;
 pub const MOST_VERTICES: usize = 64;
 
 #[derive(Clone, Copy, Debug, PartialEq, Eq, PartialOrd, Ord)]
-pub struct Length(i64);
+pub struct Length(pub i64);
 
 impl Length {
     pub const LARGEST: i32 = 30000;
