@@ -33,7 +33,7 @@ use Rattle.rules.specs.Times.Answer.{Timed}
 use Rattle.rules.specs.Times.Check.{checked_times}
 use Rattle.rules.specs.Wide.{checked_wide, wide_form}
 use Rattle.replay.specs.declared.Told.{Told}
-use Rattle.replay.specs.Replay.{replayed_as, told_of}
+use Rattle.replay.specs.Replay.{told_as}
 use Rattle.session.specs.declared.Checked.{Checked}
 use Rattle.session.specs.Sessions.{CheckMeans}
 use Rattle.traces.specs.declared.Traced.{Traced}
@@ -70,13 +70,13 @@ times-checked ws before after number judged x j z =
 -- that were written
 pub trace-replayed : (ws : List ℤ) (before after : List ℕ) (r : Traced) (told : Told) →
     r ≡ traced_as (trace_refusal ws (length before)) ws → after ≡ trace_output r.refused ws before →
-    told ≡ told_of (replayed_as (replay_refusal ws (take r.count after)) (replayed_words ws (take r.count after))) →
+    told ≡ told_as (replay_refusal ws (take r.count after)) (replayed_words ws (take r.count after)) →
     r.refused ≡ 0 → told ≡ record { number = 0; word = 0; step = 0 }
 trace-replayed ws before after r told n o j z = j ∙ ap told_of_lem front
-    ∙ ap₂ (λ k a. told_of (replayed_as k a)) accepted-own.0 accepted-own.1
+    ∙ ap₂ (λ k a. told_as k a) accepted-own.0 accepted-own.1
   where
     told_of_lem : List ℕ → Told
-    told_of_lem trace = told_of (replayed_as (replay_refusal ws trace) (replayed_words ws trace))
+    told_of_lem trace = told_as (replay_refusal ws trace) (replayed_words ws trace)
 
     fine : trace_refusal ws (length before) ≡ 0
     fine = sym (ap (λ (x : Traced). x.refused) n) ∙ z

@@ -19,7 +19,7 @@ ghost use Rattle.rules.specs.Bundle.Writer.{file_left, writer_refusal};
 ghost use Rattle.rules.specs.Bundle.Day.{day_text};
 ghost use Rattle.rules.specs.Sheet.File.{file_sheet};
 ghost use Rattle.bundle.specs.Contents.{contents_told};
-ghost use Rattle.replay.specs.Replay.{replayed_as, told_of};
+ghost use Rattle.replay.specs.Replay.{told_as};
 ghost use Rattle.traces.specs.Traces.{traced_as};
 ghost use Rattle.exchange.specs.Sent.{sent_by};
 ghost use Rattle.reader.specs.Taken.{taken_by, taken_output};
@@ -116,8 +116,7 @@ pub extern "C" fn scatterflock_slice_continue(
 // Holds another solver's trace against the run of a problem.
 #[unsafe(no_mangle)]
 pub extern "C" fn scatterflock_replay(words: &[i32], trace: &[u32]) -> Told
-    ensures { result ≡ told_of (replayed_as (replay_refusal words.now trace.now)
-        (replayed_words words.now trace.now)) }
+    ensures { result ≡ told_as (replay_refusal words.now trace.now) (replayed_words words.now trace.now) }
 {
     replay::in_numbers(replay::replay(words, trace))
 }
