@@ -18,10 +18,10 @@ abbrev pub is_short : (room N : ℕ) → Bool
 is_short room N = ltb room (3 + 2 * N)
 
 -- word 0: 1 can, 2 cannot, 3 out of range
-unfoldable pub number_of : Verdict → ℤ
-number_of verdicts.Can = pos 1
-number_of verdicts.Cannot = pos 2
-number_of verdicts.Range = pos 3
+unfoldable pub verdict_number : Verdict → ℤ
+verdict_number verdicts.Can = pos 1
+verdict_number verdicts.Cannot = pos 2
+verdict_number verdicts.Range = pos 3
 
 -- D times the value of the variable of a seat: the sum of its row, or D times the value of its column. Values are plain
 -- parts, or small parts
@@ -79,7 +79,7 @@ first_of N l = table N (λ v. get_or l v (pos 0))
 -- verdict, count, denominator, and two words for each variable
 unfoldable pub words_at : Verdict → ℕ → ℤ → ℕ → List ℤ → List ℤ → List ℤ
 words_at verdict count denominator N lower upper =
-    number_of verdict ∷ pos count ∷ denominator ∷ first_of N lower ++ first_of N upper
+    verdict_number verdict ∷ pos count ∷ denominator ∷ first_of N lower ++ first_of N upper
 
 -- the answer's words, and then the words that were there
 abbrev pub laid_over : ℕ → List ℤ → List ℤ → List ℤ

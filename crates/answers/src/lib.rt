@@ -5,7 +5,7 @@ ghost use Rattle.std.specs.Prelude.{◌≡◌, ℕ, ◌+◌, ◌*◌, ◌≤◌,
 ghost use Rattle.rules.specs.Run.{most_count};
 ghost use Rattle.rules.specs.Sizes.{most_columns, most_rows, most_variables};
 ghost use Rattle.tableau.specs.Parts.{nowhere};
-ghost use Rattle.answers.specs.Answer.{number_of, Numerable, numerator_of, numerators_in};
+ghost use Rattle.answers.specs.Answer.{verdict_number, Numerable, numerator_of, numerators_in};
 ghost use Rattle.answers.specs.Answer.{is_short, words_at, laid_over};
 
 use search::Size;
@@ -25,9 +25,9 @@ pub enum Verdict {
 
 // The number of a verdict in an answer.
 impl From<Verdict> for i64 {
-    ghost from_gives = { λ verdict n. n ≡ number_of verdict };
+    ghost from_gives = { λ verdict n. n ≡ verdict_number verdict };
 
-    #[tactic(auto, unfolding(crate::specs::Answer::number_of))]
+    #[tactic(auto, unfolding(crate::specs::Answer::verdict_number))]
     fn from(verdict: Verdict) -> i64 {
         match verdict {
             Verdict::Can => 1,

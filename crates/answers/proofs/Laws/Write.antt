@@ -7,7 +7,7 @@ use Rattle.std.proofs.Math.Seq.{drop-append_seam, drop-drop, ext_get_or, take-ap
 use borrow.Rule.Slice.PartMut.{put_mid}
 use Rattle.whole.proofs.Lists.Tables.{table-length, table_at}
 use Rattle.answers.specs.declared.Verdict.{Verdict}
-use Rattle.answers.specs.Answer.{first_of, number_of, words_at}
+use Rattle.answers.specs.Answer.{first_of, verdict_number, words_at}
 
 -- words are put behind those that stand in front, over what was there
 put-behind : (front x before : List ℤ) (a k e : ℕ) → length front ≡ a → a + k ≡ e →
@@ -28,15 +28,15 @@ first-is N x h = ext_get_or (pos 0) (take N x) (first_of N x)
     ∙ sym (table_at N (λ v. get_or x v (pos 0)) (pos 0) i (rw (first-length N x h) at p)))
 
 pub written_all : (v : Verdict) (k : ℕ) (d : ℤ) (N : ℕ) (x y before : List ℤ) {head first second : List ℤ} →
-    head ≡ number_of v ∷ pos k ∷ d ∷ [] → first ≡ take N x → second ≡ take N y → N ≤ length x → N ≤ length y →
+    head ≡ verdict_number v ∷ pos k ∷ d ∷ [] → first ≡ take N x → second ≡ take N y → N ≤ length x → N ≤ length y →
     put_mid (3 + N) (3 + 2 * N - (3 + N)) (put_mid 3 (3 + N - 3) (head ++ drop 3 before) first) second
     ≡ words_at v k d N x y ++ drop (3 + 2 * N) before
 unfolding words_at
 written_all v k d N x y before h p q f g =
     ap₂ (λ s z. put_mid (3 + N) (3 + 2 * N - (3 + N)) s z)
     (ap₂ (λ s z. put_mid 3 (3 + N - 3) (s ++ drop 3 before) z) h (p ∙ first-is N x f)
-    ∙ put-behind (number_of v ∷ pos k ∷ d ∷ []) (first_of N x) before 3 (3 + N - 3) (3 + N) refl (omega arith))
+    ∙ put-behind (verdict_number v ∷ pos k ∷ d ∷ []) (first_of N x) before 3 (3 + N - 3) (3 + N) refl (omega arith))
     (q ∙ first-is N y g)
-    ∙ put-behind (number_of v ∷ pos k ∷ d ∷ first_of N x) (first_of N y) before (3 + N) (3 + 2 * N - (3 + N))
+    ∙ put-behind (verdict_number v ∷ pos k ∷ d ∷ first_of N x) (first_of N y) before (3 + N) (3 + 2 * N - (3 + N))
     (3 + 2 * N)
     (omega (arith, table-length N (λ v. get_or x v (pos 0)))) (omega arith)

@@ -30,7 +30,7 @@ use Rattle.tableau.specs.Stands.{Stands}
 use Rattle.sides.specs.Sides.{least_in, most_in}
 use Rattle.search.proofs.Laws.Stands.{all-vars}
 use Rattle.answers.specs.declared.Verdict.TheVariants as verdicts
-use Rattle.answers.specs.Answer.{number_of, words_at}
+use Rattle.answers.specs.Answer.{verdict_number, words_at}
 use Rattle.answers.specs.Conflict.{conflict_at, crossed_from, crosses_at}
 use Rattle.answers.specs.Multipliers.{unit_at}
 use Rattle.answers.proofs.Laws.Stands.Halves.{units-are}
@@ -80,7 +80,7 @@ module _ {P : Problem (ℤ × ℤ)} {t : Tableau} {s : State (ℤ × ℤ)} (St :
   pub crossing-told : (v : ℕ) → conflict pairs P ≡ some v → (b k : ℕ) →
       words_at verdicts.Cannot k (pos 0) (t.rows + t.columns) (unit_at v) (unit_at v)
       ≡ words_of P (spending pairs b P s k)
-  unfolding words_at number_of words_of
+  unfolding words_at verdict_number words_of
   crossing-told v e b k =
       ap (λ N. words_at verdicts.Cannot k (pos 0) N (unit_at v) (unit_at v)) (all-vars P t s St R)
       ∙ ap (λ l. pos 2 ∷ pos k ∷ pos 0 ∷ l ++ l) (units-are (vars P) v (crossing-in v e))

@@ -27,7 +27,7 @@ use Rattle.search.specs.declared.Blocked.{Blocked}
 use Rattle.search.specs.Search.{blocked_at}
 use Rattle.search.proofs.Laws.Rows.{searchable}
 use Rattle.search.proofs.Laws.Stands.{all-vars}
-use Rattle.answers.specs.Answer.{number_of, words_at}
+use Rattle.answers.specs.Answer.{verdict_number, words_at}
 use Rattle.answers.proofs.Laws.Stands.Halves.{lowers-are, numerators-are, smalls-are, uppers-are, zeros-are}
 use Rattle.steps.specs.declared.End.{End}
 use Rattle.steps.specs.declared.End.TheVariants as ends
@@ -57,7 +57,7 @@ module _ {P : Problem (ℤ × ℤ)} {r : Ran} {x : Ending (ℤ × ℤ)} {k : ℕ
     total = k + r.count
 
     pub told-came : end_words e total here (vars P) ≡ words_of P x
-    unfolding words_laid words_at number_of words_of evidence
+    unfolding words_laid words_at verdict_number words_of evidence
     told-came = go r.course x.how C.course-is is-over
         ∙ ap (λ j. words_of P (record { how = x.how; pivots = j; last = at-end })) C.count-is
       where
