@@ -194,8 +194,6 @@ columns-all b e = let m = b.rows in let n = b.columns in
 
 -- ---- the sizes of a column's cells
 
-module _ {l besides : List ℤ} {c : Column} (h : Columned l besides c) where
-
 module _ (l besides : List ℤ) (c : Column) (limit : ℕ) where
   pub above-none : some_above l besides c 0 limit ≡ false
   unfolding some_above
