@@ -3,7 +3,7 @@
 --   read_only     what is told, and every word of both outputs
 --   write-only    the number, and every byte of the output
 use mathlib.Core.Path.{◌≡◌, ap, sym, ◌∙◌}
-use Rattle.refusals.specs.Numbers.{told}
+use Rattle.refusals.specs.Numbers.{number_told}
 use Rattle.refusals.proofs.Refused.{told-only}
 use Rattle.rules.specs.Program.Bytes.{words_from}
 use Rattle.rules.specs.Bundle.File.{lengths_left, words_left}
@@ -39,4 +39,4 @@ pub write-only : (κs : _) (x : _) (a b : _) (e f : _) → write.Post κs x a e 
     (a ≡ b) × (e.1.1.1.0.now ≡ f.1.1.1.0.now)
 write-only κs x a b e f h k =
     let n : a ≡ b = told-only a b (h.0 ∙ sym k.0) in
-    (n, h.1 ∙ ap (λ j. file_left (told j) x.0 x.1.0.now x.1.1.0.now x.1.1.1.0.now) n ∙ sym k.1)
+    (n, h.1 ∙ ap (λ j. file_left (number_told j) x.0 x.1.0.now x.1.1.0.now x.1.1.1.0.now) n ∙ sym k.1)

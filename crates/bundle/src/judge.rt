@@ -5,7 +5,7 @@ ghost use Rattle.rules.specs.Sizes.{most_bodies};
 ghost use Rattle.rules.specs.Refusal.{first};
 ghost use Rattle.rules.specs.Program.Bytes.{words_from};
 ghost use Rattle.rules.specs.Bundle.File.{bad_count, bad_table, bad_total, count_in, file_refusal, head_size};
-ghost use Rattle.refusals.specs.Numbers.{told};
+ghost use Rattle.refusals.specs.Numbers.{number_told};
 
 use crate::places::{count_of, word_of};
 use editions::{EDITIONS, bodies_in};
@@ -40,7 +40,7 @@ fn is_bad_pair(first: i32, size: i32, at: usize) -> bool
 fn judge_table(file: &[u8], bodies: usize) -> Result<(), Refusal>
     requires { (bodies ≡ count_in (words_from file.now)) × (bodies ≤ most_bodies)
         × (head_size bodies ≤ length (words_from file.now)) }
-    ensures { told result ≡ first ((bad_table (words_from file.now), 34)
+    ensures { number_told result ≡ first ((bad_table (words_from file.now), 34)
         ∷ (bad_total (words_from file.now), 35) ∷ []) }
 {
     let mut at = 2 + 2 * bodies;
@@ -60,7 +60,7 @@ fn judge_table(file: &[u8], bodies: usize) -> Result<(), Refusal>
 
 /// Whether bytes are a day's file: the first of refusals 30 to 35 that applies.
 pub fn judge(file: &[u8]) -> Result<(), Refusal>
-    ensures { told result ≡ file_refusal file.now }
+    ensures { number_told result ≡ file_refusal file.now }
 {
     if is_bad_count(file.len()) {
         return Err(Refusal::ByteCount);

@@ -13,7 +13,7 @@ ghost use Rattle.rules.specs.Program.Bytes.{words_from};
 ghost use Rattle.rules.specs.Bundle.File.{head_size, lengths_left, pair_length, read_refusal, words_left};
 ghost use Rattle.rules.specs.Bundle.Writer.{file_left, writer_refusal};
 ghost use Rattle.bundle.specs.Contents.{contents_told};
-ghost use Rattle.refusals.specs.Numbers.{told};
+ghost use Rattle.refusals.specs.Numbers.{number_told};
 
 use places::{count_of, word_of};
 use refusals::Refusal;
@@ -29,7 +29,7 @@ pub struct Contents {
 
 // Whether a reader may be lent room for so many lengths and so many words: the file is judged first.
 fn judge_reading(file: &[u8], sizes: usize, words: usize) -> Result<(), Refusal>
-    ensures { told result ≡ read_refusal file.now sizes words }
+    ensures { number_told result ≡ read_refusal file.now sizes words }
 {
     judge::judge(file)?;
     let bodies = count_of(file, 1);
@@ -80,10 +80,10 @@ pub fn read(file: &[u8], lengths: &mut [i32], words: &mut [i32]) -> Contents
 
 /// Writes a file of an edition from the lengths of its bodies and all their words back to back. A refusal keeps `file`.
 pub fn write(edition: u32, lengths: &[i32], words: &[i32], file: &mut [u8]) -> Result<(), Refusal>
-    ensures number { told result ≡ writer_refusal edition lengths.now words.now
+    ensures number { number_told result ≡ writer_refusal edition lengths.now words.now
         (length file.old) }
     ensures output { file.new
-        ≡ file_left (told result) edition lengths.now words.now file.old }
+        ≡ file_left (number_told result) edition lengths.now words.now file.old }
 {
     writer::judge(edition, lengths, words, file.len())?;
     let mut front = [0i32; head::MOST_HEAD];

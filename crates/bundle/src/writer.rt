@@ -4,7 +4,7 @@ ghost use Rattle.whole.specs.Sums.{sum};
 ghost use Rattle.rules.specs.Problem.{word};
 ghost use Rattle.rules.specs.Bundle.Writer.{bad_lengths, writer_refusal};
 ghost use Rattle.bundle.specs.Lengths.{Counts};
-ghost use Rattle.refusals.specs.Numbers.{told};
+ghost use Rattle.refusals.specs.Numbers.{number_told};
 
 use refusals::Refusal;
 
@@ -29,7 +29,7 @@ fn total_of(lengths: &[i32]) -> usize
 
 // The first of the refusals that applies to what is to be written; room is in bytes.
 pub fn judge(edition: u32, lengths: &[i32], words: &[i32], room: usize) -> Result<(), Refusal>
-    ensures { told result ≡ writer_refusal edition lengths.now words.now room }
+    ensures { number_told result ≡ writer_refusal edition lengths.now words.now room }
 {
     if editions::is_unknown(edition) {
         return Err(Refusal::Edition);

@@ -4,12 +4,12 @@
 #![tactic(auto)]
 
 ghost use Rattle.std.specs.Prelude.{◌≡◌, ℕ, ◌+◌, ◌*◌, ◌≤◌, ◌<◌, pos, nat_abs, ◌*ℤ◌, length, ◌≤ℤ◌};
-ghost use Rattle.whole.specs.Numbers.{Within, AllWithin};
-ghost use Rattle.rules.specs.Sizes.{most_rows, most_columns, most_variables, largest_coefficient, largest_limit};
+ghost use Rattle.whole.specs.Numbers.{Within};
+ghost use Rattle.rules.specs.Sizes.{largest_limit};
 ghost use Rattle.rules.specs.Sizes.{largest_number, largest_numerator, largest_small};
 ghost use Rattle.rules.specs.Evidence.{lower_part, at_least, at_most, shows_can};
 ghost use Rattle.amounts.specs.Amounts.{limit_in};
-ghost use Rattle.parts.specs.Reads.{problem_of, Readable, Limited, row_sum_at};
+ghost use Rattle.parts.specs.Reads.{problem_of, row_sum_at};
 ghost use Rattle.parts.specs.Reads.{numerators_fit, rows_hold, half_holds, is_zero, limits_hold};
 
 use amounts::Given;

@@ -2,12 +2,12 @@
 #![tactic(auto)]
 
 ghost use Rattle.std.specs.Prelude.{◌≡◌, ◌+◌, ◌*◌, ◌≤◌, ◌<◌, ◌*ℤ◌, length};
-ghost use Rattle.whole.specs.Numbers.{Within, AllWithin};
-ghost use Rattle.rules.specs.Sizes.{most_rows, most_columns, most_variables, largest_coefficient, largest_limit};
+ghost use Rattle.whole.specs.Numbers.{Within};
+ghost use Rattle.rules.specs.Sizes.{largest_limit};
 ghost use Rattle.rules.specs.Sizes.{largest_number};
 ghost use Rattle.rules.specs.Evidence.{fair, plain_of, strict_named, shows_cannot};
 ghost use Rattle.amounts.specs.Amounts.{limit_in};
-ghost use Rattle.parts.specs.Reads.{problem_of, Readable, Limited, Multiplied, balance_at, column_at_entries};
+ghost use Rattle.parts.specs.Reads.{problem_of, Multiplied, balance_at, column_at_entries};
 ghost use Rattle.parts.specs.Reads.{multipliers_fair, columns_cancel, surplus_of, some_named};
 
 use amounts::Given;

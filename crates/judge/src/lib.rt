@@ -6,7 +6,7 @@ ghost use Rattle.rules.specs.Limit.{bad_kind_word, has_lower, has_upper, strict_
 ghost use Rattle.rules.specs.Refusal.{bad_coefficient, blank_row, first, problem_refusal, problem_refusal_within};
 ghost use Rattle.rules.specs.Refusal.{some_blank};
 ghost use Rattle.rules.specs.Sizes.{most_rows};
-ghost use Rattle.refusals.specs.Numbers.{told};
+ghost use Rattle.refusals.specs.Numbers.{number_told};
 ghost use Rattle.judge.specs.Words.{Framed, bad_by, bad_variable};
 
 use refusals::Refusal;
@@ -146,7 +146,7 @@ impl Frame<'_> {
 // The first of refusals 4 to 6 and 10 that applies.
 #[tactic(auto, unfolding(rules::specs::Refusal::first))]
 fn word_refusal(coefficient: bool, kind: bool, limit: bool, blank: bool) -> Result<(), Refusal>
-    ensures { told result ≡ first ((coefficient, 4) ∷ (kind, 5) ∷ (limit, 6) ∷ (blank, 10) ∷ []) }
+    ensures { number_told result ≡ first ((coefficient, 4) ∷ (kind, 5) ∷ (limit, 6) ∷ (blank, 10) ∷ []) }
 {
     if coefficient {
         return Err(Refusal::Coefficient);
@@ -166,7 +166,7 @@ fn word_refusal(coefficient: bool, kind: bool, limit: bool, blank: bool) -> Resu
 /// The first of refusals 1 to 6 and 10 that applies within so many rows.
 pub fn judge_within(most: u32, words: &[i32]) -> Result<(), Refusal>
     requires { most ≤ most_rows }
-    ensures { told result ≡ problem_refusal_within most words.now }
+    ensures { number_told result ≡ problem_refusal_within most words.now }
 {
     if words.len() < 2 {
         return Err(Refusal::FewWords);
@@ -195,7 +195,7 @@ pub fn judge_within(most: u32, words: &[i32]) -> Result<(), Refusal>
 /// .. within the most rows.
 #[tactic(auto, unfolding(rules::specs::Refusal::problem_refusal))]
 pub fn judge(words: &[i32]) -> Result<(), Refusal>
-    ensures { told result ≡ problem_refusal words.now }
+    ensures { number_told result ≡ problem_refusal words.now }
 {
     judge_within(rules::MOST_ROWS as u32, words)
 }

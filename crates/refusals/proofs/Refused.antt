@@ -4,7 +4,7 @@
 use Rattle.std.proofs.Common.{◌≡◌, ◌≢◌, ℕ, Bool, true, false, cond, eqb, Result, Ok, Err, refl, arith, ap, sym, ◌∙◌}
 use Rattle.refusals.specs.declared.Refusal.{Refusal}
 use Rattle.refusals.specs.declared.Refusal.TheVariants as reasons
-use Rattle.refusals.specs.Numbers.{number_of, told, told_by, verdict_told}
+use Rattle.refusals.specs.Numbers.{number_of, number_told, told_by, verdict_told}
 
 pub number-some : (r : Refusal) → number_of r ≢ 0
 number-some reasons.FewWords e = omega arith
@@ -104,7 +104,7 @@ refusal-read reasons.Token = refl
 pub number-only : (r s : Refusal) → number_of r ≡ number_of s → r ≡ s
 number-only r s e = sym (refusal-read r) ∙ ap refusal-of e ∙ refusal-read s
 
-pub told-only : (a b : Result Unit Refusal) → told a ≡ told b → a ≡ b
+pub told-only : (a b : Result Unit Refusal) → number_told a ≡ number_told b → a ≡ b
 told-only (Ok _) (Ok _) e = refl
 told-only (Ok _) (Err s) e = absurd (number-some s (sym e))
 told-only (Err r) (Ok _) e = absurd (number-some r e)

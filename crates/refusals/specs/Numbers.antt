@@ -38,8 +38,8 @@ abbrev pub told_by : {A : Type 0} → Result A Refusal → ℕ
 told_by (Ok _) = 0
 told_by (Err refusal) = number_of refusal
 
-abbrev pub told : Result Unit Refusal → ℕ
-told = told_by
+abbrev pub number_told : Result Unit Refusal → ℕ
+number_told = told_by
 
 -- of a checker: 8 accepted, 9 not
 abbrev pub verdict_told : Result Bool Refusal → ℕ

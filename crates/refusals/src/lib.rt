@@ -4,7 +4,7 @@
 #![tactic(auto)]
 
 ghost use Rattle.std.specs.Prelude.{◌≡◌};
-ghost use Rattle.refusals.specs.Numbers.{number_of, told, verdict_told};
+ghost use Rattle.refusals.specs.Numbers.{number_of, number_told, verdict_told};
 
 /// The reasons, in the order of their numbers.
 #[derive(Clone, Copy, Debug, PartialEq, Eq)]
@@ -86,7 +86,7 @@ impl Refusal {
 
 /// 0 where nothing is refused, else the number.
 pub fn number(judged: Result<(), Refusal>) -> u32
-    ensures { result ≡ told judged }
+    ensures { result ≡ number_told judged }
 {
     match judged {
         Ok(()) => 0,

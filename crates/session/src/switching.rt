@@ -5,7 +5,7 @@ ghost use Rattle.rules.specs.Limit.{lower_pair, upper_pair};
 ghost use Rattle.rules.specs.Problem.{mapped};
 ghost use Rattle.rules.specs.Runs.Session.{inside};
 ghost use Rattle.rules.specs.Sizes.{most_variables};
-ghost use Rattle.refusals.specs.Numbers.{told};
+ghost use Rattle.refusals.specs.Numbers.{number_told};
 ghost use Rattle.amounts.specs.Amounts.{limit_in, pair_in, value_of};
 ghost use Rattle.session.specs.Switching.{Settleable, all_off, flagged_at, given_at, limit_refusal, quiet_at};
 ghost use Rattle.session.specs.Switching.{settled_at, turned_at};
@@ -56,7 +56,7 @@ pub fn limit_at(limits: Limits, upper: bool, variable: Variable) -> Given
 
 // Whether a limit may be switched, or why not.
 pub fn judge(limit: Given, on: bool) -> Result<(), Refusal>
-    ensures { told result ≡ limit_refusal limit on }
+    ensures { number_told result ≡ limit_refusal limit on }
 {
     if !limit.given {
         return Err(Refusal::NoLimit);

@@ -4,7 +4,7 @@ ghost use Rattle.std.specs.Prelude.{◌≡◌, []};
 ghost use Rattle.rules.specs.Problem.{m_of};
 ghost use Rattle.rules.specs.Refusal.{first};
 ghost use Rattle.rules.specs.Times.Words.{row_tests, time_refusal};
-ghost use Rattle.refusals.specs.Numbers.{told};
+ghost use Rattle.refusals.specs.Numbers.{number_told};
 ghost use Rattle.timerows.specs.Judged.{Faulty, TimeFramed};
 
 use crate::word_of;
@@ -47,7 +47,7 @@ fn row_faults(words: &[i32], m: usize) -> Faults
 // Refusals 14 to 16.
 fn judge_rows(words: &[i32], m: usize) -> Result<(), Refusal>
     requires { (TimeFramed words.now) × (m ≡ m_of words.now) }
-    ensures { told result ≡ first (row_tests words.now m []) }
+    ensures { number_told result ≡ first (row_tests words.now m []) }
 {
     let found = row_faults(words, m);
     if found.vertex {
@@ -64,7 +64,7 @@ fn judge_rows(words: &[i32], m: usize) -> Result<(), Refusal>
 
 // The first refusal that applies.
 pub fn judge(words: &[i32], room: usize) -> Result<(), Refusal>
-    ensures { told result ≡ time_refusal words.now room }
+    ensures { number_told result ≡ time_refusal words.now room }
 {
     if words.len() < 2 {
         return Err(Refusal::FewTimeWords);

@@ -7,7 +7,7 @@
 ghost use Rattle.std.specs.Prelude.{length};
 ghost use Rattle.rules.specs.Times.Words.{AcceptedTimes};
 ghost use Rattle.rules.specs.Times.Answer.{Timed};
-ghost use Rattle.refusals.specs.Numbers.{told};
+ghost use Rattle.refusals.specs.Numbers.{number_told};
 
 use lengths::answer;
 use refusals::Refusal;
@@ -35,7 +35,7 @@ fn solve(words: &[i32], out: &mut [i64])
 
 /// Times that meet all rows, or a cycle that cannot be met.
 pub fn times(rows: &[i32], out: &mut [i64]) -> Result<(), Refusal>
-    ensures { Timed rows.now out.old (told result) out.new }
+    ensures { Timed rows.now out.old (number_told result) out.new }
 {
     judge::judge(rows, out.len())?;
     solve(rows, out);

@@ -1,14 +1,14 @@
 // Verdict 1: numerators and small parts over one denominator that meet every row and every limit. A half of the answer
 // has its numbers from a slot on: from the second, and past one number for each variable.
 ghost use Rattle.std.specs.Prelude.{◌≡◌, ◌+◌, ◌*◌, ◌≤◌, ◌<◌, length};
-ghost use Rattle.whole.specs.Numbers.{Within, AllWithin, eq_z};
-ghost use Rattle.rules.specs.Sizes.{most_rows, most_columns, most_variables, largest_coefficient, largest_limit};
+ghost use Rattle.whole.specs.Numbers.{Within, eq_z};
+ghost use Rattle.rules.specs.Sizes.{largest_limit};
 ghost use Rattle.rules.specs.Sizes.{limb_turn};
 ghost use Rattle.rules.specs.Evidence.{at_least, at_most, right_can};
 ghost use Rattle.rules.specs.Wide.{numbers_of, wide_at, wide_denominator, wide_lower, wide_upper};
 ghost use Rattle.amounts.specs.Amounts.{limit_in};
 ghost use Rattle.limbs.specs.Limbs.{LimbsWithin, value};
-ghost use Rattle.parts.specs.Reads.{Limited, problem_of};
+ghost use Rattle.parts.specs.Reads.{problem_of};
 ghost use Rattle.wide.specs.Reads.{AllFormed, limits_met, most_numbers, row_most, row_in, rows_solved};
 ghost use Rattle.limbs.specs.Limbs.{StandsFor};
 

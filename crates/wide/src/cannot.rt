@@ -1,14 +1,14 @@
 // Verdict 2: multipliers of the limits whose sum is a contradiction.
 ghost use Rattle.std.specs.Prelude.{◌≡◌, ◌+◌, ◌*◌, ◌≤◌, ◌<◌, ◌*ℤ◌, length};
-ghost use Rattle.whole.specs.Numbers.{Within, AllWithin};
-ghost use Rattle.rules.specs.Sizes.{most_rows, most_columns, most_variables, largest_coefficient, largest_limit};
+ghost use Rattle.whole.specs.Numbers.{Within};
+ghost use Rattle.rules.specs.Sizes.{largest_limit};
 ghost use Rattle.rules.specs.Sizes.{limb_turn};
 ghost use Rattle.rules.specs.Evidence as evidence;
 ghost use Rattle.rules.specs.Evidence.{plain_of, right_cannot, strict_named};
 ghost use Rattle.rules.specs.Wide.{numbers_of, wide_denominator, wide_lower, wide_upper};
 ghost use Rattle.amounts.specs.Amounts.{limit_in};
 ghost use Rattle.limbs.specs.Limbs.{LimbsWithin, value};
-ghost use Rattle.parts.specs.Reads.{Limited, problem_of};
+ghost use Rattle.parts.specs.Reads.{problem_of};
 ghost use Rattle.wide.specs.Reads.{AllFormed, balance_in, column_most, column_in, columns_vanish, some_marked};
 ghost use Rattle.limbs.specs.Limbs.{StandsFor};
 ghost use Rattle.wide.specs.Reads.{all_owed, surplus_in, surplus_most, weight_most};

@@ -4,7 +4,7 @@
 ghost use Rattle.std.specs.Prelude.{◌≡◌, ◌++◌, ◌+◌, ◌*◌, ◌/◌, ◌^◌, ◌≤◌, ◌<◌, length, drop};
 ghost use Rattle.std.proofs.lemmas.List.Edits.{sets};
 ghost use Rattle.rules.specs.Program.Bytes.{bytes_from, count_refusal, joined, word_at, words_from};
-ghost use Rattle.refusals.specs.Numbers.{told};
+ghost use Rattle.refusals.specs.Numbers.{number_told};
 
 use refusals::Refusal;
 
@@ -14,7 +14,7 @@ const MOST_BYTES: usize = 4 * rules::MOST_WORDS;
 /// Whether an input may have so many bytes: at least two words, no byte left over, and no more words than a problem
 /// has.
 pub fn judge(count: usize) -> Result<(), Refusal>
-    ensures { told result ≡ count_refusal count }
+    ensures { number_told result ≡ count_refusal count }
 {
     if count < 8 {
         return Err(Refusal::FewWords);

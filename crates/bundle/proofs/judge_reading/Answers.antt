@@ -1,6 +1,6 @@
 -- `bundle::judge_reading` meets its contract: the file's own refusal, or the room.
 use Rattle.std.proofs.Common.{◌≡◌, arith, rules, ap, sym, ◌∙◌, Err}
-use Rattle.refusals.specs.Numbers.{told}
+use Rattle.refusals.specs.Numbers.{number_told}
 use Rattle.refusals.proofs.Refused.{number-some}
 use Rattle.rules.proofs.Program.Words.{words-length}
 use Rattle.rules.proofs.Bundle.Exactly.{file-accepted-exactly}
@@ -11,7 +11,7 @@ use Rattle.bundle.proofs.judge_reading.Goals as goal
 pub returns-in_err-judge : goal.returns-in_err-judge
 returns-in_err-judge c =
     let e : c.from_residual.result ≡ Err c.in_err-judge.field-0.0 = search rules in
-    ap told e ∙ read_kept c.args.file.now c.args.sizes c.args.words _ c.in_err-judge.ensures (number-some _)
+    ap number_told e ∙ read_kept c.args.file.now c.args.sizes c.args.words _ c.in_err-judge.ensures (number-some _)
 
 pub count_of-bodies-requires : goal.count_of-bodies-requires
 count_of-bodies-requires c =

@@ -18,7 +18,8 @@ loop-i-preserved c =
     let columns = c.args.case.now.columns in
     let rows = c.args.case.now.rows in
     let i = c.loop-i.i in
-    let given : SFits w64 (word (take (3 + columns + rows - (3 + columns)) (drop (3 + columns) half)) i) = search rules in
+    let given : SFits w64 (word (take (3 + columns + rows - (3 + columns)) (drop (3 + columns) half)) i) =
+    search rules in
     let sum : SFits w64 c.row_sum.result = search rules in
     let there : 3 + columns + i ≡ 3 + (columns + i) = omega arith in (
       omega arith,

@@ -1,6 +1,7 @@
 -- `can::shows_can` meets its contract: the tests of the rule one after the other, each call giving one of
 -- them. What is lent as the second half is the answer from one word for each variable on. Assumes nothing.
-use Rattle.std.proofs.Common.{◌≡◌, ap, sym, ◌∙◌, Bool, ◌||◌, List, ℕ, ◌+◌, ◌-◌, ℤ, pos, length, take, drop, rules, of_z, to_z, w64}
+use Rattle.std.proofs.Common.{◌≡◌, ap, sym, ◌∙◌, Bool, ◌||◌, List, ℕ, ◌+◌, ◌-◌, ℤ, pos, length, take, drop, rules, of_z}
+use Rattle.std.proofs.Common.{to_z, w64}
 use lib.Signed.{lt_z}
 use mir.Facts.{to_z-of_z}
 use mir.Val.{SFits}

@@ -64,7 +64,8 @@ overflow_sub-sum c =
     simp (to_z-of_z fit-high) at c.weighed-loss.ensures in
     let fit-gain : SFits w64 c.weighed-gain.result = search rules in
     let fit-loss : SFits w64 c.weighed-loss.result = search rules in
-    let net = fit-net case.limits case.answer.now (case.columns + case.rows) c.loop-v.v case.in_ranges.limited c.requires.multiplied
+    let net = fit-net case.limits case.answer.now
+    (case.columns + case.rows) c.loop-v.v case.in_ranges.limited c.requires.multiplied
     (omega (arith, case.in_ranges.few-rows, case.in_ranges.few-columns)) (omega arith) in
     rw (to_z-of_z fit-gain, to_z-of_z fit-loss, gain, loss) net
 
@@ -81,10 +82,12 @@ overflow_add-sum c =
     simp (to_z-of_z fit-high) at c.weighed-loss.ensures in
     let fit-gain : SFits w64 c.weighed-gain.result = search rules in
     let fit-loss : SFits w64 c.weighed-loss.result = search rules in
-    let net = fit-net case.limits case.answer.now (case.columns + case.rows) c.loop-v.v case.in_ranges.limited c.requires.multiplied
+    let net = fit-net case.limits case.answer.now
+    (case.columns + case.rows) c.loop-v.v case.in_ranges.limited c.requires.multiplied
     (omega (arith, case.in_ranges.few-rows, case.in_ranges.few-columns)) (omega arith) in
     rw (to_z-of_z fit-gain, to_z-of_z fit-loss, gain, loss, to_z-of_z net, c.loop-v.invariant.1)
-    (fit-sum case.limits case.answer.now (case.columns + case.rows) c.loop-v.v case.in_ranges.limited c.requires.multiplied
+    (fit-sum case.limits case.answer.now
+    (case.columns + case.rows) c.loop-v.v case.in_ranges.limited c.requires.multiplied
     (omega (arith, case.in_ranges.few-rows, case.in_ranges.few-columns)) (omega arith))
 
 pub loop-v-preserved : goal.loop-v-preserved
@@ -100,9 +103,11 @@ loop-v-preserved c =
     simp (to_z-of_z fit-high) at c.weighed-loss.ensures in
     let fit-gain : SFits w64 c.weighed-gain.result = search rules in
     let fit-loss : SFits w64 c.weighed-loss.result = search rules in
-    let net = fit-net case.limits case.answer.now (case.columns + case.rows) c.loop-v.v case.in_ranges.limited c.requires.multiplied
+    let net = fit-net case.limits case.answer.now
+    (case.columns + case.rows) c.loop-v.v case.in_ranges.limited c.requires.multiplied
     (omega (arith, case.in_ranges.few-rows, case.in_ranges.few-columns)) (omega arith) in
-    let sum = fit-sum case.limits case.answer.now (case.columns + case.rows) c.loop-v.v case.in_ranges.limited c.requires.multiplied
+    let sum = fit-sum case.limits case.answer.now
+    (case.columns + case.rows) c.loop-v.v case.in_ranges.limited c.requires.multiplied
     (omega (arith, case.in_ranges.few-rows, case.in_ranges.few-columns)) (omega arith) in (
       omega arith,
       rw (to_z-of_z fit-gain, to_z-of_z fit-loss, gain, loss, to_z-of_z net, c.loop-v.invariant.1, to_z-of_z sum)

@@ -53,7 +53,8 @@ module _ (ws a : List ℤ) (fine : problem_refusal ws ≡ 0) where
     cannot-judged : verdict_of a ≡ pos 2 → checked ws a ≡ cond (shows_cannot (problem ws) a) 8 9
     cannot-judged e = judged
         ∙ ap (λ b. cond b 8 9) (of-verdict false true
-        (tells-false (tells-eq_z (verdict_of a) (pos 1)) (λ f. one-two (sym f ∙ e))) (tells-true (tells-eq_z _ (pos 2)) e))
+        (tells-false (tells-eq_z (verdict_of a) (pos 1)) (λ f. one-two (sym f ∙ e)))
+        (tells-true (tells-eq_z _ (pos 2)) e))
 
     other-judged : verdict_of a ≢ pos 1 → verdict_of a ≢ pos 2 → checked ws a ≡ 9
     other-judged n m = judged

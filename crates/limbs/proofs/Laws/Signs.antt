@@ -23,19 +23,19 @@ use Rattle.rules.specs.Sizes.{largest_limb, limb_turn}
 use Rattle.limbs.specs.Limbs.{Carried, pick, sign_of, value}
 use Rattle.limbs.specs.declared.Wide.{Wide}
 
-pub sign-up : (z : ℤ) → pos 0 <ℤ z → sign_of z ≡ pos 1
+sign-up : (z : ℤ) → pos 0 <ℤ z → sign_of z ≡ pos 1
 unfolding sign_of
 sign-up (pos zero) h = absurd (<ℤ_irrefl h)
 sign-up (pos (suc n)) h = refl
 sign-up (negsuc n) h = absurd h.lt
 
-pub sign-down : (z : ℤ) → z <ℤ pos 0 → sign_of z ≡ negsuc 0
+sign-down : (z : ℤ) → z <ℤ pos 0 → sign_of z ≡ negsuc 0
 unfolding sign_of
 sign-down (pos zero) h = absurd (<ℤ_irrefl h)
 sign-down (pos (suc n)) h = let z : suc n < 0 = ltb→lt (suc n) 0 h.lt in let y : ⊥ = omega arith in absurd y
 sign-down (negsuc n) h = refl
 
-pub sign-null : (z : ℤ) → z ≡ pos 0 → sign_of z ≡ pos 0
+sign-null : (z : ℤ) → z ≡ pos 0 → sign_of z ≡ pos 0
 unfolding sign_of
 sign-null z e = rw e refl
 

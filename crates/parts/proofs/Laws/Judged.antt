@@ -5,7 +5,8 @@
 --   case-fits, case-length, case-short, case-long      how long an answer must be
 --   told-verdict, word-is           what is told of a verdict; a word by its bits
 --   framed-of                       the counts that were read frame them
-use Rattle.std.proofs.Common.{◌≡◌, refl, sym, ap, ◌∙◌, Bool, true, false, cond, Ok, List, ℕ, ◌<◌, ℤ, pos, ◌≤ℤ◌, length, of_z, to_z, w64}
+use Rattle.std.proofs.Common.{◌≡◌, refl, sym, ap, ◌∙◌, Bool, true, false, cond, Ok, List, ℕ, ◌<◌, ℤ, pos, ◌≤ℤ◌, length}
+use Rattle.std.proofs.Common.{of_z, to_z, w64}
 use Rattle.std.proofs.Common.{◌≢◌, [], ◌∷◌, ◌++◌, zero, suc, ◌+◌, ◌*◌, ◌≤◌, ap₂, append_assoc, arith}
 use borrow.Author.Tests.{le-ltb, lt-ltb}
 use mir.Facts.{to_z-of_z}
@@ -60,7 +61,7 @@ refused-case ws t us r e =
     kept-first (problem_tests most_rows ws ++ (t ∷ [])) us (number_of r) e (number-some r)
     ∙ ap first (append_assoc (problem_tests most_rows ws) (t ∷ []) us)
 
-pub passed-first : (ws : List ℤ) (us : List (Bool × ℕ)) → 0 ≡ problem_refusal ws →
+passed-first : (ws : List ℤ) (us : List (Bool × ℕ)) → 0 ≡ problem_refusal ws →
     first (problem_tests most_rows ws ++ us) ≡ first us
 unfolding problem_refusal
 passed-first ws us fine = first-passed 10 (problem_tests most_rows ws) us (numbered most_rows ws) (sym fine)
@@ -75,7 +76,7 @@ module _ (ws : List ℤ) (fine : 0 ≡ problem_refusal ws) {n m : ℕ} (N : n �
   case-fits {head} {each} h e = let F = framed-of ws fine N M in
       room head each (n + m) h e (omega (arith, F.few-columns, F.few-rows))
 
-  pub case-length : (head each : ℕ) → head + each * (n + m) ≡ head + each * vars_of ws
+  case-length : (head each : ℕ) → head + each * (n + m) ≡ head + each * vars_of ws
   case-length head each = ap₂ (λ n m. head + each * (n + m)) N M
 
   pub case-short : (room head each : ℕ) → room < head + each * (n + m) → 7 ≡ case_refusal ws room head each

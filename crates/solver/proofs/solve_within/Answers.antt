@@ -17,7 +17,7 @@ use Rattle.rules.specs.Refusal.{problem_refusal, problem_refusal_within, refusal
 use Rattle.rules.specs.Sizes.{most_columns, most_rows}
 use Rattle.rules.proofs.Refusal.Accepted.{m-few, n-few}
 use Rattle.answers.specs.Answer.{is_short}
-use Rattle.refusals.specs.Numbers.{told}
+use Rattle.refusals.specs.Numbers.{number_told}
 use Rattle.refusals.proofs.Refused.{told-err}
 use Rattle.solver.proofs.Laws.Refusals.{accepted-of, answered-is, fine-within, holds-start, start-many}
 use Rattle.solver.proofs.Laws.Refusals.{within_none, within-problem, within-short, written-refused}
@@ -31,9 +31,9 @@ pub returns-in_err-judge_within : goal.returns-in_err-judge_within
 returns-in_err-judge_within c = let a = c.args in let ws = a.words.now in let room = length a.out.now in
     let rows = c.min-rows.result in
     let p = err_from_is_err_and c.from_residual.result c.from_residual.ensures.1 in
-    let k : told c.from_residual.result ≡ problem_refusal_within rows ws =
+    let k : number_told c.from_residual.result ≡ problem_refusal_within rows ws =
     rw (p.1, p.2) c.in_err-judge_within.ensures in
-    let some : told c.from_residual.result ≢ 0 = told-err c.from_residual.result p.1 in record {
+    let some : number_told c.from_residual.result ≢ 0 = told-err c.from_residual.result p.1 in record {
       number = k ∙ within-problem rows ws room (λ z. some (k ∙ z))
           ∙ ap (λ n. refusal_within n ws room) c.min-rows.ensures;
       output = written-refused _ ws a.out.now some;

@@ -14,7 +14,8 @@ returns-in_err-case c =
     rw (p.1, p.2) (refused-read c.args.words.now c.args.answer.now _ c.in_err-case.ensures.number)
 
 pub returns-then-not-numbers_fit : goal.returns-then-not-numbers_fit
-returns-then-not-numbers_fit c = ill-told c.in_ok-case.ensures.case (sym c.numbers_fit.ensures ∙ c.if-not-numbers_fit.true)
+returns-then-not-numbers_fit c =
+    ill-told c.in_ok-case.ensures.case (sym c.numbers_fit.ensures ∙ c.if-not-numbers_fit.true)
 
 pub shows_can-requires-clause-all_formed : goal.shows_can-requires-clause-all_formed
 shows_can-requires-clause-all_formed c =
@@ -28,13 +29,15 @@ pub returns-in-1 : goal.returns-in-1
 returns-in-1 c =
     let f : SFits w64 (verdict_of c.args.answer.now) = search rules in
     let e : of_z w64 (verdict_of c.args.answer.now) ≡ 1 = search rules in
-    can-told c.in_ok-case.ensures.case (sym c.numbers_fit.ensures ∙ c.if-not-numbers_fit.false) c.shows_can.ensures (word-is f e)
+    can-told c.in_ok-case.ensures.case (sym c.numbers_fit.ensures ∙ c.if-not-numbers_fit.false) c.shows_can.ensures
+    (word-is f e)
 
 pub returns-in-2 : goal.returns-in-2
 returns-in-2 c =
     let f : SFits w64 (verdict_of c.args.answer.now) = search rules in
     let e : of_z w64 (verdict_of c.args.answer.now) ≡ 2 = search rules in
-    cannot-told c.in_ok-case.ensures.case (sym c.numbers_fit.ensures ∙ c.if-not-numbers_fit.false) c.shows_cannot.ensures (word-is f e)
+    cannot-told c.in_ok-case.ensures.case (sym c.numbers_fit.ensures
+    ∙ c.if-not-numbers_fit.false) c.shows_cannot.ensures (word-is f e)
 
 pub returns-in_default : goal.returns-in_default
 returns-in_default c =

@@ -40,7 +40,8 @@ returns-then-answer-head-clause-number c =
     (length c.args.answer.now) c.args.head c.args.each c.if-answer-head.true
 
 pub start_entries-requires : goal.start_entries-requires
-start_entries-requires c = framed-of c.args.words.now c.in_ok-judge.ensures c.count_at-columns.ensures c.count_at-rows.ensures
+start_entries-requires c =
+    framed-of c.args.words.now c.in_ok-judge.ensures c.count_at-columns.ensures c.count_at-rows.ensures
 
 pub limits_of-requires-clause-framed : goal.limits_of-requires-clause-framed
 limits_of-requires-clause-framed c =
@@ -51,7 +52,8 @@ limits_of-requires-clause-accepted c = taken-of c.args.words.now c.in_ok-judge.e
 
 pub invariant_of-result : goal.invariant_of-result
 invariant_of-result c = record {
-  in_ranges = words-held (framed-of c.args.words.now c.in_ok-judge.ensures c.count_at-columns.ensures c.count_at-rows.ensures)
+  in_ranges = words-held
+      (framed-of c.args.words.now c.in_ok-judge.ensures c.count_at-columns.ensures c.count_at-rows.ensures)
       (taken-of c.args.words.now c.in_ok-judge.ensures) c.start_entries.ensures c.limits_of.ensures;
 }
 

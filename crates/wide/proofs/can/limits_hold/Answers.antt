@@ -21,7 +21,8 @@ at_least-over-requires c =
     let variables = case.columns + case.rows in
     let v = c.loop-v.v in
     let x = stands-is c.number_at-x.ensures (stands-in c.requires.all_formed (1 + v) (omega arith)) in
-    let small = stands-is c.number_at-small.ensures (stands-in c.requires.all_formed (1 + variables + v) (omega arith)) in
+    let small = stands-is c.number_at-small.ensures
+    (stands-in c.requires.all_formed (1 + variables + v) (omega arith)) in
     record {
       limbs_within = (c.requires.limbs_within, x.size, small.size);
       within = case.in_ranges.limited.lowers-within v;
@@ -33,7 +34,8 @@ at_most-under-requires c =
     let variables = case.columns + case.rows in
     let v = c.loop-v.v in
     let x = stands-is c.number_at-x.ensures (stands-in c.requires.all_formed (1 + v) (omega arith)) in
-    let small = stands-is c.number_at-small.ensures (stands-in c.requires.all_formed (1 + variables + v) (omega arith)) in
+    let small = stands-is c.number_at-small.ensures
+    (stands-in c.requires.all_formed (1 + variables + v) (omega arith)) in
     record {
       limbs_within = (c.requires.limbs_within, x.size, small.size);
       within = case.in_ranges.limited.uppers-within v;
@@ -46,7 +48,8 @@ loop-v-preserved c =
     let variables = case.columns + case.rows in
     let v = c.loop-v.v in
     let x = stands-is c.number_at-x.ensures (stands-in c.requires.all_formed (1 + v) (omega arith)) in
-    let small = stands-is c.number_at-small.ensures (stands-in c.requires.all_formed (1 + variables + v) (omega arith)) in
+    let small = stands-is c.number_at-small.ensures
+    (stands-in c.requires.all_formed (1 + variables + v) (omega arith)) in
     let d = value c.args.common in (
       omega arith,
       tests-more v _ c.loop-v.invariant.1 (ap₂ (λ (a b : Bool). a && b)

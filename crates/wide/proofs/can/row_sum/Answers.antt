@@ -91,7 +91,8 @@ loop-j-preserved c =
       omega arith,
       stands-is c.plus-sum.ensures (stands-for (more case.entries case.answer.now c.args.first case.rows case.columns
           c.args.row.0 j c.place-k.result c.place-k.ensures)
-          (stands-le (stands-plus c.loop-j.invariant.1 product) (wider case.entries case.answer.now c.args.first case.rows
+          (stands-le (stands-plus c.loop-j.invariant.1 product)
+          (wider case.entries case.answer.now c.args.first case.rows
           case.columns c.args.row.0 j))),
     )
 

@@ -90,7 +90,8 @@ loop-i-preserved c =
     let fit : SFits w32 (get_or case.entries c.place-k.result (pos 0)) = fits-by small tt in
     let product = stands-is (simp (to_z-of_z fit) at c.times.ensures) (stands-times small c.balance-more.ensures) in (
       omega arith,
-      stands-is c.plus-sum.ensures (stands-for (more case.entries case.answer.now case.rows case.columns c.args.column.0 i
+      stands-is c.plus-sum.ensures
+          (stands-for (more case.entries case.answer.now case.rows case.columns c.args.column.0 i
           c.place-k.result c.place-k.ensures) (stands-le (stands-plus c.loop-i.invariant.1 product) (wider i))),
     )
 

@@ -57,7 +57,8 @@ returns-then-is_above c =
       sym (c.is_zero.ensures ∙ ap (λ (z : ℤ). eq_z z (pos 0)) common.number) ∙ c.if-not-is_zero.false,
       sym c.multipliers_owed.ensures ∙ c.if-not-multipliers_owed.false,
       sym c.columns_cancel.ensures ∙ c.if-not-columns_cancel.false,
-    ) (contradicts-above total marked (sym (c.is_above.ensures ∙ ap is_pos c.surplus-total.ensures.number) ∙ c.if-is_above.true)))
+    ) (contradicts-above total marked (sym (c.is_above.ensures ∙ ap is_pos c.surplus-total.ensures.number)
+    ∙ c.if-is_above.true)))
 
 pub is_zero-requires-2 : goal.is_zero-requires-2
 is_zero-requires-2 c = sized-le c.surplus-total.ensures.size (lit≤ tt)
@@ -74,7 +75,8 @@ returns-then-not-is_zero-2 c =
       sym (c.is_zero.ensures ∙ ap (λ (z : ℤ). eq_z z (pos 0)) common.number) ∙ c.if-not-is_zero.false,
       sym c.multipliers_owed.ensures ∙ c.if-not-multipliers_owed.false,
       sym c.columns_cancel.ensures ∙ c.if-not-columns_cancel.false,
-    ) (contradicts-not total marked (sym (c.is_above.ensures ∙ ap is_pos c.surplus-total.ensures.number) ∙ c.if-is_above.false)
+    ) (contradicts-not total marked (sym (c.is_above.ensures ∙ ap is_pos c.surplus-total.ensures.number)
+    ∙ c.if-is_above.false)
     (sym (c.is_zero-2.ensures ∙ ap (λ (z : ℤ). eq_z z (pos 0)) c.surplus-total.ensures.number)
     ∙ c.if-not-is_zero-2.true)))
 
@@ -91,6 +93,7 @@ returns c =
       sym (c.is_zero.ensures ∙ ap (λ (z : ℤ). eq_z z (pos 0)) common.number) ∙ c.if-not-is_zero.false,
       sym c.multipliers_owed.ensures ∙ c.if-not-multipliers_owed.false,
       sym c.columns_cancel.ensures ∙ c.if-not-columns_cancel.false,
-    ) (contradicts-zero total marked (sym (c.is_above.ensures ∙ ap is_pos c.surplus-total.ensures.number) ∙ c.if-is_above.false)
+    ) (contradicts-zero total marked (sym (c.is_above.ensures ∙ ap is_pos c.surplus-total.ensures.number)
+    ∙ c.if-is_above.false)
     (sym (c.is_zero-2.ensures ∙ ap (λ (z : ℤ). eq_z z (pos 0)) c.surplus-total.ensures.number)
     ∙ c.if-not-is_zero-2.false)))

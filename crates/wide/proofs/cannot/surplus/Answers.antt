@@ -59,7 +59,8 @@ less-requires c =
     let v = c.loop-v.v in
     let low = stands-is c.number_at-low.ensures (stands-in c.requires.all_formed (1 + v) (omega arith)) in
     let high = stands-is c.number_at-high.ensures (stands-in c.requires.all_formed (1 + variables + v) (omega arith)) in
-    let gained = stands-for (ap (λ (z : ℤ). plain_of (lower_of case.limits v) *ℤ z) low.number) c.weighed-gain.ensures in
+    let gained = stands-for
+    (ap (λ (z : ℤ). plain_of (lower_of case.limits v) *ℤ z) low.number) c.weighed-gain.ensures in
     let lost = stands-for (ap (λ (z : ℤ). plain_of (upper_of case.limits v) *ℤ z) high.number) c.weighed-loss.ensures in
     (sized-le gained.size (lit≤ tt), sized-le lost.size (lit≤ tt))
 
@@ -70,7 +71,8 @@ plus-sum-requires c =
     let v = c.loop-v.v in
     let low = stands-is c.number_at-low.ensures (stands-in c.requires.all_formed (1 + v) (omega arith)) in
     let high = stands-is c.number_at-high.ensures (stands-in c.requires.all_formed (1 + variables + v) (omega arith)) in
-    let gained = stands-for (ap (λ (z : ℤ). plain_of (lower_of case.limits v) *ℤ z) low.number) c.weighed-gain.ensures in
+    let gained = stands-for
+    (ap (λ (z : ℤ). plain_of (lower_of case.limits v) *ℤ z) low.number) c.weighed-gain.ensures in
     let lost = stands-for (ap (λ (z : ℤ). plain_of (upper_of case.limits v) *ℤ z) high.number) c.weighed-loss.ensures in
     let net = stands-is c.less.ensures (stands-less gained lost) in
     let I = case.in_ranges in (
@@ -85,7 +87,8 @@ loop-v-preserved c =
     let v = c.loop-v.v in
     let low = stands-is c.number_at-low.ensures (stands-in c.requires.all_formed (1 + v) (omega arith)) in
     let high = stands-is c.number_at-high.ensures (stands-in c.requires.all_formed (1 + variables + v) (omega arith)) in
-    let gained = stands-for (ap (λ (z : ℤ). plain_of (lower_of case.limits v) *ℤ z) low.number) c.weighed-gain.ensures in
+    let gained = stands-for
+    (ap (λ (z : ℤ). plain_of (lower_of case.limits v) *ℤ z) low.number) c.weighed-gain.ensures in
     let lost = stands-for (ap (λ (z : ℤ). plain_of (upper_of case.limits v) *ℤ z) high.number) c.weighed-loss.ensures in
     let net = stands-is c.less.ensures (stands-less gained lost) in
     let I = case.in_ranges in (

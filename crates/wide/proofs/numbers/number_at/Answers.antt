@@ -15,5 +15,16 @@ returns c =
     let fit-c : SFits w64 (word answer (at + 2)) = search rules in
     let fit-d : SFits w64 (word answer (at + 3)) = search rules in
     let lowest : at ≡ at + 0 = omega arith in
-    let made : ℤ → Wide = λ z. record { a = z; b = word answer (at + 1); c = word answer (at + 2); d = word answer (at + 3) }
-    in simp (to_z-of_z fit-a, to_z-of_z fit-b, to_z-of_z fit-c, to_z-of_z fit-d) (ap (λ (k : ℕ). made (word answer k)) lowest)
+    let made : ℤ → Wide = λ z. record {
+      a = z;
+      b = word answer (at + 1);
+      c = word answer (at + 2);
+      d =
+          word answer (at + 3);
+    }
+    in simp (
+      to_z-of_z fit-a,
+      to_z-of_z fit-b,
+      to_z-of_z fit-c,
+      to_z-of_z fit-d,
+    ) (ap (λ (k : ℕ). made (word answer k)) lowest)
