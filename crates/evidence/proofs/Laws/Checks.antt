@@ -18,7 +18,7 @@ use Rattle.rules.specs.Refusal.{problem_refusal, too_short}
 use Rattle.rules.specs.Evidence.{verdict_of, shows_can, shows_cannot, accepted, checked}
 use Rattle.rules.proofs.Refusal.Exactly.{room-tells}
 use Rattle.rules.proofs.Evidence.Checked.{checked-by-answer}
-use Rattle.parts.proofs.Laws.Judged.{fine-of, one-two, refused-case, told-verdict}
+use Rattle.parts.proofs.Laws.Judged.{fine-of, one-or-two, refused-case, told-verdict}
 use Rattle.parts.proofs.Laws.Read.{can-read, cannot-read}
 use Rattle.parts.specs.Reads.{CaseOf, case_refusal, problem_of}
 use Rattle.tableau.specs.declared.Limits.{Limits}
@@ -53,7 +53,7 @@ module _ (ws a : List ℤ) (fine : problem_refusal ws ≡ 0) where
     cannot-judged : verdict_of a ≡ pos 2 → checked ws a ≡ cond (shows_cannot (problem ws) a) 8 9
     cannot-judged e = judged
         ∙ ap (λ b. cond b 8 9) (of-verdict false true
-        (tells-false (tells-eq_z (verdict_of a) (pos 1)) (λ f. one-two (sym f ∙ e)))
+        (tells-false (tells-eq_z (verdict_of a) (pos 1)) (λ f. one-or-two (sym f ∙ e)))
         (tells-true (tells-eq_z _ (pos 2)) e))
 
     other-judged : verdict_of a ≢ pos 1 → verdict_of a ≢ pos 2 → checked ws a ≡ 9

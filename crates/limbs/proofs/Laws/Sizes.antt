@@ -71,20 +71,22 @@ settled-of w = record { under-a = rem-most w.a; under-b = rem-most (second_of w)
 
 -- ---- what 64 bits hold
 
-abbrev pub kept : ℤ → ℤ
-kept z = to_z w64 (of_z w64 z)
+abbrev pub kept-limbs : ℤ → ℤ
+kept-limbs z = to_z w64 (of_z w64 z)
 
-pub kept-is : {z : ℤ} {n : ℕ} → Within z n → T (ltb n (2 ^ hbits w64)) → kept z ≡ z
+pub kept-is : {z : ℤ} {n : ℕ} → Within z n → T (ltb n (2 ^ hbits w64)) → kept-limbs z ≡ z
 kept-is {z} h t = to_z-of_z {w = w64} {z = z} (fits-by h t)
 
-pub sum-kept : {x y z : ℤ} → Within x most_sum → Within y most_sum → z ≡ kept (kept x +ℤ kept y) → z ≡ x +ℤ y
+pub sum-kept : {x y z : ℤ} → Within x most_sum → Within y most_sum → z ≡ kept-limbs (kept-limbs x +ℤ kept-limbs y) → z
+    ≡ x +ℤ y
 sum-kept h k e = rw (kept-is h tt, kept-is k tt, kept-is (within-+ h k) tt) at e
 
-pub difference-kept : {x y z : ℤ} → Within x most_sum → Within y most_sum → z ≡ kept (kept x -ℤ kept y) → z ≡ x -ℤ y
+pub difference-kept : {x y z : ℤ} → Within x most_sum → Within y most_sum → z
+    ≡ kept-limbs (kept-limbs x -ℤ kept-limbs y) → z ≡ x -ℤ y
 difference-kept h k e = rw (kept-is h tt, kept-is k tt, kept-is (within-- h k) tt) at e
 
 pub product-kept : {k x : ℤ} → Within k largest_limit → Within x most_factor →
-    kept (kept (to_z w32 (of_z w32 k)) *ℤ kept x) ≡ k *ℤ x
+    kept-limbs (kept-limbs (to_z w32 (of_z w32 k)) *ℤ kept-limbs x) ≡ k *ℤ x
 product-kept {k} h j =
     let f : SFits w32 k = fits-by h tt in
     simp (to_z-of_z f, kept-is h tt, kept-is j tt) (kept-is (within-* h j) tt)

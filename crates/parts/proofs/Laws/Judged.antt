@@ -98,5 +98,5 @@ told-verdict false = refl
 pub word-is : {z : ℤ} {n : ℕ} → SFits w64 z → of_z w64 z ≡ n → z ≡ to_z w64 n
 word-is f e = sym (to_z-of_z f) ∙ ap (to_z w64) e
 
-pub one-two : pos 1 ≡ pos 2 → ⊥
-one-two e = cc
+pub one-or-two : pos 1 ≡ pos 2 → ⊥
+one-or-two e = cc

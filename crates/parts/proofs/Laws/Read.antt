@@ -4,7 +4,7 @@
 --   ReadFrom                                 entries, limits and sizes that were read from a problem
 --   right-can-same, right-cannot-same        what is right, over any numbers
 --   words-held, right-can-read, right-cannot-read    the same of accepted words
---   words-readable, can-read, cannot-read    the rules of verdict 1 and 2, in the words of an answer
+--   can-read, cannot-read    the rules of verdict 1 and 2, in the words of an answer
 use mathlib.Core.Path.{◌≡◌, ap, ap₂, sym, ◌∙◌}
 use mathlib.Core.Bool.{Bool, true, ◌&&◌, ◌||◌}
 use mathlib.Core.List.{List}
@@ -19,7 +19,7 @@ use Rattle.whole.proofs.Bools.{same_tests}
 use Rattle.whole.proofs.Numbers.Sums.{sum_same}
 use Rattle.rules.specs.Sizes.{most_rows}
 use Rattle.rules.specs.Limit.{Limit}
-use Rattle.rules.specs.Problem.{Problem, answer_length, problem, vars}
+use Rattle.rules.specs.Problem.{Problem, problem, vars}
 use Rattle.rules.specs.Refusal.{Accepted}
 use Rattle.rules.specs.Evidence.{denominator_of, lower_part, upper_part, row_sum, owed, column, surplus}
 use Rattle.rules.specs.Evidence.{contradicts, plain_of, ranged_can, ranged_cannot, right_can, right_cannot, some_strict}
@@ -188,15 +188,6 @@ module _ {ws entries : List ℤ} {limits : Limits} {n m : ℕ} (F : Framed ws n 
     right-cannot-read = right-cannot-same (problem ws) (fitting-accepted ws A) words-read d x y
 
   module _ (a : List ℤ) where
-    pub words-readable : answer_length ws ≤ length a → Readable entries limits m n a
-    words-readable h = record {
-      few-rows = words-held.few-rows;
-      few-columns = words-held.few-columns;
-      long = rw (F.rows_are, F.columns-are) h;
-      entries-within = words-held.entries-within;
-      limited = words-held.limited;
-    }
-
     pub can-read : shows_can (problem_of entries limits m n) a ≡ shows_can (problem ws) a
     can-read = can-same (problem ws) (fitting-accepted ws A) words-read a
 

@@ -19,16 +19,14 @@ use Rattle.whole.proofs.Bools.{true-false}
 use Rattle.rules.specs.Exchange.Tokens.{token_bytes}
 use Rattle.rules.specs.Exchange.Script.{close}
 use Rattle.rules.specs.Exchange.Reader.{Bytes, Pieces, ReaderState, Spot, admitted, ahead, all_zero, coefficient}
-use Rattle.rules.specs.Exchange.Reader.{decided}
-use Rattle.rules.specs.Exchange.Reader.{finish, fits, is, limit, number, numeral, on, same_bytes, size, stuck}
+use Rattle.rules.specs.Exchange.Reader.{decided, finish, fits, is, limit, number, numeral, on, same_bytes, size, stuck}
 use Rattle.rules.specs.Exchange.Reader.{taken, token_step, with_sign}
 use Rattle.rules.specs.Sizes.{largest_coefficient, largest_limit}
 use Rattle.rules.proofs.Exchange.Reader.Openings.{open_word, openings}
-use Rattle.tokens.specs.Followed.{Followed}
+use Rattle.tokens.specs.Followed.{Followed, halted}
 use Rattle.std.specs.Prelude.{Ok, Err, Result, Some, None, ok_or, take, drop, ◌-◌}
 use Rattle.tokens.proofs.Laws.Follows.{token-due}
 use Rattle.std.specs.Prelude.{Option as Found}
-use Rattle.tokens.specs.Followed.{halted}
 use Rattle.tokens.specs.declared.Halted.{Halted}
 use Rattle.tokens.specs.Gaps.{bytes_at, stop_at}
 use Rattle.tokens.specs.Numeral.{numeral_of, short_numeral}
@@ -38,8 +36,7 @@ use Rattle.reader.specs.declared.numbers.Asked.{Asked}
 use Rattle.reader.specs.declared.numbers.Told.{Told}
 use Rattle.reader.specs.Flow.{StandsAt, next_is, next_token, skip_if}
 use Rattle.reader.specs.Numbers.{Asks, admissible, told_place, told_value, numeral_at, numeral_by, numeral_fit}
-use Rattle.reader.specs.Numbers.{numeral_on}
-use Rattle.reader.specs.Numbers.{value_by}
+use Rattle.reader.specs.Numbers.{numeral_on, value_by}
 use Rattle.reader.proofs.Laws.Flow.{chosen, same-token, skip-in, skip-not, stands-halted, stands-skip}
 use Rattle.reader.proofs.Laws.Flow.{token-in, token-out}
 

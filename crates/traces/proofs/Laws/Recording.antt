@@ -4,7 +4,6 @@
 --   recording-goes     one that is not the last is made
 --   recording-out      .. and no answer is written
 --   recording-more     its words, by the sets before and after it, behind the others
---   recording-end      all of them
 use mathlib.Core.Bool.{Bool, cond, false}
 use mathlib.Core.List.{List, ◌++◌}
 use mathlib.Core.Option.{none-ne-some, none, some}
@@ -13,11 +12,10 @@ use Prim.Native.Nat.{ℕ, suc, ◌%◌, ◌*◌, ◌+◌, ◌/◌, ◌<◌, ◌�
 use native.Mathlib.Omega.{arith}
 use lib.Dec.{eqb}
 use lib.IntN.{ℤ}
-use lib.ListN.{drop, length, length-append, length-drop, set}
+use lib.ListN.{drop, length, set}
 use Rattle.whole.proofs.Bools.{true-false}
 use Rattle.whole.proofs.Lists.Below.{lowest-is}
 use Rattle.whole.proofs.Lists.Prefix.{set-table}
-use Rattle.whole.proofs.Lists.Tables.{table-length}
 use Rattle.whole.proofs.Tells.{tells-eq, tells-false, tells-true}
 use Rattle.whole.specs.Tables.{table, table_from}
 use Rattle.whole.specs.Values.{pairs}
@@ -32,12 +30,12 @@ use Rattle.rules.specs.Step.{Outcome, State, can, cannot, goes, range, start, st
 use Rattle.tableau.specs.declared.Tableau.{Tableau}
 use Rattle.masks.specs.Masks.{gone_at, gone_from, or_zero, seats_mask, went_from}
 use Rattle.solver.specs.declared.spend.Spent.{Spent}
-use Rattle.solver.specs.Spend.{Holds, Standing, many_of, out_as, spent_as}
+use Rattle.solver.specs.Spend.{Holds, many_of, out_as, spent_as}
 use Rattle.solver.proofs.Laws.Stands.Slices.{many_is}
 use Rattle.replay.proofs.Laws.Compared.{entered-told, left-told, mask-told}
 use Rattle.replay.proofs.Laws.Turn.{PivotIs, pivot-comes, pivot-crossed, pivot-goes, pivot-over, stands-mask}
 use Rattle.replay.proofs.Laws.Turn.{unanswered-keeps}
-use Rattle.traces.specs.Traces.{Pivots, RecordsAs}
+use Rattle.traces.specs.Traces.{Pivots}
 use Rattle.traces.proofs.Laws.Counts.{moves_before}
 
 -- ---- the one that went
@@ -108,19 +106,6 @@ clash (goes t) m e = e
 
 module _ {first : Tableau} {count : ℕ} {before : List ℕ} {N mask : ℕ} {t : Tableau} {k : ℕ} {trace : List ℕ}
     (R : Recording first count before N mask t k trace) where
-  pub recording-standing : Standing t k
-  recording-standing = record { slice = _; holds = (R.records R.pivots.problem R.pivots.holds).holds }
-
-  pub recording-long : length trace ≡ length before
-  recording-long = let T = R.records R.pivots.problem R.pivots.holds in ap length T.words_are
-      ∙ length-append (trace_words k (own R.pivots.problem)) (drop (3 * k) before)
-      ∙ (let a = table-length (3 * k) (word_at R.pivots.problem) in let b = length-drop (3 * k) before in
-      let r = R.room in let f = R.few in omega (arith, a, b, r, f))
-
-  pub recording-end : k ≡ count → RecordsAs first count before trace
-  recording-end e P H = (R.records P H).words_are
-      ∙ ap (λ j. trace_words j (own P) ++ drop (3 * j) before) e
-
   module _ (h : k < count) {r : Spent} (q : r ≡ spent_as false t k 1) where
     turned : {S : Slice (ℤ × ℤ)} → Holds S t k → PivotIs S k r
     turned {S} H = subst (PivotIs S k) (sym q) (pivot-comes H)

@@ -1,7 +1,7 @@
 -- The checker's number by what was found out in turn.
---   refused-read                 what refuses the problem or the answer
+--   wide-refused-read                 what refuses the problem or the answer
 --   ill-told, all-formed         words out of their ranges; words in them, of every number
---   can-told, cannot-told, other-told     by the verdict
+--   wide-can-told, wide-cannot-told, wide-other-told     by the verdict
 use mathlib.Core.Bool.{Bool, cond, false, true, ◌&&◌}
 use mathlib.Core.List.{List}
 use mathlib.Core.Logic.{◌≢◌}
@@ -17,7 +17,7 @@ use Rattle.refusals.specs.Numbers.{number_of, verdict_told}
 use Rattle.refusals.specs.declared.Refusal.{Refusal}
 use Rattle.rules.proofs.Wide.Checked.{wide-judged}
 use Rattle.rules.proofs.Refusal.Accepted.{problem-m, problem-n}
-use Rattle.parts.proofs.Laws.Judged.{fine-of, one-two, refused-case, told-verdict}
+use Rattle.parts.proofs.Laws.Judged.{fine-of, one-or-two, refused-case, told-verdict}
 use Rattle.parts.proofs.Laws.Read.{right-can-read, right-cannot-read}
 use Rattle.parts.specs.Reads.{CaseOf, case_refusal, problem_of}
 use Rattle.tableau.specs.declared.Limits.{Limits}
@@ -39,10 +39,10 @@ formed-all N a e = record {
 }
 
 -- what refuses the problem, or an answer that is too short, is told
-pub refused-read : (ws a : List ℤ) (r : Refusal) → number_of r ≡ case_refusal ws (length a) 6 8 →
+pub wide-refused-read : (ws a : List ℤ) (r : Refusal) → number_of r ≡ case_refusal ws (length a) 6 8 →
     number_of r ≡ checked_wide ws a
 unfolding checked_wide short_wide
-refused-read ws a r e = refused-case ws _ _ r e
+wide-refused-read ws a r e = refused-case ws _ _ r e
 
 -- how long an answer must be, from the sizes that were read, and how many variables there are
 length-is : (ws : List ℤ) {n m : ℕ} → n ≡ n_of ws → m ≡ m_of ws → 6 + 8 * (n + m) ≡ wide_length ws
@@ -81,7 +81,7 @@ module _ (ws a : List ℤ) (e : problem_refusal ws ≡ 0) where
 
       cannot-wide : verdict_of a ≡ pos 2 → checked_wide ws a ≡ cond cannot 8 9
       cannot-wide v = by_tests_lem true cannot f
-          (of-verdict false true (tells-false (tells-eq_z (verdict_of a) (pos 1)) (λ w. one-two (sym w ∙ v)))
+          (of-verdict false true (tells-false (tells-eq_z (verdict_of a) (pos 1)) (λ w. one-or-two (sym w ∙ v)))
           (tells-true (tells-eq_z (verdict_of a) (pos 2)) v))
 
       other-wide : verdict_of a ≢ pos 1 → verdict_of a ≢ pos 2 → checked_wide ws a ≡ 9
@@ -113,10 +113,10 @@ module _ {ws a entries answer : List ℤ} {limits : Limits} {rows columns : ℕ}
   all-formed e = rw K.answer-is (formed-all (columns + rows) a e)
 
   module _ (f : all_below (numbers_of (columns + rows)) (number_fits a) ≡ true) where
-    pub can-told : {b : Bool} → b ≡ right_can (problem_of entries limits rows columns) (wide_denominator answer)
+    pub wide-can-told : {b : Bool} → b ≡ right_can (problem_of entries limits rows columns) (wide_denominator answer)
         (wide_lower answer) (wide_upper (columns + rows) answer) → verdict_of a ≡ pos 1 →
         verdict_told (Ok b) ≡ checked_wide ws a
-    can-told {b} e v = told-verdict b
+    wide-can-told {b} e v = told-verdict b
         ∙ ap (λ (b : Bool). cond b 8 9) (e
         ∙ ap (λ (a : List ℤ). right_can (problem_of entries limits rows columns) (wide_denominator a) (wide_lower a)
         (wide_upper (columns + rows) a)) K.answer-is
@@ -125,10 +125,11 @@ module _ {ws a entries answer : List ℤ} {limits : Limits} {rows columns : ℕ}
         ∙ ap (λ N. right_can (problem ws) (wide_denominator a) (wide_lower a) (wide_upper N a)) many)
         ∙ sym (can-wide ws a (fine-of ws K.accepted) long-enough (well (sym f)) v)
 
-    pub cannot-told : {b : Bool} → b ≡ right_cannot (problem_of entries limits rows columns) (wide_denominator answer)
+    pub wide-cannot-told : {b : Bool} → b
+        ≡ right_cannot (problem_of entries limits rows columns) (wide_denominator answer)
         (wide_lower answer) (wide_upper (columns + rows) answer) → verdict_of a ≡ pos 2 →
         verdict_told (Ok b) ≡ checked_wide ws a
-    cannot-told {b} e v = told-verdict b
+    wide-cannot-told {b} e v = told-verdict b
         ∙ ap (λ (b : Bool). cond b 8 9) (e
         ∙ ap (λ (a : List ℤ). right_cannot (problem_of entries limits rows columns) (wide_denominator a) (wide_lower a)
         (wide_upper (columns + rows) a)) K.answer-is
@@ -137,5 +138,5 @@ module _ {ws a entries answer : List ℤ} {limits : Limits} {rows columns : ℕ}
         ∙ ap (λ N. right_cannot (problem ws) (wide_denominator a) (wide_lower a) (wide_upper N a)) many)
         ∙ sym (cannot-wide ws a (fine-of ws K.accepted) long-enough (well (sym f)) v)
 
-    pub other-told : verdict_of a ≢ pos 1 → verdict_of a ≢ pos 2 → 9 ≡ checked_wide ws a
-    other-told n m = sym (other-wide ws a (fine-of ws K.accepted) long-enough (well (sym f)) n m)
+    pub wide-other-told : verdict_of a ≢ pos 1 → verdict_of a ≢ pos 2 → 9 ≡ checked_wide ws a
+    wide-other-told n m = sym (other-wide ws a (fine-of ws K.accepted) long-enough (well (sym f)) n m)

@@ -5,13 +5,14 @@ use Rattle.std.proofs.lemmas.Result.{err_from_is_err_and}
 use mir.Val.{SFits}
 use Rattle.rules.specs.Evidence.{verdict_of}
 use Rattle.parts.proofs.Laws.Judged.{word-is}
-use Rattle.wide.proofs.Laws.Checks.{all-formed, can-told, cannot-told, ill-told, other-told, refused-read}
+use Rattle.wide.proofs.Laws.Checks.{all-formed, wide-can-told, wide-cannot-told, ill-told, wide-other-told}
+use Rattle.wide.proofs.Laws.Checks.{wide-refused-read}
 use Rattle.wide.proofs.check.Goals as goal
 
 pub returns-in_err-case : goal.returns-in_err-case
 returns-in_err-case c =
     let p = err_from_is_err_and c.from_residual.result c.from_residual.ensures.1 in
-    rw (p.1, p.2) (refused-read c.args.words.now c.args.answer.now _ c.in_err-case.ensures.number)
+    rw (p.1, p.2) (wide-refused-read c.args.words.now c.args.answer.now _ c.in_err-case.ensures.number)
 
 pub returns-then-not-numbers_fit : goal.returns-then-not-numbers_fit
 returns-then-not-numbers_fit c =
@@ -29,19 +30,19 @@ pub returns-in-1 : goal.returns-in-1
 returns-in-1 c =
     let f : SFits w64 (verdict_of c.args.answer.now) = search rules in
     let e : of_z w64 (verdict_of c.args.answer.now) ≡ 1 = search rules in
-    can-told c.in_ok-case.ensures.case (sym c.numbers_fit.ensures ∙ c.if-not-numbers_fit.false) c.shows_can.ensures
+    wide-can-told c.in_ok-case.ensures.case (sym c.numbers_fit.ensures ∙ c.if-not-numbers_fit.false) c.shows_can.ensures
     (word-is f e)
 
 pub returns-in-2 : goal.returns-in-2
 returns-in-2 c =
     let f : SFits w64 (verdict_of c.args.answer.now) = search rules in
     let e : of_z w64 (verdict_of c.args.answer.now) ≡ 2 = search rules in
-    cannot-told c.in_ok-case.ensures.case (sym c.numbers_fit.ensures
+    wide-cannot-told c.in_ok-case.ensures.case (sym c.numbers_fit.ensures
     ∙ c.if-not-numbers_fit.false) c.shows_cannot.ensures (word-is f e)
 
 pub returns-in_default : goal.returns-in_default
 returns-in_default c =
     let e : of_z w64 (verdict_of c.args.answer.now) ≢ 1 = search rules in
     let f : of_z w64 (verdict_of c.args.answer.now) ≢ 2 = search rules in
-    other-told c.in_ok-case.ensures.case (sym c.numbers_fit.ensures ∙ c.if-not-numbers_fit.false)
+    wide-other-told c.in_ok-case.ensures.case (sym c.numbers_fit.ensures ∙ c.if-not-numbers_fit.false)
     (λ h. e (ap (of_z w64) h)) (λ h. f (ap (of_z w64) h))

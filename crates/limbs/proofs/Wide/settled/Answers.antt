@@ -6,7 +6,7 @@ use Rattle.whole.proofs.Numbers.Halves.{rem-most}
 use Rattle.whole.proofs.Numbers.Sizes.{fits-by, within-+}
 use Rattle.whole.specs.Numbers.{Within}
 use Rattle.rules.specs.Sizes.{limb_turn}
-use Rattle.limbs.proofs.Laws.Sizes.{kept, kept-is, same-limbs}
+use Rattle.limbs.proofs.Laws.Sizes.{kept-limbs, kept-is, same-limbs}
 use Rattle.limbs.specs.Limbs.{LimbsWithin, most_sum, second_of, third_of}
 use Rattle.limbs.specs.declared.Wide.{Wide}
 use Rattle.limbs.proofs.Wide.settled.Goals as goal
@@ -37,43 +37,43 @@ module _ {w : Wide} (S : LimbsWithin w most_sum) where
   sum-d : Within (w.d +ℤ quotient (third_of w)) (most_sum + (most_sum + (most_sum + most_sum)))
   sum-d = within-+ S.size-d carry-c
 
-  left-of : (z : ℤ) → kept (rest z) ≡ rest z
+  left-of : (z : ℤ) → kept-limbs (rest z) ≡ rest z
   left-of z = kept-is (rem-most z) tt
 
-  a-is : {z : ℤ} → z ≡ rest (kept w.a) → kept z ≡ rest w.a
-  a-is e = rw (kept-is S.size-a tt) at (ap kept e) ∙ left-of w.a
+  a-is : {z : ℤ} → z ≡ rest (kept-limbs w.a) → kept-limbs z ≡ rest w.a
+  a-is e = rw (kept-is S.size-a tt) at (ap kept-limbs e) ∙ left-of w.a
 
-  module _ {p : ℤ} (A : p ≡ quotient (kept w.a)) where
+  module _ {p : ℤ} (A : p ≡ quotient (kept-limbs w.a)) where
     first : p ≡ quotient w.a
     first = rw (kept-is S.size-a tt) at A
 
-    second : kept (kept w.b +ℤ kept p) ≡ second_of w
+    second : kept-limbs (kept-limbs w.b +ℤ kept-limbs p) ≡ second_of w
     second = rw (first, kept-is S.size-b tt, kept-is carry-a tt) (kept-is sum-b tt)
 
-    b-is : {z : ℤ} → z ≡ rest (kept (kept w.b +ℤ kept p)) → kept z ≡ rest (second_of w)
-    b-is e = rw second at (ap kept e) ∙ left-of (second_of w)
+    b-is : {z : ℤ} → z ≡ rest (kept-limbs (kept-limbs w.b +ℤ kept-limbs p)) → kept-limbs z ≡ rest (second_of w)
+    b-is e = rw second at (ap kept-limbs e) ∙ left-of (second_of w)
 
-    module _ {q : ℤ} (B : q ≡ quotient (kept (kept w.b +ℤ kept p))) where
+    module _ {q : ℤ} (B : q ≡ quotient (kept-limbs (kept-limbs w.b +ℤ kept-limbs p))) where
       next : q ≡ quotient (second_of w)
       next = rw second at B
 
-      fits-c : FitsSigned w64 (kept w.c +ℤ kept q)
+      fits-c : FitsSigned w64 (kept-limbs w.c +ℤ kept-limbs q)
       fits-c = rw (next, kept-is S.size-c tt, kept-is carry-b tt) (fits-by sum-c tt)
 
-      third : kept (kept w.c +ℤ kept q) ≡ third_of w
+      third : kept-limbs (kept-limbs w.c +ℤ kept-limbs q) ≡ third_of w
       third = rw (next, kept-is S.size-c tt, kept-is carry-b tt) (kept-is sum-c tt)
 
-      c-is : {z : ℤ} → z ≡ rest (kept (kept w.c +ℤ kept q)) → kept z ≡ rest (third_of w)
-      c-is e = rw third at (ap kept e) ∙ left-of (third_of w)
+      c-is : {z : ℤ} → z ≡ rest (kept-limbs (kept-limbs w.c +ℤ kept-limbs q)) → kept-limbs z ≡ rest (third_of w)
+      c-is e = rw third at (ap kept-limbs e) ∙ left-of (third_of w)
 
-      module _ {r : ℤ} (C : r ≡ quotient (kept (kept w.c +ℤ kept q))) where
+      module _ {r : ℤ} (C : r ≡ quotient (kept-limbs (kept-limbs w.c +ℤ kept-limbs q))) where
         last : r ≡ quotient (third_of w)
         last = rw third at C
 
-        fits-d : FitsSigned w64 (kept w.d +ℤ kept r)
+        fits-d : FitsSigned w64 (kept-limbs w.d +ℤ kept-limbs r)
         fits-d = rw (last, kept-is S.size-d tt, kept-is carry-c tt) (fits-by sum-d tt)
 
-        d-is : kept (kept w.d +ℤ kept r) ≡ w.d +ℤ quotient (third_of w)
+        d-is : kept-limbs (kept-limbs w.d +ℤ kept-limbs r) ≡ w.d +ℤ quotient (third_of w)
         d-is = rw (last, kept-is S.size-d tt, kept-is carry-c tt) (kept-is sum-d tt)
 
 pub overflow_add-self-2 : goal.overflow_add-self-2
