@@ -115,7 +115,8 @@ loop-j-preserved c =
     c.args.case.now.in_ranges.entries-within c.args.case.now.in_ranges.few-columns (omega arith) c.requires.by_index in
     let sum = fit-sum c.args.case.now.entries c.args.half.now c.args.case.now.rows c.args.case.now.columns c.args.row.0
     c.loop-j.j
-    c.args.case.now.in_ranges.entries-within c.args.case.now.in_ranges.few-columns (omega arith) c.requires.by_index in (
+    c.args.case.now.in_ranges.entries-within c.args.case.now.in_ranges.few-columns (omega arith)
+    c.requires.by_index in (
       omega arith,
       rw (c.loop-j.invariant.1, product, to_z-of_z fits, to_z-of_z sum)
           (more c.args.case.now.entries c.args.half.now c.args.case.now.rows c.args.case.now.columns c.args.row.0

@@ -39,7 +39,8 @@ loop-v-preserved c =
     let variables = case.columns + case.rows in
     let v = c.loop-v.v in
     let low = stands-is c.number_at-low.ensures (stands-in c.requires.all_formed (1 + v) (omega arith)) in
-    let high = stands-is c.number_at-high.ensures (stands-in c.requires.all_formed (1 + variables + v) (omega arith)) in (
+    let high = stands-is c.number_at-high.ensures
+    (stands-in c.requires.all_formed (1 + variables + v) (omega arith)) in (
       omega arith,
       finds-more v _ c.loop-v.invariant.1 (ap₂ (λ (a b : Bool). a || b)
           (c.strict_named-first.ensures ∙ ap (λ (z : ℤ). strict_named (lower_of case.limits v) z) low.number)
