@@ -20,9 +20,10 @@
 use mathlib.Core.Logic.{◌⊎◌}
 use mathlib.Core.Path.{◌≡◌, ap, sym, ◌∙◌}
 use Rattle.rules.specs.Answer.{written}
+use Rattle.rules.specs.Bundle.Writer.{file_left}
 use Rattle.rules.specs.Times.Answer.{BothNamed}
 use Rattle.rules.proofs.Times.Told.{told-only}
-use Rattle.bundle.proofs.Only.{read_only, write-only}
+use Rattle.bundle.proofs.Only.{read_only}
 use Rattle.scatterflock.proofs.scatterflock_solve.Reads as solve
 use Rattle.scatterflock.proofs.scatterflock_solve_within.Reads as solve-within
 use Rattle.scatterflock.proofs.scatterflock_check.Reads as check
@@ -117,7 +118,8 @@ scatterflock-bundle-read-only κs x a b e f h k = read_only κs x a b e f h k
 
 pub scatterflock-bundle-write-only : (κs : _) (x : _) (a b : _) (e f : _) →
     bundle-write.Post κs x a e → bundle-write.Post κs x b f → (a ≡ b) × (e.1.1.1.0.now ≡ f.1.1.1.0.now)
-scatterflock-bundle-write-only κs x a b e f h k = write-only κs x a b e f h k
+scatterflock-bundle-write-only κs x a b e f h k = let n : a ≡ b = h.0 ∙ sym k.0 in
+    (n, h.1 ∙ ap (λ j. file_left j x.0 x.1.0.now x.1.1.0.now x.1.1.1.0.now) n ∙ sym k.1)
 
 pub scatterflock-day-only : (κs : _) (x : _) (a b : _) (e f : _) → day.Post κs x a e → day.Post κs x b f →
     (a ≡ b) × (e.1.0.now ≡ f.1.0.now)
