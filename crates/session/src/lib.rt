@@ -74,17 +74,17 @@ impl Session {
             };
         }
         let v = Variable(variable as u8);
-        match switching::judge(switching::limit_at(tableau.limits, upper, v), on) {
-            Ok(()) => Switched {
-                refused: 0,
-                session: Session {
-                    tableau: switching::turned(tableau, v, upper, on),
-                },
-            },
-            Err(refusal) => Switched {
+        let limits = tableau.limits;
+        if let Err(refusal) = switching::judge(switching::limit_at(limits, upper, v), on) {
+            return Switched {
                 refused: refusal.number(),
                 session: self,
-            },
+            };
+        }
+        let tableau = switching::turned(tableau, v, upper, on);
+        Switched {
+            refused: 0,
+            session: Session { tableau },
         }
     }
 

@@ -15,15 +15,15 @@ returns-then-variable-tableau c = let a = c.args in
 
 -- the variable is one of the problem's
 
-pub turned-requires : goal.turned-requires
-turned-requires c = let a = c.args in
+pub turned-tableau-requires : goal.turned-tableau-requires
+turned-tableau-requires c = let a = c.args in
     settleable a.self a.variable a.upper a.on c.requires.session c.requires.holds c.if-variable-tableau.false
 
-pub returns-in-Ok : goal.returns-in-Ok
-returns-in-Ok c = let a = c.args in
+pub returns : goal.returns
+returns c = let a = c.args in
     let e = done a.self a.variable a.upper a.on c.if-variable-tableau.false 0
-    (c.in-Ok.ensures ∙ ap (λ (g : Given). limit_refusal g a.on) c.limit_at.ensures) refl
-    c.turned.result c.turned.ensures in
+    (c.in_default.ensures ∙ ap (λ (g : Given). limit_refusal g a.on) c.limit_at.ensures) refl
+    c.turned-tableau.result c.turned-tableau.ensures in
     record { exact = e; meaning = switches-as a.self a.variable a.upper a.on c.requires e }
 
 pub returns-in-Err : goal.returns-in-Err
