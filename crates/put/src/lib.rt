@@ -46,6 +46,13 @@ impl<'a> Writer<'a> {
         requires { Room self.old text.now }
         ensures { Put self.old text.now self.new }
     {
+        let room = self.out.len();
+        if self.at < room && text.len() <= room - self.at {
+            let end = self.at + text.len();
+            self.out[self.at..end].copy_from_slice(text);
+            self.at = end;
+            return;
+        }
         for byte in text {
             self.byte(*byte);
         }
