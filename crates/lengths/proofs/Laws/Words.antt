@@ -1,18 +1,18 @@
 -- The answer's words, written from the front.
---   all-parts                            a half of the times, by the parts of the distances
+--   parts_more, parts-all                a half of the times: one more, and all
 --   words_more, words-all, words_take    the rows of a cycle: one more, all, and the first n words
 --   words-twice                          .. and zeros for as many words more
 --   put-half                             a half, copied into the output
 --   two-halves                           the output: two words, then two halves
 use mathlib.Core.Path.{◌≡◌, refl, sym, ◌∙◌, ap}
-use mathlib.Core.List.{List, [], ◌∷◌, ◌++◌, map, append_assoc}
+use mathlib.Core.List.{List, [], ◌∷◌, ◌++◌, map, append_assoc, append-nil}
 use Prim.Native.Nat.{ℕ, zero, suc, ◌+◌, ◌*◌, ◌-◌, ◌≤◌, ◌<◌}
 use native.Mathlib.Omega.{arith}
 use lib.IntN.{ℤ, pos}
 use lib.ListN.{length, get_or, set, take, drop, replicate, length-map, length-replicate, get_or-map}
 use lib.Seq.{length-take-le, paste, take_at, take-append-add, drop-append-add, drop-drop}
 use borrow.Rule.Slice.PartMut.{put_mid}
-use Rattle.std.proofs.lemmas.List.{take-take, ext_get_or}
+use Rattle.std.proofs.lemmas.List.{take-take}
 use Rattle.std.proofs.lemmas.Slice.{put_mid-paste}
 use Rattle.whole.proofs.Lists.Prefix.{set-prefix, prefix-all}
 use Rattle.rules.specs.Sizes.{most_vertices}
@@ -120,8 +120,20 @@ two-halves d p s a b n h k =
 
 -- ---- the times
 
-pub all-parts : (part : Length → ℤ) (best : List Length) (words : List ℤ) → length best ≡ most_vertices →
-    length words ≡ most_vertices →
-    ((i : ℕ) → i < most_vertices → get_or words i (part no_rows) ≡ part (get_or best i no_rows)) → words ≡ map part best
-all-parts part best words a b e = ext_get_or (part no_rows) words (map part best) (b ∙ sym (length-map best part ∙ a))
-    (λ i h. e i (omega arith) ∙ sym (get_or-map part best i no_rows))
+module _ (part : Length → ℤ) (best : List Length) (long : length best ≡ most_vertices) where
+  pub parts_more : (k : ℕ) → k < most_vertices →
+      set (take k (map part best) ++ drop k (replicate most_vertices (pos 0))) k (part (get_or best k no_rows))
+      ≡ take (k + 1) (map part best) ++ drop (k + 1) (replicate most_vertices (pos 0))
+  parts_more k h =
+      ap (set (take k (map part best) ++ drop k (replicate most_vertices (pos 0))) k)
+      (sym (get_or-map part best k no_rows))
+      ∙ set-prefix (map part best) (replicate most_vertices (pos 0)) k (part no_rows)
+      (omega (arith, length-map best part))
+      (omega (arith, length-map best part, length-replicate most_vertices (pos 0)))
+
+  pub parts-all : (k : ℕ) → k ≡ most_vertices →
+      take k (map part best) ++ drop k (replicate most_vertices (pos 0)) ≡ map part best
+  parts-all k e =
+      prefix-all (map part best) (replicate most_vertices (pos 0)) k (e ∙ sym (length-map best part ∙ long))
+      ∙ ap (λ m. map part best ++ drop m (replicate most_vertices (pos 0))) (length-map best part ∙ long)
+      ∙ append-nil (map part best)
