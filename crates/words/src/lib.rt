@@ -28,8 +28,7 @@ pub fn count_at(words: &[i32], at: usize) -> usize
     requires { (at < length words.now) × (pos 0 ≤ℤ word words.now at) }
     ensures { result ≡ nat_abs (word words.now at) }
 {
-    // Kept: with `unsigned_abs` a chain of time rows, listed backward, takes 7117 ns, and 5601 with this cast.
-    words[at] as u32 as usize
+    words[at].unsigned_abs() as usize
 }
 
 /// Whether n, word 0, is not from 1 to `first`, or m, word 1, not from 0 to `second`.
