@@ -64,13 +64,14 @@ fn dense_ones() {
 }
 
 /// Determinants as large as they get: no number of evidence has more than 111
-/// bits, with its sign.
+/// bits, with its sign. Of 150 problems one seed in eight has none of 100 bits, so
+/// it is a thousand.
 #[test]
 fn the_largest_numbers() {
     let seed = seed();
     println!("SEED={seed}");
     let mut most = 0;
-    for problem in 0..150 {
+    for problem in 0..1_000 {
         let words = largest(&mut Random::of_problem(seed, problem));
         found(&words, seed);
         let evidence = finder::find(&words).expect("it is decided");
