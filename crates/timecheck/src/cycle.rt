@@ -58,7 +58,7 @@ impl Cycle<'_> {
         requires { k < self.now.count }
         ensures { result ≡ row_named self.now.answer.now k }
     {
-        self.answer[2 + k].unsigned_abs() as usize
+        self.answer[2 + k].cast_unsigned() as usize
     }
 
     fn tail(&self, k: usize) -> usize

@@ -20,7 +20,7 @@ pub fn is_within(word: i32, largest: i32) -> bool
     requires { pos 0 ≤ℤ largest }
     ensures { result ≡ within (nat_abs largest) word }
 {
-    word.unsigned_abs() <= largest.unsigned_abs()
+    (-largest..=largest).contains(&word)
 }
 
 /// A word that is not below 0, as a count.
@@ -28,7 +28,7 @@ pub fn count_at(words: &[i32], at: usize) -> usize
     requires { (at < length words.now) × (pos 0 ≤ℤ word words.now at) }
     ensures { result ≡ nat_abs (word words.now at) }
 {
-    words[at].unsigned_abs() as usize
+    words[at].cast_unsigned() as usize
 }
 
 /// Whether n, word 0, is not from 1 to `first`, or m, word 1, not from 0 to `second`.
