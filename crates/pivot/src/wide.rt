@@ -63,11 +63,15 @@ fn mixed_entries(turn: Turn) -> [i64; MOST_ENTRIES]
 }
 
 // Cells that fit half the width.
-fn halves_of(cells: [i64; MOST_ENTRIES]) -> [i32; MOST_ENTRIES]
-    requires { AllWithin cells largest_number }
-    ensures { result ≡ cells }
+fn halves_of(cells: &[i64; MOST_ENTRIES]) -> [i32; MOST_ENTRIES]
+    requires { AllWithin cells.now largest_number }
+    ensures { result ≡ cells.now }
 {
-    cells.map(|cell| cell as i32)
+    let mut halves = [0; MOST_ENTRIES];
+    for (i, half) in halves.iter_mut().enumerate() {
+        *half = cells[i] as i32;
+    }
+    halves
 }
 
 // The entries after a pivot, in lowest common form with the common number above 0, are put into `next`. The range is
@@ -89,6 +93,6 @@ pub fn pivot(turn: Turn, next: &mut [i32; MOST_ENTRIES]) -> Option<i32>
     if !range::all_in_range(live, after) {
         return None;
     }
-    *next = halves_of(cells);
+    *next = halves_of(&cells);
     Some(after as i32)
 }

@@ -19,26 +19,35 @@ use tableau::{Limits, Tableau, Variable};
 fn all_off(limits: [Given; Tableau::MOST_VARIABLES]) -> [Given; Tableau::MOST_VARIABLES]
     ensures { result ≡ all_off limits }
 {
-    limits.map(|limit| Given { on: false, ..limit })
+    let missing = Given {
+        given: false,
+        on: false,
+        strict: false,
+        plain: 0,
+    };
+    let mut off = [missing; Tableau::MOST_VARIABLES];
+    for (v, limit) in off.iter_mut().enumerate() {
+        *limit = limits[v];
+        limit.on = false;
+    }
+    off
 }
 
 // The tableau with every limit off and every value 0.
-pub fn quiet(tableau: Tableau) -> Tableau
+pub fn quiet(mut tableau: Tableau) -> Tableau
     ensures { result ≡ quiet_at tableau }
 {
     let limits = tableau.limits;
     let lower = all_off(limits.lower);
     let upper = all_off(limits.upper);
-    Tableau {
-        values: [0; Tableau::MOST_COLUMNS],
-        smalls: [0; Tableau::MOST_COLUMNS],
-        limits: Limits {
-            lower,
-            upper,
-            strict: limits.strict,
-        },
-        ..tableau
-    }
+    tableau.values = [0; Tableau::MOST_COLUMNS];
+    tableau.smalls = [0; Tableau::MOST_COLUMNS];
+    tableau.limits = Limits {
+        lower,
+        upper,
+        strict: limits.strict,
+    };
+    tableau
 }
 
 // The limit of a variable on one side.
@@ -124,10 +133,10 @@ fn settled(mut tableau: Tableau, variable: Variable) -> Tableau
 }
 
 // The tableau after a switch that is not refused.
-pub fn turned(tableau: Tableau, variable: Variable, upper: bool, on: bool) -> Tableau
+pub fn turned(mut tableau: Tableau, variable: Variable, upper: bool, on: bool) -> Tableau
     requires { Settleable tableau variable.0 }
     ensures { result ≡ turned_at tableau variable.0 upper on }
 {
-    let limits = flagged(tableau.limits, upper, variable, on);
-    settled(Tableau { limits, ..tableau }, variable)
+    tableau.limits = flagged(tableau.limits, upper, variable, on);
+    settled(tableau, variable)
 }
