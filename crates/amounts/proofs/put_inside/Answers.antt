@@ -54,9 +54,9 @@ returns-then-lt-2 c = let a = c.args in c.upper_value-most.ensures ∙ by_tests 
 pub returns : goal.returns
 returns c = let a = c.args in by_tests a.lower a.upper a.value
     (elim c.else-lower.branch [
-      | else-lower-via-then-lower+else-lt w ↦
-          raised a.lower a.upper a.value w.if-lower.true c.lower_value-least.ensures w.lt.ensures w.if-lt.false
-      | else-lower-via-else-lower w ↦ off _ w.if-lower.false
+      | else-lower-via-then-lower+else-lt u ↦
+          raised a.lower a.upper a.value u.if-lower.true c.lower_value-least.ensures u.lt.ensures u.if-lt.false
+      | else-lower-via-else-lower u ↦ off _ u.if-lower.false
     ])
     (elim c.else-upper.branch [
       | else-upper-via-then-upper+else-lt-2 w ↦
