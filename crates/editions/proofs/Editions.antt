@@ -1,15 +1,21 @@
 -- An edition by its number: what a number that is looked up tells.
+--   last-edition    the constant of the code is the number of the last edition
 --   unknown-told    whether there is such an edition
 --   edition_other   a number of none allows nothing; src/lib.rt names it in an attribute
-use Rattle.std.proofs.Common.{◌≡◌, ◌≢◌, ℕ, zero, suc, Result, Ok, Err, arith, refl, true}
+use Rattle.std.proofs.Common.{◌≡◌, ◌≢◌, ℕ, zero, suc, Result, Ok, Err, arith, refl, true, length}
 use Rattle.std.specs.Result.{is_err}
 use borrow.Author.Tests.{le-ltb, lt-ltb}
 use Rattle.refusals.specs.declared.Refusal.{Refusal}
 use Rattle.rules.specs.Bundle.File.{edition, editions}
 use Rattle.rules.specs.Bundle.Writer.{no_such_edition}
+use Rattle.editions.specs.declared.TheConstants.{EDITIONS}
 use Rattle.editions.specs.declared.Edition.{Edition}
 use Rattle.editions.specs.declared.Edition.TheVariants.{First, Second}
 use Rattle.editions.specs.Numbered.{Decodes}
+
+last-edition : EDITIONS ≡ length editions
+unfolding editions
+last-edition = refl
 
 other-unknown : (n : ℕ) → n ≢ 1 → n ≢ 2 → true ≡ no_such_edition n
 unfolding no_such_edition editions
