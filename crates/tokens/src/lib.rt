@@ -118,15 +118,19 @@ pub fn follow(text: &[u8], at: usize, script: &[u8]) -> Result<usize, Halted>
 pub fn is_decimal(token: &[u8], value: u64) -> bool
     ensures { result ≡ same_bytes (digits value) token.now }
 {
-    match token {
-        [] => false,
-        [front @ .., last] => {
-            if value < 10 {
-                return front.is_empty() && 48 + value == u64::from(*last);
-            }
-            48 + value % 10 == u64::from(*last) && is_decimal(front, value / 10)
+    let mut rest = value;
+    let mut left = token;
+    while let [front @ .., last] = left {
+        if rest < 10 {
+            return front.is_empty() && 48 + rest == u64::from(*last);
         }
+        if 48 + rest % 10 != u64::from(*last) {
+            return false;
+        }
+        rest /= 10;
+        left = front;
     }
+    false
 }
 
 // The value of a byte as a digit.
