@@ -14,7 +14,7 @@ pub fn is_next(text: &[u8], at: usize, word: &[u8]) -> bool
         return false;
     }
     let end = tokens::stop(text, at);
-    word == &text[at..end]
+    tokens::is(text, at, end, word)
 }
 
 // Whether the token at `at` is this letter and this number.

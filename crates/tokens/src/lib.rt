@@ -7,13 +7,15 @@ ghost use Rattle.rules.specs.Exchange.Reader.{same_bytes};
 ghost use Rattle.rules.specs.Exchange.Tokens.{is_parenthesis, is_plain, token_bytes};
 ghost use Rattle.tokens.specs.Followed.{followed};
 ghost use Rattle.tokens.specs.Numeral.{short_numeral};
-ghost use Rattle.tokens.specs.Gaps.{noting, stands_between, start_at, stop_at};
+ghost use Rattle.tokens.specs.Gaps.{noting, part, stands_between, start_at, stop_at};
 
+// Kept: here and below no `matches!` and no `match`, which branch by each byte; `|` and `&` take none, and each byte of
+// a text is tested
 #[tactic(auto, unfolding(rules::specs::Exchange::Tokens::is_parenthesis))]
 fn is_parenthesis(byte: u8) -> bool
     ensures { result ≡ is_parenthesis byte }
 {
-    matches!(byte, b'(' | b')')
+    (byte == b'(') | (byte == b')')
 }
 
 // A byte of a run.
@@ -21,7 +23,9 @@ fn is_parenthesis(byte: u8) -> bool
 fn is_plain(byte: u8) -> bool
     ensures { result ≡ is_plain byte }
 {
-    !matches!(byte, b'\t' | b'\n' | b'\r' | b' ' | b'(' | b')' | b';')
+    let blank = (byte == b'\t') | (byte == b'\n') | (byte == b'\r') | (byte == b' ');
+    let parenthesis = (byte == b'(') | (byte == b')');
+    !(blank | parenthesis | (byte == b';'))
 }
 
 // Whether a byte stands between tokens; `noted` says that it is in a comment.
@@ -29,7 +33,8 @@ fn is_plain(byte: u8) -> bool
 fn is_between(noted: bool, byte: u8) -> bool
     ensures { result ≡ stands_between noted byte }
 {
-    noted || matches!(byte, b'\t' | b'\n' | b'\r' | b' ' | b';')
+    let blank = (byte == b'\t') | (byte == b'\n') | (byte == b'\r') | (byte == b' ');
+    noted | blank | (byte == b';')
 }
 
 // Whether the next byte is in a comment.
@@ -37,11 +42,8 @@ fn is_between(noted: bool, byte: u8) -> bool
 fn is_noted(noted: bool, byte: u8) -> bool
     ensures { result ≡ noting noted byte }
 {
-    match byte {
-        b'\n' | b'\r' => false,
-        b';' => true,
-        _ => noted,
-    }
+    let ends = (byte == b'\n') | (byte == b'\r');
+    (byte == b';') | (noted & !ends)
 }
 
 /// The place of the next token, or the text's length.
@@ -76,6 +78,19 @@ pub fn stop(text: &[u8], at: usize) -> usize
     text.len()
 }
 
+/// Whether the bytes from one place up to another are those of `word`.
+pub fn is(text: &[u8], from: usize, to: usize, word: &[u8]) -> bool
+    requires { (from ≤ to) × (to ≤ length text.now) }
+    ensures { result ≡ same_bytes word.now (part text.now from to) }
+{
+    // Kept: no `==` of slices, which is a call, and most words have a byte or two
+    word.len() == to - from
+        && word
+            .iter()
+            .zip(&text[from..to])
+            .all(|(due, own)| due == own)
+}
+
 /// A text has another token at this place than the one that is due there, or none.
 #[derive(Clone, Copy, Debug, PartialEq, Eq)]
 pub struct Halted {
@@ -91,7 +106,7 @@ fn pass(text: &[u8], at: usize, word: &[u8]) -> Result<usize, Halted>
         return Err(Halted { place: at });
     }
     let end = stop(text, at);
-    if word != &text[at..end] {
+    if !is(text, at, end, word) {
         return Err(Halted { place: at });
     }
     Ok(start(text, end))
