@@ -114,6 +114,8 @@ fn pass(text: &[u8], at: usize, word: &[u8]) -> Result<usize, Halted>
 
 /// Follows the tokens of `script` from the token at `at` on, or from the end: behind all of them, or halted at the
 /// first that is not there.
+// Kept: `inline`, as most scripts are constants, and where they are known their tokens are not looked for
+#[inline(always)]
 #[tactic(auto, using(crate::proofs::Laws::Places::token_ends))]
 pub fn follow(text: &[u8], at: usize, script: &[u8]) -> Result<usize, Halted>
     requires { (at ≤ length text.now) × (start_at text.now at ≡ at) }
