@@ -1,17 +1,18 @@
 -- Texts put one behind the other.
 --   put-none, put_then       no text; two texts are one
+--   put-past                 behind the end the slice is as it was
 --   put_front                a text put at the front is the front, where it fits
 --   room-left, room-right    where there is room for both, there is room for each
 --   texts                    these for `search`: texts one behind the other, in the order of their definition
 --   put-lines-start, -room, -more   the lines below a number: none, room for one more, one more
 --   put_only                 writer and text leave nothing open
 use mathlib.Core.Path.{◌≡◌, refl, sym, ◌∙◌, ap, ap₂}
-use mathlib.Core.List.{List, [], ◌++◌}
-use Prim.Native.Nat.{ℕ, ◌+◌, ◌≤◌, ◌<◌}
+use mathlib.Core.List.{List, [], ◌∷◌, ◌++◌}
+use Prim.Native.Nat.{ℕ, suc, ◌+◌, ◌≤◌, ◌<◌}
 use native.Mathlib.Numerals.{add-one}
 use native.Mathlib.Omega.{arith}
-use lib.ListN.{drop, length, take, length-append}
-use lib.Seq.{sets, take-append_seam}
+use lib.ListN.{drop, length, take, length-append, length-set, set}
+use lib.Seq.{sets, set_out, take-append_seam}
 use Rattle.whole.proofs.Lists.Stores.{sets-front, sets_then}
 use Rattle.rules.specs.Program.Text.{lines_below}
 use Rattle.rules.proofs.Program.Lengths.{lines-inside}
@@ -28,6 +29,14 @@ module _ {u v w : Writer} {s t : List ℕ} where
     bytes = q.bytes ∙ ap₂ (λ a b. sets a b t) p.bytes p.place ∙ sym (sets_then s t u.out.now u.at);
     place = omega (arith, length-append s t, p.place, q.place);
   }
+
+sets-past : (s l : List ℕ) (i : ℕ) → length l ≤ i → sets l i s ≡ l
+sets-past [] l i h = refl
+sets-past (a ∷ s) l i h = sets-past s (set l i a) (suc i) (omega (arith, length-set l i a)) ∙ set_out l i a h
+
+pub put-past : (w : Writer) (s : List ℕ) → length w.out.now ≤ w.at →
+    Put w s record { out = w.out; at = w.at + length s }
+put-past w s h = record { same = refl; bytes = sym (sets-past s w.out.now w.at h); place = refl }
 
 pub put_front :
     {v w : Writer} {s : List ℕ} → Put v s w → v.at ≡ 0 → length s ≤ length v.out.now → take w.at w.out.now ≡ s

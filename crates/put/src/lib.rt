@@ -47,7 +47,11 @@ impl<'a> Writer<'a> {
         ensures { Put self.old text.now self.new }
     {
         let room = self.out.len();
-        if self.at < room && text.len() <= room - self.at {
+        if room <= self.at {
+            self.at += text.len();
+            return;
+        }
+        if text.len() <= room - self.at {
             let end = self.at + text.len();
             self.out[self.at..end].copy_from_slice(text);
             self.at = end;
