@@ -4,6 +4,7 @@
 use mathlib.Core.Path.{◌≡◌, sym, ◌∙◌}
 use Rattle.put.proofs.Texts.{put_only}
 use Rattle.put.proofs.Writer.new.Reads as new
+use Rattle.put.proofs.Writer.at.Reads as at
 use Rattle.put.proofs.Writer.place.Reads as place
 use Rattle.put.proofs.Writer.byte.Reads as byte
 use Rattle.put.proofs.Writer.text.Reads as text
@@ -13,6 +14,10 @@ use Rattle.put.proofs.Writer.number.Reads as number
 pub new-only : (κs : _) (x : _) (a b : _) (e f : _) → new.Post κs x a e → new.Post κs x b f →
     (a.out.now ≡ b.out.now) × (a.at ≡ b.at)
 new-only κs x a b e f h k = (h.1.0 ∙ sym k.1.0, h.1.1 ∙ sym k.1.1)
+
+pub at-only : (κs : _) (x : _) (a b : _) (e f : _) → at.Post κs x a e → at.Post κs x b f →
+    (a.out.now ≡ b.out.now) × (a.at ≡ b.at)
+at-only κs x a b e f h k = (h.1.0 ∙ sym k.1.0, h.1.1 ∙ sym k.1.1)
 
 pub place-only : (κs : _) (x : _) (a b : _) (e f : _) → place.Post κs x a e → place.Post κs x b f → a ≡ b
 place-only κs x a b e f h k = h ∙ sym k

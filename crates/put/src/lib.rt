@@ -20,7 +20,16 @@ impl<'a> Writer<'a> {
         ensures bytes { result.out.now ≡ out.old }
         ensures place { result.at ≡ 0 }
     {
-        Writer { out, at: 0 }
+        Writer::at(out, 0)
+    }
+
+    /// At any place of a slice, or past its end.
+    pub fn at(out: &'a mut [u8], at: usize) -> Writer<'a>
+        ensures same { result.out.ghost_name ≡ out.entry.ghost_name }
+        ensures bytes { result.out.now ≡ out.old }
+        ensures place { result.at ≡ at }
+    {
+        Writer { out, at }
     }
 
     /// The place behind what was put.
