@@ -1,6 +1,7 @@
 -- Texts put one behind the other.
 --   put-none, put_then       no text; two texts are one
 --   put-past                 behind the end the slice is as it was
+--   put-length               the slice is as long as before
 --   put_front                a text put at the front is the front, where it fits
 --   room-left, room-right    where there is room for both, there is room for each
 --   texts                    these for `search`: texts one behind the other, in the order of their definition
@@ -12,7 +13,7 @@ use Prim.Native.Nat.{ℕ, suc, ◌+◌, ◌≤◌, ◌<◌}
 use native.Mathlib.Numerals.{add-one}
 use native.Mathlib.Omega.{arith}
 use lib.ListN.{drop, length, take, length-append, length-set, set}
-use lib.Seq.{sets, set_out, take-append_seam}
+use lib.Seq.{sets, length-sets, set_out, take-append_seam}
 use Rattle.whole.proofs.Lists.Stores.{sets-front, sets_then}
 use Rattle.rules.specs.Program.Text.{lines_below}
 use Rattle.rules.proofs.Program.Lengths.{lines-inside}
@@ -37,6 +38,9 @@ sets-past (a ∷ s) l i h = sets-past s (set l i a) (suc i) (omega (arith, lengt
 pub put-past : (w : Writer) (s : List ℕ) → length w.out.now ≤ w.at →
     Put w s record { out = w.out; at = w.at + length s }
 put-past w s h = record { same = refl; bytes = sym (sets-past s w.out.now w.at h); place = refl }
+
+pub put-length : {v w : Writer} {s : List ℕ} → Put v s w → length w.out.now ≡ length v.out.now
+put-length {v} {w} {s} p = ap length p.bytes ∙ length-sets v.out.now v.at s
 
 pub put_front :
     {v w : Writer} {s : List ℕ} → Put v s w → v.at ≡ 0 → length s ≤ length v.out.now → take w.at w.out.now ≡ s
