@@ -55,17 +55,11 @@ impl<'a> Writer<'a> {
         requires { Room self.old text.now }
         ensures { Put self.old text.now self.new }
     {
-        let room = self.out.len();
-        if room <= self.at {
+        if self.out.len() <= self.at {
             self.at += text.len();
             return;
         }
-        if text.len() <= room - self.at {
-            let end = self.at + text.len();
-            self.out[self.at..end].copy_from_slice(text);
-            self.at = end;
-            return;
-        }
+        // Kept: no `copy_from_slice`, for which the archive would call `memmove`; and it takes as long
         for byte in text {
             self.byte(*byte);
         }
