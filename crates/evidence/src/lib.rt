@@ -8,17 +8,28 @@ ghost use Rattle.rules.specs.Evidence.{checked};
 
 use can::shows_can;
 use cannot::shows_cannot;
-use parts::Case;
+use parts::{Case, Size};
 use refusals::Refusal;
+use tableau::Tableau;
 
 /// Refused by the problem, or where the answer is too short; else whether the evidence is right. Nothing is written.
 pub fn check(words: &[i32], answer: &[i64]) -> Result<bool, Refusal>
     ensures { verdict_told result ≡ checked words.now answer.now }
 {
-    let case = Case::read(words, answer, 3, 2)?;
-    match answer[0] {
-        1 => Ok(shows_can(&case)),
-        2 => Ok(shows_cannot(&case)),
-        _ => Ok(false),
+    let Size { rows, columns } = parts::judge(words, answer, 3, 2)?;
+    let verdict = answer[0];
+    if verdict != 1 && verdict != 2 {
+        return Ok(false);
     }
+    let case = Case {
+        entries: Tableau::start_entries(words, columns, rows),
+        limits: Tableau::limits_of(words, columns, rows),
+        rows,
+        columns,
+        answer,
+    };
+    if verdict == 1 {
+        return Ok(shows_can(&case));
+    }
+    Ok(shows_cannot(&case))
 }

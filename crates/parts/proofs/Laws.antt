@@ -5,3 +5,4 @@ pub mod Halves
 pub mod Shown
 pub mod Read
 pub mod Judged
+pub mod Only

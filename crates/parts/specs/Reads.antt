@@ -55,6 +55,12 @@ pub record Readable (entries : List ℤ) (limits : Limits) (rows columns : ℕ) 
 abbrev pub case_refusal : List ℤ → ℕ → ℕ → ℕ → ℕ
 case_refusal ws room head each = first (problem_tests most_rows ws ++ ((ltb room (head + each * vars_of ws), 7) ∷ []))
 
+-- the sizes of words that are accepted, and an answer that is long enough
+pub record Sized (ws a : List ℤ) (head each rows columns : ℕ) : Type 0 where
+  pub framed : Framed ws columns rows
+  pub accepted : Accepted most_rows ws
+  pub long : head + each * (columns + rows) ≤ length a
+
 -- what was read from words that are accepted, and an answer that is long enough
 pub record CaseOf (ws a : List ℤ) (head each : ℕ) (entries : List ℤ) (limits : Limits) (rows columns : ℕ)
     (answer : List ℤ) : Type 0 where

@@ -5,11 +5,18 @@
 ghost use Rattle.std.specs.Prelude.{◌≡◌, ◌≤◌, IfOk, length};
 ghost use Rattle.rules.specs.Evidence as evidence;
 ghost use Rattle.refusals.specs.Numbers.{told_by};
-ghost use Rattle.parts.specs.Reads.{CaseOf, InRanges, case_refusal};
+ghost use Rattle.parts.specs.Reads.{InRanges, Sized, case_refusal};
 
 use refusals::Refusal;
 use tableau::{Limits, Tableau};
 use words::count_at;
+
+/// How many rows and columns a problem has.
+#[derive(Clone, Copy, Debug, PartialEq, Eq)]
+pub struct Size {
+    pub rows: usize,
+    pub columns: usize,
+}
 
 /// A problem at its start, within its ranges, and an answer to it.
 #[derive(Clone, Copy)]
@@ -29,31 +36,17 @@ pub fn clears(strict: bool, less: (i64, i64), more: (i64, i64)) -> bool
     (strict & (less < more)) | (!strict & (less <= more))
 }
 
-impl<'a> Case<'a> {
-    /// The problem that words are, where its answer has `head` words and `each` more for each variable.
-    pub fn read(
-        words: &[i32],
-        answer: &'a [i64],
-        head: usize,
-        each: usize,
-    ) -> Result<Case<'a>, Refusal>
-        requires { (head ≤ 6) × (each ≤ 8) }
-        ensures number { told_by result ≡ case_refusal words.now (length answer.now) head each }
-        ensures case { IfOk result (λ case. CaseOf words.now answer.now head each case.entries case.limits case.rows
-            case.columns case.answer.now) }
-    {
-        judge::judge(words)?;
-        let columns = count_at(words, 0);
-        let rows = count_at(words, 1);
-        if answer.len() < head + each * (columns + rows) {
-            return Err(Refusal::ShortRoom);
-        }
-        Ok(Case {
-            entries: Tableau::start_entries(words, columns, rows),
-            limits: Tableau::limits_of(words, columns, rows),
-            rows,
-            columns,
-            answer,
-        })
+/// How large the problem is that words are, where its answer has `head` words and `each` more for each variable.
+pub fn judge(words: &[i32], answer: &[i64], head: usize, each: usize) -> Result<Size, Refusal>
+    requires { (head ≤ 6) × (each ≤ 8) }
+    ensures number { told_by result ≡ case_refusal words.now (length answer.now) head each }
+    ensures sized { IfOk result (λ size. Sized words.now answer.now head each size.rows size.columns) }
+{
+    judge::judge(words)?;
+    let columns = count_at(words, 0);
+    let rows = count_at(words, 1);
+    if answer.len() < head + each * (columns + rows) {
+        return Err(Refusal::ShortRoom);
     }
+    Ok(Size { rows, columns })
 }

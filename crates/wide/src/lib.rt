@@ -10,8 +10,9 @@ ghost use Rattle.std.specs.Prelude.{◌≡◌};
 ghost use Rattle.refusals.specs.Numbers.{verdict_told};
 ghost use Rattle.rules.specs.Wide.{checked_wide};
 
-use parts::Case;
+use parts::{Case, Size};
 use refusals::Refusal;
+use tableau::Tableau;
 
 mod can;
 mod cannot;
@@ -21,13 +22,23 @@ mod numbers;
 pub fn check(words: &[i32], answer: &[i64]) -> Result<bool, Refusal>
     ensures { verdict_told result ≡ checked_wide words.now answer.now }
 {
-    let case = Case::read(words, answer, 6, 8)?;
-    if !numbers::numbers_fit(answer, 1 + 2 * (case.columns + case.rows)) {
+    let Size { rows, columns } = parts::judge(words, answer, 6, 8)?;
+    if !numbers::numbers_fit(answer, 1 + 2 * (columns + rows)) {
         return Ok(false);
     }
-    match answer[0] {
-        1 => Ok(can::shows_can(&case)),
-        2 => Ok(cannot::shows_cannot(&case)),
-        _ => Ok(false),
+    let verdict = answer[0];
+    if verdict != 1 && verdict != 2 {
+        return Ok(false);
     }
+    let case = Case {
+        entries: Tableau::start_entries(words, columns, rows),
+        limits: Tableau::limits_of(words, columns, rows),
+        rows,
+        columns,
+        answer,
+    };
+    if verdict == 1 {
+        return Ok(can::shows_can(&case));
+    }
+    Ok(cannot::shows_cannot(&case))
 }

@@ -18,9 +18,9 @@ use Rattle.rules.specs.Refusal.{problem_refusal, too_short}
 use Rattle.rules.specs.Evidence.{verdict_of, shows_can, shows_cannot, accepted, checked}
 use Rattle.rules.proofs.Refusal.Exactly.{room-tells}
 use Rattle.rules.proofs.Evidence.Checked.{checked-by-answer}
-use Rattle.parts.proofs.Laws.Judged.{fine-of, one-or-two, refused-case, told-verdict}
+use Rattle.parts.proofs.Laws.Judged.{case-sized, fine-of, one-or-two, refused-case, told-verdict}
 use Rattle.parts.proofs.Laws.Read.{can-read, cannot-read}
-use Rattle.parts.specs.Reads.{CaseOf, case_refusal, problem_of}
+use Rattle.parts.specs.Reads.{CaseOf, Sized, case_refusal, problem_of}
 use Rattle.tableau.specs.declared.Limits.{Limits}
 
 length-is : (ws : List ℤ) {n m : ℕ} → n ≡ n_of ws → m ≡ m_of ws → 3 + 2 * (n + m) ≡ answer_length ws
@@ -61,26 +61,27 @@ module _ (ws a : List ℤ) (fine : problem_refusal ws ≡ 0) where
         ∙ ap (λ b. cond b 8 9) (of-verdict false false (tells-false (tells-eq_z (verdict_of a) (pos 1)) n)
         (tells-false (tells-eq_z (verdict_of a) (pos 2)) m))
 
--- ---- what is told of a case that was read from the words
+-- ---- what is told of words whose sizes were judged, and of the case that was read from them
+
+module _ {ws a : List ℤ} {rows columns : ℕ} (S : Sized ws a 3 2 rows columns) where
+  long-enough : answer_length ws ≤ length a
+  long-enough = rw (length-is ws S.framed.columns-are S.framed.rows_are) at S.long
+
+  pub other-told : verdict_of a ≢ pos 1 → verdict_of a ≢ pos 2 → 9 ≡ checked ws a
+  other-told n m = sym (other-judged ws a (fine-of ws S.accepted) long-enough n m)
 
 module _ {ws a entries answer : List ℤ} {limits : Limits} {rows columns : ℕ}
     (K : CaseOf ws a 3 2 entries limits rows columns answer) where
-  long-enough : answer_length ws ≤ length a
-  long-enough = rw (length-is ws K.framed.columns-are K.framed.rows_are) at K.long
-
   pub can-told : {b : Bool} → b ≡ shows_can (problem_of entries limits rows columns) answer → verdict_of a ≡ pos 1 →
       verdict_told (Ok b) ≡ checked ws a
   can-told {b} e v = told-verdict b
       ∙ ap (λ (b : Bool). cond b 8 9) (e ∙ ap (shows_can (problem_of entries limits rows columns)) K.answer-is
       ∙ can-read K.framed K.accepted K.entries-are K.limits-are a)
-      ∙ sym (can-judged ws a (fine-of ws K.accepted) long-enough v)
+      ∙ sym (can-judged ws a (fine-of ws K.accepted) (long-enough (case-sized K)) v)
 
   pub cannot-told : {b : Bool} → b ≡ shows_cannot (problem_of entries limits rows columns) answer →
       verdict_of a ≡ pos 2 → verdict_told (Ok b) ≡ checked ws a
   cannot-told {b} e v = told-verdict b
       ∙ ap (λ (b : Bool). cond b 8 9) (e ∙ ap (shows_cannot (problem_of entries limits rows columns)) K.answer-is
       ∙ cannot-read K.framed K.accepted K.entries-are K.limits-are a)
-      ∙ sym (cannot-judged ws a (fine-of ws K.accepted) long-enough v)
-
-  pub other-told : verdict_of a ≢ pos 1 → verdict_of a ≢ pos 2 → 9 ≡ checked ws a
-  other-told n m = sym (other-judged ws a (fine-of ws K.accepted) long-enough n m)
+      ∙ sym (cannot-judged ws a (fine-of ws K.accepted) (long-enough (case-sized K)) v)

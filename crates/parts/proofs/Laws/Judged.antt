@@ -5,6 +5,7 @@
 --   case-fits, case-length, case-short, case-long      how long an answer must be
 --   told-verdict, word-is           what is told of a verdict; a word by its bits
 --   framed-of                       the counts that were read frame them
+--   case-of, case-sized             what is read by sizes that were judged is the case of the words; its sizes
 use Rattle.std.proofs.Common.{◌≡◌, refl, sym, ap, ◌∙◌, Bool, true, false, cond, Ok, List, ℕ, ◌<◌, ℤ, pos, ◌≤ℤ◌, length}
 use Rattle.std.proofs.Common.{of_z, to_z, w64}
 use Rattle.std.proofs.Common.{◌≢◌, [], ◌∷◌, ◌++◌, zero, suc, ◌+◌, ◌*◌, ◌≤◌, ap₂, append_assoc, arith}
@@ -16,14 +17,16 @@ use Rattle.refusals.specs.declared.Refusal.{Refusal}
 use Rattle.refusals.proofs.Refused.{number-some}
 use lib.Signed.{le_z_yes}
 use Rattle.whole.proofs.Numbers.Order.{≤ℤ-trans}
-use Rattle.rules.specs.Problem.{m_of, n_of, vars_of, word}
+use Rattle.rules.specs.Problem.{m_of, n_of, problem, vars_of, word}
 use Rattle.rules.specs.Refusal.{Accepted, first, problem_refusal, problem_tests}
 use Rattle.rules.specs.Sizes.{most_rows}
 use Rattle.rules.proofs.Refusal.Exactly.{accepted-exactly, numbered}
 use Rattle.rules.proofs.Refusal.First.{first-hit, first-kept, first-passed, first-skip}
-use Rattle.parts.specs.Reads.{case_refusal}
+use Rattle.parts.specs.Reads.{CaseOf, Sized, case_refusal}
 use Rattle.judge.specs.Words.{Framed}
 use Rattle.judge.proofs.Laws.Judged.{accepted-framed}
+use Rattle.tableau.specs.declared.Limits.{Limits}
+use Rattle.tableau.specs.Start.{limits_for, start_entries}
 
 module _ (ws : List ℤ) (fine : 0 ≡ problem_refusal ws) where
   pub taken-of : Accepted most_rows ws
@@ -87,6 +90,22 @@ module _ (ws : List ℤ) (fine : 0 ≡ problem_refusal ws) {n m : ℕ} (N : n �
   unfolding first
   case-long room head each h = sym (passed-first ws _ fine
       ∙ first-skip 7 [] (le-ltb _ _ (rw (case-length head each) at h)))
+
+pub case-of : {ws a entries : List ℤ} {limits : Limits} {head each rows columns : ℕ} →
+    Sized ws a head each rows columns → entries ≡ start_entries (problem ws) → limits ≡ limits_for (problem ws) →
+    CaseOf ws a head each entries limits rows columns a
+case-of S e l = record {
+  framed = S.framed;
+  accepted = S.accepted;
+  entries-are = e;
+  limits-are = l;
+  answer-is = refl;
+  long = S.long;
+}
+
+pub case-sized : {ws a entries answer : List ℤ} {limits : Limits} {head each rows columns : ℕ} →
+    CaseOf ws a head each entries limits rows columns answer → Sized ws a head each rows columns
+case-sized K = record { framed = K.framed; accepted = K.accepted; long = K.long }
 
 -- ---- what a checker tells
 

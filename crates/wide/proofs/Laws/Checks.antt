@@ -17,9 +17,9 @@ use Rattle.refusals.specs.Numbers.{number_of, verdict_told}
 use Rattle.refusals.specs.declared.Refusal.{Refusal}
 use Rattle.rules.proofs.Wide.Checked.{wide-judged}
 use Rattle.rules.proofs.Refusal.Accepted.{problem-m, problem-n}
-use Rattle.parts.proofs.Laws.Judged.{fine-of, one-or-two, refused-case, told-verdict}
+use Rattle.parts.proofs.Laws.Judged.{case-sized, fine-of, one-or-two, refused-case, told-verdict}
 use Rattle.parts.proofs.Laws.Read.{right-can-read, right-cannot-read}
-use Rattle.parts.specs.Reads.{CaseOf, case_refusal, problem_of}
+use Rattle.parts.specs.Reads.{CaseOf, Sized, case_refusal, problem_of}
 use Rattle.tableau.specs.declared.Limits.{Limits}
 use Rattle.whole.specs.Below.{all_below}
 use Rattle.rules.proofs.Wide.Numbers.{fits-exactly}
@@ -89,15 +89,14 @@ module _ (ws a : List ℤ) (e : problem_refusal ws ≡ 0) where
           (of-verdict false false (tells-false (tells-eq_z (verdict_of a) (pos 1)) n)
           (tells-false (tells-eq_z (verdict_of a) (pos 2)) m))
 
--- ---- what is told of a case that was read from the words
+-- ---- what is told of words whose sizes were judged, and of the case that was read from them
 
-module _ {ws a entries answer : List ℤ} {limits : Limits} {rows columns : ℕ}
-    (K : CaseOf ws a 6 8 entries limits rows columns answer) where
+module _ {ws a : List ℤ} {rows columns : ℕ} (S : Sized ws a 6 8 rows columns) where
   long-enough : wide_length ws ≤ length a
-  long-enough = rw (length-is ws K.framed.columns-are K.framed.rows_are) at K.long
+  long-enough = rw (length-is ws S.framed.columns-are S.framed.rows_are) at S.long
 
   many : columns + rows ≡ vars (problem ws)
-  many = vars-are ws K.framed.columns-are K.framed.rows_are
+  many = vars-are ws S.framed.columns-are S.framed.rows_are
 
   well : {b : Bool} → b ≡ all_below (numbers_of (columns + rows)) (number_fits a) →
       well_formed (vars (problem ws)) a ≡ b
@@ -105,12 +104,21 @@ module _ {ws a entries answer : List ℤ} {limits : Limits} {rows columns : ℕ}
   well e = ap (λ k. all_below (numbers_of k) (number_fits a)) (sym many) ∙ sym e
 
   pub ill-told : all_below (numbers_of (columns + rows)) (number_fits a) ≡ false → 9 ≡ checked_wide ws a
-  ill-told e = sym (ill-formed ws a (fine-of ws K.accepted) long-enough (well (sym e)))
+  ill-told e = sym (ill-formed ws a (fine-of ws S.accepted) long-enough (well (sym e)))
 
   pub all-formed : all_below (numbers_of (columns + rows)) (number_fits a) ≡ true →
-      AllFormed answer (numbers_of (columns + rows))
+      AllFormed a (numbers_of (columns + rows))
   unfolding well_formed
-  all-formed e = rw K.answer-is (formed-all (columns + rows) a e)
+  all-formed e = formed-all (columns + rows) a e
+
+  pub wide-other-told : all_below (numbers_of (columns + rows)) (number_fits a) ≡ true →
+      verdict_of a ≢ pos 1 → verdict_of a ≢ pos 2 → 9 ≡ checked_wide ws a
+  wide-other-told f n m = sym (other-wide ws a (fine-of ws S.accepted) long-enough (well (sym f)) n m)
+
+module _ {ws a entries answer : List ℤ} {limits : Limits} {rows columns : ℕ}
+    (K : CaseOf ws a 6 8 entries limits rows columns answer) where
+  judged : Sized ws a 6 8 rows columns
+  judged = case-sized K
 
   module _ (f : all_below (numbers_of (columns + rows)) (number_fits a) ≡ true) where
     pub wide-can-told : {b : Bool} → b ≡ right_can (problem_of entries limits rows columns) (wide_denominator answer)
@@ -122,8 +130,8 @@ module _ {ws a entries answer : List ℤ} {limits : Limits} {rows columns : ℕ}
         (wide_upper (columns + rows) a)) K.answer-is
         ∙ right-can-read K.framed K.accepted K.entries-are K.limits-are (wide_denominator a) (wide_lower a)
         (wide_upper (columns + rows) a)
-        ∙ ap (λ N. right_can (problem ws) (wide_denominator a) (wide_lower a) (wide_upper N a)) many)
-        ∙ sym (can-wide ws a (fine-of ws K.accepted) long-enough (well (sym f)) v)
+        ∙ ap (λ N. right_can (problem ws) (wide_denominator a) (wide_lower a) (wide_upper N a)) (many judged))
+        ∙ sym (can-wide ws a (fine-of ws K.accepted) (long-enough judged) (well judged (sym f)) v)
 
     pub wide-cannot-told : {b : Bool} → b
         ≡ right_cannot (problem_of entries limits rows columns) (wide_denominator answer)
@@ -135,8 +143,5 @@ module _ {ws a entries answer : List ℤ} {limits : Limits} {rows columns : ℕ}
         (wide_upper (columns + rows) a)) K.answer-is
         ∙ right-cannot-read K.framed K.accepted K.entries-are K.limits-are (wide_denominator a) (wide_lower a)
         (wide_upper (columns + rows) a)
-        ∙ ap (λ N. right_cannot (problem ws) (wide_denominator a) (wide_lower a) (wide_upper N a)) many)
-        ∙ sym (cannot-wide ws a (fine-of ws K.accepted) long-enough (well (sym f)) v)
-
-    pub wide-other-told : verdict_of a ≢ pos 1 → verdict_of a ≢ pos 2 → 9 ≡ checked_wide ws a
-    wide-other-told n m = sym (other-wide ws a (fine-of ws K.accepted) long-enough (well (sym f)) n m)
+        ∙ ap (λ N. right_cannot (problem ws) (wide_denominator a) (wide_lower a) (wide_upper N a)) (many judged))
+        ∙ sym (cannot-wide ws a (fine-of ws K.accepted) (long-enough judged) (well judged (sym f)) v)

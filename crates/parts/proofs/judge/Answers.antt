@@ -1,15 +1,14 @@
--- `parts::Case::read` meets its contract: the problem's refusal, then the answer's length. Assumes nothing.
-use Rattle.std.proofs.Common.{length, refl, arith}
+-- `parts::judge` meets its contract: the problem's refusal, then the answer's length. Assumes nothing.
+use Rattle.std.proofs.Common.{length, arith}
 use Rattle.std.proofs.lemmas.Result.{err_from_is_err_and}
 use Rattle.parts.proofs.Laws.Judged.{case-fits, case-long, case-short, framed-of, judged-columns, judged-rows}
 use Rattle.parts.proofs.Laws.Judged.{refused-first, taken-of}
-use Rattle.parts.proofs.Laws.Read.{words-held}
-use Rattle.parts.proofs.Case.read.Goals as goal
+use Rattle.parts.proofs.judge.Goals as goal
 
 pub returns-in_err-judge : goal.returns-in_err-judge
 returns-in_err-judge c =
     let p = err_from_is_err_and c.from_residual.result c.from_residual.ensures.1 in
-    rw (p.1, p.2) (record { number = refused-first c.args.words.now _ _ c.in_err-judge.ensures; case = tt })
+    rw (p.1, p.2) (record { number = refused-first c.args.words.now _ _ c.in_err-judge.ensures; sized = tt })
 
 pub count_at-columns-requires : goal.count_at-columns-requires
 count_at-columns-requires c = judged-columns c.args.words.now c.in_ok-judge.ensures
@@ -39,35 +38,14 @@ returns-then-answer-head-clause-number c =
     case-short c.args.words.now c.in_ok-judge.ensures c.count_at-columns.ensures c.count_at-rows.ensures
     (length c.args.answer.now) c.args.head c.args.each c.if-answer-head.true
 
-pub start_entries-requires : goal.start_entries-requires
-start_entries-requires c =
-    framed-of c.args.words.now c.in_ok-judge.ensures c.count_at-columns.ensures c.count_at-rows.ensures
-
-pub limits_of-requires-clause-framed : goal.limits_of-requires-clause-framed
-limits_of-requires-clause-framed c =
-    framed-of c.args.words.now c.in_ok-judge.ensures c.count_at-columns.ensures c.count_at-rows.ensures
-
-pub limits_of-requires-clause-accepted : goal.limits_of-requires-clause-accepted
-limits_of-requires-clause-accepted c = taken-of c.args.words.now c.in_ok-judge.ensures
-
-pub invariant_of-result : goal.invariant_of-result
-invariant_of-result c = record {
-  in_ranges = words-held
-      (framed-of c.args.words.now c.in_ok-judge.ensures c.count_at-columns.ensures c.count_at-rows.ensures)
-      (taken-of c.args.words.now c.in_ok-judge.ensures) c.start_entries.ensures c.limits_of.ensures;
-}
-
 pub returns-clause-number : goal.returns-clause-number
 returns-clause-number c =
     case-long c.args.words.now c.in_ok-judge.ensures c.count_at-columns.ensures c.count_at-rows.ensures
     (length c.args.answer.now) c.args.head c.args.each c.if-answer-head.false
 
-pub returns-clause-case : goal.returns-clause-case
-returns-clause-case c = record {
+pub returns-clause-sized : goal.returns-clause-sized
+returns-clause-sized c = record {
   framed = framed-of c.args.words.now c.in_ok-judge.ensures c.count_at-columns.ensures c.count_at-rows.ensures;
   accepted = taken-of c.args.words.now c.in_ok-judge.ensures;
-  entries-are = c.start_entries.ensures;
-  limits-are = c.limits_of.ensures;
-  answer-is = refl;
   long = c.if-answer-head.false;
 }
