@@ -35,7 +35,7 @@ fn numerators_fit(half: &[i64], variables: usize, largest: i64) -> bool
 fn row_sum(case: &Case<'_>, half: &[i64], row: RowPlace) -> i64
     requires row_lt_rows { (row.0 < case.now.rows) × (3 + case.now.columns ≤ length half.now) }
     requires by_index { (v : ℕ) → v < case.now.columns → Within (lower_part half.now v) largest_numerator }
-    ensures { result ≡ row_sum_at case.now.entries half.now case.now.rows case.now.columns row.0 }
+    ensures { result ≡ row_sum_at case.now.entries.now half.now case.now.rows case.now.columns row.0 }
 {
     let mut sum = 0;
     for (j, x) in half[3..3 + case.columns].iter().enumerate() {
@@ -49,7 +49,7 @@ fn row_sum(case: &Case<'_>, half: &[i64], row: RowPlace) -> i64
 fn rows_hold(case: &Case<'_>, half: &[i64]) -> bool
     requires long { 3 + (case.now.columns + case.now.rows) ≤ length half.now }
     requires by_index { (v : ℕ) → v < case.now.columns → Within (lower_part half.now v) largest_numerator }
-    ensures { result ≡ rows_hold case.now.entries half.now case.now.rows case.now.columns }
+    ensures { result ≡ rows_hold case.now.entries.now half.now case.now.rows case.now.columns }
 {
     let mut fine = true;
     let first = 3 + case.columns;
@@ -63,7 +63,7 @@ fn rows_hold(case: &Case<'_>, half: &[i64]) -> bool
 fn half_holds(case: &Case<'_>, half: &[i64], largest: i64) -> bool
     requires long { 3 + (case.now.columns + case.now.rows) ≤ length half.now }
     requires pos_bound { (pos 0 ≤ℤ largest) × (Within largest largest_numerator) }
-    ensures { result ≡ half_holds (nat_abs largest) case.now.entries half.now case.now.rows case.now.columns }
+    ensures { result ≡ half_holds (nat_abs largest) case.now.entries.now half.now case.now.rows case.now.columns }
 {
     numerators_fit(half, case.columns + case.rows, largest) && rows_hold(case, half)
 }
@@ -83,7 +83,7 @@ fn is_zero(half: &[i64], variables: usize) -> bool
 // The half of the small parts holds. Zeros do, as they mostly are.
 fn smalls_hold(case: &Case<'_>, half: &[i64]) -> bool
     requires { 3 + (case.now.columns + case.now.rows) ≤ length half.now }
-    ensures { result ≡ half_holds largest_small case.now.entries half.now case.now.rows case.now.columns }
+    ensures { result ≡ half_holds largest_small case.now.entries.now half.now case.now.rows case.now.columns }
 {
     is_zero(half, case.columns + case.rows) || half_holds(case, half, Tableau::LARGEST_SMALL)
 }
@@ -119,7 +119,7 @@ fn limits_hold(case: &Case<'_>, denominator: i64) -> bool
     requires long { 3 + 2 * (case.now.columns + case.now.rows) ≤ length case.now.answer.now }
     requires within { Within denominator largest_number }
     ensures { result
-        ≡ limits_hold case.now.limits case.now.answer.now (case.now.columns + case.now.rows) denominator }
+        ≡ limits_hold case.now.limits.now case.now.answer.now (case.now.columns + case.now.rows) denominator }
 {
     let variables = case.columns + case.rows;
     let mut fine = true;
@@ -137,7 +137,7 @@ fn limits_hold(case: &Case<'_>, denominator: i64) -> bool
 /// The words are right and within the ranges for verdict 1.
 pub fn shows_can(case: &Case<'_>) -> bool
     requires { 3 + 2 * (case.now.columns + case.now.rows) ≤ length case.now.answer.now }
-    ensures { result ≡ shows_can (problem_of case.now.entries case.now.limits case.now.rows case.now.columns)
+    ensures { result ≡ shows_can (problem_of case.now.entries.now case.now.limits.now case.now.rows case.now.columns)
         case.now.answer.now }
 {
     let denominator = case.answer[2];

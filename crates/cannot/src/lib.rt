@@ -25,7 +25,7 @@ fn fair(limit: Given, k: i64) -> bool
 
 fn multipliers_fair(case: &Case<'_>) -> bool
     requires { 3 + 2 * (case.now.columns + case.now.rows) ≤ length case.now.answer.now }
-    ensures { result ≡ multipliers_fair case.now.limits case.now.answer.now (case.now.columns + case.now.rows) }
+    ensures { result ≡ multipliers_fair case.now.limits.now case.now.answer.now (case.now.columns + case.now.rows) }
 {
     let variables = case.columns + case.rows;
     let mut fine = true;
@@ -66,7 +66,7 @@ fn column_sum(case: &Case<'_>, column: ColumnPlace) -> i64
     requires long { 3 + 2 * (case.now.columns + case.now.rows) ≤ length case.now.answer.now }
     requires multiplied { Multiplied case.now.answer.now (case.now.columns + case.now.rows) }
     ensures { result
-        ≡ column_at_entries case.now.entries case.now.answer.now case.now.rows case.now.columns column.0 }
+        ≡ column_at_entries case.now.entries.now case.now.answer.now case.now.rows case.now.columns column.0 }
 {
     let mut sum = own_balance(case, column);
     for i in 0..case.rows {
@@ -81,7 +81,7 @@ fn column_sum(case: &Case<'_>, column: ColumnPlace) -> i64
 fn columns_cancel(case: &Case<'_>) -> bool
     requires long { 3 + 2 * (case.now.columns + case.now.rows) ≤ length case.now.answer.now }
     requires multiplied { Multiplied case.now.answer.now (case.now.columns + case.now.rows) }
-    ensures { result ≡ columns_cancel case.now.entries case.now.answer.now case.now.rows case.now.columns }
+    ensures { result ≡ columns_cancel case.now.entries.now case.now.answer.now case.now.rows case.now.columns }
 {
     let mut fine = true;
     for j in 0..case.columns {
@@ -105,7 +105,7 @@ fn weighed(limit: Given, k: i64) -> i64
 fn surplus(case: &Case<'_>) -> i64
     requires long { 3 + 2 * (case.now.columns + case.now.rows) ≤ length case.now.answer.now }
     requires multiplied { Multiplied case.now.answer.now (case.now.columns + case.now.rows) }
-    ensures { result ≡ surplus_of case.now.limits case.now.answer.now (case.now.columns + case.now.rows) }
+    ensures { result ≡ surplus_of case.now.limits.now case.now.answer.now (case.now.columns + case.now.rows) }
 {
     let variables = case.columns + case.rows;
     let mut sum = 0;
@@ -127,7 +127,7 @@ fn strict_named(limit: Given, k: i64) -> bool
 // Some strict limit has.
 fn some_named(case: &Case<'_>) -> bool
     requires { 3 + 2 * (case.now.columns + case.now.rows) ≤ length case.now.answer.now }
-    ensures { result ≡ some_named case.now.limits case.now.answer.now (case.now.columns + case.now.rows) }
+    ensures { result ≡ some_named case.now.limits.now case.now.answer.now (case.now.columns + case.now.rows) }
 {
     let variables = case.columns + case.rows;
     let mut found = false;
@@ -142,7 +142,7 @@ fn some_named(case: &Case<'_>) -> bool
 /// The words are right and within the ranges for verdict 2.
 pub fn shows_cannot(case: &Case<'_>) -> bool
     requires { 3 + 2 * (case.now.columns + case.now.rows) ≤ length case.now.answer.now }
-    ensures { result ≡ shows_cannot (problem_of case.now.entries case.now.limits case.now.rows case.now.columns)
+    ensures { result ≡ shows_cannot (problem_of case.now.entries.now case.now.limits.now case.now.rows case.now.columns)
         case.now.answer.now }
 {
     if case.answer[2] != 0 {

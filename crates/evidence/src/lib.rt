@@ -21,9 +21,11 @@ pub fn check(words: &[i32], answer: &[i64]) -> Result<bool, Refusal>
     if verdict != 1 && verdict != 2 {
         return Ok(false);
     }
+    let entries = Tableau::start_entries(words, columns, rows);
+    let limits = Tableau::limits_of(words, columns, rows);
     let case = Case {
-        entries: Tableau::start_entries(words, columns, rows),
-        limits: Tableau::limits_of(words, columns, rows),
+        entries: &entries,
+        limits: &limits,
         rows,
         columns,
         answer,

@@ -21,12 +21,12 @@ pub struct Size {
 /// A problem at its start, within its ranges, and an answer to it.
 #[derive(Clone, Copy)]
 pub struct Case<'a> {
-    pub entries: [i32; Tableau::MOST_ENTRIES],
-    pub limits: Limits,
+    pub entries: &'a [i32; Tableau::MOST_ENTRIES],
+    pub limits: &'a Limits,
     pub rows: usize,
     pub columns: usize,
     pub answer: &'a [i64],
-    pub ghost in_ranges: { InRanges entries limits rows columns },
+    pub ghost in_ranges: { InRanges entries.now limits.now rows columns },
 }
 
 /// A number and its small part are at most others, or strictly below them. Both tests are asked, so nothing branches.

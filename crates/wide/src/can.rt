@@ -24,7 +24,7 @@ fn row_sum(case: &Case<'_>, first: usize, row: RowPlace) -> Wide
     requires columns_bound { (first + case.now.columns ≤ most_numbers)
         × (2 + 4 * (first + case.now.columns) ≤ length case.now.answer.now) }
     requires all_formed { AllFormed case.now.answer.now (first + case.now.columns) }
-    ensures { StandsFor result (row_in case.now.entries case.now.answer.now first case.now.rows case.now.columns row.0
+    ensures { StandsFor result (row_in case.now.entries.now case.now.answer.now first case.now.rows case.now.columns row.0
         case.now.columns) row_most }
 {
     let mut sum = Wide::zero();
@@ -44,7 +44,7 @@ fn row_holds(case: &Case<'_>, first: usize, row: RowPlace) -> bool
         × (2 + 4 * (first + (case.now.columns + case.now.rows)) ≤ length case.now.answer.now) }
     requires all_formed { AllFormed case.now.answer.now (first + (case.now.columns + case.now.rows)) }
     ensures { result ≡ eq_z (wide_at case.now.answer.now (first + (case.now.columns + row.0)))
-        (row_in case.now.entries case.now.answer.now first case.now.rows case.now.columns row.0 case.now.columns) }
+        (row_in case.now.entries.now case.now.answer.now first case.now.rows case.now.columns row.0 case.now.columns) }
 {
     let x = number_at(case.answer, first + (case.columns + row.0 as usize));
     let gap = x.less(row_sum(case, first, row));
@@ -57,7 +57,7 @@ fn rows_hold(case: &Case<'_>, first: usize) -> bool
         × (2 + 4 * (first + (case.now.columns + case.now.rows)) ≤ length case.now.answer.now) }
     requires all_formed { AllFormed case.now.answer.now (first + (case.now.columns + case.now.rows)) }
     ensures { result
-        ≡ rows_solved case.now.entries case.now.answer.now first case.now.rows case.now.columns case.now.rows }
+        ≡ rows_solved case.now.entries.now case.now.answer.now first case.now.rows case.now.columns case.now.rows }
 {
     let mut fine = true;
     for i in 0..case.rows {
@@ -94,7 +94,7 @@ fn limits_hold(case: &Case<'_>, common: Wide) -> bool
     requires rows_in_bounds { 6 + 8 * (case.now.columns + case.now.rows) ≤ length case.now.answer.now }
     requires all_formed { AllFormed case.now.answer.now (numbers_of (case.now.columns + case.now.rows)) }
     requires limbs_within { LimbsWithin common limb_turn }
-    ensures { result ≡ limits_met case.now.limits case.now.answer.now (case.now.columns + case.now.rows) (value common)
+    ensures { result ≡ limits_met case.now.limits.now case.now.answer.now (case.now.columns + case.now.rows) (value common)
         (case.now.columns + case.now.rows) }
 {
     let variables = case.columns + case.rows;
@@ -114,7 +114,7 @@ fn limits_hold(case: &Case<'_>, common: Wide) -> bool
 pub fn shows_can(case: &Case<'_>) -> bool
     requires rows_in_bounds { 6 + 8 * (case.now.columns + case.now.rows) ≤ length case.now.answer.now }
     requires all_formed { AllFormed case.now.answer.now (numbers_of (case.now.columns + case.now.rows)) }
-    ensures { result ≡ right_can (problem_of case.now.entries case.now.limits case.now.rows case.now.columns)
+    ensures { result ≡ right_can (problem_of case.now.entries.now case.now.limits.now case.now.rows case.now.columns)
         (wide_denominator case.now.answer.now) (wide_lower case.now.answer.now)
         (wide_upper (case.now.columns + case.now.rows) case.now.answer.now) }
 {

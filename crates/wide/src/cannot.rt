@@ -31,7 +31,7 @@ fn owed(limit: Given, k: Wide) -> bool
 fn multipliers_owed(case: &Case<'_>) -> bool
     requires rows_in_bounds { 6 + 8 * (case.now.columns + case.now.rows) ≤ length case.now.answer.now }
     requires all_formed { AllFormed case.now.answer.now (numbers_of (case.now.columns + case.now.rows)) }
-    ensures { result ≡ all_owed case.now.limits case.now.answer.now (case.now.columns + case.now.rows)
+    ensures { result ≡ all_owed case.now.limits.now case.now.answer.now (case.now.columns + case.now.rows)
         (case.now.columns + case.now.rows) }
 {
     let variables = case.columns + case.rows;
@@ -65,7 +65,7 @@ fn column_sum(case: &Case<'_>, column: ColumnPlace) -> Wide
     requires column_lt_columns { column.0 < case.now.columns }
     requires rows_in_bounds { 6 + 8 * (case.now.columns + case.now.rows) ≤ length case.now.answer.now }
     requires all_formed { AllFormed case.now.answer.now (numbers_of (case.now.columns + case.now.rows)) }
-    ensures { StandsFor result (column_in case.now.entries case.now.answer.now case.now.rows case.now.columns
+    ensures { StandsFor result (column_in case.now.entries.now case.now.answer.now case.now.rows case.now.columns
         case.now.rows column.0) column_most }
 {
     let mut sum = balance(case, column.0 as usize);
@@ -83,7 +83,7 @@ fn columns_cancel(case: &Case<'_>) -> bool
     requires rows_in_bounds { 6 + 8 * (case.now.columns + case.now.rows) ≤ length case.now.answer.now }
     requires all_formed { AllFormed case.now.answer.now (numbers_of (case.now.columns + case.now.rows)) }
     ensures { result
-        ≡ columns_vanish case.now.entries case.now.answer.now case.now.rows case.now.columns case.now.columns }
+        ≡ columns_vanish case.now.entries.now case.now.answer.now case.now.rows case.now.columns case.now.columns }
 {
     let mut fine = true;
     for j in 0..case.columns {
@@ -108,7 +108,7 @@ fn weighed(limit: Given, k: Wide) -> Wide
 fn surplus(case: &Case<'_>) -> Wide
     requires rows_in_bounds { 6 + 8 * (case.now.columns + case.now.rows) ≤ length case.now.answer.now }
     requires all_formed { AllFormed case.now.answer.now (numbers_of (case.now.columns + case.now.rows)) }
-    ensures { StandsFor result (surplus_in case.now.limits case.now.answer.now (case.now.columns + case.now.rows)
+    ensures { StandsFor result (surplus_in case.now.limits.now case.now.answer.now (case.now.columns + case.now.rows)
         (case.now.columns + case.now.rows)) surplus_most }
 {
     let variables = case.columns + case.rows;
@@ -135,7 +135,7 @@ fn strict_named(limit: Given, k: Wide) -> bool
 fn some_named(case: &Case<'_>) -> bool
     requires rows_in_bounds { 6 + 8 * (case.now.columns + case.now.rows) ≤ length case.now.answer.now }
     requires all_formed { AllFormed case.now.answer.now (numbers_of (case.now.columns + case.now.rows)) }
-    ensures { result ≡ some_marked case.now.limits case.now.answer.now (case.now.columns + case.now.rows)
+    ensures { result ≡ some_marked case.now.limits.now case.now.answer.now (case.now.columns + case.now.rows)
         (case.now.columns + case.now.rows) }
 {
     let variables = case.columns + case.rows;
@@ -154,7 +154,7 @@ fn some_named(case: &Case<'_>) -> bool
 pub fn shows_cannot(case: &Case<'_>) -> bool
     requires rows_in_bounds { 6 + 8 * (case.now.columns + case.now.rows) ≤ length case.now.answer.now }
     requires all_formed { AllFormed case.now.answer.now (numbers_of (case.now.columns + case.now.rows)) }
-    ensures { result ≡ right_cannot (problem_of case.now.entries case.now.limits case.now.rows case.now.columns)
+    ensures { result ≡ right_cannot (problem_of case.now.entries.now case.now.limits.now case.now.rows case.now.columns)
         (wide_denominator case.now.answer.now) (wide_lower case.now.answer.now)
         (wide_upper (case.now.columns + case.now.rows) case.now.answer.now) }
 {

@@ -24,12 +24,12 @@ loop-v-preserved c =
     let fit-x : SFits w64 (lower_part case.answer.now v) = search rules in
     let fit-small : SFits w64 (upper_part variables case.answer.now v) = search rules in
     let pair = pair_part variables case.answer.now v in
-    let over : c.at_least-over.result ≡ at_least (lower_of case.limits v) d pair =
+    let over : c.at_least-over.result ≡ at_least (lower_of case.limits.now v) d pair =
     simp (to_z-of_z f, to_z-of_z fit-x, to_z-of_z fit-small) at c.at_least-over.ensures in
-    let under : c.at_most-under.result ≡ at_most (upper_of case.limits v) d pair =
+    let under : c.at_most-under.result ≡ at_most (upper_of case.limits.now v) d pair =
     simp (to_z-of_z f, to_z-of_z fit-x, to_z-of_z fit-small) at c.at_most-under.ensures in (
       omega arith,
       simp (to_z-of_z f) (tests-more v
-          (λ v. meets_both (lower_of case.limits v) (upper_of case.limits v) d (pair_part variables case.answer.now v))
+          (λ v. meets_both (lower_of case.limits.now v) (upper_of case.limits.now v) d (pair_part variables case.answer.now v))
           (simp (to_z-of_z f) at c.loop-v.invariant.1) (ap₂ (λ (a b : Bool). a && b) over under)),
     )

@@ -7,4 +7,4 @@ use Rattle.can.proofs.limits_hold.Given as goal
 abbrev pub invariant-loop-v : goal.invariant-loop-v
 invariant-loop-v l =
     (l.v ≤ l.variables)
-    × (l.fine ≡ limits_up_to l.case.limits l.case.answer.now l.variables l.denominator l.v)
+    × (l.fine ≡ limits_up_to l.case.limits.now l.case.answer.now l.variables l.denominator l.v)

@@ -73,12 +73,12 @@ module _ (entries half : List ℤ) (rows columns row j : ℕ) where
 pub overflow_mul-sum : goal.overflow_mul-sum
 overflow_mul-sum c =
     let product =
-    product-is c.args.case.now.entries c.args.half.now c.args.case.now.rows c.args.case.now.columns c.args.row.0
+    product-is c.args.case.now.entries.now c.args.half.now c.args.case.now.rows c.args.case.now.columns c.args.row.0
     c.loop-j.j
     c.args.case.now.in_ranges.entries-within c.args.case.now.in_ranges.few-columns (omega arith) c.requires.by_index
     c.place-k.result _ c.place-k.ensures (window c.args.half.now 3 c.args.case.now.columns c.loop-j.j (omega arith)) in
     let fits =
-    fit-term c.args.case.now.entries c.args.half.now c.args.case.now.rows c.args.case.now.columns c.args.row.0
+    fit-term c.args.case.now.entries.now c.args.half.now c.args.case.now.rows c.args.case.now.columns c.args.row.0
     c.loop-j.j
     c.args.case.now.in_ranges.entries-within c.args.case.now.in_ranges.few-columns (omega arith) c.requires.by_index in
     rw product fits
@@ -86,40 +86,40 @@ overflow_mul-sum c =
 pub overflow_add-sum : goal.overflow_add-sum
 overflow_add-sum c =
     let product =
-    product-is c.args.case.now.entries c.args.half.now c.args.case.now.rows c.args.case.now.columns c.args.row.0
+    product-is c.args.case.now.entries.now c.args.half.now c.args.case.now.rows c.args.case.now.columns c.args.row.0
     c.loop-j.j
     c.args.case.now.in_ranges.entries-within c.args.case.now.in_ranges.few-columns (omega arith) c.requires.by_index
     c.place-k.result _ c.place-k.ensures (window c.args.half.now 3 c.args.case.now.columns c.loop-j.j (omega arith)) in
     let fits =
-    fit-term c.args.case.now.entries c.args.half.now c.args.case.now.rows c.args.case.now.columns c.args.row.0
+    fit-term c.args.case.now.entries.now c.args.half.now c.args.case.now.rows c.args.case.now.columns c.args.row.0
     c.loop-j.j
     c.args.case.now.in_ranges.entries-within c.args.case.now.in_ranges.few-columns (omega arith) c.requires.by_index in
     rw (
       c.loop-j.invariant.1,
       product,
       to_z-of_z fits,
-    ) (fit-sum c.args.case.now.entries c.args.half.now c.args.case.now.rows c.args.case.now.columns
+    ) (fit-sum c.args.case.now.entries.now c.args.half.now c.args.case.now.rows c.args.case.now.columns
     c.args.row.0 c.loop-j.j
     c.args.case.now.in_ranges.entries-within c.args.case.now.in_ranges.few-columns (omega arith) c.requires.by_index)
 
 pub loop-j-preserved : goal.loop-j-preserved
 loop-j-preserved c =
     let product =
-    product-is c.args.case.now.entries c.args.half.now c.args.case.now.rows c.args.case.now.columns c.args.row.0
+    product-is c.args.case.now.entries.now c.args.half.now c.args.case.now.rows c.args.case.now.columns c.args.row.0
     c.loop-j.j
     c.args.case.now.in_ranges.entries-within c.args.case.now.in_ranges.few-columns (omega arith) c.requires.by_index
     c.place-k.result _ c.place-k.ensures (window c.args.half.now 3 c.args.case.now.columns c.loop-j.j (omega arith)) in
     let fits =
-    fit-term c.args.case.now.entries c.args.half.now c.args.case.now.rows c.args.case.now.columns c.args.row.0
+    fit-term c.args.case.now.entries.now c.args.half.now c.args.case.now.rows c.args.case.now.columns c.args.row.0
     c.loop-j.j
     c.args.case.now.in_ranges.entries-within c.args.case.now.in_ranges.few-columns (omega arith) c.requires.by_index in
-    let sum = fit-sum c.args.case.now.entries c.args.half.now c.args.case.now.rows c.args.case.now.columns c.args.row.0
+    let sum = fit-sum c.args.case.now.entries.now c.args.half.now c.args.case.now.rows c.args.case.now.columns c.args.row.0
     c.loop-j.j
     c.args.case.now.in_ranges.entries-within c.args.case.now.in_ranges.few-columns (omega arith)
     c.requires.by_index in (
       omega arith,
       rw (c.loop-j.invariant.1, product, to_z-of_z fits, to_z-of_z sum)
-          (more c.args.case.now.entries c.args.half.now c.args.case.now.rows c.args.case.now.columns c.args.row.0
+          (more c.args.case.now.entries.now c.args.half.now c.args.case.now.rows c.args.case.now.columns c.args.row.0
           c.loop-j.j
           c.args.case.now.in_ranges.entries-within c.args.case.now.in_ranges.few-columns
           (omega arith) c.requires.by_index),

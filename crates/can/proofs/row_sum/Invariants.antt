@@ -7,4 +7,4 @@ use Rattle.can.proofs.row_sum.Given as goal
 abbrev pub invariant-loop-j : goal.invariant-loop-j
 invariant-loop-j l =
     (l.j ≤ l.case.columns)
-    × (l.sum ≡ row_up_to l.case.entries l.half l.case.rows l.case.columns l.row.0 l.j)
+    × (l.sum ≡ row_up_to l.case.entries.now l.half l.case.rows l.case.columns l.row.0 l.j)

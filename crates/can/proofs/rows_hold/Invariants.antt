@@ -10,4 +10,4 @@ abbrev pub invariant-loop-i : goal.invariant-loop-i
 invariant-loop-i l =
     (l.i ≤ l.case.rows)
     × (l.fine ≡ all_below l.i (λ i. eq_z (lower_part l.half (l.case.columns + i))
-    (row_sum_at l.case.entries l.half l.case.rows l.case.columns i)))
+    (row_sum_at l.case.entries.now l.half l.case.rows l.case.columns i)))

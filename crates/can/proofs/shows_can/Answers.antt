@@ -47,7 +47,7 @@ returns-then-not-smalls_hold c =
     sym (can-smalls (readable-of case.in_ranges c.requires)
     (sym (outside-is _ f c.is_outside.ensures) ∙ c.if-is_outside.false)
     (sym c.half_holds.ensures ∙ c.if-not-half_holds.false)
-    (sym (smalls-are case.entries case.answer.now case.rows case.columns c.smalls_hold.ensures)
+    (sym (smalls-are case.entries.now case.answer.now case.rows case.columns c.smalls_hold.ensures)
     ∙ c.if-not-smalls_hold.true))
 
 pub returns : goal.returns
@@ -58,5 +58,5 @@ returns c =
     ∙ sym (can-limits (readable-of case.in_ranges c.requires)
     (sym (outside-is _ f c.is_outside.ensures) ∙ c.if-is_outside.false)
     (sym c.half_holds.ensures ∙ c.if-not-half_holds.false)
-    (sym (smalls-are case.entries case.answer.now case.rows case.columns c.smalls_hold.ensures)
+    (sym (smalls-are case.entries.now case.answer.now case.rows case.columns c.smalls_hold.ensures)
     ∙ c.if-not-smalls_hold.false))

@@ -7,5 +7,5 @@ use Rattle.can.proofs.smalls_hold.Goals as goal
 pub returns-then-is_zero : goal.returns-then-is_zero
 returns-then-is_zero c = let case = c.args.case.now in
     c.if-is_zero.true
-    ∙ sym (zeros-hold case.entries c.args.half.now case.rows case.columns
+    ∙ sym (zeros-hold case.entries.now c.args.half.now case.rows case.columns
     (sym c.is_zero.ensures ∙ c.if-is_zero.true) largest_small)

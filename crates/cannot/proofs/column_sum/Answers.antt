@@ -81,11 +81,11 @@ module _ (entries a : List ℤ) (rows columns column i : ℕ) where
 pub overflow_mul-sum : goal.overflow_mul-sum
 overflow_mul-sum c =
     let case = c.args.case.now in
-    let product = product-is case.entries case.answer.now case.rows case.columns c.args.column.0 c.loop-i.i
+    let product = product-is case.entries.now case.answer.now case.rows case.columns c.args.column.0 c.loop-i.i
     case.in_ranges.entries-within case.in_ranges.few-rows c.requires.multiplied c.requires.column_lt_columns
     (omega arith)
     c.place-k.result _ c.place-k.ensures c.balance.ensures in
-    let fits = fit-term case.entries case.answer.now case.rows case.columns c.args.column.0 c.loop-i.i
+    let fits = fit-term case.entries.now case.answer.now case.rows case.columns c.args.column.0 c.loop-i.i
     case.in_ranges.entries-within case.in_ranges.few-rows c.requires.multiplied c.requires.column_lt_columns
     (omega arith) in
     rw product fits
@@ -93,29 +93,29 @@ overflow_mul-sum c =
 pub overflow_add-sum : goal.overflow_add-sum
 overflow_add-sum c =
     let case = c.args.case.now in
-    let product = product-is case.entries case.answer.now case.rows case.columns c.args.column.0 c.loop-i.i
+    let product = product-is case.entries.now case.answer.now case.rows case.columns c.args.column.0 c.loop-i.i
     case.in_ranges.entries-within case.in_ranges.few-rows c.requires.multiplied c.requires.column_lt_columns
     (omega arith)
     c.place-k.result _ c.place-k.ensures c.balance.ensures in
-    let fits = fit-term case.entries case.answer.now case.rows case.columns c.args.column.0 c.loop-i.i
+    let fits = fit-term case.entries.now case.answer.now case.rows case.columns c.args.column.0 c.loop-i.i
     case.in_ranges.entries-within case.in_ranges.few-rows c.requires.multiplied c.requires.column_lt_columns
     (omega arith) in
     rw (c.loop-i.invariant.1, product, to_z-of_z fits)
-    (fit-sum case.entries case.answer.now case.rows case.columns c.args.column.0 c.loop-i.i
+    (fit-sum case.entries.now case.answer.now case.rows case.columns c.args.column.0 c.loop-i.i
     case.in_ranges.entries-within case.in_ranges.few-rows c.requires.multiplied c.requires.column_lt_columns
     (omega arith))
 
 pub loop-i-preserved : goal.loop-i-preserved
 loop-i-preserved c =
     let case = c.args.case.now in
-    let product = product-is case.entries case.answer.now case.rows case.columns c.args.column.0 c.loop-i.i
+    let product = product-is case.entries.now case.answer.now case.rows case.columns c.args.column.0 c.loop-i.i
     case.in_ranges.entries-within case.in_ranges.few-rows c.requires.multiplied c.requires.column_lt_columns
     (omega arith)
     c.place-k.result _ c.place-k.ensures c.balance.ensures in
-    let fits = fit-term case.entries case.answer.now case.rows case.columns c.args.column.0 c.loop-i.i
+    let fits = fit-term case.entries.now case.answer.now case.rows case.columns c.args.column.0 c.loop-i.i
     case.in_ranges.entries-within case.in_ranges.few-rows c.requires.multiplied c.requires.column_lt_columns
     (omega arith) in
-    let sum = fit-sum case.entries case.answer.now case.rows case.columns c.args.column.0 c.loop-i.i
+    let sum = fit-sum case.entries.now case.answer.now case.rows case.columns c.args.column.0 c.loop-i.i
     case.in_ranges.entries-within case.in_ranges.few-rows c.requires.multiplied c.requires.column_lt_columns
     (omega arith) in (
       omega arith,
@@ -124,5 +124,5 @@ loop-i-preserved c =
         product,
         to_z-of_z fits,
         to_z-of_z sum,
-      ) (more case.entries case.answer.now case.rows case.columns c.args.column.0 c.loop-i.i),
+      ) (more case.entries.now case.answer.now case.rows case.columns c.args.column.0 c.loop-i.i),
     )

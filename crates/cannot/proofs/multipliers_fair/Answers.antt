@@ -20,9 +20,9 @@ loop-v-preserved c =
     let v = c.loop-v.v in
     let fit-low : SFits w64 (lower_part case.answer.now v) = search rules in
     let fit-high : SFits w64 (upper_part variables case.answer.now v) = search rules in
-    let first : c.fair-first.result ≡ fair (lower_of case.limits v) (lower_part case.answer.now v) =
+    let first : c.fair-first.result ≡ fair (lower_of case.limits.now v) (lower_part case.answer.now v) =
     simp (to_z-of_z fit-low) at c.fair-first.ensures in
-    let second : c.fair-second.result ≡ fair (upper_of case.limits v) (upper_part variables case.answer.now v) =
+    let second : c.fair-second.result ≡ fair (upper_of case.limits.now v) (upper_part variables case.answer.now v) =
     simp (to_z-of_z fit-high) at c.fair-second.ensures in
     (omega arith, tests-more v _ c.loop-v.invariant.1 (ap₂ (λ (a b : Bool). a && b) first second))
 

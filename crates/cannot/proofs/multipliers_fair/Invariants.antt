@@ -7,4 +7,4 @@ use Rattle.cannot.proofs.multipliers_fair.Given as goal
 
 abbrev pub invariant-loop-v : goal.invariant-loop-v
 invariant-loop-v l =
-    (l.v ≤ l.variables) × (l.fine ≡ all_below l.v (fair_at l.case.limits l.case.answer.now l.variables))
+    (l.v ≤ l.variables) × (l.fine ≡ all_below l.v (fair_at l.case.limits.now l.case.answer.now l.variables))

@@ -20,10 +20,10 @@ loop-v-preserved c =
     let v = c.loop-v.v in
     let fit-low : SFits w64 (lower_part case.answer.now v) = search rules in
     let fit-high : SFits w64 (upper_part variables case.answer.now v) = search rules in
-    let first : c.strict_named-first.result ≡ strict_named (lower_of case.limits v) (lower_part case.answer.now v) =
+    let first : c.strict_named-first.result ≡ strict_named (lower_of case.limits.now v) (lower_part case.answer.now v) =
     simp (to_z-of_z fit-low) at c.strict_named-first.ensures in
     let second : c.strict_named-second.result
-    ≡ strict_named (upper_of case.limits v) (upper_part variables case.answer.now v) =
+    ≡ strict_named (upper_of case.limits.now v) (upper_part variables case.answer.now v) =
     simp (to_z-of_z fit-high) at c.strict_named-second.ensures in
     (omega arith, finds-more v _ c.loop-v.invariant.1 (ap₂ (λ (a b : Bool). a || b) first second))
 

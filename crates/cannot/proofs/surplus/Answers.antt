@@ -58,13 +58,13 @@ overflow_sub-sum c =
     let variables = case.columns + case.rows in
     let fit-low : SFits w64 (lower_part case.answer.now v) = search rules in
     let fit-high : SFits w64 (upper_part variables case.answer.now v) = search rules in
-    let gain : c.weighed-gain.result ≡ plain_of (lower_of case.limits v) *ℤ lower_part case.answer.now v =
+    let gain : c.weighed-gain.result ≡ plain_of (lower_of case.limits.now v) *ℤ lower_part case.answer.now v =
     simp (to_z-of_z fit-low) at c.weighed-gain.ensures in
-    let loss : c.weighed-loss.result ≡ plain_of (upper_of case.limits v) *ℤ upper_part variables case.answer.now v =
+    let loss : c.weighed-loss.result ≡ plain_of (upper_of case.limits.now v) *ℤ upper_part variables case.answer.now v =
     simp (to_z-of_z fit-high) at c.weighed-loss.ensures in
     let fit-gain : SFits w64 c.weighed-gain.result = search rules in
     let fit-loss : SFits w64 c.weighed-loss.result = search rules in
-    let net = fit-net case.limits case.answer.now
+    let net = fit-net case.limits.now case.answer.now
     (case.columns + case.rows) c.loop-v.v case.in_ranges.limited c.requires.multiplied
     (omega (arith, case.in_ranges.few-rows, case.in_ranges.few-columns)) (omega arith) in
     rw (to_z-of_z fit-gain, to_z-of_z fit-loss, gain, loss) net
@@ -76,17 +76,17 @@ overflow_add-sum c =
     let variables = case.columns + case.rows in
     let fit-low : SFits w64 (lower_part case.answer.now v) = search rules in
     let fit-high : SFits w64 (upper_part variables case.answer.now v) = search rules in
-    let gain : c.weighed-gain.result ≡ plain_of (lower_of case.limits v) *ℤ lower_part case.answer.now v =
+    let gain : c.weighed-gain.result ≡ plain_of (lower_of case.limits.now v) *ℤ lower_part case.answer.now v =
     simp (to_z-of_z fit-low) at c.weighed-gain.ensures in
-    let loss : c.weighed-loss.result ≡ plain_of (upper_of case.limits v) *ℤ upper_part variables case.answer.now v =
+    let loss : c.weighed-loss.result ≡ plain_of (upper_of case.limits.now v) *ℤ upper_part variables case.answer.now v =
     simp (to_z-of_z fit-high) at c.weighed-loss.ensures in
     let fit-gain : SFits w64 c.weighed-gain.result = search rules in
     let fit-loss : SFits w64 c.weighed-loss.result = search rules in
-    let net = fit-net case.limits case.answer.now
+    let net = fit-net case.limits.now case.answer.now
     (case.columns + case.rows) c.loop-v.v case.in_ranges.limited c.requires.multiplied
     (omega (arith, case.in_ranges.few-rows, case.in_ranges.few-columns)) (omega arith) in
     rw (to_z-of_z fit-gain, to_z-of_z fit-loss, gain, loss, to_z-of_z net, c.loop-v.invariant.1)
-    (fit-sum case.limits case.answer.now
+    (fit-sum case.limits.now case.answer.now
     (case.columns + case.rows) c.loop-v.v case.in_ranges.limited c.requires.multiplied
     (omega (arith, case.in_ranges.few-rows, case.in_ranges.few-columns)) (omega arith))
 
@@ -97,19 +97,19 @@ loop-v-preserved c =
     let variables = case.columns + case.rows in
     let fit-low : SFits w64 (lower_part case.answer.now v) = search rules in
     let fit-high : SFits w64 (upper_part variables case.answer.now v) = search rules in
-    let gain : c.weighed-gain.result ≡ plain_of (lower_of case.limits v) *ℤ lower_part case.answer.now v =
+    let gain : c.weighed-gain.result ≡ plain_of (lower_of case.limits.now v) *ℤ lower_part case.answer.now v =
     simp (to_z-of_z fit-low) at c.weighed-gain.ensures in
-    let loss : c.weighed-loss.result ≡ plain_of (upper_of case.limits v) *ℤ upper_part variables case.answer.now v =
+    let loss : c.weighed-loss.result ≡ plain_of (upper_of case.limits.now v) *ℤ upper_part variables case.answer.now v =
     simp (to_z-of_z fit-high) at c.weighed-loss.ensures in
     let fit-gain : SFits w64 c.weighed-gain.result = search rules in
     let fit-loss : SFits w64 c.weighed-loss.result = search rules in
-    let net = fit-net case.limits case.answer.now
+    let net = fit-net case.limits.now case.answer.now
     (case.columns + case.rows) c.loop-v.v case.in_ranges.limited c.requires.multiplied
     (omega (arith, case.in_ranges.few-rows, case.in_ranges.few-columns)) (omega arith) in
-    let sum = fit-sum case.limits case.answer.now
+    let sum = fit-sum case.limits.now case.answer.now
     (case.columns + case.rows) c.loop-v.v case.in_ranges.limited c.requires.multiplied
     (omega (arith, case.in_ranges.few-rows, case.in_ranges.few-columns)) (omega arith) in (
       omega arith,
       rw (to_z-of_z fit-gain, to_z-of_z fit-loss, gain, loss, to_z-of_z net, c.loop-v.invariant.1, to_z-of_z sum)
-          (more case.limits case.answer.now variables v),
+          (more case.limits.now case.answer.now variables v),
     )

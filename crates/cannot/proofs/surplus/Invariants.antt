@@ -6,4 +6,4 @@ use Rattle.cannot.proofs.surplus.Given as goal
 
 abbrev pub invariant-loop-v : goal.invariant-loop-v
 invariant-loop-v l =
-    (l.v ≤ l.variables) × (l.sum ≡ surplus_up_to l.case.limits l.case.answer.now l.variables l.v)
+    (l.v ≤ l.variables) × (l.sum ≡ surplus_up_to l.case.limits.now l.case.answer.now l.variables l.v)

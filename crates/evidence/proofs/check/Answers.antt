@@ -23,18 +23,18 @@ returns-then-verdict-ne2 c =
 
 pub invariant_of-case : goal.invariant_of-case
 invariant_of-case c = let S = c.in_ok-rows.ensures.sized in record {
-  in_ranges = words-held S.framed S.accepted c.start_entries.ensures c.limits_of.ensures;
+  in_ranges = words-held S.framed S.accepted c.start_entries-entries.ensures c.limits_of-limits.ensures;
 }
 
 pub returns-then-verdict-eq1 : goal.returns-then-verdict-eq1
 returns-then-verdict-eq1 c =
     let f : SFits w64 (verdict_of c.args.answer.now) = search rules in
-    can-told (case-of c.in_ok-rows.ensures.sized c.start_entries.ensures c.limits_of.ensures) c.shows_can.ensures
+    can-told (case-of c.in_ok-rows.ensures.sized c.start_entries-entries.ensures c.limits_of-limits.ensures) c.shows_can.ensures
     (word-is f c.if-verdict-eq1.true)
 
 pub invariant_of-case-2 : goal.invariant_of-case-2
 invariant_of-case-2 c = let S = c.in_ok-rows.ensures.sized in record {
-  in_ranges = words-held S.framed S.accepted c.start_entries.ensures c.limits_of.ensures;
+  in_ranges = words-held S.framed S.accepted c.start_entries-entries.ensures c.limits_of-limits.ensures;
 }
 
 pub returns : goal.returns
@@ -44,5 +44,5 @@ returns c =
       | else-verdict-ne1-via-then-verdict-ne1+else-verdict-ne2 w ↦ w.if-verdict-ne2.false
       | else-verdict-ne1-via-else-verdict-ne1 w ↦ absurd (c.if-verdict-eq1.false w.if-verdict-ne1.false)
     ] in
-    cannot-told (case-of c.in_ok-rows.ensures.sized c.start_entries.ensures c.limits_of.ensures) c.shows_cannot.ensures
+    cannot-told (case-of c.in_ok-rows.ensures.sized c.start_entries-entries.ensures c.limits_of-limits.ensures) c.shows_cannot.ensures
     (word-is f e)

@@ -28,7 +28,7 @@ returns-then-verdict-ne2 c =
 
 pub invariant_of-case : goal.invariant_of-case
 invariant_of-case c = let S = c.in_ok-rows.ensures.sized in record {
-  in_ranges = words-held S.framed S.accepted c.start_entries.ensures c.limits_of.ensures;
+  in_ranges = words-held S.framed S.accepted c.start_entries-entries.ensures c.limits_of-limits.ensures;
 }
 
 pub shows_can-requires-clause-all_formed : goal.shows_can-requires-clause-all_formed
@@ -38,12 +38,12 @@ shows_can-requires-clause-all_formed c =
 pub returns-then-verdict-eq1 : goal.returns-then-verdict-eq1
 returns-then-verdict-eq1 c =
     let f : SFits w64 (verdict_of c.args.answer.now) = search rules in
-    wide-can-told (case-of c.in_ok-rows.ensures.sized c.start_entries.ensures c.limits_of.ensures)
+    wide-can-told (case-of c.in_ok-rows.ensures.sized c.start_entries-entries.ensures c.limits_of-limits.ensures)
     (sym c.numbers_fit.ensures ∙ c.if-not-numbers_fit.false) c.shows_can.ensures (word-is f c.if-verdict-eq1.true)
 
 pub invariant_of-case-2 : goal.invariant_of-case-2
 invariant_of-case-2 c = let S = c.in_ok-rows.ensures.sized in record {
-  in_ranges = words-held S.framed S.accepted c.start_entries.ensures c.limits_of.ensures;
+  in_ranges = words-held S.framed S.accepted c.start_entries-entries.ensures c.limits_of-limits.ensures;
 }
 
 pub shows_cannot-requires-clause-all_formed : goal.shows_cannot-requires-clause-all_formed
@@ -57,5 +57,5 @@ returns c =
       | else-verdict-ne1-via-then-verdict-ne1+else-verdict-ne2 w ↦ w.if-verdict-ne2.false
       | else-verdict-ne1-via-else-verdict-ne1 w ↦ absurd (c.if-verdict-eq1.false w.if-verdict-ne1.false)
     ] in
-    wide-cannot-told (case-of c.in_ok-rows.ensures.sized c.start_entries.ensures c.limits_of.ensures)
+    wide-cannot-told (case-of c.in_ok-rows.ensures.sized c.start_entries-entries.ensures c.limits_of-limits.ensures)
     (sym c.numbers_fit.ensures ∙ c.if-not-numbers_fit.false) c.shows_cannot.ensures (word-is f e)

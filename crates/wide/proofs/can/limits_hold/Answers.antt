@@ -54,9 +54,9 @@ loop-v-preserved c =
       omega arith,
       tests-more v _ c.loop-v.invariant.1 (ap₂ (λ (a b : Bool). a && b)
           (c.at_least-over.ensures
-          ∙ ap₂ (λ (p q : ℤ). at_least (lower_of case.limits v) d (p, q)) x.number small.number)
+          ∙ ap₂ (λ (p q : ℤ). at_least (lower_of case.limits.now v) d (p, q)) x.number small.number)
           (c.at_most-under.ensures
-          ∙ ap₂ (λ (p q : ℤ). at_most (upper_of case.limits v) d (p, q)) x.number small.number)),
+          ∙ ap₂ (λ (p q : ℤ). at_most (upper_of case.limits.now v) d (p, q)) x.number small.number)),
     )
 
 all : (c : After-loop-v) → c.loop-v.v ≡ c.args.case.now.columns + c.args.case.now.rows
@@ -65,4 +65,4 @@ all c = omega arith
 pub returns : goal.returns
 returns c = let case = c.args.case.now in
     c.loop-v.invariant.1
-    ∙ ap (λ (k : ℕ). limits_met case.limits case.answer.now (case.columns + case.rows) (value c.args.common) k) (all c)
+    ∙ ap (λ (k : ℕ). limits_met case.limits.now case.answer.now (case.columns + case.rows) (value c.args.common) k) (all c)

@@ -7,4 +7,4 @@ use Rattle.wide.proofs.can.limits_hold.Given as goal
 
 abbrev pub invariant-loop-v : goal.invariant-loop-v
 invariant-loop-v l =
-    (l.v ≤ l.variables) × (l.fine ≡ limits_met l.case.limits l.case.answer.now l.variables (value l.common) l.v)
+    (l.v ≤ l.variables) × (l.fine ≡ limits_met l.case.limits.now l.case.answer.now l.variables (value l.common) l.v)

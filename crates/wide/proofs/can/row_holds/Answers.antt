@@ -36,4 +36,4 @@ returns c =
     let number = stands-is c.number_at-x.ensures (stands-in c.requires.all_formed slot (omega arith)) in
     let gap = stands-is c.less-gap.ensures (stands-less number c.row_sum.ensures) in
     c.is_zero.ensures ∙ ap (λ (z : ℤ). eq_z z (pos 0)) gap.number ∙ gap-zero (wide_at case.answer.now slot)
-    (row_in case.entries case.answer.now c.args.first case.rows case.columns c.args.row.0 case.columns)
+    (row_in case.entries.now case.answer.now c.args.first case.rows case.columns c.args.row.0 case.columns)

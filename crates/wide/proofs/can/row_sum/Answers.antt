@@ -59,9 +59,9 @@ pub times-requires : goal.times-requires
 times-requires c =
     let case = c.args.case.now in
     let j = c.loop-j.j in
-    let small : Within (get_or case.entries c.place-k.result (pos 0)) largest_coefficient =
+    let small : Within (get_or case.entries.now c.place-k.result (pos 0)) largest_coefficient =
     case.in_ranges.entries-within.each _ in
-    let fit : SFits w32 (get_or case.entries c.place-k.result (pos 0)) = fits-by small tt in
+    let fit : SFits w32 (get_or case.entries.now c.place-k.result (pos 0)) = fits-by small tt in
     let number = stands-is c.number_at-x.ensures (stands-in c.requires.all_formed (c.args.first + j) (omega arith)) in
     simp (to_z-of_z fit) (sized-le number.size (lit≤ tt), within-le small (lit≤ tt))
 
@@ -69,9 +69,9 @@ pub plus-sum-requires : goal.plus-sum-requires
 plus-sum-requires c =
     let case = c.args.case.now in
     let j = c.loop-j.j in
-    let small : Within (get_or case.entries c.place-k.result (pos 0)) largest_coefficient =
+    let small : Within (get_or case.entries.now c.place-k.result (pos 0)) largest_coefficient =
     case.in_ranges.entries-within.each _ in
-    let fit : SFits w32 (get_or case.entries c.place-k.result (pos 0)) = fits-by small tt in
+    let fit : SFits w32 (get_or case.entries.now c.place-k.result (pos 0)) = fits-by small tt in
     let number = stands-is c.number_at-x.ensures (stands-in c.requires.all_formed (c.args.first + j) (omega arith)) in
     let product = stands-is (simp (to_z-of_z fit) at c.times.ensures) (stands-times small number) in
     let few = case.in_ranges.few-columns in (
@@ -83,16 +83,16 @@ pub loop-j-preserved : goal.loop-j-preserved
 loop-j-preserved c =
     let case = c.args.case.now in
     let j = c.loop-j.j in
-    let small : Within (get_or case.entries c.place-k.result (pos 0)) largest_coefficient =
+    let small : Within (get_or case.entries.now c.place-k.result (pos 0)) largest_coefficient =
     case.in_ranges.entries-within.each _ in
-    let fit : SFits w32 (get_or case.entries c.place-k.result (pos 0)) = fits-by small tt in
+    let fit : SFits w32 (get_or case.entries.now c.place-k.result (pos 0)) = fits-by small tt in
     let number = stands-is c.number_at-x.ensures (stands-in c.requires.all_formed (c.args.first + j) (omega arith)) in
     let product = stands-is (simp (to_z-of_z fit) at c.times.ensures) (stands-times small number) in (
       omega arith,
-      stands-is c.plus-sum.ensures (stands-for (more case.entries case.answer.now c.args.first case.rows case.columns
+      stands-is c.plus-sum.ensures (stands-for (more case.entries.now case.answer.now c.args.first case.rows case.columns
           c.args.row.0 j c.place-k.result c.place-k.ensures)
           (stands-le (stands-plus c.loop-j.invariant.1 product)
-          (wider case.entries case.answer.now c.args.first case.rows
+          (wider case.entries.now case.answer.now c.args.first case.rows
           case.columns c.args.row.0 j))),
     )
 
@@ -103,5 +103,5 @@ pub returns : goal.returns
 returns c =
     let case = c.args.case.now in
     let few = case.in_ranges.few-columns in
-    stands-for (ap (λ (k : ℕ). row_in case.entries case.answer.now c.args.first case.rows case.columns c.args.row.0 k)
+    stands-for (ap (λ (k : ℕ). row_in case.entries.now case.answer.now c.args.first case.rows case.columns c.args.row.0 k)
     (all c)) (stands-le c.loop-j.invariant.1 (so_far c.loop-j.j (omega (arith, few))))

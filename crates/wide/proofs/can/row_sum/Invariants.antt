@@ -8,4 +8,4 @@ use Rattle.wide.proofs.can.row_sum.Given as goal
 abbrev pub invariant-loop-j : goal.invariant-loop-j
 invariant-loop-j l =
     (l.j ≤ l.case.columns) × StandsFor l.sum
-    (row_in l.case.entries l.case.answer.now l.first l.case.rows l.case.columns l.row.0 l.j) (l.j * term_most)
+    (row_in l.case.entries.now l.case.answer.now l.first l.case.rows l.case.columns l.row.0 l.j) (l.j * term_most)

@@ -20,4 +20,4 @@ all c = omega arith
 pub returns : goal.returns
 returns c = let case = c.args.case.now in
     c.loop-i.invariant.1
-    ∙ ap (λ (k : ℕ). rows_solved case.entries case.answer.now c.args.first case.rows case.columns k) (all c)
+    ∙ ap (λ (k : ℕ). rows_solved case.entries.now case.answer.now c.args.first case.rows case.columns k) (all c)

@@ -6,4 +6,4 @@ use Rattle.wide.proofs.can.rows_hold.Given as goal
 abbrev pub invariant-loop-i : goal.invariant-loop-i
 invariant-loop-i l =
     (l.i ≤ l.case.rows)
-    × (l.fine ≡ rows_solved l.case.entries l.case.answer.now l.first l.case.rows l.case.columns l.i)
+    × (l.fine ≡ rows_solved l.case.entries.now l.case.answer.now l.first l.case.rows l.case.columns l.i)

@@ -18,7 +18,7 @@ pub returns-then-not-is_above : goal.returns-then-not-is_above
 returns-then-not-is_above c =
     let case = c.args.case.now in
     let common = stands-is c.number_at-common.ensures (stands-in c.requires.all_formed 0 (omega arith)) in
-    sym (can-tests case.entries case.limits case.rows case.columns case.answer.now
+    sym (can-tests case.entries.now case.limits.now case.rows case.columns case.answer.now
     ∙ rw (sym (c.is_above.ensures ∙ ap is_pos common.number) ∙ c.if-not-is_above.true) refl)
 
 pub rows_hold-requires-clause-all_formed : goal.rows_hold-requires-clause-all_formed
@@ -29,7 +29,7 @@ pub returns-then-not-rows_hold : goal.returns-then-not-rows_hold
 returns-then-not-rows_hold c =
     let case = c.args.case.now in
     let common = stands-is c.number_at-common.ensures (stands-in c.requires.all_formed 0 (omega arith)) in
-    sym (can-tests case.entries case.limits case.rows case.columns case.answer.now
+    sym (can-tests case.entries.now case.limits.now case.rows case.columns case.answer.now
     ∙ rw (
       sym (c.is_above.ensures ∙ ap is_pos common.number) ∙ c.if-not-is_above.false,
       sym c.rows_hold.ensures ∙ c.if-not-rows_hold.true,
@@ -44,7 +44,7 @@ pub returns-then-not-rows_hold-2 : goal.returns-then-not-rows_hold-2
 returns-then-not-rows_hold-2 c =
     let case = c.args.case.now in
     let common = stands-is c.number_at-common.ensures (stands-in c.requires.all_formed 0 (omega arith)) in
-    sym (can-tests case.entries case.limits case.rows case.columns case.answer.now
+    sym (can-tests case.entries.now case.limits.now case.rows case.columns case.answer.now
     ∙ rw (
       sym (c.is_above.ensures ∙ ap is_pos common.number) ∙ c.if-not-is_above.false,
       sym c.rows_hold.ensures ∙ c.if-not-rows_hold.false,
@@ -62,8 +62,8 @@ returns c =
     let common = stands-is c.number_at-common.ensures (stands-in c.requires.all_formed 0 (omega arith)) in
     let N = case.columns + case.rows in
     c.limits_hold.ensures
-    ∙ ap (λ (d : ℤ). limits_met case.limits case.answer.now N d N) common.number
-    ∙ sym (can-tests case.entries case.limits case.rows case.columns case.answer.now
+    ∙ ap (λ (d : ℤ). limits_met case.limits.now case.answer.now N d N) common.number
+    ∙ sym (can-tests case.entries.now case.limits.now case.rows case.columns case.answer.now
     ∙ rw (
       sym (c.is_above.ensures ∙ ap is_pos common.number) ∙ c.if-not-is_above.false,
       sym c.rows_hold.ensures ∙ c.if-not-rows_hold.false,

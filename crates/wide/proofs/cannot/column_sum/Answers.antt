@@ -63,18 +63,18 @@ pub times-requires : goal.times-requires
 times-requires c =
     let case = c.args.case.now in
     let i = c.loop-i.i in
-    let small : Within (get_or case.entries c.place-k.result (pos 0)) largest_coefficient =
+    let small : Within (get_or case.entries.now c.place-k.result (pos 0)) largest_coefficient =
     case.in_ranges.entries-within.each _ in
-    let fit : SFits w32 (get_or case.entries c.place-k.result (pos 0)) = fits-by small tt in
+    let fit : SFits w32 (get_or case.entries.now c.place-k.result (pos 0)) = fits-by small tt in
     simp (to_z-of_z fit) (sized-le c.balance-more.ensures.size (lit≤ tt), within-le small (lit≤ tt))
 
 pub plus-sum-requires : goal.plus-sum-requires
 plus-sum-requires c =
     let case = c.args.case.now in
     let i = c.loop-i.i in
-    let small : Within (get_or case.entries c.place-k.result (pos 0)) largest_coefficient =
+    let small : Within (get_or case.entries.now c.place-k.result (pos 0)) largest_coefficient =
     case.in_ranges.entries-within.each _ in
-    let fit : SFits w32 (get_or case.entries c.place-k.result (pos 0)) = fits-by small tt in
+    let fit : SFits w32 (get_or case.entries.now c.place-k.result (pos 0)) = fits-by small tt in
     let product = stands-is (simp (to_z-of_z fit) at c.times.ensures) (stands-times small c.balance-more.ensures) in
     let few = case.in_ranges.few-rows in (
       sized-le (sized-le c.loop-i.invariant.1.size (so_far i (omega (arith, few)))) (lit≤ tt),
@@ -85,13 +85,13 @@ pub loop-i-preserved : goal.loop-i-preserved
 loop-i-preserved c =
     let case = c.args.case.now in
     let i = c.loop-i.i in
-    let small : Within (get_or case.entries c.place-k.result (pos 0)) largest_coefficient =
+    let small : Within (get_or case.entries.now c.place-k.result (pos 0)) largest_coefficient =
     case.in_ranges.entries-within.each _ in
-    let fit : SFits w32 (get_or case.entries c.place-k.result (pos 0)) = fits-by small tt in
+    let fit : SFits w32 (get_or case.entries.now c.place-k.result (pos 0)) = fits-by small tt in
     let product = stands-is (simp (to_z-of_z fit) at c.times.ensures) (stands-times small c.balance-more.ensures) in (
       omega arith,
       stands-is c.plus-sum.ensures
-          (stands-for (more case.entries case.answer.now case.rows case.columns c.args.column.0 i
+          (stands-for (more case.entries.now case.answer.now case.rows case.columns c.args.column.0 i
           c.place-k.result c.place-k.ensures) (stands-le (stands-plus c.loop-i.invariant.1 product) (wider i))),
     )
 
@@ -102,5 +102,5 @@ pub returns : goal.returns
 returns c =
     let case = c.args.case.now in
     let few = case.in_ranges.few-rows in
-    stands-for (ap (λ (k : ℕ). column_in case.entries case.answer.now case.rows case.columns k c.args.column.0) (all c))
+    stands-for (ap (λ (k : ℕ). column_in case.entries.now case.answer.now case.rows case.columns k c.args.column.0) (all c))
     (stands-le c.loop-i.invariant.1 (so_far c.loop-i.i (omega (arith, few))))

@@ -10,5 +10,5 @@ use Rattle.wide.proofs.cannot.column_sum.Given as goal
 abbrev pub invariant-loop-i : goal.invariant-loop-i
 invariant-loop-i l =
     (l.i ≤ l.case.rows)
-    × StandsFor l.sum (column_in l.case.entries l.case.answer.now l.case.rows l.case.columns l.i l.column.0)
+    × StandsFor l.sum (column_in l.case.entries.now l.case.answer.now l.case.rows l.case.columns l.i l.column.0)
     ((limb_turn + limb_turn) + l.i * share_most)

@@ -30,4 +30,4 @@ all c = omega arith
 pub returns : goal.returns
 returns c = let case = c.args.case.now in
     c.loop-j.invariant.1
-    ∙ ap (λ (k : ℕ). columns_vanish case.entries case.answer.now case.rows case.columns k) (all c)
+    ∙ ap (λ (k : ℕ). columns_vanish case.entries.now case.answer.now case.rows case.columns k) (all c)

@@ -6,4 +6,4 @@ use Rattle.wide.proofs.cannot.columns_cancel.Given as goal
 abbrev pub invariant-loop-j : goal.invariant-loop-j
 invariant-loop-j l =
     (l.j ≤ l.case.columns)
-    × (l.fine ≡ columns_vanish l.case.entries l.case.answer.now l.case.rows l.case.columns l.j)
+    × (l.fine ≡ columns_vanish l.case.entries.now l.case.answer.now l.case.rows l.case.columns l.j)

@@ -43,8 +43,8 @@ loop-v-preserved c =
     (stands-in c.requires.all_formed (1 + variables + v) (omega arith)) in (
       omega arith,
       tests-more v _ c.loop-v.invariant.1 (ap₂ (λ (a b : Bool). a && b)
-          (c.owed-first.ensures ∙ ap (λ (z : ℤ). owed (lower_of case.limits v) z) low.number)
-          (c.owed-second.ensures ∙ ap (λ (z : ℤ). owed (upper_of case.limits v) z) high.number)),
+          (c.owed-first.ensures ∙ ap (λ (z : ℤ). owed (lower_of case.limits.now v) z) low.number)
+          (c.owed-second.ensures ∙ ap (λ (z : ℤ). owed (upper_of case.limits.now v) z) high.number)),
     )
 
 all : (c : After-loop-v) → c.loop-v.v ≡ c.args.case.now.columns + c.args.case.now.rows
@@ -53,4 +53,4 @@ all c = omega arith
 pub returns : goal.returns
 returns c = let case = c.args.case.now in
     c.loop-v.invariant.1
-    ∙ ap (λ (k : ℕ). all_owed case.limits case.answer.now (case.columns + case.rows) k) (all c)
+    ∙ ap (λ (k : ℕ). all_owed case.limits.now case.answer.now (case.columns + case.rows) k) (all c)

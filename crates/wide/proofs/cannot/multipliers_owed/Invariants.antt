@@ -6,4 +6,4 @@ use Rattle.wide.proofs.cannot.multipliers_owed.Given as goal
 
 abbrev pub invariant-loop-v : goal.invariant-loop-v
 invariant-loop-v l =
-    (l.v ≤ l.variables) × (l.fine ≡ all_owed l.case.limits l.case.answer.now l.variables l.v)
+    (l.v ≤ l.variables) × (l.fine ≡ all_owed l.case.limits.now l.case.answer.now l.variables l.v)

@@ -18,14 +18,14 @@ pub returns-then-not-is_zero : goal.returns-then-not-is_zero
 returns-then-not-is_zero c =
     let case = c.args.case.now in
     let common = stands-is c.number_at-common.ensures (stands-in c.requires.all_formed 0 (omega arith)) in
-    sym (cannot-tests case.entries case.limits case.rows case.columns case.answer.now
+    sym (cannot-tests case.entries.now case.limits.now case.rows case.columns case.answer.now
     ∙ rw (sym (c.is_zero.ensures ∙ ap (λ (z : ℤ). eq_z z (pos 0)) common.number) ∙ c.if-not-is_zero.true) refl)
 
 pub returns-then-not-multipliers_owed : goal.returns-then-not-multipliers_owed
 returns-then-not-multipliers_owed c =
     let case = c.args.case.now in
     let common = stands-is c.number_at-common.ensures (stands-in c.requires.all_formed 0 (omega arith)) in
-    sym (cannot-tests case.entries case.limits case.rows case.columns case.answer.now
+    sym (cannot-tests case.entries.now case.limits.now case.rows case.columns case.answer.now
     ∙ rw (
       sym (c.is_zero.ensures ∙ ap (λ (z : ℤ). eq_z z (pos 0)) common.number) ∙ c.if-not-is_zero.false,
       sym c.multipliers_owed.ensures ∙ c.if-not-multipliers_owed.true,
@@ -35,7 +35,7 @@ pub returns-then-not-columns_cancel : goal.returns-then-not-columns_cancel
 returns-then-not-columns_cancel c =
     let case = c.args.case.now in
     let common = stands-is c.number_at-common.ensures (stands-in c.requires.all_formed 0 (omega arith)) in
-    sym (cannot-tests case.entries case.limits case.rows case.columns case.answer.now
+    sym (cannot-tests case.entries.now case.limits.now case.rows case.columns case.answer.now
     ∙ rw (
       sym (c.is_zero.ensures ∙ ap (λ (z : ℤ). eq_z z (pos 0)) common.number) ∙ c.if-not-is_zero.false,
       sym c.multipliers_owed.ensures ∙ c.if-not-multipliers_owed.false,
@@ -50,9 +50,9 @@ returns-then-is_above c =
     let case = c.args.case.now in
     let common = stands-is c.number_at-common.ensures (stands-in c.requires.all_formed 0 (omega arith)) in
     let N = case.columns + case.rows in
-    let total = surplus_in case.limits case.answer.now N N in
-    let marked = some_marked case.limits case.answer.now N N in
-    sym (cannot-tests case.entries case.limits case.rows case.columns case.answer.now
+    let total = surplus_in case.limits.now case.answer.now N N in
+    let marked = some_marked case.limits.now case.answer.now N N in
+    sym (cannot-tests case.entries.now case.limits.now case.rows case.columns case.answer.now
     ∙ rw (
       sym (c.is_zero.ensures ∙ ap (λ (z : ℤ). eq_z z (pos 0)) common.number) ∙ c.if-not-is_zero.false,
       sym c.multipliers_owed.ensures ∙ c.if-not-multipliers_owed.false,
@@ -68,9 +68,9 @@ returns-then-not-is_zero-2 c =
     let case = c.args.case.now in
     let common = stands-is c.number_at-common.ensures (stands-in c.requires.all_formed 0 (omega arith)) in
     let N = case.columns + case.rows in
-    let total = surplus_in case.limits case.answer.now N N in
-    let marked = some_marked case.limits case.answer.now N N in
-    sym (cannot-tests case.entries case.limits case.rows case.columns case.answer.now
+    let total = surplus_in case.limits.now case.answer.now N N in
+    let marked = some_marked case.limits.now case.answer.now N N in
+    sym (cannot-tests case.entries.now case.limits.now case.rows case.columns case.answer.now
     ∙ rw (
       sym (c.is_zero.ensures ∙ ap (λ (z : ℤ). eq_z z (pos 0)) common.number) ∙ c.if-not-is_zero.false,
       sym c.multipliers_owed.ensures ∙ c.if-not-multipliers_owed.false,
@@ -85,10 +85,10 @@ returns c =
     let case = c.args.case.now in
     let common = stands-is c.number_at-common.ensures (stands-in c.requires.all_formed 0 (omega arith)) in
     let N = case.columns + case.rows in
-    let total = surplus_in case.limits case.answer.now N N in
-    let marked = some_marked case.limits case.answer.now N N in
+    let total = surplus_in case.limits.now case.answer.now N N in
+    let marked = some_marked case.limits.now case.answer.now N N in
     c.some_named.ensures
-    ∙ sym (cannot-tests case.entries case.limits case.rows case.columns case.answer.now
+    ∙ sym (cannot-tests case.entries.now case.limits.now case.rows case.columns case.answer.now
     ∙ rw (
       sym (c.is_zero.ensures ∙ ap (λ (z : ℤ). eq_z z (pos 0)) common.number) ∙ c.if-not-is_zero.false,
       sym c.multipliers_owed.ensures ∙ c.if-not-multipliers_owed.false,

@@ -60,8 +60,8 @@ less-requires c =
     let low = stands-is c.number_at-low.ensures (stands-in c.requires.all_formed (1 + v) (omega arith)) in
     let high = stands-is c.number_at-high.ensures (stands-in c.requires.all_formed (1 + variables + v) (omega arith)) in
     let gained = stands-for
-    (ap (λ (z : ℤ). plain_of (lower_of case.limits v) *ℤ z) low.number) c.weighed-gain.ensures in
-    let lost = stands-for (ap (λ (z : ℤ). plain_of (upper_of case.limits v) *ℤ z) high.number) c.weighed-loss.ensures in
+    (ap (λ (z : ℤ). plain_of (lower_of case.limits.now v) *ℤ z) low.number) c.weighed-gain.ensures in
+    let lost = stands-for (ap (λ (z : ℤ). plain_of (upper_of case.limits.now v) *ℤ z) high.number) c.weighed-loss.ensures in
     (sized-le gained.size (lit≤ tt), sized-le lost.size (lit≤ tt))
 
 pub plus-sum-requires : goal.plus-sum-requires
@@ -72,8 +72,8 @@ plus-sum-requires c =
     let low = stands-is c.number_at-low.ensures (stands-in c.requires.all_formed (1 + v) (omega arith)) in
     let high = stands-is c.number_at-high.ensures (stands-in c.requires.all_formed (1 + variables + v) (omega arith)) in
     let gained = stands-for
-    (ap (λ (z : ℤ). plain_of (lower_of case.limits v) *ℤ z) low.number) c.weighed-gain.ensures in
-    let lost = stands-for (ap (λ (z : ℤ). plain_of (upper_of case.limits v) *ℤ z) high.number) c.weighed-loss.ensures in
+    (ap (λ (z : ℤ). plain_of (lower_of case.limits.now v) *ℤ z) low.number) c.weighed-gain.ensures in
+    let lost = stands-for (ap (λ (z : ℤ). plain_of (upper_of case.limits.now v) *ℤ z) high.number) c.weighed-loss.ensures in
     let net = stands-is c.less.ensures (stands-less gained lost) in
     let I = case.in_ranges in (
       sized-le (sized-le c.loop-v.invariant.1.size (so_far v (omega (arith, I.few-rows, I.few-columns)))) (lit≤ tt),
@@ -88,12 +88,12 @@ loop-v-preserved c =
     let low = stands-is c.number_at-low.ensures (stands-in c.requires.all_formed (1 + v) (omega arith)) in
     let high = stands-is c.number_at-high.ensures (stands-in c.requires.all_formed (1 + variables + v) (omega arith)) in
     let gained = stands-for
-    (ap (λ (z : ℤ). plain_of (lower_of case.limits v) *ℤ z) low.number) c.weighed-gain.ensures in
-    let lost = stands-for (ap (λ (z : ℤ). plain_of (upper_of case.limits v) *ℤ z) high.number) c.weighed-loss.ensures in
+    (ap (λ (z : ℤ). plain_of (lower_of case.limits.now v) *ℤ z) low.number) c.weighed-gain.ensures in
+    let lost = stands-for (ap (λ (z : ℤ). plain_of (upper_of case.limits.now v) *ℤ z) high.number) c.weighed-loss.ensures in
     let net = stands-is c.less.ensures (stands-less gained lost) in
     let I = case.in_ranges in (
       omega arith,
-      stands-is c.plus-sum.ensures (stands-for (more case.limits case.answer.now variables v)
+      stands-is c.plus-sum.ensures (stands-for (more case.limits.now case.answer.now variables v)
           (stands-le (stands-plus c.loop-v.invariant.1 net) (wider v))),
     )
 
@@ -104,5 +104,5 @@ pub returns : goal.returns
 returns c =
     let case = c.args.case.now in
     let I = case.in_ranges in
-    stands-for (ap (λ (k : ℕ). surplus_in case.limits case.answer.now (case.columns + case.rows) k) (all c))
+    stands-for (ap (λ (k : ℕ). surplus_in case.limits.now case.answer.now (case.columns + case.rows) k) (all c))
     (stands-le c.loop-v.invariant.1 (so_far c.loop-v.v (omega (arith, I.few-rows, I.few-columns))))

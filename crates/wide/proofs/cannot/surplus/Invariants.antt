@@ -7,5 +7,5 @@ use Rattle.wide.proofs.cannot.surplus.Given as goal
 
 abbrev pub invariant-loop-v : goal.invariant-loop-v
 invariant-loop-v l =
-    (l.v ≤ l.variables) × StandsFor l.sum (surplus_in l.case.limits l.case.answer.now l.variables l.v)
+    (l.v ≤ l.variables) × StandsFor l.sum (surplus_in l.case.limits.now l.case.answer.now l.variables l.v)
     (l.v * (weight_most + weight_most))
