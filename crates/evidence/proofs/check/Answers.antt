@@ -6,7 +6,7 @@ use mir.Val.{SFits}
 use Rattle.rules.specs.Evidence.{verdict_of}
 use Rattle.parts.proofs.Laws.Judged.{case-of, word-is}
 use Rattle.parts.proofs.Laws.Read.{words-held}
-use Rattle.evidence.proofs.Laws.Checks.{can-told, cannot-told, other-told, refused-read}
+use Rattle.evidence.proofs.Laws.Told.{can-told, cannot-told, other-told, refused-read}
 use Rattle.evidence.proofs.check.Goals as goal
 use Rattle.evidence.proofs.check.Goals.{else-verdict-ne1-via-then-verdict-ne1+else-verdict-ne2}
 use Rattle.evidence.proofs.check.Goals.{else-verdict-ne1-via-else-verdict-ne1}

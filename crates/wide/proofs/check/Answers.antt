@@ -6,8 +6,8 @@ use mir.Val.{SFits}
 use Rattle.rules.specs.Evidence.{verdict_of}
 use Rattle.parts.proofs.Laws.Judged.{case-of, word-is}
 use Rattle.parts.proofs.Laws.Read.{words-held}
-use Rattle.wide.proofs.Laws.Checks.{all-formed, wide-can-told, wide-cannot-told, ill-told, wide-other-told}
-use Rattle.wide.proofs.Laws.Checks.{wide-refused-read}
+use Rattle.wide.proofs.Laws.Told.{all-formed, ill-told, wide-can-told, wide-cannot-told, wide-other-told}
+use Rattle.wide.proofs.Laws.Told.{wide-refused-read}
 use Rattle.wide.proofs.check.Goals as goal
 use Rattle.wide.proofs.check.Goals.{else-verdict-ne1-via-then-verdict-ne1+else-verdict-ne2}
 use Rattle.wide.proofs.check.Goals.{else-verdict-ne1-via-else-verdict-ne1}
