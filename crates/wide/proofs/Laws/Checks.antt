@@ -5,7 +5,7 @@
 use mathlib.Core.Bool.{Bool, cond, false, true, ◌&&◌}
 use mathlib.Core.List.{List}
 use mathlib.Core.Logic.{◌≢◌}
-use mathlib.Core.Path.{ap, ap₂, refl, sym, ◌∙◌, ◌≡◌}
+use mathlib.Core.Path.{ap₂, refl, sym, ◌∙◌, ◌≡◌}
 use Prim.Native.Nat.{ℕ, ◌≤◌}
 use lib.IntN.{pos, ℤ}
 use lib.ListN.{length}
