@@ -17,10 +17,11 @@ pub fn check(words: &[i32], answer: &[i64]) -> Result<bool, Refusal>
     ensures { verdict_told result ≡ checked words.now answer.now }
 {
     let Size { rows, columns } = parts::judge(words, answer, 3, 2)?;
-    let verdict = answer[0];
-    if verdict != 1 && verdict != 2 {
-        return Ok(false);
-    }
+    let can = match answer[0] {
+        1 => true,
+        2 => false,
+        _ => return Ok(false),
+    };
     let entries = Tableau::start_entries(words, columns, rows);
     let limits = Tableau::limits_of(words, columns, rows);
     let case = Case {
@@ -30,7 +31,7 @@ pub fn check(words: &[i32], answer: &[i64]) -> Result<bool, Refusal>
         columns,
         answer,
     };
-    if verdict == 1 {
+    if can {
         return Ok(shows_can(&case));
     }
     Ok(shows_cannot(&case))

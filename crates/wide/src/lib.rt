@@ -26,10 +26,11 @@ pub fn check(words: &[i32], answer: &[i64]) -> Result<bool, Refusal>
     if !numbers::numbers_fit(answer, 1 + 2 * (columns + rows)) {
         return Ok(false);
     }
-    let verdict = answer[0];
-    if verdict != 1 && verdict != 2 {
-        return Ok(false);
-    }
+    let can = match answer[0] {
+        1 => true,
+        2 => false,
+        _ => return Ok(false),
+    };
     let entries = Tableau::start_entries(words, columns, rows);
     let limits = Tableau::limits_of(words, columns, rows);
     let case = Case {
@@ -39,7 +40,7 @@ pub fn check(words: &[i32], answer: &[i64]) -> Result<bool, Refusal>
         columns,
         answer,
     };
-    if verdict == 1 {
+    if can {
         return Ok(can::shows_can(&case));
     }
     Ok(cannot::shows_cannot(&case))

@@ -1,6 +1,6 @@
 -- `evidence::check` meets its contract: what refuses the problem or the answer, then the rule of its verdict. Assumes
 -- nothing.
-use Rattle.std.proofs.Common.{◌≡◌, ap, rules, w64, of_z}
+use Rattle.std.proofs.Common.{◌≡◌, ◌≢◌, ap, sym, ◌∙◌, true, false, rules, w64, of_z}
 use Rattle.std.proofs.lemmas.Result.{err_from_is_err_and}
 use mir.Val.{SFits}
 use Rattle.rules.specs.Evidence.{verdict_of}
@@ -8,29 +8,33 @@ use Rattle.parts.proofs.Laws.Judged.{case-of, word-is}
 use Rattle.parts.proofs.Laws.Read.{words-held}
 use Rattle.evidence.proofs.Laws.Told.{can-told, cannot-told, other-told, refused-read}
 use Rattle.evidence.proofs.check.Goals as goal
-use Rattle.evidence.proofs.check.Goals.{else-verdict-ne1-via-then-verdict-ne1+else-verdict-ne2}
-use Rattle.evidence.proofs.check.Goals.{else-verdict-ne1-via-else-verdict-ne1}
+use Rattle.evidence.proofs.check.Goals.{in-1, in-2}
 
 pub returns-in_err-rows : goal.returns-in_err-rows
 returns-in_err-rows c =
     let p = err_from_is_err_and c.from_residual.result c.from_residual.ensures.1 in
     rw (p.1, p.2) (refused-read c.args.words.now c.args.answer.now _ c.in_err-rows.ensures.number)
 
-pub returns-then-verdict-ne2 : goal.returns-then-verdict-ne2
-returns-then-verdict-ne2 c =
-    other-told c.in_ok-rows.ensures.sized (λ h. c.if-verdict-ne1.true (ap (of_z w64) h))
-    (λ h. c.if-verdict-ne2.true (ap (of_z w64) h))
+pub returns-in_default : goal.returns-in_default
+returns-in_default c =
+    let e : of_z w64 (verdict_of c.args.answer.now) ≢ 1 = search rules in
+    let f : of_z w64 (verdict_of c.args.answer.now) ≢ 2 = search rules in
+    other-told c.in_ok-rows.ensures.sized (λ h. e (ap (of_z w64) h)) (λ h. f (ap (of_z w64) h))
 
 pub invariant_of-case : goal.invariant_of-case
 invariant_of-case c = let S = c.in_ok-rows.ensures.sized in record {
   in_ranges = words-held S.framed S.accepted c.start_entries-entries.ensures c.limits_of-limits.ensures;
 }
 
-pub returns-then-verdict-eq1 : goal.returns-then-verdict-eq1
-returns-then-verdict-eq1 c =
+pub returns-then-can : goal.returns-then-can
+returns-then-can c =
     let f : SFits w64 (verdict_of c.args.answer.now) = search rules in
-    can-told (case-of c.in_ok-rows.ensures.sized c.start_entries-entries.ensures c.limits_of-limits.ensures) c.shows_can.ensures
-    (word-is f c.if-verdict-eq1.true)
+    let e : of_z w64 (verdict_of c.args.answer.now) ≡ 1 = elim c.match-answer.branch [
+      | in-1 w ↦ search rules
+      | in-2 w ↦ let clash : true ≡ false = sym c.if-can.true ∙ w.can-is in absurd (let z : ⊥ = cc in z)
+    ] in
+    can-told (case-of c.in_ok-rows.ensures.sized c.start_entries-entries.ensures c.limits_of-limits.ensures)
+    c.shows_can.ensures (word-is f e)
 
 pub invariant_of-case-2 : goal.invariant_of-case-2
 invariant_of-case-2 c = let S = c.in_ok-rows.ensures.sized in record {
@@ -40,9 +44,9 @@ invariant_of-case-2 c = let S = c.in_ok-rows.ensures.sized in record {
 pub returns : goal.returns
 returns c =
     let f : SFits w64 (verdict_of c.args.answer.now) = search rules in
-    let e : of_z w64 (verdict_of c.args.answer.now) ≡ 2 = elim c.else-verdict-ne1.branch [
-      | else-verdict-ne1-via-then-verdict-ne1+else-verdict-ne2 w ↦ w.if-verdict-ne2.false
-      | else-verdict-ne1-via-else-verdict-ne1 w ↦ absurd (c.if-verdict-eq1.false w.if-verdict-ne1.false)
+    let e : of_z w64 (verdict_of c.args.answer.now) ≡ 2 = elim c.match-answer.branch [
+      | in-2 w ↦ search rules
+      | in-1 w ↦ let clash : true ≡ false = sym w.can-is ∙ c.if-can.false in absurd (let z : ⊥ = cc in z)
     ] in
-    cannot-told (case-of c.in_ok-rows.ensures.sized c.start_entries-entries.ensures c.limits_of-limits.ensures) c.shows_cannot.ensures
-    (word-is f e)
+    cannot-told (case-of c.in_ok-rows.ensures.sized c.start_entries-entries.ensures c.limits_of-limits.ensures)
+    c.shows_cannot.ensures (word-is f e)
