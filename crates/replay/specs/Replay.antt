@@ -12,8 +12,6 @@ use Rattle.rules.specs.Runs.Replay.{StepWord, accepted, early, entering-word, le
 use Rattle.rules.specs.Runs.Replay.{replayed, step_at, step_count, wrong}
 use Rattle.rules.specs.Runs.Replay as rules
 use Rattle.rules.specs.Runs.Slices.{begun}
-use Rattle.refusals.specs.declared.Refusal.{Refusal}
-use Rattle.refusals.specs.Numbers.{number_of}
 use Rattle.tableau.specs.declared.Tableau.{Tableau}
 use Rattle.masks.specs.Masks.{went_from}
 use Rattle.solver.specs.Spend.{Holds}
@@ -40,12 +38,12 @@ place_of words.Leaving = 0
 place_of words.Entering = 1
 place_of words.Mask = 2
 
-abbrev pub told_of : Result Replayed Refusal → Told
+abbrev pub told_of : Result Replayed ℕ → Told
 told_of (Ok answers.Accepted) = record { number = 0; word = 0; step = 0 }
 told_of (Ok (answers.Wrong k w)) = record { number = 52; word = place_of w; step = k }
 told_of (Ok answers.Early) = record { number = 53; word = 0; step = 0 }
 told_of (Ok answers.Past) = record { number = 54; word = 0; step = 0 }
-told_of (Err refusal) = record { number = number_of refusal; word = 0; step = 0 }
+told_of (Err k) = record { number = k; word = 0; step = 0 }
 
 -- .. by the rules: a refusal comes first
 abbrev pub told_as : ℕ → rules.Replayed → Told

@@ -129,8 +129,8 @@ pub fn replay(words: &[i32], trace: &[u32]) -> Result<Replayed, Refusal>
     Ok(follow(first, trace))
 }
 
-/// An answer in numbers.
-pub fn in_numbers(answer: Result<Replayed, Refusal>) -> Told
+/// An answer in numbers; a refusal comes as one.
+pub fn in_numbers(answer: Result<Replayed, u32>) -> Told
     ensures { result ≡ told_of answer }
 {
     let (number, word, step) = match answer {
@@ -138,7 +138,7 @@ pub fn in_numbers(answer: Result<Replayed, Refusal>) -> Told
         Ok(Replayed::Wrong(step, word)) => (WRONG, u32::from(word), step),
         Ok(Replayed::Early) => (EARLY, 0, 0),
         Ok(Replayed::Past) => (PAST, 0, 0),
-        Err(refusal) => (refusal.number(), 0, 0),
+        Err(number) => (number, 0, 0),
     };
     Told { number, word, step }
 }

@@ -118,7 +118,10 @@ pub extern "C" fn scatterflock_slice_continue(
 pub extern "C" fn scatterflock_replay(words: &[i32], trace: &[u32]) -> Told
     ensures { result ≡ told_as (replay_refusal words.now trace.now) (replayed_words words.now trace.now) }
 {
-    replay::in_numbers(replay::replay(words, trace))
+    match replay::replay(words, trace) {
+        Ok(replayed) => replay::in_numbers(Ok(replayed)),
+        Err(refusal) => replay::in_numbers(Err(refusal.number())),
+    }
 }
 
 // Writes the trace of a problem's own run.

@@ -18,7 +18,7 @@ use Rattle.rules.specs.Sizes.{most_rows}
 use Rattle.rules.proofs.Refusal.Exactly.{numbered}
 use Rattle.rules.proofs.Refusal.First.{first-hit, first-kept, first-passed, first-skip}
 use Rattle.refusals.specs.declared.Refusal.{Refusal}
-use Rattle.refusals.specs.Numbers.{told_by}
+use Rattle.refusals.specs.Numbers.{number_of, told_by}
 use Rattle.refusals.proofs.Refused.{number-some}
 use Rattle.replay.specs.declared.Replayed.{Replayed}
 use Rattle.replay.specs.Replay.{replayed_by, told_as, told_of}
@@ -44,8 +44,12 @@ module _ (ws : List ℤ) (trace : List ℕ) where
       sym (after-problem e ∙ first-skip 51 [] (tells-false (tells-not (tells-eq (length trace % 3) 0)) z))
 
 -- the answer, and the number of its refusal
+abbrev pub in_number : Result Replayed Refusal → Result Replayed ℕ
+in_number (Ok x) = Ok x
+in_number (Err x) = Err (number_of x)
+
 pub told-as : (a : Result Replayed Refusal) (k : ℕ) (r : rules.Replayed) → told_by a ≡ k →
-    IfOk a (λ x. x ≡ replayed_by r) → told_of a ≡ told_as k r
+    IfOk a (λ x. x ≡ replayed_by r) → told_of (in_number a) ≡ told_as k r
 told-as (Ok x) zero r e h = ap (λ y. told_of (Ok y)) h
 told-as (Ok x) (suc k) r e h = let z : ⊥ = omega arith in absurd z
 told-as (Err x) zero r e h = absurd (number-some x e)
