@@ -1,2 +1,3 @@
 -- What the numbers of refusals tell.
+pub mod Only
 pub mod Refused
