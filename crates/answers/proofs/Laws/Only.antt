@@ -3,6 +3,7 @@
 --   write-only    every word of the output
 use mathlib.Core.Path.{◌≡◌, sym, ◌∙◌}
 use Rattle.answers.proofs.is_short.Reads as is-short
+use Rattle.answers.proofs.I64FromVerdict.from.Reads as verdict-from
 use Rattle.answers.proofs.numerators_of.Reads as numerators-of
 use Rattle.answers.proofs.write.Reads as write
 use Rattle.answers.proofs.conflict.is_crossed.Reads as is-crossed
@@ -34,3 +35,7 @@ numerators-of-only κs x a b e h k = h ∙ sym k
 pub write-only : (κs : _) (x : _) (a b : _) (e f : _) → write.Post κs x a e →
     write.Post κs x b f → e.0.now ≡ f.0.now
 write-only κs x a b e f h k = h ∙ sym k
+
+pub verdict-from-only : (κs : _) (x : _) (a b : _) (e : _) → verdict-from.Post κs x a e →
+    verdict-from.Post κs x b e → a ≡ b
+verdict-from-only κs x a b e h k = h ∙ sym k

@@ -2,6 +2,7 @@
 -- The contracts themselves are compared: κs are lifetimes, x the arguments, e what lent words hold at the exit.
 --   replay-answer-only    what a trace comes to
 --   in-numbers-only       .. in numbers
+--   word-from-only        the number of a word
 use mathlib.Core.Path.{◌≡◌, ap, sym, ◌∙◌}
 use Rattle.std.proofs.Common.{Result, Ok, Err, IfOk}
 use Rattle.refusals.specs.declared.Refusal.{Refusal}
@@ -9,6 +10,7 @@ use Rattle.refusals.specs.Numbers.{told_by}
 use Rattle.refusals.proofs.Refused.{number-only, number-some}
 use Rattle.replay.specs.declared.Replayed.{Replayed}
 use Rattle.replay.proofs.in_numbers.Reads as in-numbers
+use Rattle.replay.proofs.U32FromWord.from.Reads as word-from
 use Rattle.replay.proofs.replay.Reads as replay
 
 -- one number, and one answer where there is one
@@ -24,3 +26,6 @@ replay-answer-only κs x a b e f h k = answer-only _ a b (h.0 ∙ sym k.0) h.1 k
 
 pub in-numbers-only : (κs : _) (x : _) (a b : _) (e f : _) → in-numbers.Post κs x a e → in-numbers.Post κs x b f → a ≡ b
 in-numbers-only κs x a b e f h k = h ∙ sym k
+
+pub word-from-only : (κs : _) (x : _) (a b : _) (e : _) → word-from.Post κs x a e → word-from.Post κs x b e → a ≡ b
+word-from-only κs x a b e h k = h ∙ sym k
