@@ -56,7 +56,7 @@ abbrev pub case_refusal : List ℤ → ℕ → ℕ → ℕ → ℕ
 case_refusal ws room head each = first (problem_tests most_rows ws ++ ((ltb room (head + each * vars_of ws), 7) ∷ []))
 
 -- the sizes of words that are accepted, and an answer that is long enough
-pub record Sized (ws a : List ℤ) (head each rows columns : ℕ) : Type 0 where
+pub record SizesOf (ws a : List ℤ) (head each rows columns : ℕ) : Type 0 where
   pub framed : Framed ws columns rows
   pub accepted : Accepted most_rows ws
   pub long : head + each * (columns + rows) ≤ length a

@@ -5,7 +5,7 @@
 ghost use Rattle.std.specs.Prelude.{◌≡◌, ◌≤◌, IfOk, length};
 ghost use Rattle.rules.specs.Evidence as evidence;
 ghost use Rattle.refusals.specs.Numbers.{told_by};
-ghost use Rattle.parts.specs.Reads.{InRanges, Sized, case_refusal};
+ghost use Rattle.parts.specs.Reads.{InRanges, SizesOf, case_refusal};
 
 use refusals::Refusal;
 use tableau::{Limits, Tableau};
@@ -40,7 +40,7 @@ pub fn clears(strict: bool, less: (i64, i64), more: (i64, i64)) -> bool
 pub fn judge(words: &[i32], answer: &[i64], head: usize, each: usize) -> Result<Size, Refusal>
     requires { (head ≤ 6) × (each ≤ 8) }
     ensures number { told_by result ≡ case_refusal words.now (length answer.now) head each }
-    ensures sized { IfOk result (λ size. Sized words.now answer.now head each size.rows size.columns) }
+    ensures sized { IfOk result (λ size. SizesOf words.now answer.now head each size.rows size.columns) }
 {
     judge::judge(words)?;
     let columns = count_at(words, 0);

@@ -24,8 +24,8 @@ fn row_sum(case: &Case<'_>, first: usize, row: RowPlace) -> Wide
     requires columns_bound { (first + case.now.columns ≤ most_numbers)
         × (2 + 4 * (first + case.now.columns) ≤ length case.now.answer.now) }
     requires all_formed { AllFormed case.now.answer.now (first + case.now.columns) }
-    ensures { StandsFor result (row_in case.now.entries.now case.now.answer.now first case.now.rows case.now.columns row.0
-        case.now.columns) row_most }
+    ensures { StandsFor result (row_in case.now.entries.now case.now.answer.now first case.now.rows case.now.columns
+        row.0 case.now.columns) row_most }
 {
     let mut sum = Wide::zero();
     for j in 0..case.columns {
@@ -94,8 +94,8 @@ fn limits_hold(case: &Case<'_>, common: Wide) -> bool
     requires rows_in_bounds { 6 + 8 * (case.now.columns + case.now.rows) ≤ length case.now.answer.now }
     requires all_formed { AllFormed case.now.answer.now (numbers_of (case.now.columns + case.now.rows)) }
     requires limbs_within { LimbsWithin common limb_turn }
-    ensures { result ≡ limits_met case.now.limits.now case.now.answer.now (case.now.columns + case.now.rows) (value common)
-        (case.now.columns + case.now.rows) }
+    ensures { result ≡ limits_met case.now.limits.now case.now.answer.now (case.now.columns + case.now.rows)
+        (value common) (case.now.columns + case.now.rows) }
 {
     let variables = case.columns + case.rows;
     let mut fine = true;

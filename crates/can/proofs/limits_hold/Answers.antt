@@ -30,6 +30,7 @@ loop-v-preserved c =
     simp (to_z-of_z f, to_z-of_z fit-x, to_z-of_z fit-small) at c.at_most-under.ensures in (
       omega arith,
       simp (to_z-of_z f) (tests-more v
-          (λ v. meets_both (lower_of case.limits.now v) (upper_of case.limits.now v) d (pair_part variables case.answer.now v))
+          (λ v. meets_both (lower_of case.limits.now v) (upper_of case.limits.now v) d
+          (pair_part variables case.answer.now v))
           (simp (to_z-of_z f) at c.loop-v.invariant.1) (ap₂ (λ (a b : Bool). a && b) over under)),
     )

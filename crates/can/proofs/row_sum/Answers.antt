@@ -113,8 +113,8 @@ loop-j-preserved c =
     fit-term c.args.case.now.entries.now c.args.half.now c.args.case.now.rows c.args.case.now.columns c.args.row.0
     c.loop-j.j
     c.args.case.now.in_ranges.entries-within c.args.case.now.in_ranges.few-columns (omega arith) c.requires.by_index in
-    let sum = fit-sum c.args.case.now.entries.now c.args.half.now c.args.case.now.rows c.args.case.now.columns c.args.row.0
-    c.loop-j.j
+    let sum = fit-sum c.args.case.now.entries.now c.args.half.now c.args.case.now.rows c.args.case.now.columns
+    c.args.row.0 c.loop-j.j
     c.args.case.now.in_ranges.entries-within c.args.case.now.in_ranges.few-columns (omega arith)
     c.requires.by_index in (
       omega arith,

@@ -7,5 +7,5 @@ use Rattle.cannot.proofs.column_sum.Given as goal
 abbrev pub invariant-loop-i : goal.invariant-loop-i
 invariant-loop-i l =
     (l.i ≤ l.case.rows)
-    × (l.sum ≡ column_up_to l.case.entries.now l.case.answer.now l.case.rows l.case.columns (l.case.columns + l.case.rows)
-    l.i l.column.0)
+    × (l.sum ≡ column_up_to l.case.entries.now l.case.answer.now l.case.rows l.case.columns
+    (l.case.columns + l.case.rows) l.i l.column.0)

@@ -7,6 +7,6 @@ use Rattle.cannot.proofs.columns_cancel.Given as goal
 
 abbrev pub invariant-loop-j : goal.invariant-loop-j
 invariant-loop-j l =
-    (l.fine ≡ all_below l.j (λ j. eq_z (column_at_entries l.case.entries.now l.case.answer.now l.case.rows l.case.columns j)
-    (pos 0)))
+    (l.fine ≡ all_below l.j (λ j. eq_z (column_at_entries l.case.entries.now l.case.answer.now l.case.rows
+    l.case.columns j) (pos 0)))
     × (l.j ≤ l.case.columns)

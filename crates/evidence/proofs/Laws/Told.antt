@@ -16,7 +16,7 @@ use Rattle.rules.specs.Problem.{answer_length}
 use Rattle.rules.specs.Refusal.{too_short}
 use Rattle.rules.specs.Evidence.{checked, shows_can, shows_cannot, verdict_of}
 use Rattle.tableau.specs.declared.Limits.{Limits}
-use Rattle.parts.specs.Reads.{CaseOf, Sized, case_refusal, problem_of}
+use Rattle.parts.specs.Reads.{CaseOf, SizesOf, case_refusal, problem_of}
 use Rattle.parts.proofs.Laws.Judged.{case-sized, fine-of, refused-case, told-verdict}
 use Rattle.parts.proofs.Laws.Read.{can-read, cannot-read}
 use Rattle.evidence.proofs.Laws.Checks.{can-judged, cannot-judged, length-is, other-judged}
@@ -26,7 +26,7 @@ pub refused-read : (ws a : List ℤ) (r : Refusal) → number_of r ≡ case_refu
 unfolding checked too_short
 refused-read ws a r e = refused-case ws _ _ r e
 
-module _ {ws a : List ℤ} {rows columns : ℕ} (S : Sized ws a 3 2 rows columns) where
+module _ {ws a : List ℤ} {rows columns : ℕ} (S : SizesOf ws a 3 2 rows columns) where
   long-enough : answer_length ws ≤ length a
   long-enough = rw (length-is ws S.framed.columns-are S.framed.rows_are) at S.long
 

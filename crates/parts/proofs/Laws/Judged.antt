@@ -22,7 +22,7 @@ use Rattle.rules.specs.Refusal.{Accepted, first, problem_refusal, problem_tests}
 use Rattle.rules.specs.Sizes.{most_rows}
 use Rattle.rules.proofs.Refusal.Exactly.{accepted-exactly, numbered}
 use Rattle.rules.proofs.Refusal.First.{first-hit, first-kept, first-passed, first-skip}
-use Rattle.parts.specs.Reads.{CaseOf, Sized, case_refusal}
+use Rattle.parts.specs.Reads.{CaseOf, SizesOf, case_refusal}
 use Rattle.judge.specs.Words.{Framed}
 use Rattle.judge.proofs.Laws.Judged.{accepted-framed}
 use Rattle.tableau.specs.declared.Limits.{Limits}
@@ -92,7 +92,7 @@ module _ (ws : List ℤ) (fine : 0 ≡ problem_refusal ws) {n m : ℕ} (N : n �
       ∙ first-skip 7 [] (le-ltb _ _ (rw (case-length head each) at h)))
 
 pub case-of : {ws a entries : List ℤ} {limits : Limits} {head each rows columns : ℕ} →
-    Sized ws a head each rows columns → entries ≡ start_entries (problem ws) → limits ≡ limits_for (problem ws) →
+    SizesOf ws a head each rows columns → entries ≡ start_entries (problem ws) → limits ≡ limits_for (problem ws) →
     CaseOf ws a head each entries limits rows columns a
 case-of S e l = record {
   framed = S.framed;
@@ -104,7 +104,7 @@ case-of S e l = record {
 }
 
 pub case-sized : {ws a entries answer : List ℤ} {limits : Limits} {head each rows columns : ℕ} →
-    CaseOf ws a head each entries limits rows columns answer → Sized ws a head each rows columns
+    CaseOf ws a head each entries limits rows columns answer → SizesOf ws a head each rows columns
 case-sized K = record { framed = K.framed; accepted = K.accepted; long = K.long }
 
 -- ---- what a checker tells

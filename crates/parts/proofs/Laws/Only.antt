@@ -8,7 +8,7 @@ use Rattle.std.proofs.Common.{Result, Ok, Err, IfOk}
 use Rattle.refusals.specs.declared.Refusal.{Refusal}
 use Rattle.refusals.specs.Numbers.{told_by}
 use Rattle.refusals.proofs.Refused.{number-only, number-some}
-use Rattle.parts.specs.Reads.{Sized}
+use Rattle.parts.specs.Reads.{SizesOf}
 use Rattle.parts.specs.declared.Size.{Size}
 use Rattle.parts.proofs.clears.Reads as clears
 use Rattle.parts.proofs.judge.Reads as judge
@@ -19,7 +19,7 @@ clears-only κs x a b e h k = h ∙ sym k
 -- one number, and the sizes that the words have where there are some
 module _ (ws a : List ℤ) (head each : ℕ) where
   abbrev IsSized : Size → Type 0
-  IsSized size = Sized ws a head each size.rows size.columns
+  IsSized size = SizesOf ws a head each size.rows size.columns
 
   size-only : (x y : Size) → IsSized x → IsSized y → x ≡ y
   size-only x y h k = ap₂ (λ (rows columns : ℕ). let z : Size = record { rows = rows; columns = columns } in z)

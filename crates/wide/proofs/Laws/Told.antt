@@ -20,7 +20,7 @@ use Rattle.rules.specs.Problem.{m_of, n_of, problem, vars}
 use Rattle.rules.specs.Wide.{checked_wide, number_fits, numbers_of, short_wide, well_formed, wide_denominator}
 use Rattle.rules.specs.Wide.{wide_length, wide_lower, wide_upper}
 use Rattle.tableau.specs.declared.Limits.{Limits}
-use Rattle.parts.specs.Reads.{CaseOf, Sized, case_refusal, problem_of}
+use Rattle.parts.specs.Reads.{CaseOf, SizesOf, case_refusal, problem_of}
 use Rattle.parts.proofs.Laws.Judged.{case-sized, fine-of, refused-case, told-verdict}
 use Rattle.parts.proofs.Laws.Read.{right-can-read, right-cannot-read}
 use Rattle.wide.specs.Reads.{AllFormed}
@@ -38,7 +38,7 @@ length-is ws e f = ap₂ (λ n m. 6 + 8 * (n + m)) e f
 vars-are : (ws : List ℤ) {n m : ℕ} → n ≡ n_of ws → m ≡ m_of ws → n + m ≡ vars (problem ws)
 vars-are ws e f = ap₂ (λ n m. n + m) (e ∙ sym (problem-n ws)) (f ∙ sym (problem-m ws))
 
-module _ {ws a : List ℤ} {rows columns : ℕ} (S : Sized ws a 6 8 rows columns) where
+module _ {ws a : List ℤ} {rows columns : ℕ} (S : SizesOf ws a 6 8 rows columns) where
   long-enough : wide_length ws ≤ length a
   long-enough = rw (length-is ws S.framed.columns-are S.framed.rows_are) at S.long
 
@@ -64,7 +64,7 @@ module _ {ws a : List ℤ} {rows columns : ℕ} (S : Sized ws a 6 8 rows columns
 
 module _ {ws a entries answer : List ℤ} {limits : Limits} {rows columns : ℕ}
     (K : CaseOf ws a 6 8 entries limits rows columns answer) where
-  judged : Sized ws a 6 8 rows columns
+  judged : SizesOf ws a 6 8 rows columns
   judged = case-sized K
 
   module _ (f : all_below (numbers_of (columns + rows)) (number_fits a) ≡ true) where

@@ -65,4 +65,5 @@ all c = omega arith
 pub returns : goal.returns
 returns c = let case = c.args.case.now in
     c.loop-v.invariant.1
-    ∙ ap (λ (k : ℕ). limits_met case.limits.now case.answer.now (case.columns + case.rows) (value c.args.common) k) (all c)
+    ∙ ap (λ (k : ℕ). limits_met case.limits.now case.answer.now (case.columns + case.rows) (value c.args.common) k)
+    (all c)

@@ -89,8 +89,8 @@ loop-j-preserved c =
     let number = stands-is c.number_at-x.ensures (stands-in c.requires.all_formed (c.args.first + j) (omega arith)) in
     let product = stands-is (simp (to_z-of_z fit) at c.times.ensures) (stands-times small number) in (
       omega arith,
-      stands-is c.plus-sum.ensures (stands-for (more case.entries.now case.answer.now c.args.first case.rows case.columns
-          c.args.row.0 j c.place-k.result c.place-k.ensures)
+      stands-is c.plus-sum.ensures (stands-for (more case.entries.now case.answer.now c.args.first case.rows
+          case.columns c.args.row.0 j c.place-k.result c.place-k.ensures)
           (stands-le (stands-plus c.loop-j.invariant.1 product)
           (wider case.entries.now case.answer.now c.args.first case.rows
           case.columns c.args.row.0 j))),
@@ -103,5 +103,5 @@ pub returns : goal.returns
 returns c =
     let case = c.args.case.now in
     let few = case.in_ranges.few-columns in
-    stands-for (ap (λ (k : ℕ). row_in case.entries.now case.answer.now c.args.first case.rows case.columns c.args.row.0 k)
-    (all c)) (stands-le c.loop-j.invariant.1 (so_far c.loop-j.j (omega (arith, few))))
+    stands-for (ap (λ (k : ℕ). row_in case.entries.now case.answer.now c.args.first case.rows case.columns c.args.row.0
+    k) (all c)) (stands-le c.loop-j.invariant.1 (so_far c.loop-j.j (omega (arith, few))))

@@ -102,5 +102,5 @@ pub returns : goal.returns
 returns c =
     let case = c.args.case.now in
     let few = case.in_ranges.few-rows in
-    stands-for (ap (λ (k : ℕ). column_in case.entries.now case.answer.now case.rows case.columns k c.args.column.0) (all c))
-    (stands-le c.loop-i.invariant.1 (so_far c.loop-i.i (omega (arith, few))))
+    stands-for (ap (λ (k : ℕ). column_in case.entries.now case.answer.now case.rows case.columns k c.args.column.0)
+    (all c)) (stands-le c.loop-i.invariant.1 (so_far c.loop-i.i (omega (arith, few))))

@@ -61,7 +61,8 @@ less-requires c =
     let high = stands-is c.number_at-high.ensures (stands-in c.requires.all_formed (1 + variables + v) (omega arith)) in
     let gained = stands-for
     (ap (λ (z : ℤ). plain_of (lower_of case.limits.now v) *ℤ z) low.number) c.weighed-gain.ensures in
-    let lost = stands-for (ap (λ (z : ℤ). plain_of (upper_of case.limits.now v) *ℤ z) high.number) c.weighed-loss.ensures in
+    let lost = stands-for
+    (ap (λ (z : ℤ). plain_of (upper_of case.limits.now v) *ℤ z) high.number) c.weighed-loss.ensures in
     (sized-le gained.size (lit≤ tt), sized-le lost.size (lit≤ tt))
 
 pub plus-sum-requires : goal.plus-sum-requires
@@ -73,7 +74,8 @@ plus-sum-requires c =
     let high = stands-is c.number_at-high.ensures (stands-in c.requires.all_formed (1 + variables + v) (omega arith)) in
     let gained = stands-for
     (ap (λ (z : ℤ). plain_of (lower_of case.limits.now v) *ℤ z) low.number) c.weighed-gain.ensures in
-    let lost = stands-for (ap (λ (z : ℤ). plain_of (upper_of case.limits.now v) *ℤ z) high.number) c.weighed-loss.ensures in
+    let lost = stands-for
+    (ap (λ (z : ℤ). plain_of (upper_of case.limits.now v) *ℤ z) high.number) c.weighed-loss.ensures in
     let net = stands-is c.less.ensures (stands-less gained lost) in
     let I = case.in_ranges in (
       sized-le (sized-le c.loop-v.invariant.1.size (so_far v (omega (arith, I.few-rows, I.few-columns)))) (lit≤ tt),
@@ -89,7 +91,8 @@ loop-v-preserved c =
     let high = stands-is c.number_at-high.ensures (stands-in c.requires.all_formed (1 + variables + v) (omega arith)) in
     let gained = stands-for
     (ap (λ (z : ℤ). plain_of (lower_of case.limits.now v) *ℤ z) low.number) c.weighed-gain.ensures in
-    let lost = stands-for (ap (λ (z : ℤ). plain_of (upper_of case.limits.now v) *ℤ z) high.number) c.weighed-loss.ensures in
+    let lost = stands-for
+    (ap (λ (z : ℤ). plain_of (upper_of case.limits.now v) *ℤ z) high.number) c.weighed-loss.ensures in
     let net = stands-is c.less.ensures (stands-less gained lost) in
     let I = case.in_ranges in (
       omega arith,
