@@ -11,7 +11,8 @@ pub refusal-number-only : (κs : _) (x : _) (a b : _) (e : _) → refusal-number
     refusal-number.Post κs x b e → a ≡ b
 refusal-number-only κs x a b e h k = h ∙ sym k
 
-pub number-told-only : (κs : _) (x : _) (a b : _) (e : _) → number-told.Post κs x a e → number-told.Post κs x b e → a ≡ b
+pub number-told-only : (κs : _) (x : _) (a b : _) (e : _) → number-told.Post κs x a e →
+    number-told.Post κs x b e → a ≡ b
 number-told-only κs x a b e h k = h ∙ sym k
 
 pub verdict-told-only : (κs : _) (x : _) (a b : _) (e : _) → verdict-told.Post κs x a e →

@@ -1,5 +1,6 @@
--- `pivot::wide::halves_of` meets its contract. The invariant: the cells passed are copied, the others 0. Assumes nothing.
-use Rattle.std.proofs.Common.{rules, arith, ap, refl, sym, ◌∙◌, ◌≡◌, ◌<◌, List, ℕ, ℤ, pos, length, get_or}
+-- `pivot::wide::halves_of` meets its contract. The invariant: the cells passed are copied, the others 0.
+-- Assumes nothing.
+use Rattle.std.proofs.Common.{arith, ap, refl, sym, ◌∙◌, ◌≡◌, ◌<◌, List, ℕ, ℤ, pos, get_or}
 use Rattle.std.proofs.Common.{FitsSigned, w32, w64, to_z-of_z}
 use Rattle.whole.specs.Tables.{filled, table}
 use Rattle.whole.proofs.Lists.Prefix.{filled-start, filled_more, filled-all}

@@ -1,4 +1,5 @@
--- `pivot::wide::halves_of` meets its contract. The invariant: the cells passed are copied, the others 0. Assumes nothing.
+-- `pivot::wide::halves_of` meets its contract. The invariant: the cells passed are copied, the others 0.
+-- Assumes nothing.
 use mathlib.Core.Path.{◌≡◌}
 use lib.IntN.{pos}
 use lib.ListN.{get_or}
