@@ -4,7 +4,7 @@
 ghost use Rattle.std.specs.Prelude.{◌≡◌, ◌+◌, ◌*◌, ◌≤◌, ◌<◌, ◌*ℤ◌, length};
 ghost use Rattle.whole.specs.Numbers.{Within};
 ghost use Rattle.rules.specs.Sizes.{largest_limit};
-ghost use Rattle.rules.specs.Sizes.{largest_number};
+ghost use Rattle.rules.specs.Sizes.{largest_number, most_variables};
 ghost use Rattle.rules.specs.Evidence.{fair, plain_of, strict_named, shows_cannot};
 ghost use Rattle.amounts.specs.Amounts.{limit_in};
 ghost use Rattle.parts.specs.Reads.{problem_of, Multiplied, balance_at, column_at_entries};
@@ -13,7 +13,7 @@ ghost use Rattle.parts.specs.Reads.{multipliers_fair, columns_cancel, surplus_of
 use amounts::Given;
 use layout::{ColumnPlace, RowPlace};
 use parts::Case;
-use tableau::{Tableau, Variable};
+use tableau::{Limits, Tableau, Variable};
 use words::is_outside;
 
 // A multiplier is in its range, and 0 where its limit is missing.
@@ -124,16 +124,16 @@ fn strict_named(limit: Given, k: i64) -> bool
     limit.on & (limit.strict & (k != 0))
 }
 
-// Some strict limit has.
-fn some_named(case: &Case<'_>) -> bool
-    requires { 3 + 2 * (case.now.columns + case.now.rows) ≤ length case.now.answer.now }
-    ensures { result ≡ some_named case.now.limits.now case.now.answer.now (case.now.columns + case.now.rows) }
+// Some strict limit has. It takes what it reads, and no case: it stays a call, and entries whose place goes into a call
+// are copied once more.
+fn some_named(limits: &Limits, answer: &[i64], variables: usize) -> bool
+    requires { (variables ≤ most_variables) × (3 + 2 * variables ≤ length answer.now) }
+    ensures { result ≡ some_named limits.now answer.now variables }
 {
-    let variables = case.columns + case.rows;
     let mut found = false;
     for v in 0..variables {
-        let first = strict_named(case.limits.lower[v], case.answer[3 + v]);
-        let second = strict_named(case.limits.upper[v], case.answer[3 + variables + v]);
+        let first = strict_named(limits.lower[v], answer[3 + v]);
+        let second = strict_named(limits.upper[v], answer[3 + variables + v]);
         found = found | (first | second);
     }
     found
@@ -158,5 +158,5 @@ pub fn shows_cannot(case: &Case<'_>) -> bool
     if total != 0 {
         return 0 < total;
     }
-    case.limits.strict && some_named(case)
+    case.limits.strict && some_named(case.limits, case.answer, case.columns + case.rows)
 }

@@ -1,5 +1,6 @@
 // The evidence checker: accepts exactly what is right and within the number ranges, from anybody. It reads the problem
 // through the entries and the limits that the tableau type makes of the words. It shares nothing with search or run.
+// Each verdict reads the problem for itself: entries that both arms lend are copied once more.
 #![tactic(auto)]
 
 ghost use Rattle.std.specs.Prelude.{◌≡◌};
@@ -17,22 +18,29 @@ pub fn check(words: &[i32], answer: &[i64]) -> Result<bool, Refusal>
     ensures { verdict_told result ≡ checked words.now answer.now }
 {
     let Size { rows, columns } = parts::judge(words, answer, 3, 2)?;
-    let can = match answer[0] {
-        1 => true,
-        2 => false,
-        _ => return Ok(false),
-    };
-    let entries = Tableau::start_entries(words, columns, rows);
-    let limits = Tableau::limits_of(words, columns, rows);
-    let case = Case {
-        entries: &entries,
-        limits: &limits,
-        rows,
-        columns,
-        answer,
-    };
-    if can {
-        return Ok(shows_can(&case));
+    match answer[0] {
+        1 => {
+            let entries = Tableau::start_entries(words, columns, rows);
+            let limits = Tableau::limits_of(words, columns, rows);
+            Ok(shows_can(&Case {
+                entries: &entries,
+                limits: &limits,
+                rows,
+                columns,
+                answer,
+            }))
+        }
+        2 => {
+            let entries = Tableau::start_entries(words, columns, rows);
+            let limits = Tableau::limits_of(words, columns, rows);
+            Ok(shows_cannot(&Case {
+                entries: &entries,
+                limits: &limits,
+                rows,
+                columns,
+                answer,
+            }))
+        }
+        _ => Ok(false),
     }
-    Ok(shows_cannot(&case))
 }

@@ -1,5 +1,5 @@
 // The checker of wide evidence: accepts exactly what is right, in numbers of four words each, from anybody. It judges
-// and reads the problem as the narrow checker does, and shares nothing with search or run.
+// and reads the problem as the narrow checker does, for each verdict, and shares nothing with search or run.
 //   numbers   the numbers of an answer, and whether their words are in their ranges
 //   can       verdict 1
 //   cannot    verdict 2
@@ -26,22 +26,29 @@ pub fn check(words: &[i32], answer: &[i64]) -> Result<bool, Refusal>
     if !numbers::numbers_fit(answer, 1 + 2 * (columns + rows)) {
         return Ok(false);
     }
-    let can = match answer[0] {
-        1 => true,
-        2 => false,
-        _ => return Ok(false),
-    };
-    let entries = Tableau::start_entries(words, columns, rows);
-    let limits = Tableau::limits_of(words, columns, rows);
-    let case = Case {
-        entries: &entries,
-        limits: &limits,
-        rows,
-        columns,
-        answer,
-    };
-    if can {
-        return Ok(can::shows_can(&case));
+    match answer[0] {
+        1 => {
+            let entries = Tableau::start_entries(words, columns, rows);
+            let limits = Tableau::limits_of(words, columns, rows);
+            Ok(can::shows_can(&Case {
+                entries: &entries,
+                limits: &limits,
+                rows,
+                columns,
+                answer,
+            }))
+        }
+        2 => {
+            let entries = Tableau::start_entries(words, columns, rows);
+            let limits = Tableau::limits_of(words, columns, rows);
+            Ok(cannot::shows_cannot(&Case {
+                entries: &entries,
+                limits: &limits,
+                rows,
+                columns,
+                answer,
+            }))
+        }
+        _ => Ok(false),
     }
-    Ok(cannot::shows_cannot(&case))
 }

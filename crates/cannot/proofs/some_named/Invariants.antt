@@ -7,4 +7,4 @@ use Rattle.cannot.proofs.some_named.Given as goal
 
 abbrev pub invariant-loop-v : goal.invariant-loop-v
 invariant-loop-v l =
-    (l.v ≤ l.variables) × (l.found ≡ some_below l.v (named_at l.case.limits.now l.case.answer.now l.variables))
+    (l.v ≤ l.variables) × (l.found ≡ some_below l.v (named_at l.limits l.answer l.variables))

@@ -1,6 +1,6 @@
 -- `wide::check` meets its contract: what refuses the problem or the answer, then the ranges of the answer's words, then
 -- the rule of its verdict. Assumes nothing.
-use Rattle.std.proofs.Common.{◌≡◌, ◌≢◌, ap, sym, ◌∙◌, true, false, rules, w64, of_z}
+use Rattle.std.proofs.Common.{◌≡◌, ◌≢◌, ap, sym, ◌∙◌, rules, w64, of_z}
 use Rattle.std.proofs.lemmas.Result.{err_from_is_err_and}
 use mir.Val.{SFits}
 use Rattle.rules.specs.Evidence.{verdict_of}
@@ -9,7 +9,6 @@ use Rattle.parts.proofs.Laws.Read.{words-held}
 use Rattle.wide.proofs.Laws.Told.{all-formed, ill-told, wide-can-told, wide-cannot-told, wide-other-told}
 use Rattle.wide.proofs.Laws.Told.{wide-refused-read}
 use Rattle.wide.proofs.check.Goals as goal
-use Rattle.wide.proofs.check.Goals.{in-1, in-2}
 
 pub returns-in_err-rows : goal.returns-in_err-rows
 returns-in_err-rows c =
@@ -27,8 +26,8 @@ returns-in_default c =
     wide-other-told c.in_ok-rows.ensures.sized (sym c.numbers_fit.ensures ∙ c.if-not-numbers_fit.false)
     (λ h. e (ap (of_z w64) h)) (λ h. f (ap (of_z w64) h))
 
-pub invariant_of-case : goal.invariant_of-case
-invariant_of-case c = let S = c.in_ok-rows.ensures.sized in record {
+pub invariant_of-shows_can : goal.invariant_of-shows_can
+invariant_of-shows_can c = let S = c.in_ok-rows.ensures.sized in record {
   in_ranges = words-held S.framed S.accepted c.start_entries-entries.ensures c.limits_of-limits.ensures;
 }
 
@@ -36,31 +35,27 @@ pub shows_can-requires-clause-all_formed : goal.shows_can-requires-clause-all_fo
 shows_can-requires-clause-all_formed c =
     all-formed c.in_ok-rows.ensures.sized (sym c.numbers_fit.ensures ∙ c.if-not-numbers_fit.false)
 
-pub returns-then-can : goal.returns-then-can
-returns-then-can c =
+pub returns-in-1 : goal.returns-in-1
+returns-in-1 c =
     let f : SFits w64 (verdict_of c.args.answer.now) = search rules in
-    let e : of_z w64 (verdict_of c.args.answer.now) ≡ 1 = elim c.match-answer.branch [
-      | in-1 w ↦ search rules
-      | in-2 w ↦ let clash : true ≡ false = sym c.if-can.true ∙ w.can-is in absurd (let z : ⊥ = cc in z)
-    ] in
-    wide-can-told (case-of c.in_ok-rows.ensures.sized c.start_entries-entries.ensures c.limits_of-limits.ensures)
+    let e : of_z w64 (verdict_of c.args.answer.now) ≡ 1 = search rules in
+    wide-can-told
+    (case-of c.in_ok-rows.ensures.sized c.start_entries-entries.ensures c.limits_of-limits.ensures)
     (sym c.numbers_fit.ensures ∙ c.if-not-numbers_fit.false) c.shows_can.ensures (word-is f e)
 
-pub invariant_of-case-2 : goal.invariant_of-case-2
-invariant_of-case-2 c = let S = c.in_ok-rows.ensures.sized in record {
-  in_ranges = words-held S.framed S.accepted c.start_entries-entries.ensures c.limits_of-limits.ensures;
+pub invariant_of-shows_cannot : goal.invariant_of-shows_cannot
+invariant_of-shows_cannot c = let S = c.in_ok-rows.ensures.sized in record {
+  in_ranges = words-held S.framed S.accepted c.start_entries-entries-in-2.ensures c.limits_of-limits-in-2.ensures;
 }
 
 pub shows_cannot-requires-clause-all_formed : goal.shows_cannot-requires-clause-all_formed
 shows_cannot-requires-clause-all_formed c =
     all-formed c.in_ok-rows.ensures.sized (sym c.numbers_fit.ensures ∙ c.if-not-numbers_fit.false)
 
-pub returns : goal.returns
-returns c =
+pub returns-in-2 : goal.returns-in-2
+returns-in-2 c =
     let f : SFits w64 (verdict_of c.args.answer.now) = search rules in
-    let e : of_z w64 (verdict_of c.args.answer.now) ≡ 2 = elim c.match-answer.branch [
-      | in-2 w ↦ search rules
-      | in-1 w ↦ let clash : true ≡ false = sym w.can-is ∙ c.if-can.false in absurd (let z : ⊥ = cc in z)
-    ] in
-    wide-cannot-told (case-of c.in_ok-rows.ensures.sized c.start_entries-entries.ensures c.limits_of-limits.ensures)
+    let e : of_z w64 (verdict_of c.args.answer.now) ≡ 2 = search rules in
+    wide-cannot-told
+    (case-of c.in_ok-rows.ensures.sized c.start_entries-entries-in-2.ensures c.limits_of-limits-in-2.ensures)
     (sym c.numbers_fit.ensures ∙ c.if-not-numbers_fit.false) c.shows_cannot.ensures (word-is f e)
