@@ -28,7 +28,7 @@ loop-i-preserved c =
     let f = full (c.requires.each c.loop-i.i) in
     let g = half (c.requires.each c.loop-i.i) in
     simp (to_z-of_z f, to_z-of_z g)
-        (filled_more most_entries (pos 0) (at c.args.cells.now) c.loop-i.i (omega arith) c.loop-i.invariant refl)
+    (filled_more most_entries (pos 0) (at c.args.cells.now) c.loop-i.i (omega arith) c.loop-i.invariant refl)
 
 pub returns : goal.returns
 returns c =
